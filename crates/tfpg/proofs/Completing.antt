@@ -1,20 +1,21 @@
 -- A run ends well where nothing stands in its way.
-use Rattle.std.proofs.Common.{◌≡◌, ◌⊎◌, ℕ, ◌+◌, ◌<◌, ◌≤◌, List, ◌++◌, length, Option, Some, None, IfSome, Result, Ok, Err, refl, sym, ap, subst, ◌∙◌, Bool, inl, inr, arith}
+use Rattle.std.proofs.Common.{◌≡◌, ℕ, ◌+◌, ◌<◌, ◌≤◌, List, ◌++◌, length, take, drop, Option, Some, IfSome, Result, Ok, Err, refl, sym, ap, subst, ◌∙◌, inl, inr, ⊎_elim, arith}
 use Rattle.std.specs.Prelude.{OnOk, IfErr}
-use Rattle.std.proofs.lemmas.List.{length-append}
+use Rattle.std.proofs.lemmas.List.{length-append, take-append-drop}
 use Rattle.std.proofs.lemmas.Option.{same_Some}
+use Rattle.tfpg_base.specs.declared.terms.Terms.{Terms}
 use Rattle.tfpg_base.specs.declared.limits.TheConstants.{MAX_BYTES, LONGEST_FILE}
-use Rattle.tfpg_base.specs.Outside.{SourceState, ShelfState, Rose, Gives, PassesLimit, Takes, file_of}
+use Rattle.tfpg_base.specs.Outside.{SourceState, ShelfState, Rose, Gives, Takes, file_of}
+use Rattle.tfpg_base.specs.Lines.{lines_of}
 use Rattle.tfpg_graph.specs.declared.cause.GraphFault.{GraphFault}
 use Rattle.tfpg_graph.specs.Graph.{Tfpg}
 use Rattle.tfpg_graph.specs.Text.{Spells}
 use Rattle.tfpg_graph.specs.Valid.{IsValid}
 use Rattle.tfpg_graph.specs.Faults.{IsFirstFault}
 use Rattle.tfpg_log.specs.Log.{Logbook}
-use Rattle.tfpg_sim.specs.Script.{script_of}
+use Rattle.tfpg_sim.specs.Script.{IsScriptFault}
 use Rattle.tfpg_words.specs.declared.usage_cause.UsageCause.{UsageCause}
 use Rattle.tfpg_words.specs.Meaning.{Meaning, Diagnose, Explain, Simulate, Generate}
-use Rattle.tfpg.specs.declared.end.CheckCause.TheVariants.{BadMap}
 use Rattle.tfpg.specs.declared.end.End.{End}
 use Rattle.tfpg.specs.declared.end.End.TheVariants as ends
 use Rattle.tfpg.specs.declared.fault.FetchFault.{FetchFault}
@@ -30,11 +31,15 @@ use Rattle.tfpg.specs.declared.fault.GenerateFault.TheVariants as generate
 use Rattle.tfpg.specs.Completeness.{CanDiagnose, CanExplain, CanSimulate, CanBeDone, NothingFails, IsShort, IsCompleted}
 use Rattle.tfpg.specs.EndsOf.{end_of_fetch_fault, end_of_stream_fault, end_of_judge_fault, end_of_simulate_fault, end_of_generate_fault, end_of_result}
 use Rattle.tfpg.specs.Fetch.{HasFile, IsTooLong, GivesGraph, HasFaultyGraph, IsFetchFault, IsFilesFault}
-use Rattle.tfpg.specs.Generating.{GenerateEnds, GenerationEnds}
-use Rattle.tfpg.specs.Judging.{JudgesMap, JudgingEnds}
-use Rattle.tfpg.specs.Run.{CommandEnds, RunEnds, DiagnoseEnds, ExplainEnds, IsStreamFault, DiagnosisEnds}
-use Rattle.tfpg.specs.Simulating.{SimulateEnds, SimulationEnds}
-use Rattle.tfpg.specs.Streams.{Streams}
+use Rattle.tfpg.specs.Generating.{GenerationEnds}
+use Rattle.tfpg.specs.Judging.{JudgingEnds}
+use Rattle.tfpg.specs.Map.{HasMap, BeginsMap, IsMapFault}
+use Rattle.tfpg.specs.Outputs.{IsStreamFault, LineByLineEnds}
+use Rattle.tfpg.specs.Run.{CommandEnds, RunEnds, DiagnoseEnds, ExplainEnds}
+use Rattle.tfpg.specs.Saying.{IsRightReport}
+use Rattle.tfpg.specs.Simulating.{HasSimulation, SimulateEnds, SimulationEnds}
+use Rattle.tfpg.specs.Streams.{HasLeft}
+use Rattle.tfpg.specs.World.{World, streams_of}
 
 -- no text of a valid graph has a fault
 abbrev NoFaultOfValid : Type 0
@@ -66,17 +71,19 @@ module _ (shelf : ShelfState) (files : List (List ℕ × List ℕ)) (known : she
     -- where it is not fetched, memory ran out
     fetched : (now : ShelfState) (fault : FetchFault) → (Rose shelf.faults now.faults → ⊥) → IsFetchFault shelf now name fault → fault ≡ NoMemory
     fetched now Failed calm is = absurd (calm is)
-    fetched now TooLong calm is = absurd (not_too_long name gives.text gives.file.gives gives.file.small is)
-    fetched now (Graph fault) calm is = absurd (no_graph_fault fault is)
+    fetched now TooLong calm is = absurd (not_too_long name gives.text gives.file.gives gives.file.small is.0)
+    fetched now (Graph fault) calm is = absurd (no_graph_fault fault is.0)
     fetched now NoMemory calm is = refl
 
     -- so it is with two files
     both_fetched : (now : ShelfState) (other text : List ℕ) → HasFile shelf other text → (fault : FetchFault) → (Rose shelf.faults now.faults → ⊥)
         → IsFilesFault shelf now name other fault → fault ≡ NoMemory
-    both_fetched now other text file Failed calm is = absurd (calm is)
-    both_fetched now other text file TooLong calm (inl long) = absurd (not_too_long name gives.text gives.file.gives gives.file.small long)
-    both_fetched now other text file TooLong calm (inr long) = absurd (not_too_long other text file.gives file.small long.2)
-    both_fetched now other text file (Graph fault) calm is = absurd (no_graph_fault fault is.2)
+    both_fetched now other text file Failed calm is = absurd (calm is.0)
+    both_fetched now other text file TooLong calm is = ⊎_elim
+        (λ long. absurd (not_too_long name gives.text gives.file.gives gives.file.small long))
+        (λ long. absurd (not_too_long other text file.gives file.small long.2))
+        is.0
+    both_fetched now other text file (Graph fault) calm is = absurd (no_graph_fault fault is.1)
     both_fetched now other text file NoMemory calm is = refl
 
 -- ---- input that is short
@@ -88,107 +95,124 @@ few_taken before now taken short takes =
     let same : length short.known ≡ length (taken ++ there.0) = ap length there.2 in
     omega (arith, same, length-append taken there.0, short.few)
 
+-- it had what was taken and what is left
+all_of_input : (before now : SourceState) (known taken rest : List ℕ) → before.left ≡ Some known → Takes before now taken → HasLeft now rest → known ≡ taken ++ rest
+all_of_input before now known taken rest left takes has =
+    let there = subst (λ (l : Option (List ℕ)). IfSome l (λ had. (more : List ℕ) × (now.left ≡ Some more) × (had ≡ taken ++ more))) left takes in
+    let same : rest ≡ there.0 = subst (λ (l : Option (List ℕ)). IfSome l (λ more. rest ≡ more)) there.1 has in
+    there.2 ∙ ap (λ (more : List ℕ). taken ++ more) (sym same)
+
+-- ---- lines that spell a map
+
+-- each front of them begins one
+front_of_map : (graph : Tfpg) (lines : List (List ℕ)) (count : ℕ) → HasMap graph lines → BeginsMap graph (take count lines)
+front_of_map graph lines count map =
+    (drop count lines, subst (HasMap graph) (sym (take-append-drop count lines)) map)
+
+-- none of them is faulty
+no_map_fault : (graph : Tfpg) (lines : List (List ℕ)) (number : ℕ) → HasMap graph lines → IsMapFault graph lines number → ⊥
+no_map_fault graph lines number map (inl faulty) = faulty.with_it (front_of_map graph lines (faulty.index + 1) map)
+no_map_fault graph lines number map (inr none) = let some = sym none.0 ∙ map.2.spelled in cc
+
+-- ---- memory
+
 without_memory : (end : End) (fault : FetchFault) → fault ≡ NoMemory → end ≡ end_of_fetch_fault fault → end ≡ ends.NoMemory
 without_memory end fault is e = e ∙ ap end_of_fetch_fault is
 
 -- ---- each command
 
-module _ (law : NoFaultOfValid) (shelf_before shelf_now : ShelfState) (before now : Streams) (calm : NothingFails shelf_before shelf_now before now) where
+module _ (law : NoFaultOfValid) (before now : World) (calm : NothingFails before now) where
   -- a diagnosis has no fault but that memory ran out
-  no_stream_fault : IsShort before.input → (taken : List ℕ) → Takes before.input now.input taken → (fault : StreamFault) → IsStreamFault before now taken fault → fault ≡ streams.NoMemory
-  no_stream_fault short taken takes streams.ReadFault is = absurd (calm.input is)
-  no_stream_fault short taken takes streams.WriteFault is = absurd (calm.output is)
+  no_stream_fault : IsShort before.input → (taken : List ℕ) → Takes before.input now.input taken → (fault : StreamFault) → IsStreamFault (streams_of before) (streams_of now) taken fault → fault ≡ streams.NoMemory
+  no_stream_fault short taken takes streams.ReadFault is = absurd (calm.input is.0)
+  no_stream_fault short taken takes streams.WriteFault is = absurd (calm.output is.0)
   no_stream_fault short taken takes streams.TooMuchInput is =
-      let more : length taken ≡ MAX_BYTES + 1 = is in
+      let more : length taken ≡ MAX_BYTES + 1 = is.0 in
       absurd (omega (arith, few_taken before.input now.input taken short takes, more))
   no_stream_fault short taken takes streams.NoMemory is = refl
 
   -- a diagnosis
-  diagnosed : IsShort before.input → (end : End) (k budget : ℕ) (name : List ℕ) → CanDiagnose shelf_before k name → DiagnoseEnds shelf_before shelf_now k budget name before now end
-      → (end ≡ ends.Done) ⊎ (end ≡ ends.NoMemory)
-  diagnosed short end k budget name can (inl lacks) =
-      inr (without_memory end lacks.fault (fetched shelf_before can.files can.known law name can.graph can.gives shelf_now lacks.fault calm.shelf lacks.is_fault) lacks.end_is)
-  diagnosed short end k budget name can (inr (inl many)) = absurd (omega (arith, many.too_many, can.few many.graph many.count many.gives many.counted))
-  diagnosed short end k budget name can (inr (inr file)) = go file.result file.diagnoses.ends file.end_is
+  diagnosed : IsShort before.input → (end : End) (terms : Terms) (name : List ℕ) → CanDiagnose before.shelf terms name → DiagnoseEnds terms name before now end
+      → IsCompleted end
+  diagnosed short end terms name can (inl lacks) =
+      inr (without_memory end lacks.fault (fetched before.shelf can.files can.known law name can.graph can.gives now.shelf lacks.fault calm.shelf lacks.is_fault) lacks.end_is)
+  diagnosed short end terms name can (inr (inl many)) = absurd (omega (arith, many.too_many, can.few many.graph many.count many.gives many.counted))
+  diagnosed short end terms name can (inr (inr file)) = go file.ends.result file.ends.works.ends file.ends.end_is
     where
-      go : (result : Result (Unit {0}) StreamFault) → DiagnosisEnds file.graph k budget before now file.diagnoses.taken file.diagnoses.blocks file.diagnoses.written result
-          → end ≡ end_of_result end_of_stream_fault result → (end ≡ ends.Done) ⊎ (end ≡ ends.NoMemory)
+      go : (result : Result (Unit {0}) StreamFault)
+          → LineByLineEnds (IsRightReport file.graph terms) (streams_of before) (streams_of now) file.ends.works.taken file.ends.works.written result
+          → end ≡ end_of_result end_of_stream_fault result → IsCompleted end
       go (Ok done) is e = inl e
-      go (Err fault) is e = inr (e ∙ ap end_of_stream_fault (no_stream_fault short file.diagnoses.taken file.diagnoses.takes fault is.0))
+      go (Err fault) is e = inr (e ∙ ap end_of_stream_fault (no_stream_fault short file.ends.works.taken file.ends.works.takes fault is.0))
 
   -- a map that is judged
-  judged : IsShort before.input → (graph : Tfpg) (log : Logbook) (taken : List ℕ) → Takes before.input now.input taken → (result : Result (Unit {0}) JudgeFault) → JudgingEnds graph log before now taken result
-      → (end_of_result end_of_judge_fault result ≡ ends.Done) ⊎ ((end_of_result end_of_judge_fault result ≡ ends.NoMemory) ⊎ ((line : ℕ) × (end_of_result end_of_judge_fault result ≡ ends.NotAccepted line BadMap)))
-  judged short graph log taken takes (Ok done) is = inl refl
-  judged short graph log taken takes (Err (judge.BadMap line)) is = inr (inr (line, refl))
-  judged short graph log taken takes (Err (judge.Stream streams.ReadFault)) is = absurd (calm.input is.0)
-  judged short graph log taken takes (Err (judge.Stream streams.WriteFault)) is = absurd (calm.output is.rose)
-  judged short graph log taken takes (Err (judge.Stream streams.TooMuchInput)) is =
+  judged : (short : IsShort before.input) (graph : Tfpg) (log : Logbook) (taken : List ℕ) → HasMap graph (lines_of short.known) → Takes before.input now.input taken → (result : Result (Unit {0}) JudgeFault)
+      → JudgingEnds graph log (streams_of before) (streams_of now) taken result → IsCompleted (end_of_result end_of_judge_fault result)
+  judged short graph log taken map takes (Ok done) is = inl refl
+  judged short graph log taken map takes (Err (judge.BadMap line)) is =
+      let all : short.known ≡ taken ++ is.0.rest = all_of_input before.input now.input short.known taken is.0.rest short.left takes is.0.left in
+      absurd (no_map_fault graph (lines_of (taken ++ is.0.rest)) line (subst (λ (bytes : List ℕ). HasMap graph (lines_of bytes)) all map) is.0.fault)
+  judged short graph log taken map takes (Err (judge.Stream streams.ReadFault)) is = absurd (calm.input is.0)
+  judged short graph log taken map takes (Err (judge.Stream streams.WriteFault)) is = absurd (calm.output is.0.rose)
+  judged short graph log taken map takes (Err (judge.Stream streams.TooMuchInput)) is =
       let more : length taken ≡ MAX_BYTES + 1 = is.0 in
       absurd (omega (arith, few_taken before.input now.input taken short takes, more))
-  judged short graph log taken takes (Err (judge.Stream streams.NoMemory)) is = inr (inl refl)
+  judged short graph log taken map takes (Err (judge.Stream streams.NoMemory)) is = inr refl
 
-  explained : IsShort before.input → (end : End) (graph_name log_name : List ℕ) → CanExplain shelf_before graph_name log_name → ExplainEnds shelf_before shelf_now graph_name log_name before now end
-      → (end ≡ ends.Done) ⊎ ((end ≡ ends.NoMemory) ⊎ ((line : ℕ) × (end ≡ ends.NotAccepted line BadMap)))
-  explained short end graph_name log_name can (inl lacks) =
-      let file : HasFile shelf_before log_name can.gives.text = can.gives.gives.file in
-      inr (inl (without_memory end lacks.fault
-      (both_fetched shelf_before can.files can.known law graph_name can.graph can.gives.gives.of_graph shelf_now log_name can.gives.text file lacks.fault calm.shelf lacks.is_fault) lacks.end_is))
-  explained short end graph_name log_name can (inr judges) =
-      subst (λ (e : End). (e ≡ ends.Done) ⊎ ((e ≡ ends.NoMemory) ⊎ ((line : ℕ) × (e ≡ ends.NotAccepted line BadMap)))) (sym judges.end_is)
-      (judged short judges.graph judges.log judges.judges.taken judges.judges.takes judges.result judges.judges.ends)
+  explained : (end : End) (graph_name log_name : List ℕ) → CanExplain before.shelf before.input graph_name log_name → ExplainEnds graph_name log_name before now end → IsCompleted end
+  explained end graph_name log_name can (inl lacks) =
+      let file : HasFile before.shelf log_name can.gives.text = can.gives.gives.file in
+      inr (without_memory end lacks.fault
+      (both_fetched before.shelf can.files can.known law graph_name can.graph can.gives.gives.of_graph now.shelf log_name can.gives.text file lacks.fault calm.shelf lacks.is_fault) lacks.end_is)
+  explained end graph_name log_name can (inr judges) =
+      let map : HasMap judges.graph (lines_of can.short.known) = can.map judges.graph judges.gives.gives.of_graph in
+      subst IsCompleted (sym judges.works.end_is)
+      (judged can.short judges.graph judges.other judges.works.works.taken map judges.works.works.takes judges.works.result judges.works.works.ends)
 
   -- a script that is simulated
-  simulated : (graph : Tfpg) (script : List ℕ) (draw : ℕ) (trace : Bool) → ((line : ℕ) → script_of graph script ≡ Err line → ⊥) → (result : Result (Unit {0}) SimulateFault)
-      → SimulationEnds graph script draw trace before.output now.output result → (end_of_result end_of_simulate_fault result ≡ ends.Done) ⊎ (end_of_result end_of_simulate_fault result ≡ ends.NoMemory)
-  simulated graph script draw trace right (Ok done) is = inl refl
-  simulated graph script draw trace right (Err (simulate.BadScript line)) is = absurd (right line is.0)
-  simulated graph script draw trace right (Err simulate.WriteFault) is = absurd (calm.output is.rose)
-  simulated graph script draw trace right (Err simulate.NoMemory) is = inr refl
+  simulated : (IsRight : Tfpg → List ℕ → List ℕ → Type 0) (graph : Tfpg) (script : List ℕ) → ((line : ℕ) → IsScriptFault graph (lines_of script) line → ⊥) → (result : Result (Unit {0}) SimulateFault)
+      → SimulationEnds IsRight graph script before.output now.output result → IsCompleted (end_of_result end_of_simulate_fault result)
+  simulated IsRight graph script right (Ok done) is = inl refl
+  simulated IsRight graph script right (Err (simulate.BadScript line)) is = absurd (right line is.0)
+  simulated IsRight graph script right (Err simulate.WriteFault) is = absurd (calm.output is.rose)
+  simulated IsRight graph script right (Err simulate.NoMemory) is = inr refl
 
-  simulated_files : (end : End) (draw : ℕ) (trace : Bool) (graph_name script_name : List ℕ) → CanSimulate shelf_before graph_name script_name
-      → SimulateEnds shelf_before shelf_now graph_name script_name draw trace before.output now.output end → (end ≡ ends.Done) ⊎ (end ≡ ends.NoMemory)
-  simulated_files end draw trace graph_name script_name can (inl lacks) =
+  simulated_files : (end : End) (IsRight : Tfpg → List ℕ → List ℕ → Type 0) (graph_name script_name : List ℕ) → CanSimulate before.shelf graph_name script_name
+      → SimulateEnds IsRight graph_name script_name before now end → IsCompleted end
+  simulated_files end IsRight graph_name script_name can (inl lacks) =
       inr (without_memory end lacks.fault
-      (both_fetched shelf_before can.files can.known law graph_name can.graph can.gives.of_graph shelf_now script_name can.script can.gives.file lacks.fault calm.shelf lacks.is_fault) lacks.end_is)
-  simulated_files end draw trace graph_name script_name can (inr simulates) =
-      subst (λ (e : End). (e ≡ ends.Done) ⊎ (e ≡ ends.NoMemory)) (sym simulates.end_is)
-      (simulated simulates.graph simulates.script draw trace (λ line. can.right simulates.graph simulates.script line simulates.gives) simulates.result simulates.ends)
+      (both_fetched before.shelf can.files can.known law graph_name can.graph can.gives.of_graph now.shelf script_name can.script can.gives.file lacks.fault calm.shelf lacks.is_fault) lacks.end_is)
+  simulated_files end IsRight graph_name script_name can (inr simulates) =
+      subst IsCompleted (sym simulates.works.end_is)
+      (simulated IsRight simulates.graph simulates.other (λ line. can.right simulates.graph simulates.other line simulates.gives) simulates.works.result simulates.works.works)
 
   -- what is drawn
   drawn : (draw size : ℕ) (result : Result (Unit {0}) GenerateFault) → GenerationEnds draw size before.output now.output result
-      → (end_of_result end_of_generate_fault result ≡ ends.Done) ⊎ (end_of_result end_of_generate_fault result ≡ ends.NoMemory)
+      → IsCompleted (end_of_result end_of_generate_fault result)
   drawn draw size (Ok done) is = inl refl
   drawn draw size (Err generate.WriteFault) is = absurd (calm.output is.rose)
   drawn draw size (Err generate.NoMemory) is = inr refl
 
-  completed : (meant : Meaning) (end : End) → CanBeDone meant shelf_before before.input → CommandEnds (Ok meant) shelf_before shelf_now before now end → IsCompleted meant end
-  completed (Diagnose k budget graph) end can is = diagnosed can.1 end k budget graph can.0 is
-  completed (Explain graph log) end can is = explained can.1 end graph log can.0 is
-  completed (Simulate draw trace graph script) end can is = simulated_files end draw trace graph script can is.0
-  completed (Generate draw size) end can is =
-      subst (λ (e : End). (e ≡ ends.Done) ⊎ (e ≡ ends.NoMemory)) (sym is.0.end_is) (drawn draw size is.0.result is.0.ends)
-
-  without_words : (meant : Meaning) (end : End) → end ≡ ends.NoMemory → IsCompleted meant end
-  without_words (Diagnose k budget graph) end is = inr is
-  without_words (Explain graph log) end is = inr (inl is)
-  without_words (Simulate draw trace graph script) end is = inr is
-  without_words (Generate draw size) end is = inr is
+  completed : (meant : Meaning) (end : End) → CanBeDone meant before → CommandEnds (Ok meant) before now end → IsCompleted end
+  completed (Diagnose terms graph) end can is = diagnosed can.1 end terms graph can.0 is
+  completed (Explain graph log) end can is = explained end graph log can is
+  completed (Simulate draw trace graph script) end can is = simulated_files end (HasSimulation draw trace) graph script can is.0
+  completed (Generate draw size) end can is = subst IsCompleted (sym is.0.end_is) (drawn draw size is.0.result is.0.works)
 
   -- the whole run
-  pub run_completes : (words : Result Meaning UsageCause) (meant : Meaning) (end : End) → words ≡ Ok meant → CanBeDone meant shelf_before before.input → RunEnds words shelf_before shelf_now before now end
-      → IsCompleted meant end
-  run_completes words meant end e can is = go (subst (λ (w : Result Meaning UsageCause). RunEnds w shelf_before shelf_now before now end) e is)
+  pub run_completes : (words : Result Meaning UsageCause) (meant : Meaning) (end : End) → words ≡ Ok meant → CanBeDone meant before → RunEnds words before now end
+      → IsCompleted end
+  run_completes words meant end e can is = go (subst (λ (w : Result Meaning UsageCause). RunEnds w before now end) e is)
     where
-      go : RunEnds (Ok meant) shelf_before shelf_now before now end → IsCompleted meant end
+      go : RunEnds (Ok meant) before now end → IsCompleted end
       go (inl does) = completed meant end can does
-      go (inr none) = without_words meant end none.1
+      go (inr none) = inr none.1
 
 -- how a run ends whose work had this result
-pub by_work : (words : Result Meaning UsageCause) (meant : Meaning) (shelf_before shelf_now : ShelfState) (before now : Streams) (work : Result (Unit {0}) End) (end : End) → words ≡ Ok meant
-    → end ≡ end_of_result (λ (end : End). end) work → OnOk work (CommandEnds (Ok meant) shelf_before shelf_now before now ends.Done) → IfErr work (CommandEnds (Ok meant) shelf_before shelf_now before now)
-    → RunEnds words shelf_before shelf_now before now end
-by_work words meant shelf_before shelf_now before now (Ok done) end e f is stopped =
-    subst (λ (w : Result Meaning UsageCause). RunEnds w shelf_before shelf_now before now end) (sym e) (inl (subst (CommandEnds (Ok meant) shelf_before shelf_now before now) (sym f) is))
-by_work words meant shelf_before shelf_now before now (Err other) end e f is stopped =
-    subst (λ (w : Result Meaning UsageCause). RunEnds w shelf_before shelf_now before now end) (sym e) (inl (subst (CommandEnds (Ok meant) shelf_before shelf_now before now) (sym f) stopped))
+pub by_work : (words : Result Meaning UsageCause) (meant : Meaning) (before now : World) (work : Result (Unit {0}) End) (end : End) → words ≡ Ok meant
+    → end ≡ end_of_result (λ (end : End). end) work → OnOk work (CommandEnds (Ok meant) before now ends.Done) → IfErr work (CommandEnds (Ok meant) before now)
+    → RunEnds words before now end
+by_work words meant before now (Ok done) end e f is stopped =
+    subst (λ (w : Result Meaning UsageCause). RunEnds w before now end) (sym e) (inl (subst (CommandEnds (Ok meant) before now) (sym f) is))
+by_work words meant before now (Err other) end e f is stopped =
+    subst (λ (w : Result Meaning UsageCause). RunEnds w before now end) (sym e) (inl (subst (CommandEnds (Ok meant) before now) (sym f) stopped))

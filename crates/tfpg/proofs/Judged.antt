@@ -1,5 +1,5 @@
--- How judging a map ends where the verdict cannot be written.
-use Rattle.std.proofs.Common.{◌≡◌, ℕ, List, ◌++◌, Err, sym, ◌∙◌}
+-- How judging a map ends where there is a verdict.
+use Rattle.std.proofs.Common.{◌≡◌, ℕ, List, ◌++◌, Ok, Err, sym, ◌∙◌}
 use Rattle.tfpg_base.specs.Outside.{SourceState, SinkState, Rose, Puts}
 use Rattle.tfpg_graph.specs.Graph.{Tfpg}
 use Rattle.tfpg_log.specs.Log.{Logbook}
@@ -8,15 +8,24 @@ use Rattle.tfpg_trace.specs.FirstFault.{IsVerdict}
 use Rattle.tfpg.specs.declared.fault.JudgeFault.TheVariants.{Stream}
 use Rattle.tfpg.specs.declared.fault.StreamFault.TheVariants.{WriteFault}
 use Rattle.tfpg.specs.declared.map.Map.{Map}
-use Rattle.tfpg.specs.Judging.{GivesVerdict, JudgesMap}
+use Rattle.tfpg.specs.Judging.{HasVerdict, JudgesMap}
 use Rattle.tfpg.specs.Streams.{Streams, streams}
 use Rattle.tfpg.specs.Verdicts.{verdict_text}
 use Rattle.tfpg.specs.inside.MapReading.{ReadsMap}
 
 module _ (graph : Tfpg) (log : Logbook) (before : Streams) (input : SourceState) (map : Map) (reads : ReadsMap graph before.input input map)
     (v : Verdict) (right : IsVerdict graph log map.set map.trace v) where
-  gives_verdict : GivesVerdict graph log input reads.taken v
-  gives_verdict = record { set = map.set; trace = map.trace; gives = reads.gives; right = right }
+  has_verdict : (text : List ℕ) → text ≡ verdict_text graph v → HasVerdict graph log input reads.taken text
+  has_verdict text is = record { set = map.set; trace = map.trace; gives = reads.gives; verdict = v; right = right; text_is = is }
+
+  -- the verdict is written
+  pub judges_well : (line text : List ℕ) (output : SinkState) → line ≡ verdict_text graph v → text ≡ line → Puts before.output output text
+      → output.faults ≡ before.output.faults → JudgesMap graph log before (streams input output) (Ok tt)
+  judges_well line text output line_is same puts no_fault = record {
+    taken = reads.taken;
+    takes = reads.takes;
+    ends = (record { text = text; right = has_verdict text (same ∙ line_is); writes = puts; no_fault = no_fault }, reads.no_fault);
+  }
 
   -- the output fails
   pub judges_badly : (line : List ℕ) (output : SinkState) (front rest : List ℕ) → line ≡ verdict_text graph v → line ≡ front ++ rest → Puts before.output output front
@@ -24,5 +33,5 @@ module _ (graph : Tfpg) (log : Logbook) (before : Streams) (input : SourceState)
   judges_badly line output front rest line_is parts puts rose = record {
     taken = reads.taken;
     takes = reads.takes;
-    ends = record { verdict = v; has = gives_verdict; front = front; rest = rest; parts = sym line_is ∙ parts; writes = puts; rose = rose };
+    ends = (record { front = front; rest = rest; right = has_verdict (front ++ rest) (sym parts ∙ line_is); writes = puts; rose = rose }, reads.no_fault);
   }

@@ -15,4 +15,5 @@ pub mod Stops
 pub mod Diagnosing
 pub mod FewHypotheses
 pub mod Truths
+pub mod NeverRejected
 pub mod Completing

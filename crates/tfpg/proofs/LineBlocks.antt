@@ -2,6 +2,7 @@
 use Rattle.std.proofs.Common.{◌≡◌, ℕ, ◌<◌, ◌≤◌, true, false, List, [], ◌++◌, length, Ok, Err, refl, sym, ap, ap₂, subst, subst₂, ◌∙◌, arith}
 use Rattle.std.proofs.lemmas.Bool.{le-ltb, lt-ltb}
 use Rattle.std.proofs.lemmas.List.{append-nil}
+use Rattle.tfpg_base.specs.declared.terms.Terms.{Terms}
 use Rattle.tfpg_graph.specs.Graph.{Tfpg, sizes_of}
 use Rattle.tfpg_graph.specs.Valid.{IsValid}
 use Rattle.tfpg_log.specs.declared.event.Offered.{Offered}
@@ -24,7 +25,7 @@ use Rattle.tfpg_report.specs.Blocks.{RefusedBlock, RoundBlock, refused_text, rou
 use Rattle.tfpg_check.specs.Report.{Progress, IsBlockOf, event_of_line, event_of_reply}
 use Rattle.tfpg_check.proofs.Progressing.{progress_with}
 use Rattle.tfpg.specs.Saying.{RoundSays}
-use Rattle.tfpg.specs.inside.LineBlocks.{EngineReports, HasBlock}
+use Rattle.tfpg.specs.inside.LineBlocks.{EngineReports, HasBlock, numbered}
 
 -- what a line gives that is not too long
 short_line : (graph : Tfpg) (log : Logbook) (line : List ℕ) (reply : Offered) → length line ≤ LONGEST_LINE → reply_to graph log line ≡ reply → event_of_line graph log line ≡ event_of_reply reply
@@ -36,9 +37,9 @@ short_log graph log line le = let short : is_too_long line ≡ false = le-ltb _ 
 -- ---- from what is said of the engine to what is said of the report
 
 -- what holds of an engine's graph, numbers and log holds of those of the report
-along : (P : Tfpg → ℕ → ℕ → Logbook → Type 0) (g graph : Tfpg) (k' k b' b : ℕ) (l log : Logbook) → g ≡ graph → k' ≡ k → b' ≡ b → l ≡ log → P g k' b' l → P graph k b log
-along P g graph k' k b' b l log e f h i holds =
-    subst₂ (P graph k) h i (subst₂ (λ (x : Tfpg) (y : ℕ). P x y b' l) e f holds)
+along : (P : Tfpg → Terms → Logbook → Type 0) (g graph : Tfpg) (other terms : Terms) (l log : Logbook) → g ≡ graph → other ≡ terms → l ≡ log → P g other l → P graph terms log
+along P g graph other terms l log e f i holds =
+    subst (P graph terms) i (subst₂ (λ (x : Tfpg) (y : Terms). P x y l) e f holds)
 
 -- ---- what an event brought
 
@@ -56,15 +57,15 @@ module _ (number : ℕ) (line : List ℕ) (rounds : List Round) where
 
 -- the laws on rounds
 abbrev NamesOfRounds : Type 0
-NamesOfRounds = (graph : Tfpg) (k b line : ℕ) (rounds : List Round) (log : Logbook) (round : Round) → IsLogOf graph log → IsRound graph k b rounds log line round → IsRoundOf (sizes_of graph) round
+NamesOfRounds = (graph : Tfpg) (terms : Terms) (line : ℕ) (rounds : List Round) (log : Logbook) (round : Round) → IsLogOf graph log → IsRound graph terms rounds log line round → IsRoundOf (sizes_of graph) round
 
 abbrev FitsOfRounds : Type 0
-FitsOfRounds = (graph : Tfpg) (k b line : ℕ) (rounds : List Round) (log : Logbook) (round : Round) → IsValid graph → IsLogOf graph log → IsOrdered log → IsRound graph k b rounds log line round
-    → SayWhichSetsFit graph log k round.findings
+FitsOfRounds = (graph : Tfpg) (terms : Terms) (line : ℕ) (rounds : List Round) (log : Logbook) (round : Round) → IsValid graph → IsLogOf graph log → IsOrdered log → IsRound graph terms rounds log line round
+    → SayWhichSetsFit graph log terms round.findings
 
 abbrev MinimalOfRounds : Type 0
-MinimalOfRounds = (graph : Tfpg) (k b line : ℕ) (rounds : List Round) (log : Logbook) (round : Round) → IsValid graph → IsLogOf graph log → IsOrdered log → IsRound graph k b rounds log line round
-    → HasNoneOpen round → AreStatusesOfMinimalSets graph log k round.findings
+MinimalOfRounds = (graph : Tfpg) (terms : Terms) (line : ℕ) (rounds : List Round) (log : Logbook) (round : Round) → IsValid graph → IsLogOf graph log → IsOrdered log → IsRound graph terms rounds log line round
+    → HasNoneOpen round → AreStatusesOfMinimalSets graph log terms round.findings
 
 module _ (number : ℕ) (line : List ℕ) (rounds : List Round) (round : Round) (old new : EngineState) (gives : GivesRound number line rounds round old new) (same_graph : new.graph ≡ old.graph)
     (log : Logbook) (log_is : log ≡ new.log) (of : IsLogOf new.graph log) where
@@ -76,25 +77,25 @@ module _ (number : ℕ) (line : List ℕ) (rounds : List Round) (round : Round) 
   pub round_is_of_graph : (lent : Tfpg) → lent ≡ new.graph → NamesOfRounds → IsRoundOf (sizes_of lent) round
   round_is_of_graph lent lent_is law =
       subst (λ (g : Tfpg). IsRoundOf (sizes_of g) round) (sym (lent_is ∙ same_graph))
-      (law old.graph old.k old.budget number rounds new.log round is_of gives.round_is)
+      (law old.graph old.terms number rounds new.log round is_of gives.round_is)
 
   -- it says which sets fit, and whether a set is open
-  pub round_says : IsValid old.graph → IsOrdered log → FitsOfRounds → MinimalOfRounds → RoundSays old.graph old.k old.budget rounds new.log round
+  pub round_says : IsValid old.graph → IsOrdered log → FitsOfRounds → MinimalOfRounds → RoundSays old.graph old.terms rounds new.log round
   round_says valid ordered fit minimal =
       let in_order : IsOrdered new.log = subst IsOrdered log_is ordered in
       record {
         earned = gives.earned;
-        fitting = fit old.graph old.k old.budget number rounds new.log round valid is_of in_order gives.round_is;
-        minimal = minimal old.graph old.k old.budget number rounds new.log round valid is_of in_order gives.round_is;
+        fitting = fit old.graph old.terms number rounds new.log round valid is_of in_order gives.round_is;
+        minimal = minimal old.graph old.terms number rounds new.log round valid is_of in_order gives.round_is;
         none_open = gives.none_open;
       }
 
 -- ---- the blocks
 
-module _ (graph : Tfpg) (k b : ℕ) (before : Progress) (number : ℕ) (line bytes : List ℕ) where
+module _ (graph : Tfpg) (terms : Terms) (before : Progress) (number : ℕ) (line bytes : List ℕ) where
   -- the block of a line that is too long
-  pub block_of_long_line : (engine : EngineState) → LONGEST_LINE < length line → EngineReports graph k b engine before → bytes ≡ refused_text number TooLong
-      → HasBlock graph k b before number line bytes engine
+  pub block_of_long_line : (engine : EngineState) → LONGEST_LINE < length line → EngineReports graph terms engine before → bytes ≡ refused_text number TooLong
+      → HasBlock graph terms before (numbered number line) bytes engine
   block_of_long_line engine lt reports text =
       let long : is_too_long line ≡ true = lt-ltb _ _ lt in
       let block = RefusedBlock number TooLong in
@@ -102,58 +103,57 @@ module _ (graph : Tfpg) (k b : ℕ) (before : Progress) (number : ℕ) (line byt
       let log_same : log_after graph before.log line ≡ before.log = rw long refl in
       record {
         block = block;
-        is_block = subst (IsBlockOf graph k b before number block) (sym none) refl;
+        is_block = subst (IsBlockOf graph terms before number block) (sym none) refl;
         no_losses = tt;
         says = tt;
         text = text;
-        reports = subst (EngineReports graph k b engine) (sym (ap₂ progress_with (append-nil before.rounds) log_same)) reports;
+        reports = subst (EngineReports graph terms engine) (sym (ap₂ progress_with (append-nil before.rounds) log_same)) reports;
       }
 
-  module _ (old new : EngineState) (short : length line ≤ LONGEST_LINE) (reports : EngineReports graph k b old before) where
+  module _ (old new : EngineState) (short : length line ≤ LONGEST_LINE) (reports : EngineReports graph terms old before) where
     -- the block of a line that the log refused
     pub block_of_refusal : (refusal : Refusal) → reply_to old.graph old.log line ≡ Refused refusal → new ≡ old → bytes ≡ refused_text number (Offer refusal)
-        → HasBlock graph k b before number line bytes new
+        → HasBlock graph terms before (numbered number line) bytes new
     block_of_refusal refusal refuses same text =
         let refused : reply_to graph before.log line ≡ Refused refusal =
         subst₂ (λ (g : Tfpg) (l : Logbook). reply_to g l line ≡ Refused refusal) reports.graph_is reports.log_is refuses in
         let block = RefusedBlock number (Offer refusal) in
         record {
           block = block;
-          is_block = subst (IsBlockOf graph k b before number block) (sym (short_line graph before.log line (Refused refusal) short refused)) refl;
+          is_block = subst (IsBlockOf graph terms before number block) (sym (short_line graph before.log line (Refused refusal) short refused)) refl;
           no_losses = tt;
           says = tt;
           text = text;
-          reports = subst (λ (e : EngineState). EngineReports graph k b e (progress_with (before.rounds ++ []) (log_after graph before.log line))) (sym same)
-              (subst (EngineReports graph k b old) (sym (ap₂ progress_with (append-nil before.rounds)
+          reports = subst (λ (e : EngineState). EngineReports graph terms e (progress_with (before.rounds ++ []) (log_after graph before.log line))) (sym same)
+              (subst (EngineReports graph terms old) (sym (ap₂ progress_with (append-nil before.rounds)
               (short_log graph before.log line short ∙ ap (log_after_reply before.log) refused))) reports);
         }
 
     -- the block of a round
-    pub block_of_round : (round : Round) → GivesRound number line before.rounds round old new → RoundSays old.graph old.k old.budget before.rounds new.log round
-        → new.graph ≡ old.graph → new.k ≡ old.k → new.budget ≡ old.budget → bytes ≡ round_text new.graph round
-        → HasBlock graph k b before number line bytes new
-    block_of_round round gives says same_graph same_k same_budget text =
+    pub block_of_round : (round : Round) → GivesRound number line before.rounds round old new → RoundSays old.graph old.terms before.rounds new.log round
+        → new.graph ≡ old.graph → new.terms ≡ old.terms → bytes ≡ round_text new.graph round
+        → HasBlock graph terms before (numbered number line) bytes new
+    block_of_round round gives says same_graph same_terms text =
         let event = gives.event in
         let accepted : reply_to graph before.log line ≡ Accepted event =
         subst₂ (λ (g : Tfpg) (l : Logbook). reply_to g l line ≡ Accepted event) reports.graph_is reports.log_is gives.accepted in
         let log_is : new.log ≡ with_event before.log event = gives.log ∙ ap (λ (l : Logbook). with_event l event) reports.log_is in
         let after_is : log_after graph before.log line ≡ with_event before.log event = short_log graph before.log line short ∙ ap (log_after_reply before.log) accepted in
         let block = RoundBlock round [] in
-        let is_round : IsRound graph k b before.rounds (with_event before.log event) number round =
-        along (λ (g : Tfpg) (x y : ℕ) (l : Logbook). IsRound g x y before.rounds l number round) old.graph graph old.k k old.budget b new.log (with_event before.log event)
-        reports.graph_is reports.k_is reports.budget_is log_is gives.round_is in
+        let is_round : IsRound graph terms before.rounds (with_event before.log event) number round =
+        along (λ (g : Tfpg) (x : Terms) (l : Logbook). IsRound g x before.rounds l number round) old.graph graph old.terms terms new.log (with_event before.log event)
+        reports.graph_is reports.terms_is log_is gives.round_is in
         record {
           block = block;
-          is_block = subst (IsBlockOf graph k b before number block) (sym (short_line graph before.log line (Accepted event) short accepted))
+          is_block = subst (IsBlockOf graph terms before number block) (sym (short_line graph before.log line (Accepted event) short accepted))
               (round, [], refl, is_round, λ i j d lt below. absurd (omega arith));
           no_losses = refl;
-          says = along (λ (g : Tfpg) (x y : ℕ) (l : Logbook). RoundSays g x y before.rounds l round) old.graph graph old.k k old.budget b new.log (log_after graph before.log line)
-              reports.graph_is reports.k_is reports.budget_is (log_is ∙ sym after_is) says;
+          says = along (λ (g : Tfpg) (x : Terms) (l : Logbook). RoundSays g x before.rounds l round) old.graph graph old.terms terms new.log (log_after graph before.log line)
+              reports.graph_is reports.terms_is (log_is ∙ sym after_is) says;
           text = text ∙ ap (λ (g : Tfpg). round_text g round) (same_graph ∙ reports.graph_is) ∙ sym (append-nil (round_text graph round));
           reports = record {
             graph_is = same_graph ∙ reports.graph_is;
-            k_is = same_k ∙ reports.k_is;
-            budget_is = same_budget ∙ reports.budget_is;
+            terms_is = same_terms ∙ reports.terms_is;
             log_is = log_is ∙ sym after_is;
             represents = gives.represents;
           };

@@ -21,7 +21,7 @@ use Rattle.tfpg.specs.declared.map.MapReader.{MapReader}
 use Rattle.tfpg.specs.declared.map.NoMap.{NoMap}
 use Rattle.tfpg.specs.declared.map.NoMap.TheVariants as none
 use Rattle.tfpg.specs.inside.MapLines.{HasRead, MapRepresents}
-use Rattle.tfpg.specs.inside.MapReading.{IsReadingMap, HasReadAll, ReadsMap, ReturnsMap, LacksMap}
+use Rattle.tfpg.specs.inside.MapReading.{IsReadingMap, HasReadAll, ReadsMap, ReturnsMap, LacksMap, map_reading_at}
 use Rattle.tfpg_base.proofs.lists.Cuts.{front_is_within, front_before, front_with}
 use Rattle.tfpg.proofs.InputLines.{rest_of, rest_is_left, rest_at_end, front_of_input, came_to_end, few_lines}
 use Rattle.tfpg.proofs.MapTexts.{HasRead-begins, no_map-long}
@@ -29,14 +29,14 @@ use Rattle.tfpg.proofs.MapTexts.{HasRead-begins, no_map-long}
 -- ---- the lines read so far
 
 -- no more lines are read than bytes may be taken, but for a last one
-pub few_read : (graph : Tfpg) (before now : SourceState) (lines : LinesState) (map : MapReader) → IsReadingMap graph before now lines map → lines.number ≤ MAX_BYTES + 1
+pub few_read : (graph : Tfpg) (before now : SourceState) (lines : LinesState) (map : MapReader) → IsReadingMap graph before (map_reading_at now lines map) → lines.number ≤ MAX_BYTES + 1
 few_read graph before now lines map under =
     let within = front_is_within (lines_of under.reading.taken) under.reading.given under.front in
     omega (arith, within, few_lines under.reading.taken, under.few, under.represents.number)
 
 -- ---- a turn
 
-module _ (graph : Tfpg) (before now : SourceState) (lines lines' : LinesState) (map : MapReader) (input : SourceState) (under : IsReadingMap graph before now lines map) where
+module _ (graph : Tfpg) (before now : SourceState) (lines lines' : LinesState) (map : MapReader) (input : SourceState) (under : IsReadingMap graph before (map_reading_at now lines map)) where
   -- the lines so far begin a map
   so_far : BeginsMap graph under.reading.given
   so_far = HasRead-begins graph map.set map.trace under.reading.given under.read
@@ -57,7 +57,7 @@ module _ (graph : Tfpg) (before now : SourceState) (lines lines' : LinesState) (
       record {
         taken = reading.taken ++ turn.more;
         takes = Takes-append before now input reading.taken turn.more under.takes turn.takes;
-        shown = (turn.returns.1, subst (BeginsMap graph) (sym turn.returns.0) so_far);
+        shown = (turn.returns.1, subst (BeginsMap graph) (sym turn.returns.0) so_far, turn.faults ∙ under.no_fault);
       }
 
   -- the input has ended
@@ -76,7 +76,7 @@ module _ (graph : Tfpg) (before now : SourceState) (lines lines' : LinesState) (
 
   module _ (gave : GaveLine under.reading now input lines') where
     -- the line is read
-    reads_line : (map' : MapReader) → MapRepresents graph map' (under.reading.given ++ gave.first ∷ []) → IsReadingMap graph before input lines' map' × (lines'.number ≡ lines.number + 1)
+    reads_line : (map' : MapReader) → MapRepresents graph map' (under.reading.given ++ gave.first ∷ []) → IsReadingMap graph before (map_reading_at input lines' map') × (lines'.number ≡ lines.number + 1)
     reads_line map' read =
         let reading = under.reading in (
           record {
@@ -123,12 +123,12 @@ module _ (graph : Tfpg) (before now : SourceState) (lines lines' : LinesState) (
     lacks_memory_there = record {
       taken = under.reading.taken ++ gave.more;
       takes = Takes-append before now input under.reading.taken gave.more under.takes gave.takes;
-      shown = tt;
+      shown = gave.no_fault ∙ under.no_fault;
     }
 
 -- ---- as the code comes to it
 
-module _ (graph : Tfpg) (before now : SourceState) (lines lines' : LinesState) (map : MapReader) (input : SourceState) (under : IsReadingMap graph before now lines map)
+module _ (graph : Tfpg) (before now : SourceState) (lines lines' : LinesState) (map : MapReader) (input : SourceState) (under : IsReadingMap graph before (map_reading_at now lines map))
     (l : Line) (continues : Continues under.reading under.reading.ended now input (Ok l) lines') where
   -- the input has ended
   pub met_end : l ≡ line.End → HasReadAll graph before input map
@@ -151,7 +151,7 @@ module _ (graph : Tfpg) (before now : SourceState) (lines lines' : LinesState) (
 
     -- that is read
     pub met_read : ((given : List (List ℕ)) → MapRepresents graph map given → length text ≤ LONGEST_LINE → MapRepresents graph map' (given ++ text ∷ []))
-        → IsReadingMap graph before input lines' map' × (lines'.number ≡ lines.number + 1)
+        → IsReadingMap graph before (map_reading_at input lines' map') × (lines'.number ≡ lines.number + 1)
     met_read reads =
         reads_line graph before now lines lines' map input under met_text.0 map'
         (subst (λ (t : List ℕ). MapRepresents graph map' (under.reading.given ++ t ∷ [])) (sym along)

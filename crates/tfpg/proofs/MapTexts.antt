@@ -127,8 +127,8 @@ next_listed graph valid (first ∷ listed) (other ∷ others) line more these th
 pub no_map-activation : (graph : Tfpg) → IsValid graph → (lines : List (List ℕ)) (set : List ℕ) (trace : List Activation) (line : List ℕ) → SpellsMap graph lines set trace
     → IsNoActivation graph trace line → BeginsMap graph (lines ++ line ∷ []) → ⊥
 no_map-activation graph valid lines set trace line spells none begins =
-    let whole = begins.3 in
-    let same : set_line graph set ∷ (map (activation_line graph) spells.listed ++ line ∷ begins.0) ≡ set_line graph begins.1 ∷ map (activation_line graph) whole.listed =
+    let whole = begins.1.2 in
+    let same : set_line graph set ∷ (map (activation_line graph) spells.listed ++ line ∷ begins.0) ≡ set_line graph begins.1.0 ∷ map (activation_line graph) whole.listed =
     sym (append_assoc lines (line ∷ []) begins.0 ∙ ap (λ (ls : List (List ℕ)). ls ++ line ∷ begins.0) spells.spelled) ∙ whole.spelled in
     let tail : map (activation_line graph) spells.listed ++ line ∷ begins.0 ≡ map (activation_line graph) whole.listed = cc in
     let next = next_listed graph valid spells.listed whole.listed line begins.0 spells.of_nodes whole.of_nodes whole.once tail in
@@ -137,7 +137,7 @@ no_map-activation graph valid lines set trace line spells none begins =
 -- nor does one go on with a line that is too long
 pub no_map-long : (graph : Tfpg) (lines : List (List ℕ)) (line : List ℕ) → LONGEST_LINE < length line → BeginsMap graph (lines ++ line ∷ []) → ⊥
 no_map-long graph lines line long begins =
-    let short = All-contains (λ l. length l ≤ LONGEST_LINE) _ line begins.3.short (subst (λ (ls : List (List ℕ)). Contains ls line) (sym (append_assoc lines (line ∷ []) begins.0)) (Contains-middle lines line begins.0)) in
+    let short = All-contains (λ l. length l ≤ LONGEST_LINE) _ line begins.1.2.short (subst (λ (ls : List (List ℕ)). Contains ls line) (sym (append_assoc lines (line ∷ []) begins.0)) (Contains-middle lines line begins.0)) in
     omega (arith, long, short)
 
 -- ---- as the code comes to it
@@ -146,12 +146,14 @@ no_map-long graph lines line long begins =
 pub HasRead-begins : (graph : Tfpg) (set : Option (List ℕ)) (trace : List Activation) (lines : List (List ℕ)) → HasRead graph set trace lines → BeginsMap graph lines
 HasRead-begins graph None trace lines read = (
   set_line graph [] ∷ [],
-  [],
-  [],
-  subst (λ (ls : List (List ℕ)). SpellsMap graph (ls ++ set_line graph [] ∷ []) [] []) (sym read.0)
-      (SpellsMap-set graph (set_line graph []) [] (record { rising = λ i j d lt below. absurd (omega arith); members = All-nil _ }) refl (omega arith)),
+  (
+    [],
+    [],
+    subst (λ (ls : List (List ℕ)). SpellsMap graph (ls ++ set_line graph [] ∷ []) [] []) (sym read.0)
+        (SpellsMap-set graph (set_line graph []) [] (record { rising = λ i j d lt below. absurd (omega arith); members = All-nil _ }) refl (omega arith)),
+  ),
 )
-HasRead-begins graph (Some set) trace lines read = ([], set, trace, subst (λ (ls : List (List ℕ)). SpellsMap graph ls set trace) (sym (append-nil lines)) read)
+HasRead-begins graph (Some set) trace lines read = ([], (set, trace, subst (λ (ls : List (List ℕ)). SpellsMap graph ls set trace) (sym (append-nil lines)) read))
 
 -- one more line
 pub HasRead-more : (graph : Tfpg) (set : List ℕ) (seen : Option (List ℕ)) (trace now : List Activation) (lines : List (List ℕ)) (line : List ℕ) → seen ≡ Some set → HasRead graph seen trace lines

@@ -20,14 +20,14 @@ use Rattle.tfpg_base.proofs.lists.Elements.{AllPairs-head, AllPairs-tail, AllPai
 use Rattle.tfpg_base.proofs.Numbers.{number_of-decimal, decimal-number_of, number_up_to-value}
 use Rattle.tfpg_base.proofs.Separators.{name_lacks, join_with_byte-words_of}
 use Rattle.tfpg_base.proofs.lists.Lacking.{Lacks, lacks_checked, decimal_lacks, slice_split-join}
-use Rattle.tfpg_graph.specs.Graph.{Tfpg, name_at, name_word, node_named, failures, failure_at, position_of_failure, is_failure, IsSetOf}
+use Rattle.tfpg_graph.specs.Graph.{Tfpg, name_at, name_word, node_named, failures, failure_at, position_of_failure, is_failure, IsSetOf, failure_word}
 use Rattle.tfpg_graph.specs.Valid.{IsValid}
 use Rattle.tfpg_graph.proofs.lemmas.declaring.Named.{named_found}
 use Rattle.tfpg_base.proofs.lists.Joined.{All-join}
 use Rattle.tfpg_base.proofs.lists.Positions.{position-at}
 use Rattle.tfpg_graph.proofs.lemmas.reading.SpelledEdges.{is_name-name_word, node_named-name_word}
 use Rattle.tfpg_base.proofs.lists.Numbered.{one_index}
-use Rattle.tfpg_report.specs.Blocks.{set_word, activation_line, failure_word}
+use Rattle.tfpg_report.specs.Blocks.{set_word, activation_line}
 use Rattle.tfpg.specs.Map.{IsActivationOf, set_line}
 use Rattle.tfpg.specs.inside.MapLines.{word_after_set, words_after_at, position_named, AreRisingFrom}
 use Rattle.tfpg_graph.proofs.Numbered.{failure_at-below}

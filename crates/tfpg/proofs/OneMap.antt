@@ -10,10 +10,10 @@ use Rattle.tfpg_base.specs.Trace.{IsRisingByNode, time_of}
 use Rattle.tfpg_base.specs.Words.{words_of, is_name, number_of, number_up_to}
 use Rattle.tfpg_base.proofs.Traces.{time_of-none}
 use Rattle.tfpg_base.proofs.lists.Elements.{AllPairs-head, AllPairs-tail}
-use Rattle.tfpg_graph.specs.Graph.{Tfpg, failures, IsSetOf}
+use Rattle.tfpg_graph.specs.Graph.{Tfpg, failures, IsSetOf, failure_word}
 use Rattle.tfpg_graph.specs.Valid.{IsValid}
 use Rattle.tfpg_base.proofs.lists.Lacking.{slice_split-join}
-use Rattle.tfpg_report.specs.Blocks.{set_word, activation_line, failure_word}
+use Rattle.tfpg_report.specs.Blocks.{set_word, activation_line}
 use Rattle.tfpg.specs.Map.{IsActivationOf, SpellsMap, set_line}
 use Rattle.tfpg.specs.inside.MapLines.{word_after_set, words_after_at, position_named}
 use Rattle.tfpg.proofs.MapWords.{one_node, activation_line-read, time_read, position_named-name, failure_word-is_name, names_lack, set_line-read}

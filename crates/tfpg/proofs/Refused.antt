@@ -1,17 +1,19 @@
 -- Files that give no graph, or no log.
-use Rattle.std.proofs.Common.{◌≡◌, ◌⊎◌, ℕ, List, [], ◌∷◌, ◌++◌, take, Option, Some, None, IfSome, ap, subst, ◌∙◌, inl, inr, append_assoc}
-use Rattle.tfpg_base.specs.Outside.{ShelfState, NotesName, file_of}
+use Rattle.std.proofs.Common.{◌≡◌, ◌⊎◌, ℕ, ◌<◌, List, [], ◌∷◌, ◌++◌, length, take, Option, Some, None, IfSome, ap, subst, ◌∙◌, inl, inr, append_assoc}
+use Rattle.tfpg_base.specs.declared.outside.ShelfFault.{ShelfFault}
+use Rattle.tfpg_base.specs.declared.outside.ShelfFault.TheVariants as faults
+use Rattle.tfpg_base.specs.Outside.{ShelfState, Rose, NotesName, file_of}
 use Rattle.tfpg_graph.specs.declared.cause.GraphRefusal.{GraphRefusal}
 use Rattle.tfpg_graph.specs.declared.cause.GraphRefusal.TheVariants.{Fault, NoMemory}
 use Rattle.tfpg_graph.specs.Faults.{IsRefusalOf}
-use Rattle.tfpg.specs.inside.Faults.{fetch_fault_of_refusal}
-use Rattle.tfpg.specs.Fetch.{HasFile, IsFetchFault, IsFilesFault, AsksFor, AsksInOrder}
+use Rattle.tfpg.specs.inside.Faults.{IsFileFault, fetch_fault_of_refusal, fetch_fault_of_shelf}
+use Rattle.tfpg.specs.Fetch.{HasFile, IsTooLong, IsFetchFault, IsFilesFault, AsksFor, AsksInOrder}
 
 -- the refusal of a text that was fetched is why there is no graph
 pub IsFetchFault-refused : (before now : ShelfState) (name text : List ℕ) (refusal : GraphRefusal)
-    → HasFile before name text → IsRefusalOf text refusal → IsFetchFault before now name (fetch_fault_of_refusal refusal)
-IsFetchFault-refused before now name text (Fault fault) file refused = record { text = text; file = file; first = refused }
-IsFetchFault-refused before now name text NoMemory file refused = tt
+    → HasFile before name text → now.faults ≡ before.faults → IsRefusalOf text refusal → IsFetchFault before now name (fetch_fault_of_refusal refusal)
+IsFetchFault-refused before now name text (Fault fault) file unchanged refused = (record { text = text; file = file; first = refused }, unchanged)
+IsFetchFault-refused before now name text NoMemory file unchanged refused = unchanged
 
 -- ---- two files
 
@@ -22,11 +24,36 @@ HasFile-before before mid name text same file = record {
   small = file.small;
 }
 
+-- so is one that is too long
+IsTooLong-before : (before mid : ShelfState) (name : List ℕ) → mid.files ≡ before.files → IsTooLong mid name → IsTooLong before name
+IsTooLong-before before mid name same long = (
+  long.0,
+  (long.1.0, subst (λ (files : Option (List (List ℕ × List ℕ))). IfSome files (λ fs. (more : List ℕ) × (0 < length more) × (file_of fs name ≡ Some (long.0 ++ more)))) same long.1.1),
+)
+
+-- the first was not fetched
+pub IsFilesFault-first : (before now : ShelfState) (first second : List ℕ) (fault : ShelfFault) → IsFileFault before now first fault
+    → IsFilesFault before now first second (fetch_fault_of_shelf fault)
+IsFilesFault-first before now first second faults.Failed is = (is.0, inl is.1)
+IsFilesFault-first before now first second faults.TooLong is = (inl is.0, is.1)
+IsFilesFault-first before now first second faults.NoMemory is = is
+
+-- the first was, and the other was not
+pub IsFilesFault-second : (before mid now : ShelfState) (first second text : List ℕ) (fault : ShelfFault) → mid.files ≡ before.files → mid.faults ≡ before.faults
+    → HasFile before first text → IsFileFault mid now second fault → IsFilesFault before now first second (fetch_fault_of_shelf fault)
+IsFilesFault-second before mid now first second text faults.Failed same unchanged file is = (subst (λ (count : ℕ). Rose count now.faults) unchanged is.0, inr (text, file))
+IsFilesFault-second before mid now first second text faults.TooLong same unchanged file is = (
+  inr (text, file, IsTooLong-before before mid second same is.0),
+  is.1 ∙ unchanged,
+)
+IsFilesFault-second before mid now first second text faults.NoMemory same unchanged file is = is ∙ unchanged
+
 -- the text of the first is refused
 pub IsFilesFault-refused : (before now : ShelfState) (graph_name log_name : List ℕ) (refusal : GraphRefusal) (text other : List ℕ) → HasFile before graph_name text → HasFile before log_name other
-    → IsRefusalOf text refusal → IsFilesFault before now graph_name log_name (fetch_fault_of_refusal refusal)
-IsFilesFault-refused before now graph_name log_name (Fault fault) text other file log refused = (other, log, record { text = text; file = file; first = refused })
-IsFilesFault-refused before now graph_name log_name NoMemory text other file log refused = tt
+    → now.faults ≡ before.faults → IsRefusalOf text refusal → IsFilesFault before now graph_name log_name (fetch_fault_of_refusal refusal)
+IsFilesFault-refused before now graph_name log_name (Fault fault) text other file log unchanged refused =
+    ((other, log), record { text = text; file = file; first = refused }, unchanged)
+IsFilesFault-refused before now graph_name log_name NoMemory text other file log unchanged refused = unchanged
 
 -- ---- names asked for
 

@@ -1,10 +1,12 @@
 -- One turn of a diagnosis after another.
-use Rattle.std.proofs.Common.{◌≡◌, ℕ, ◌+◌, ◌<◌, ◌≤◌, List, [], ◌∷◌, ◌++◌, length, take, drop, Some, Result, Ok, Err, refl, sym, ap, subst, ◌∙◌, arith, inl, ⊎_elim, append_assoc}
+use Rattle.std.proofs.Common.{◌≡◌, ℕ, ◌+◌, ◌<◌, ◌≤◌, List, [], ◌∷◌, ◌++◌, length, take, Some, Result, Ok, Err, refl, sym, ap, subst, ◌∙◌, arith, inl, inr, ⊎_elim, append_assoc}
+use Rattle.std.specs.List.{AllByRecursion}
 use Rattle.std.specs.Prelude.{flat_map, slice_get}
 use Rattle.std.proofs.lemmas.Bool.{cases_lt}
-use Rattle.std.proofs.lemmas.List.{take-append-drop, take-append-le, append-nil, length-append, take_at}
+use Rattle.std.proofs.lemmas.List.{take-append-le, append-nil, length-append, take_at}
 use Rattle.std.proofs.lemmas.List.Concat.{flat_map-append}
 use Rattle.std.proofs.lemmas.Option.{slice_get_within, same_Some}
+use Rattle.tfpg_base.specs.declared.terms.Terms.{Terms}
 use Rattle.tfpg_base.specs.declared.line.Line.{Line}
 use Rattle.tfpg_base.specs.declared.line.Line.TheVariants as line
 use Rattle.tfpg_base.specs.declared.line.LineFault.{LineFault}
@@ -12,7 +14,6 @@ use Rattle.tfpg_base.specs.declared.line.LineFault.TheVariants as fault
 use Rattle.tfpg_base.specs.Outside.{SourceState, SinkState, Rose, Takes, Puts}
 use Rattle.tfpg_base.specs.Lines.{LinesState, LinesRepresent, Continues, with_bytes, with_line, lines_of, whole_lines, new_reading}
 use Rattle.tfpg_base.specs.declared.limits.TheConstants.{LONGEST_LINE, MAX_BYTES}
-use Rattle.tfpg_base.proofs.LinesOf.{take-lines_of}
 use Rattle.tfpg_base.proofs.Taking.{Takes-append, Takes-nothing}
 use Rattle.tfpg_base.proofs.ReadingOn.{GaveLine, Continues-turn, Continues-text, Continues-too_long}
 use Rattle.tfpg_graph.specs.Graph.{Tfpg}
@@ -26,11 +27,12 @@ use Rattle.tfpg.specs.declared.fault.StreamFault.{StreamFault}
 use Rattle.tfpg.specs.declared.fault.StreamFault.TheVariants as faults
 use Rattle.tfpg.specs.inside.Faults.{stream_fault_of_lines}
 use Rattle.tfpg.specs.ForNow.{LosesNone}
-use Rattle.tfpg.specs.Saying.{BlockSays, RoundsSay}
-use Rattle.tfpg.specs.Run.{BeginsReportOfInput, DiagnosisEnds, Diagnoses}
+use Rattle.tfpg.specs.Saying.{BlockSays, RoundsSay, IsRightReport}
+use Rattle.tfpg.specs.Outputs.{HasOutputOfFirstLines, BeginsOutputOfInput, LineByLineEnds}
+use Rattle.tfpg.specs.Run.{Diagnoses}
 use Rattle.tfpg.specs.Streams.{Streams}
-use Rattle.tfpg.specs.inside.LineBlocks.{EngineReports, HasBlock}
-use Rattle.tfpg.specs.inside.Course.{IsDiagnosing}
+use Rattle.tfpg.specs.inside.LineBlocks.{EngineReports, HasBlock, numbered}
+use Rattle.tfpg.specs.inside.Course.{IsDiagnosing, diagnosis_at}
 use Rattle.tfpg.proofs.LineBlocks.{block_of_long_line}
 use Rattle.tfpg_base.proofs.lists.Cuts.{front_is_within, front_before, front_with}
 use Rattle.tfpg.proofs.InputLines.{rest_of, rest_is_left, front_of_input, came_to_end, few_lines}
@@ -44,8 +46,8 @@ GoesOnByBlocks = (graph : Tfpg) (lines : List (List ℕ)) (blocks : List Block) 
     → progress_of graph (lines ++ line ∷ []) (blocks ++ block ∷ []) ≡ progress_after graph (progress_of graph lines blocks) line block
 
 -- no line has no block
-AreBlocks-none : (graph : Tfpg) (k b : ℕ) → AreBlocks graph k b [] []
-AreBlocks-none graph k b = record { one_each = refl; each = λ index line block at there. absurd (omega (arith, slice_get_within {A = List ℕ} [] index line at)) }
+AreBlocks-none : (graph : Tfpg) (terms : Terms) → AreBlocks graph terms [] []
+AreBlocks-none graph terms = record { one_each = refl; each = λ index line block at there. absurd (omega (arith, slice_get_within {A = List ℕ} [] index line at)) }
 
 -- what holds of each line and of its block, after what the report had come to
 abbrev HoldsOfEach : Tfpg → (Progress → ℕ → List ℕ → Block → Type 0) → List (List ℕ) → List Block → Type 0
@@ -81,46 +83,59 @@ module _ (graph : Tfpg) (P : Progress → ℕ → List ℕ → Block → Type 0)
       (cases_lt index (length lines))
 
 -- the blocks of some lines, and one block more
-pub AreBlocks-push : (graph : Tfpg) (k b : ℕ) (lines : List (List ℕ)) (blocks : List Block) (last : List ℕ) (end : Block) (number : ℕ) → AreBlocks graph k b lines blocks
-    → number ≡ 1 + length lines → IsBlock graph k b (progress_of graph lines blocks) number last end → AreBlocks graph k b (lines ++ last ∷ []) (blocks ++ end ∷ [])
-AreBlocks-push graph k b lines blocks last end number are numbered is = record {
+pub AreBlocks-push : (graph : Tfpg) (terms : Terms) (lines : List (List ℕ)) (blocks : List Block) (last : List ℕ) (end : Block) (number : ℕ) → AreBlocks graph terms lines blocks
+    → number ≡ 1 + length lines → IsBlock graph terms (progress_of graph lines blocks) number last end → AreBlocks graph terms (lines ++ last ∷ []) (blocks ++ end ∷ [])
+AreBlocks-push graph terms lines blocks last end number are numbered is = record {
   one_each = omega (arith, are.one_each, length-append blocks (end ∷ []), length-append lines (last ∷ []));
-  each = holds_of_one_more graph (λ before index line block. IsBlock graph k b before (index + 1) line block) lines blocks last end are.one_each are.each
-      (subst (λ (n : ℕ). IsBlock graph k b (progress_of graph lines blocks) n last end) (omega (arith, numbered)) is);
+  each = holds_of_one_more graph (λ before index line block. IsBlock graph terms before (index + 1) line block) lines blocks last end are.one_each are.each
+      (subst (λ (n : ℕ). IsBlock graph terms (progress_of graph lines blocks) n last end) (omega (arith, numbered)) is);
 }
 
 -- what the rounds of some blocks say, and of one more
-RoundsSay-push : (graph : Tfpg) (k b : ℕ) (lines : List (List ℕ)) (blocks : List Block) (last : List ℕ) (end : Block) → length blocks ≡ length lines → RoundsSay graph k b lines blocks
-    → BlockSays graph k b (progress_of graph lines blocks) last end → RoundsSay graph k b (lines ++ last ∷ []) (blocks ++ end ∷ [])
-RoundsSay-push graph k b lines blocks last end one_each say says =
-    holds_of_one_more graph (λ before index line block. BlockSays graph k b before line block) lines blocks last end one_each say says
+RoundsSay-push : (graph : Tfpg) (terms : Terms) (lines : List (List ℕ)) (blocks : List Block) (last : List ℕ) (end : Block) → length blocks ≡ length lines → RoundsSay graph terms lines blocks
+    → BlockSays graph terms (progress_of graph lines blocks) last end → RoundsSay graph terms (lines ++ last ∷ []) (blocks ++ end ∷ [])
+RoundsSay-push graph terms lines blocks last end one_each say says =
+    holds_of_one_more graph (λ before index line block. BlockSays graph terms before line block) lines blocks last end one_each say says
 
 -- no line has no round
-RoundsSay-none : (graph : Tfpg) (k b : ℕ) → RoundsSay graph k b [] []
-RoundsSay-none graph k b index line block at there = absurd (omega (arith, slice_get_within {A = List ℕ} [] index line at))
+RoundsSay-none : (graph : Tfpg) (terms : Terms) → RoundsSay graph terms [] []
+RoundsSay-none graph terms index line block at there = absurd (omega (arith, slice_get_within {A = List ℕ} [] index line at))
 
 -- the text of one block more
-pub report_text-push : (graph : Tfpg) (k b : ℕ) (blocks : List Block) (block : Block) → report_text graph k b blocks ++ block_text graph block ≡ report_text graph k b (blocks ++ block ∷ [])
-report_text-push graph k b blocks block =
-    append_assoc (head_text k b) (flat_map (block_text graph) blocks) (block_text graph block)
-    ∙ ap (λ (t : List ℕ). head_text k b ++ t) (sym (flat_map-append (block_text graph) blocks (block ∷ []) ∙ ap (λ (t : List ℕ). flat_map (block_text graph) blocks ++ t) (append-nil (block_text graph block))))
+pub report_text-push : (graph : Tfpg) (terms : Terms) (blocks : List Block) (block : Block) → report_text graph terms blocks ++ block_text graph block ≡ report_text graph terms (blocks ++ block ∷ [])
+report_text-push graph terms blocks block =
+    append_assoc (head_text terms) (flat_map (block_text graph) blocks) (block_text graph block)
+    ∙ ap (λ (t : List ℕ). head_text terms ++ t) (sym (flat_map-append (block_text graph) blocks (block ∷ []) ∙ ap (λ (t : List ℕ). flat_map (block_text graph) blocks ++ t) (append-nil (block_text graph block))))
 
--- what is written so far begins the report
-begins : (graph : Tfpg) (k b : ℕ) (input : SourceState) (taken : List ℕ) (given : List (List ℕ)) (blocks : List Block) → take (length given) (lines_of (taken ++ rest_of input)) ≡ given
-    → AreBlocks graph k b given blocks → RoundsSay graph k b given blocks → (written rest : List ℕ) → report_text graph k b blocks ≡ written ++ rest
-    → BeginsReportOfInput graph k b input taken blocks written
-begins graph k b input taken given blocks front are say written rest e = record {
+-- the text of the blocks of all lines is right for them
+right_report : (graph : Tfpg) (terms : Terms) (lines given : List (List ℕ)) (blocks : List Block) → lines ≡ given → AreBlocks graph terms given blocks → RoundsSay graph terms given blocks
+    → AllByRecursion LosesNone blocks → IsRightReport graph terms lines (report_text graph terms blocks)
+right_report graph terms lines given blocks same are say no_losses = record {
+  blocks = blocks;
+  report = record { are_blocks = subst (λ (ls : List (List ℕ)). AreBlocks graph terms ls blocks) (sym same) are; text = refl };
+  say = subst (λ (ls : List (List ℕ)). RoundsSay graph terms ls blocks) (sym same) say;
+  no_losses = no_losses;
+}
+
+-- so is that of the first lines of the input
+right_for_first : (graph : Tfpg) (terms : Terms) (input : SourceState) (taken : List ℕ) (given : List (List ℕ)) (blocks : List Block) → take (length given) (lines_of (taken ++ rest_of input)) ≡ given
+    → AreBlocks graph terms given blocks → RoundsSay graph terms given blocks → AllByRecursion LosesNone blocks
+    → HasOutputOfFirstLines (IsRightReport graph terms) input taken (report_text graph terms blocks)
+right_for_first graph terms input taken given blocks front are say no_losses = record {
   rest = rest_of input;
   left = rest_is_left input;
-  begins = record {
-    count = length given;
-    within = front_is_within (lines_of (taken ++ rest_of input)) given front;
-    report = report_text graph k b blocks;
-    is_report = record { are_blocks = subst (λ (ls : List (List ℕ)). AreBlocks graph k b ls blocks) (sym front) are; text = refl };
-    more = rest;
-    begins = e;
-  };
-  say = subst (λ (ls : List (List ℕ)). RoundsSay graph k b ls blocks) (sym front) say;
+  count = length given;
+  within = front_is_within (lines_of (taken ++ rest_of input)) given front;
+  right = right_report graph terms (take (length given) (lines_of (taken ++ rest_of input))) given blocks front are say no_losses;
+}
+
+-- a front of it begins what is right
+begins : (graph : Tfpg) (terms : Terms) (input : SourceState) (taken : List ℕ) (given : List (List ℕ)) (blocks : List Block) → take (length given) (lines_of (taken ++ rest_of input)) ≡ given
+    → AreBlocks graph terms given blocks → RoundsSay graph terms given blocks → AllByRecursion LosesNone blocks → (written rest : List ℕ) → report_text graph terms blocks ≡ written ++ rest
+    → BeginsOutputOfInput (IsRightReport graph terms) input taken written
+begins graph terms input taken given blocks front are say no_losses written rest e = record {
+  more = rest;
+  begins = subst (HasOutputOfFirstLines (IsRightReport graph terms) input taken) e (right_for_first graph terms input taken given blocks front are say no_losses);
 }
 
 -- ---- ends
@@ -130,58 +145,43 @@ abbrev pub asked : Streams → SourceState → Streams
 asked now input = record { input = input; output = now.output }
 
 -- a diagnosis ends in this way where so much more was taken and nothing more was written
-ended_with : (graph : Tfpg) (k b : ℕ) (before now : Streams) (lines : LinesState) (engine : EngineState) (input : SourceState) (under : IsDiagnosing graph k b before now lines engine) (more : List ℕ)
+ended_with : (graph : Tfpg) (terms : Terms) (before now : Streams) (lines : LinesState) (engine : EngineState) (input : SourceState) (under : IsDiagnosing graph terms before (diagnosis_at now lines engine)) (more : List ℕ)
     → Takes now.input input more → (result : Result (Unit {0}) StreamFault)
-    → DiagnosisEnds graph k b before (asked now input) (under.reading.taken ++ more) under.blocks (report_text graph k b under.blocks) result → Diagnoses graph k b before (asked now input) result
-ended_with graph k b before now lines engine input under more takes result ends = record {
+    → LineByLineEnds (IsRightReport graph terms) before (asked now input) (under.reading.taken ++ more) (report_text graph terms under.blocks) result → Diagnoses graph terms before (asked now input) result
+ended_with graph terms before now lines engine input under more takes result ends = record {
   taken = under.reading.taken ++ more;
   takes = Takes-append before.input now.input input under.reading.taken more under.takes takes;
-  written = report_text graph k b under.blocks;
+  written = report_text graph terms under.blocks;
   writes = under.writes;
-  blocks = under.blocks;
-  no_losses = under.no_losses;
   ends = ends;
 }
 
 -- a fault of the reader ends the diagnosis
-pub ends_by_fault : (graph : Tfpg) (k b : ℕ) (before now : Streams) (lines lines' : LinesState) (engine : EngineState) (input : SourceState) (f : LineFault)
-    → (under : IsDiagnosing graph k b before now lines engine) → Continues under.reading under.reading.ended now.input input (Err f) lines'
-    → Diagnoses graph k b before (asked now input) (Err (stream_fault_of_lines f))
-ends_by_fault graph k b before now lines lines' engine input fault.ReadFault under continues =
-    let reading = under.reading in
-    let turn = Continues-turn reading now.input input (Err fault.ReadFault) lines' under.goes_on (λ e. cc) continues in
-    let taken = reading.taken ++ turn.more in
-    let front : take (length reading.given) (lines_of (taken ++ rest_of input)) ≡ reading.given =
-    subst (λ (ls : List (List ℕ)). take (length ls) (lines_of (taken ++ rest_of input)) ≡ ls) turn.returns.0 (take-lines_of taken (rest_of input)) in
-    ended_with graph k b before now lines engine input under turn.more turn.takes (Err faults.ReadFault) (
-      subst (λ (count : ℕ). Rose count input.faults) under.no_fault.input turn.faults,
-      begins graph k b input taken reading.given under.blocks front under.are_blocks under.say (report_text graph k b under.blocks) [] (sym (append-nil _)),
+pub ends_by_fault : (graph : Tfpg) (terms : Terms) (before now : Streams) (lines lines' : LinesState) (engine : EngineState) (input : SourceState) (f : LineFault)
+    → (under : IsDiagnosing graph terms before (diagnosis_at now lines engine)) → Continues under.reading under.reading.ended now.input input (Err f) lines'
+    → Diagnoses graph terms before (asked now input) (Err (stream_fault_of_lines f))
+ends_by_fault graph terms before now lines lines' engine input fault.ReadFault under continues =
+    let turn = Continues-turn under.reading now.input input (Err fault.ReadFault) lines' under.goes_on (λ e. cc) continues in
+    ended_with graph terms before now lines engine input under turn.more turn.takes (Err faults.ReadFault) (
+      (subst (λ (count : ℕ). Rose count input.faults) under.no_fault.input turn.faults, under.no_fault.output),
+      right_report graph terms (whole_lines (under.reading.taken ++ turn.more)) under.reading.given under.blocks turn.returns.0 under.are_blocks under.say under.no_losses,
     )
-ends_by_fault graph k b before now lines lines' engine input fault.TooMuchInput under continues =
-    let reading = under.reading in
-    let turn = Continues-turn reading now.input input (Err fault.TooMuchInput) lines' under.goes_on (λ e. cc) continues in
-    let taken = reading.taken ++ turn.more in
-    let firsts = take MAX_BYTES taken in
-    let same : firsts ++ (drop MAX_BYTES taken ++ rest_of input) ≡ taken ++ rest_of input =
-    sym (append_assoc firsts (drop MAX_BYTES taken) (rest_of input)) ∙ ap (λ (bytes : List ℕ). bytes ++ rest_of input) (take-append-drop MAX_BYTES taken) in
-    let front : take (length reading.given) (lines_of (taken ++ rest_of input)) ≡ reading.given =
-    subst (λ (ls : List (List ℕ)). take (length ls) (lines_of (taken ++ rest_of input)) ≡ ls) turn.returns.0
-    (subst (λ (t : List ℕ). take (length (whole_lines firsts)) (lines_of t) ≡ whole_lines firsts) same (take-lines_of firsts (drop MAX_BYTES taken ++ rest_of input))) in
-    ended_with graph k b before now lines engine input under turn.more turn.takes (Err faults.TooMuchInput) (
-      turn.returns.1,
-      begins graph k b input taken reading.given under.blocks front under.are_blocks under.say (report_text graph k b under.blocks) [] (sym (append-nil _)),
+ends_by_fault graph terms before now lines lines' engine input fault.TooMuchInput under continues =
+    let turn = Continues-turn under.reading now.input input (Err fault.TooMuchInput) lines' under.goes_on (λ e. cc) continues in
+    ended_with graph terms before now lines engine input under turn.more turn.takes (Err faults.TooMuchInput) (
+      (turn.returns.1, record { input = turn.faults ∙ under.no_fault.input; output = under.no_fault.output }),
+      right_report graph terms (whole_lines (take MAX_BYTES (under.reading.taken ++ turn.more))) under.reading.given under.blocks turn.returns.0 under.are_blocks under.say under.no_losses,
     )
 
 -- the end of the input ends the diagnosis
-pub ends_done : (graph : Tfpg) (k b : ℕ) (before now : Streams) (lines lines' : LinesState) (engine : EngineState) (input : SourceState)
-    → (under : IsDiagnosing graph k b before now lines engine) → Continues under.reading under.reading.ended now.input input (Ok line.End) lines'
-    → Diagnoses graph k b before (asked now input) (Ok tt)
-ends_done graph k b before now lines lines' engine input under continues =
+pub ends_done : (graph : Tfpg) (terms : Terms) (before now : Streams) (lines lines' : LinesState) (engine : EngineState) (input : SourceState)
+    → (under : IsDiagnosing graph terms before (diagnosis_at now lines engine)) → Continues under.reading under.reading.ended now.input input (Ok line.End) lines'
+    → Diagnoses graph terms before (asked now input) (Ok tt)
+ends_done graph terms before now lines lines' engine input under continues =
     let reading = under.reading in
     let end = came_to_end reading now.input input lines lines' under.few under.goes_on under.represents continues in
-    ended_with graph k b before now lines engine input under end.more end.takes (Ok tt) (record {
-      report = record { are_blocks = subst (λ (ls : List (List ℕ)). AreBlocks graph k b ls under.blocks) (sym end.all) under.are_blocks; text = refl };
-      say = subst (λ (ls : List (List ℕ)). RoundsSay graph k b ls under.blocks) (sym end.all) under.say;
+    ended_with graph terms before now lines engine input under end.more end.takes (Ok tt) (record {
+      right = right_report graph terms (lines_of (reading.taken ++ end.more)) reading.given under.blocks end.all under.are_blocks under.say under.no_losses;
       few = end.few;
       at_end = end.end;
       no_fault = record { input = end.no_fault ∙ under.no_fault.input; output = under.no_fault.output };
@@ -189,42 +189,43 @@ ends_done graph k b before now lines lines' engine input under continues =
 
 -- ---- a line that was read
 
-module _ (graph : Tfpg) (k b : ℕ) (before now : Streams) (lines : LinesState) (engine : EngineState) (input : SourceState) (reader : LinesState)
-    (under : IsDiagnosing graph k b before now lines engine) (gave : GaveLine under.reading now.input input reader) where
-  -- where memory runs out for the block, what was written before begins the report
-  pub gave_without_memory : Diagnoses graph k b before (asked now input) (Err faults.NoMemory)
+module _ (graph : Tfpg) (terms : Terms) (before now : Streams) (lines : LinesState) (engine : EngineState) (input : SourceState) (reader : LinesState)
+    (under : IsDiagnosing graph terms before (diagnosis_at now lines engine)) (gave : GaveLine under.reading now.input input reader) where
+  -- where memory runs out for the block, what was written before is the report of the lines before
+  pub gave_without_memory : Diagnoses graph terms before (asked now input) (Err faults.NoMemory)
   gave_without_memory =
       let reading = under.reading in
       let taken = reading.taken ++ gave.more in
       record {
         taken = taken;
         takes = Takes-append before.input now.input input reading.taken gave.more under.takes gave.takes;
-        written = report_text graph k b under.blocks;
+        written = report_text graph terms under.blocks;
         writes = under.writes;
-        blocks = under.blocks;
-        no_losses = under.no_losses;
         ends = (
-          tt,
-          begins graph k b input taken reading.given under.blocks
+          record { input = gave.no_fault ∙ under.no_fault.input; output = under.no_fault.output },
+          inr (right_for_first graph terms input taken reading.given under.blocks
               (front_before (lines_of (taken ++ rest_of input)) reading.given gave.first (front_of_input (with_bytes reading gave.more) gave.first input gave.next)) under.are_blocks under.say
-              (report_text graph k b under.blocks) [] (sym (append-nil _)),
+              under.no_losses),
         );
       }
 
   module _ (number : ℕ) (bytes : List ℕ) (later : EngineState) (output : SinkState)
-      (number_is : number ≡ reader.number) (block : HasBlock graph k b (progress_of graph under.reading.given under.blocks) number gave.first bytes later) where
-    blocks_are : AreBlocks graph k b (under.reading.given ++ gave.first ∷ []) (under.blocks ++ block.block ∷ [])
+      (number_is : number ≡ reader.number) (block : HasBlock graph terms (progress_of graph under.reading.given under.blocks) (numbered number gave.first) bytes later) where
+    blocks_are : AreBlocks graph terms (under.reading.given ++ gave.first ∷ []) (under.blocks ++ block.block ∷ [])
     blocks_are =
         let given = under.reading.given in
         let index : number ≡ 1 + length given = omega (arith, number_is, gave.stands.number, length-append given (gave.first ∷ [])) in
-        AreBlocks-push graph k b given under.blocks gave.first block.block number under.are_blocks index block.is_block
+        AreBlocks-push graph terms given under.blocks gave.first block.block number under.are_blocks index block.is_block
 
-    rounds_say : RoundsSay graph k b (under.reading.given ++ gave.first ∷ []) (under.blocks ++ block.block ∷ [])
-    rounds_say = RoundsSay-push graph k b under.reading.given under.blocks gave.first block.block under.are_blocks.one_each under.say block.says
+    rounds_say : RoundsSay graph terms (under.reading.given ++ gave.first ∷ []) (under.blocks ++ block.block ∷ [])
+    rounds_say = RoundsSay-push graph terms under.reading.given under.blocks gave.first block.block under.are_blocks.one_each under.say block.says
+
+    none_lost : AllByRecursion LosesNone (under.blocks ++ block.block ∷ [])
+    none_lost = AllByRecursion-push LosesNone under.blocks block.block under.no_losses block.no_losses
 
     -- where the block is written, the diagnosis is under way still
     pub gave_block : GoesOnByBlocks → Puts now.output output bytes → output.faults ≡ now.output.faults
-        → IsDiagnosing graph k b before (record { input = input; output = output }) reader later
+        → IsDiagnosing graph terms before (diagnosis_at (record { input = input; output = output }) reader later)
     gave_block goes_on puts no_fault =
         let reading = under.reading in
         let given = reading.given in
@@ -237,12 +238,12 @@ module _ (graph : Tfpg) (k b : ℕ) (before now : Streams) (lines : LinesState) 
           goes_on = gave.goes_on;
           front = front_with (lines_of taken) given gave.first gave.next.front;
           blocks = under.blocks ++ block.block ∷ [];
-          writes = subst (Puts before.output output) (ap (λ (t : List ℕ). report_text graph k b under.blocks ++ t) block.text ∙ report_text-push graph k b under.blocks block.block)
-              (Puts-append before.output now.output output (report_text graph k b under.blocks) bytes under.writes puts);
+          writes = subst (Puts before.output output) (ap (λ (t : List ℕ). report_text graph terms under.blocks ++ t) block.text ∙ report_text-push graph terms under.blocks block.block)
+              (Puts-append before.output now.output output (report_text graph terms under.blocks) bytes under.writes puts);
           are_blocks = blocks_are;
-          no_losses = AllByRecursion-push LosesNone under.blocks block.block under.no_losses block.no_losses;
+          no_losses = none_lost;
           say = rounds_say;
-          reports = subst (EngineReports graph k b later) (sym (goes_on graph given under.blocks gave.first block.block)) block.reports;
+          reports = subst (EngineReports graph terms later) (sym (goes_on graph given under.blocks gave.first block.block)) block.reports;
           no_fault = record { input = gave.no_fault ∙ under.no_fault.input; output = no_fault ∙ under.no_fault.output };
         }
 
@@ -252,42 +253,40 @@ module _ (graph : Tfpg) (k b : ℕ) (before now : Streams) (lines : LinesState) 
 
     -- where only a front of the block is written, the diagnosis ends with what begins the report
     pub gave_front : (front rest : List ℕ) → bytes ≡ front ++ rest → Puts now.output output front → Rose now.output.faults output.faults
-        → Diagnoses graph k b before (record { input = input; output = output }) (Err faults.WriteFault)
+        → Diagnoses graph terms before (record { input = input; output = output }) (Err faults.WriteFault)
     gave_front front rest parts puts rose =
         let reading = under.reading in
         let given = reading.given in
         let taken = reading.taken ++ gave.more in
-        let written = report_text graph k b under.blocks ++ front in
-        let whole : report_text graph k b (under.blocks ++ block.block ∷ []) ≡ written ++ rest =
-        sym (report_text-push graph k b under.blocks block.block) ∙ ap (λ (t : List ℕ). report_text graph k b under.blocks ++ t) (sym block.text ∙ parts)
-        ∙ sym (append_assoc (report_text graph k b under.blocks) front rest) in
+        let written = report_text graph terms under.blocks ++ front in
+        let whole : report_text graph terms (under.blocks ++ block.block ∷ []) ≡ written ++ rest =
+        sym (report_text-push graph terms under.blocks block.block) ∙ ap (λ (t : List ℕ). report_text graph terms under.blocks ++ t) (sym block.text ∙ parts)
+        ∙ sym (append_assoc (report_text graph terms under.blocks) front rest) in
         record {
           taken = taken;
           takes = Takes-append before.input now.input input reading.taken gave.more under.takes gave.takes;
           written = written;
-          writes = Puts-append before.output now.output output (report_text graph k b under.blocks) front under.writes puts;
-          blocks = under.blocks ++ block.block ∷ [];
-          no_losses = AllByRecursion-push LosesNone under.blocks block.block under.no_losses block.no_losses;
+          writes = Puts-append before.output now.output output (report_text graph terms under.blocks) front under.writes puts;
           ends = (
-            subst (λ (count : ℕ). Rose count output.faults) under.no_fault.output rose,
-            begins graph k b input taken (given ++ gave.first ∷ []) (under.blocks ++ block.block ∷ [])
-                (front_with (lines_of (taken ++ rest_of input)) given gave.first (front_of_input (with_bytes reading gave.more) gave.first input gave.next)) blocks_are rounds_say written rest whole,
+            (subst (λ (count : ℕ). Rose count output.faults) under.no_fault.output rose, gave.no_fault ∙ under.no_fault.input),
+            begins graph terms input taken (given ++ gave.first ∷ []) (under.blocks ++ block.block ∷ [])
+                (front_with (lines_of (taken ++ rest_of input)) given gave.first (front_of_input (with_bytes reading gave.more) gave.first input gave.next)) blocks_are rounds_say none_lost written rest whole,
           );
         }
 
 -- ---- as the code comes to it
 
 -- A line was read, and these bytes are its block.
-pub record IsLineBlock (graph : Tfpg) (k b : ℕ) (before now : Streams) (lines : LinesState) (engine : EngineState) (input : SourceState) (reader : LinesState)
-    (under : IsDiagnosing graph k b before now lines engine) (number : ℕ) (bytes : List ℕ) (later : EngineState) : Type 0 where
+pub record IsLineBlock (graph : Tfpg) (terms : Terms) (before now : Streams) (lines : LinesState) (engine : EngineState) (input : SourceState) (reader : LinesState)
+    (under : IsDiagnosing graph terms before (diagnosis_at now lines engine)) (number : ℕ) (bytes : List ℕ) (later : EngineState) : Type 0 where
   pub gave : GaveLine under.reading now.input input reader
-  pub block : HasBlock graph k b (progress_of graph under.reading.given under.blocks) number gave.first bytes later
+  pub block : HasBlock graph terms (progress_of graph under.reading.given under.blocks) (numbered number gave.first) bytes later
 
-module _ (graph : Tfpg) (k b : ℕ) (before now : Streams) (lines : LinesState) (engine : EngineState) (input : SourceState) (reader : LinesState)
-    (under : IsDiagnosing graph k b before now lines engine) (l : Line) (continues : Continues under.reading under.reading.ended now.input input (Ok l) reader) where
+module _ (graph : Tfpg) (terms : Terms) (before now : Streams) (lines : LinesState) (engine : EngineState) (input : SourceState) (reader : LinesState)
+    (under : IsDiagnosing graph terms before (diagnosis_at now lines engine)) (l : Line) (continues : Continues under.reading under.reading.ended now.input input (Ok l) reader) where
   -- the input has ended
-  pub met_end : l ≡ line.End → Diagnoses graph k b before (asked now input) (Ok tt)
-  met_end e = ends_done graph k b before now lines reader engine input under
+  pub met_end : l ≡ line.End → Diagnoses graph terms before (asked now input) (Ok tt)
+  met_end e = ends_done graph terms before now lines reader engine input under
       (subst (λ (x : Line). Continues under.reading under.reading.ended now.input input (Ok x) reader) e continues)
 
   -- a text was read
@@ -302,8 +301,8 @@ module _ (graph : Tfpg) (k b : ℕ) (before now : Streams) (lines : LinesState) 
 
   -- the block of a text
   pub block_of_text : (number : ℕ) (text bytes : List ℕ) (later : EngineState) → l ≡ line.Text → text ≡ reader.text
-      → ((before : Progress) → EngineReports graph k b engine before → length text ≤ LONGEST_LINE → HasBlock graph k b before number text bytes later)
-      → IsLineBlock graph k b before now lines engine input reader under number bytes later
+      → ((before : Progress) → EngineReports graph terms engine before → length text ≤ LONGEST_LINE → HasBlock graph terms before (numbered number text) bytes later)
+      → IsLineBlock graph terms before now lines engine input reader under number bytes later
   block_of_text number text bytes later e t gives =
       let met = met_text e in
       let text_is : text ≡ met.0.first = t ∙ met.2 in
@@ -311,36 +310,36 @@ module _ (graph : Tfpg) (k b : ℕ) (before now : Streams) (lines : LinesState) 
       let at = progress_of graph under.reading.given under.blocks in
       record {
         gave = met.0;
-        block = subst (λ (x : List ℕ). HasBlock graph k b at number x bytes later) text_is (gives at under.reports short);
+        block = subst (λ (x : List ℕ). HasBlock graph terms at (numbered number x) bytes later) text_is (gives at under.reports short);
       }
 
   -- the block of a line that is too long
   pub block_of_long : (number : ℕ) (bytes : List ℕ) → l ≡ line.TooLong → bytes ≡ refused_text number TooLong
-      → IsLineBlock graph k b before now lines engine input reader under number bytes engine
+      → IsLineBlock graph terms before now lines engine input reader under number bytes engine
   block_of_long number bytes e text =
       let met = met_long e in
       record {
         gave = met.0;
-        block = block_of_long_line graph k b (progress_of graph under.reading.given under.blocks) number met.0.first bytes engine met.1 under.reports text;
+        block = block_of_long_line graph terms (progress_of graph under.reading.given under.blocks) number met.0.first bytes engine met.1 under.reports text;
       }
 
 -- ---- the whole course
 
 -- no more lines are read than bytes may be taken, but for a last one
-pub few_given : (graph : Tfpg) (k b : ℕ) (before now : Streams) (lines : LinesState) (engine : EngineState) → IsDiagnosing graph k b before now lines engine → lines.number ≤ MAX_BYTES + 1
-few_given graph k b before now lines engine under =
+pub few_given : (graph : Tfpg) (terms : Terms) (before now : Streams) (lines : LinesState) (engine : EngineState) → IsDiagnosing graph terms before (diagnosis_at now lines engine) → lines.number ≤ MAX_BYTES + 1
+few_given graph terms before now lines engine under =
     let within = front_is_within (lines_of under.reading.taken) under.reading.given under.front in
     omega (arith, within, few_lines under.reading.taken, under.few, under.represents.number)
 
 -- the first line, as the engine says it
-pub head_as : (k' k b' b : ℕ) (bytes : List ℕ) → k' ≡ k → b' ≡ b → bytes ≡ head_text k' b' → bytes ≡ head_text k b
-head_as k' k b' b bytes e f is = subst (λ (y : ℕ). bytes ≡ head_text k y) f (subst (λ (x : ℕ). bytes ≡ head_text x b') e is)
+pub head_as : (other terms : Terms) (bytes : List ℕ) → other ≡ terms → bytes ≡ head_text other → bytes ≡ head_text terms
+head_as other terms bytes e is = subst (λ (x : Terms). bytes ≡ head_text x) e is
 
 -- a diagnosis begins
-pub begins_under_way : (graph : Tfpg) (k b : ℕ) (before : Streams) (lines : LinesState) (engine : EngineState) (output : SinkState)
-    → LinesRepresent lines new_reading → EngineReports graph k b engine new_progress → Puts before.output output (head_text k b) → output.faults ≡ before.output.faults
-    → IsDiagnosing graph k b before (record { input = before.input; output = output }) lines engine
-begins_under_way graph k b before lines engine output unread new puts no_fault = record {
+pub begins_under_way : (graph : Tfpg) (terms : Terms) (before : Streams) (lines : LinesState) (engine : EngineState) (output : SinkState)
+    → LinesRepresent lines new_reading → EngineReports graph terms engine new_progress → Puts before.output output (head_text terms) → output.faults ≡ before.output.faults
+    → IsDiagnosing graph terms before (diagnosis_at (record { input = before.input; output = output }) lines engine)
+begins_under_way graph terms before lines engine output unread new puts no_fault = record {
   reading = new_reading;
   takes = Takes-nothing before.input;
   few = omega arith;
@@ -348,37 +347,33 @@ begins_under_way graph k b before lines engine output unread new puts no_fault =
   goes_on = inl refl;
   front = refl;
   blocks = [];
-  writes = subst (Puts before.output output) (sym (append-nil (head_text k b))) puts;
-  are_blocks = AreBlocks-none graph k b;
+  writes = subst (Puts before.output output) (sym (append-nil (head_text terms))) puts;
+  are_blocks = AreBlocks-none graph terms;
   no_losses = tt;
-  say = RoundsSay-none graph k b;
+  say = RoundsSay-none graph terms;
   reports = new;
   no_fault = record { input = refl; output = no_fault };
 }
 
 -- a diagnosis ends before it has written its first line whole
-module _ (graph : Tfpg) (k b : ℕ) (before : Streams) where
+module _ (graph : Tfpg) (terms : Terms) (before : Streams) where
   -- without memory, when nothing is written
-  pub begins_without_memory : Diagnoses graph k b before before (Err faults.NoMemory)
+  pub begins_without_memory : Diagnoses graph terms before before (Err faults.NoMemory)
   begins_without_memory = record {
     taken = [];
     takes = Takes-nothing before.input;
     written = [];
     writes = Puts-same_held before.output before.output refl;
-    blocks = [];
-    no_losses = tt;
-    ends = (tt, begins graph k b before.input [] [] [] refl (AreBlocks-none graph k b) (RoundsSay-none graph k b) [] (report_text graph k b []) refl);
+    ends = (record { input = refl; output = refl }, inl refl);
   }
 
   -- or since the output failed
-  pub begins_badly : (output : SinkState) (head front rest : List ℕ) → head ≡ head_text k b → head ≡ front ++ rest → Puts before.output output front → Rose before.output.faults output.faults
-      → Diagnoses graph k b before (record { input = before.input; output = output }) (Err faults.WriteFault)
+  pub begins_badly : (output : SinkState) (head front rest : List ℕ) → head ≡ head_text terms → head ≡ front ++ rest → Puts before.output output front → Rose before.output.faults output.faults
+      → Diagnoses graph terms before (record { input = before.input; output = output }) (Err faults.WriteFault)
   begins_badly output head front rest is parts puts rose = record {
     taken = [];
     takes = Takes-nothing before.input;
     written = front;
     writes = puts;
-    blocks = [];
-    no_losses = tt;
-    ends = (rose, begins graph k b before.input [] [] [] refl (AreBlocks-none graph k b) (RoundsSay-none graph k b) front rest (append-nil (head_text k b) ∙ sym is ∙ parts));
+    ends = ((rose, refl), begins graph terms before.input [] [] [] refl (AreBlocks-none graph terms) (RoundsSay-none graph terms) tt front rest (append-nil (head_text terms) ∙ sym is ∙ parts));
   }

@@ -15,15 +15,15 @@ use Rattle.tfpg_base.proofs.WordLengths.{name_short, number_short}
 use Rattle.tfpg_base.proofs.lists.Distinct.{length-le_distinct}
 use Rattle.tfpg_base.proofs.lists.Joined.{All-join, length-join}
 use Rattle.tfpg_base.proofs.lists.Ordered.{Rises-differ}
-use Rattle.tfpg_graph.specs.Graph.{Tfpg, name_word, failures, IsSetOf}
+use Rattle.tfpg_graph.specs.Graph.{Tfpg, name_word, failures, IsSetOf, failure_word}
 use Rattle.tfpg_graph.specs.Valid.{IsValid}
 use Rattle.tfpg_graph.proofs.lemmas.reading.SpelledEdges.{is_name-name_word}
 use Rattle.tfpg_log.specs.Log.{Logbook, IsOrdered, now_of}
 use Rattle.tfpg_log.specs.Explains.{Explains}
 use Rattle.tfpg_clause.proofs.InRange.{now_in_range}
 use Rattle.tfpg_sim.specs.declared.simulated.Simulated.{Simulated}
-use Rattle.tfpg_sim.proofs.AcceptedLines.{lines_again}
-use Rattle.tfpg_report.specs.Blocks.{set_word, failure_word, activation_line}
+use Rattle.tfpg_log.proofs.AcceptedLines.{lines_again}
+use Rattle.tfpg_report.specs.Blocks.{set_word, activation_line}
 use Rattle.tfpg.specs.Map.{IsActivationOf, SpellsMap, set_line}
 use Rattle.tfpg.specs.MapText.{map_text}
 use Rattle.tfpg.specs.Simulating.{simulated_text}

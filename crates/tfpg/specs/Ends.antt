@@ -3,8 +3,8 @@ use Rattle.std.specs.Prelude.{ℕ, List, [], ◌∷◌, codes, decimal}
 use Rattle.tfpg_base.specs.Words.{line_of}
 use Rattle.tfpg_graph.specs.declared.cause.GraphCause.{GraphCause}
 use Rattle.tfpg_graph.specs.declared.cause.GraphCause.TheVariants as graph
-use Rattle.tfpg.specs.declared.end.CheckCause.{CheckCause}
-use Rattle.tfpg.specs.declared.end.CheckCause.TheVariants as check
+use Rattle.tfpg_check.specs.declared.cause.CheckCause.{CheckCause}
+use Rattle.tfpg_check.specs.declared.cause.CheckCause.TheVariants as check
 use Rattle.tfpg.specs.declared.end.End.{End}
 use Rattle.tfpg.specs.declared.end.End.TheVariants.{Done, NotAccepted, Usage, Graph, TooManyHypotheses, ReadFault, WriteFault, TooMuchInput, NoMemory}
 use Rattle.tfpg_words.specs.declared.usage_cause.UsageCause.{UsageCause}
@@ -24,6 +24,24 @@ status_of NoMemory = 8
 
 -- the name of why a line of the input or of the script is refused
 abbrev pub check_cause_name : CheckCause → List ℕ
+check_cause_name check.AfterClosed = codes "AfterClosed"
+check_cause_name check.NotReusable = codes "NotReusable"
+check_cause_name check.NotAClause = codes "NotAClause"
+check_cause_name check.NotAFact = codes "NotAFact"
+check_cause_name check.NotOnPath = codes "NotOnPath"
+check_cause_name check.Unchained = codes "Unchained"
+check_cause_name check.NotNegative = codes "NotNegative"
+check_cause_name check.BadReport = codes "BadReport"
+check_cause_name check.Surplus = codes "Surplus"
+check_cause_name check.WrongRound = codes "WrongRound"
+check_cause_name check.WrongHypothesis = codes "WrongHypothesis"
+check_cause_name check.WrongRanked = codes "WrongRanked"
+check_cause_name check.NotATrace = codes "NotATrace"
+check_cause_name check.WrongOpen = codes "WrongOpen"
+check_cause_name check.WrongRejected = codes "WrongRejected"
+check_cause_name check.WrongStatus = codes "WrongStatus"
+check_cause_name check.WrongCounts = codes "WrongCounts"
+check_cause_name check.EndsEarly = codes "EndsEarly"
 check_cause_name check.BadMap = codes "BadMap"
 check_cause_name check.BadScript = codes "BadScript"
 

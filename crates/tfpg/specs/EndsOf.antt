@@ -1,5 +1,5 @@
 -- The ends that the faults of a run, and the results of the work of each command, lead to.
-use Rattle.std.specs.Prelude.{Result, Ok, Err}
+use Rattle.std.specs.Prelude.{◌≡◌, Result, Ok, Err}
 use Rattle.tfpg.specs.declared.fault.FetchFault.{FetchFault}
 use Rattle.tfpg.specs.declared.fault.FetchFault.TheVariants as fetch
 use Rattle.tfpg.specs.declared.fault.StreamFault.{StreamFault}
@@ -10,7 +10,7 @@ use Rattle.tfpg.specs.declared.fault.SimulateFault.{SimulateFault}
 use Rattle.tfpg.specs.declared.fault.SimulateFault.TheVariants as simulate
 use Rattle.tfpg.specs.declared.fault.GenerateFault.{GenerateFault}
 use Rattle.tfpg.specs.declared.fault.GenerateFault.TheVariants as generate
-use Rattle.tfpg.specs.declared.end.CheckCause.TheVariants.{BadMap, BadScript}
+use Rattle.tfpg_check.specs.declared.cause.CheckCause.TheVariants.{BadMap, BadScript}
 use Rattle.tfpg.specs.declared.end.End.{End}
 use Rattle.tfpg.specs.declared.end.End.TheVariants as ends
 
@@ -48,3 +48,9 @@ end_of_generate_fault generate.NoMemory = ends.NoMemory
 abbrev pub end_of_result : {E : Type 0} → (E → End) → Result (Unit {0}) E → End
 end_of_result end_of (Ok done) = ends.Done
 end_of_result end_of (Err fault) = end_of fault
+
+-- The work has a result of which this holds, and the run ends as the result says.
+pub record EndsBy {E : Type 0} (Works : Result (Unit {0}) E → Type 0) (end_of : E → End) (end : End) : Type 0 where
+  pub result : Result (Unit {0}) E
+  pub works : Works result
+  pub end_is : end ≡ end_of_result end_of result

@@ -10,13 +10,13 @@ use Rattle.tfpg_sim.specs.declared.simulated.Simulated.{Simulated}
 use Rattle.tfpg_sim.specs.Generated.{generated_graph, generated_script}
 use Rattle.tfpg_sim.specs.Simulated.{IsSimulationOf}
 use Rattle.tfpg.specs.declared.end.End.{End}
-use Rattle.tfpg.specs.declared.limits.TheConstants.{GENERATED_K, GENERATED_BUDGET}
 use Rattle.tfpg.specs.declared.fault.GenerateFault.{GenerateFault}
 use Rattle.tfpg.specs.declared.fault.GenerateFault.TheVariants.{WriteFault, NoMemory}
-use Rattle.tfpg.specs.EndsOf.{end_of_generate_fault, end_of_result}
-use Rattle.tfpg.specs.Diagnosed.{AreRoundsOf}
-use Rattle.tfpg.specs.Streams.{WritesText, BeginsText}
-use Rattle.tfpg.specs.Summary.{summary_text}
+use Rattle.tfpg.specs.EndsOf.{EndsBy, end_of_generate_fault}
+use Rattle.tfpg.specs.Diagnosed.{AreRoundsOf, generated_terms}
+use Rattle.tfpg.specs.Outputs.{WritesText, BeginsText}
+use Rattle.tfpg.specs.Summary.{drawing, summary_text}
+use Rattle.tfpg.specs.World.{World}
 
 -- The text says what was drawn by the number and the size, and what the last of the rounds of the simulated log says:
 -- how many sets have each status, and the status of the simulated set, which is never rejected. A set has at most
@@ -26,13 +26,13 @@ pub record HasSummary (number size : ℕ) (text : List ℕ) : Type 0 where
   pub simulation : IsSimulationOf (generated_graph number size) (generated_script number size) number simulated
   pub earlier : List Round
   pub last : Round
-  pub rounds : AreRoundsOf (generated_graph number size) GENERATED_K GENERATED_BUDGET (lines_of simulated.log)
-      (earlier ++ last ∷ [])
+  pub rounds : AreRoundsOf (generated_graph number size) generated_terms (lines_of simulated.log) (earlier ++ last ∷ [])
   pub truth : Finding
   pub found : Contains last.findings truth
   pub of_set : truth.set ≡ simulated.set
   pub not_rejected : is_rejected truth.status ≡ false
-  pub text_is : text ≡ summary_text number size (generated_graph number size) (length (lines_of simulated.log))
+  pub text_is : text ≡ summary_text
+      (drawing number size (generated_graph number size) (length (lines_of simulated.log)))
       (length (earlier ++ last ∷ [])) last.counts simulated.set truth.status
 
 -- How drawing and diagnosing ends. Before the whole text is known, nothing is written.
@@ -41,8 +41,8 @@ GenerationEnds number size before now (Ok done) = WritesText (HasSummary number 
 GenerationEnds number size before now (Err WriteFault) = BeginsText (HasSummary number size) before now
 GenerationEnds number size before now (Err NoMemory) = now ≡ before
 
--- How `generate` ends.
-pub record GenerateEnds (number size : ℕ) (before now : SinkState) (end : End) : Type 0 where
-  pub result : Result (Unit {0}) GenerateFault
-  pub ends : GenerationEnds number size before now result
-  pub end_is : end ≡ end_of_result end_of_generate_fault result
+-- How `generate` ends, which asks for no file and takes nothing from the input.
+abbrev pub GenerateEnds : ℕ → ℕ → World → World → End → Type 0
+GenerateEnds number size before now end =
+    EndsBy (GenerationEnds number size before.output now.output) end_of_generate_fault end
+    × (now.input ≡ before.input) × (now.shelf ≡ before.shelf)

@@ -3,7 +3,7 @@ use Rattle.std.specs.Prelude.{◌≡◌, ℕ, ◌+◌, ◌≤◌, List, [], ◌+
 use Rattle.tfpg_base.specs.declared.activation.Activation.{Activation}
 use Rattle.tfpg_base.specs.Lines.{lines_of, whole_lines}
 use Rattle.tfpg_base.specs.declared.limits.TheConstants.{MAX_BYTES}
-use Rattle.tfpg_base.specs.Outside.{SourceState, Rose, Takes, Puts, IsAtEnd}
+use Rattle.tfpg_base.specs.Outside.{SourceState, Rose, Takes, IsAtEnd}
 use Rattle.tfpg_graph.specs.Graph.{Tfpg}
 use Rattle.tfpg_log.specs.Log.{Logbook}
 use Rattle.tfpg_trace.specs.declared.verdict.Verdict.{Verdict}
@@ -12,7 +12,8 @@ use Rattle.tfpg.specs.declared.fault.JudgeFault.{JudgeFault}
 use Rattle.tfpg.specs.declared.fault.JudgeFault.TheVariants.{BadMap, Stream}
 use Rattle.tfpg.specs.declared.fault.StreamFault.TheVariants.{ReadFault, WriteFault, TooMuchInput, NoMemory}
 use Rattle.tfpg.specs.Map.{SpellsMap, BeginsMap, IsMapFault}
-use Rattle.tfpg.specs.Streams.{Streams, HasLeft, CountsUnchanged}
+use Rattle.tfpg.specs.Outputs.{WritesText, BeginsText}
+use Rattle.tfpg.specs.Streams.{Streams, HasLeft}
 use Rattle.tfpg.specs.Verdicts.{verdict_text}
 
 -- The whole input was taken, at most 2^32 bytes, and its lines spell this map.
@@ -21,30 +22,14 @@ pub record GivesMap (graph : Tfpg) (input : SourceState) (taken set : List ℕ) 
   pub few : length taken ≤ MAX_BYTES
   pub at_end : IsAtEnd input
 
--- The whole input was taken, its lines spell a map, and this is the verdict on it.
-pub record GivesVerdict (graph : Tfpg) (log : Logbook) (input : SourceState) (taken : List ℕ)
-    (verdict : Verdict) : Type 0 where
+-- The whole input was taken, its lines spell a map, and the text is the verdict on it.
+pub record HasVerdict (graph : Tfpg) (log : Logbook) (input : SourceState) (taken text : List ℕ) : Type 0 where
   pub set : List ℕ
   pub trace : List Activation
   pub gives : GivesMap graph input taken set trace
+  pub verdict : Verdict
   pub right : IsVerdict graph log set trace verdict
-
--- The verdict on the map was written, and nothing failed.
-pub record WritesVerdict (graph : Tfpg) (log : Logbook) (before now : Streams) (taken : List ℕ) : Type 0 where
-  pub verdict : Verdict
-  pub has : GivesVerdict graph log now.input taken verdict
-  pub writes : Puts before.output now.output (verdict_text graph verdict)
-  pub no_fault : CountsUnchanged before now
-
--- The output failed, and what was written begins the verdict on the map.
-pub record BeginsVerdict (graph : Tfpg) (log : Logbook) (before now : Streams) (taken : List ℕ) : Type 0 where
-  pub verdict : Verdict
-  pub has : GivesVerdict graph log now.input taken verdict
-  pub front : List ℕ
-  pub rest : List ℕ
-  pub parts : verdict_text graph verdict ≡ front ++ rest
-  pub writes : Puts before.output now.output front
-  pub rose : Rose before.output.faults now.output.faults
+  pub text_is : text ≡ verdict_text graph verdict
 
 -- The input is what was taken and what is left. Its lines are no map, and this is the number of the first faulty one.
 -- An input without a line was read to its end. Nothing failed.
@@ -56,17 +41,24 @@ pub record RefusesMap (graph : Tfpg) (before now : SourceState) (taken : List �
   pub no_fault : now.faults ≡ before.faults
 
 -- How judging a map ends, where these bytes were taken. Before the verdict is known, nothing is written. Where the
--- input fails or is too long, no line that came whole is faulty.
+-- input fails or is too long, no line that came whole is faulty. Where the input fails, the output does not, and where
+-- the output fails, the input does not; where it ends otherwise, neither does.
 abbrev pub JudgingEnds : Tfpg → Logbook → Streams → Streams → List ℕ → Result (Unit {0}) JudgeFault → Type 0
-JudgingEnds graph log before now taken (Ok done) = WritesVerdict graph log before now taken
+JudgingEnds graph log before now taken (Ok done) =
+    WritesText (HasVerdict graph log now.input taken) before.output now.output
+    × (now.input.faults ≡ before.input.faults)
 JudgingEnds graph log before now taken (Err (BadMap line)) =
     RefusesMap graph before.input now.input taken line × (now.output ≡ before.output)
 JudgingEnds graph log before now taken (Err (Stream ReadFault)) =
     Rose before.input.faults now.input.faults × BeginsMap graph (whole_lines taken) × (now.output ≡ before.output)
-JudgingEnds graph log before now taken (Err (Stream WriteFault)) = BeginsVerdict graph log before now taken
+JudgingEnds graph log before now taken (Err (Stream WriteFault)) =
+    BeginsText (HasVerdict graph log now.input taken) before.output now.output
+    × (now.input.faults ≡ before.input.faults)
 JudgingEnds graph log before now taken (Err (Stream TooMuchInput)) =
-    (length taken ≡ MAX_BYTES + 1) × BeginsMap graph (whole_lines (take MAX_BYTES taken)) × (now.output ≡ before.output)
-JudgingEnds graph log before now taken (Err (Stream NoMemory)) = now.output ≡ before.output
+    (length taken ≡ MAX_BYTES + 1) × BeginsMap graph (whole_lines (take MAX_BYTES taken))
+    × (now.output ≡ before.output) × (now.input.faults ≡ before.input.faults)
+JudgingEnds graph log before now taken (Err (Stream NoMemory)) =
+    (now.output ≡ before.output) × (now.input.faults ≡ before.input.faults)
 
 -- A map was read from the input and judged by the graph and the log, with this result.
 pub record JudgesMap (graph : Tfpg) (log : Logbook) (before now : Streams)

@@ -1,6 +1,8 @@
 -- What the public contracts say.
-pub mod Fetch
+pub mod World
 pub mod Streams
+pub mod Outputs
+pub mod Fetch
 pub mod Judging
 pub mod Verdicts
 pub mod Saying

@@ -1,7 +1,8 @@
 -- The text of a map: a set of failure modes and a trace. And which line of a text is at fault.
-use Rattle.std.specs.Prelude.{◌≡◌, ◌≢◌, ◌⊎◌, ℕ, ◌+◌, ◌<◌, ◌≤◌, List, [], ◌∷◌, ◌++◌, length, map, take, All, AllPairs, codes}
+use Rattle.std.specs.Prelude.{◌≡◌, ◌≢◌, ◌⊎◌, ℕ, ◌<◌, ◌≤◌, List, [], ◌∷◌, ◌++◌, length, map, All, AllPairs, codes}
 use Rattle.tfpg_base.specs.declared.activation.Activation.{Activation}
 use Rattle.tfpg_base.specs.declared.limits.TheConstants.{MAX_TIME, LONGEST_LINE}
+use Rattle.tfpg_sim.specs.FaultyLine.{IsFaultyLine}
 use Rattle.tfpg_base.specs.Trace.{IsRisingByNode, time_of}
 use Rattle.tfpg_base.specs.Words.{line_of}
 use Rattle.tfpg_graph.specs.Graph.{Tfpg, IsSetOf}
@@ -28,19 +29,14 @@ pub record SpellsMap (graph : Tfpg) (lines : List (List ℕ)) (set : List ℕ) (
   pub rising : IsRisingByNode trace
   pub same_times : (node : ℕ) → time_of trace node ≡ time_of listed node
 
+-- The lines spell some map.
+abbrev pub HasMap : Tfpg → List (List ℕ) → Type 0
+HasMap graph lines = (set : List ℕ) × (trace : List Activation) × SpellsMap graph lines set trace
+
 -- Some map begins with these lines.
 abbrev pub BeginsMap : Tfpg → List (List ℕ) → Type 0
-BeginsMap graph lines =
-    (more : List (List ℕ)) × (set : List ℕ) × (trace : List Activation) × SpellsMap graph (lines ++ more) set trace
-
--- The line of this number, counted from 1, is at fault: some map begins with the lines before it, and none with it too.
-pub record IsFaultyLine (graph : Tfpg) (lines : List (List ℕ)) (number : ℕ) : Type 0 where
-  pub index : ℕ
-  pub counted : number ≡ index + 1
-  pub within : index < length lines
-  pub before : BeginsMap graph (take index lines)
-  pub with_it : BeginsMap graph (take (index + 1) lines) → ⊥
+BeginsMap graph lines = (more : List (List ℕ)) × HasMap graph (lines ++ more)
 
 -- Where lines are no map: their first faulty line, or line 1 where there is no line.
 abbrev pub IsMapFault : Tfpg → List (List ℕ) → ℕ → Type 0
-IsMapFault graph lines number = IsFaultyLine graph lines number ⊎ ((lines ≡ []) × (number ≡ 1))
+IsMapFault graph lines number = IsFaultyLine (BeginsMap graph) lines number ⊎ ((lines ≡ []) × (number ≡ 1))

@@ -1,6 +1,6 @@
 -- The input and the output of a run.
-use Rattle.std.specs.Prelude.{◌≡◌, ◌++◌, ℕ, List, IfSome}
-use Rattle.tfpg_base.specs.Outside.{SourceState, SinkState, Puts, Rose}
+use Rattle.std.specs.Prelude.{◌≡◌, ℕ, List, IfSome}
+use Rattle.tfpg_base.specs.Outside.{SourceState, SinkState}
 
 -- the states of the input and the output
 pub record Streams : Type 0 where
@@ -19,18 +19,3 @@ HasLeft input rest = IfSome input.left (λ known. rest ≡ known)
 pub record CountsUnchanged (before now : Streams) : Type 0 where
   pub input : now.input.faults ≡ before.input.faults
   pub output : now.output.faults ≡ before.output.faults
-
--- A text of which this holds was written whole, and the output did not fail.
-pub record WritesText (Is : List ℕ → Type 0) (before now : SinkState) : Type 0 where
-  pub text : List ℕ
-  pub has : Is text
-  pub writes : Puts before now text
-  pub no_fault : now.faults ≡ before.faults
-
--- The output failed, and what was written begins a text of which this holds.
-pub record BeginsText (Is : List ℕ → Type 0) (before now : SinkState) : Type 0 where
-  pub front : List ℕ
-  pub rest : List ℕ
-  pub has : Is (front ++ rest)
-  pub writes : Puts before now front
-  pub rose : Rose before.faults now.faults

@@ -10,14 +10,14 @@ ghost use Rattle.tfpg_report.specs.Blocks.{head_text};
 ghost use Rattle.tfpg.specs.Run.{Diagnoses};
 ghost use Rattle.tfpg.specs.Streams.{Streams, streams};
 ghost use Rattle.tfpg.specs.inside.LineBlocks.{IsEngineReady};
-ghost use Rattle.tfpg.specs.inside.Course.{IsDiagnosing, ComesTo};
+ghost use Rattle.tfpg.specs.inside.Course.{IsDiagnosing, ComesTo, diagnosis_at};
 
 use crate::fault::StreamFault;
 use crate::line_blocks::{line_block, refused_block};
 use crate::output::write_all;
 use std::alloc::Global;
 use std::sync::ledger::Ledger;
-use tfpg_base::{Line, Lines, NoMemory, Sink, Source, Steps};
+use tfpg_base::{Line, Lines, NoMemory, Sink, Source, Steps, Terms};
 use tfpg_check::laws::a_report_goes_on_block_by_block;
 use tfpg_engine::Engine;
 use tfpg_report::{RefusedLine, head};
@@ -40,12 +40,12 @@ pub(crate) fn diagnose<S: Source, K: Sink, L: Ledger>(
     requires valid { IsValid engine.old.graph }
     requires unread { engine.old.log ≡ new_log }
     requires new { EngineRepresents engine.old [] }
-    ensures { Diagnoses engine.old.graph engine.old.k engine.old.budget
+    ensures { Diagnoses engine.old.graph engine.old.terms
         (streams (S.state input.old) (K.state out.old))
         (streams (S.state input.new) (K.state out.new)) result }
 {
     let mut lines = Lines::new(alloc)?;
-    let head = first_line(alloc, engine.k(), engine.budget())?;
+    let head = first_line(alloc, engine.terms())?;
     write_all(out, &head)?;
     loop {
         match take_turn(alloc, engine, &mut lines, input, out, work)? {
@@ -56,11 +56,11 @@ pub(crate) fn diagnose<S: Source, K: Sink, L: Ledger>(
 }
 
 /// The first line of the report.
-fn first_line(alloc: Global, k: u32, budget: u64) -> Result<Vec<u8>, NoMemory>
-    ensures { IfOk result (λ line. line.items ≡ head_text k budget) }
+fn first_line(alloc: Global, terms: Terms) -> Result<Vec<u8>, NoMemory>
+    ensures { IfOk result (λ line. line.items ≡ head_text terms) }
 {
     let mut line = Vec::new(alloc);
-    head(k, budget, &mut line)?;
+    head(terms.k, terms.budget, &mut line)?;
     Ok(line)
 }
 
@@ -74,15 +74,15 @@ fn take_turn<S: Source, K: Sink, L: Ledger>(
     work: &mut Steps<L>,
 ) -> Result<Turn, StreamFault>
     requires { IsEngineReady engine.old }
-    ensures turn { (graph : Tfpg) (k budget : ℕ) (before : Streams)
-        → IsDiagnosing graph k budget before (streams (S.state input.old) (K.state out.old)) lines.old
-        engine.old
-        → IfOk result (ComesTo graph k budget before (streams (S.state input.new) (K.state out.new))
-        lines.old.number lines.new engine.new) }
-    ensures stopped { (graph : Tfpg) (k budget : ℕ) (before : Streams)
-        → IsDiagnosing graph k budget before (streams (S.state input.old) (K.state out.old)) lines.old
-        engine.old
-        → IfErr result (λ fault. Diagnoses graph k budget before
+    ensures turn { (graph : Tfpg) (terms : Terms) (before : Streams)
+        → IsDiagnosing graph terms before
+        (diagnosis_at (streams (S.state input.old) (K.state out.old)) lines.old engine.old)
+        → IfOk result (ComesTo graph terms before lines.old.number
+        (diagnosis_at (streams (S.state input.new) (K.state out.new)) lines.new engine.new)) }
+    ensures stopped { (graph : Tfpg) (terms : Terms) (before : Streams)
+        → IsDiagnosing graph terms before
+        (diagnosis_at (streams (S.state input.old) (K.state out.old)) lines.old engine.old)
+        → IfErr result (λ fault. Diagnoses graph terms before
         (streams (S.state input.new) (K.state out.new)) (Err fault)) }
 {
     a_report_goes_on_block_by_block();

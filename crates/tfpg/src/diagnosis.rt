@@ -3,7 +3,7 @@
 ghost use Rattle.std.specs.Prelude.{◌≡◌, ◌<◌, ◌++◌, ◌∷◌, [], ℕ, List, IfOk, OnOk, length, map};
 ghost use Rattle.tfpg_base.specs.Lines.{lines_of};
 ghost use Rattle.tfpg_graph.specs.Graph.{Tfpg, failures};
-ghost use Rattle.tfpg_sim.specs.AcceptedLog.{AreAccepted, IsAccepted};
+ghost use Rattle.tfpg_log.specs.AcceptedLog.{AreAccepted, IsAccepted};
 ghost use Rattle.tfpg_sim.specs.declared.limits.TheConstants.{FAILURE_COUNT};
 ghost use Rattle.tfpg.specs.inside.Diagnosed.{HasDiagnosed};
 

@@ -12,18 +12,10 @@ use crate::fault::{FetchFault, GenerateFault, JudgeFault, SimulateFault, StreamF
 use itoa::Buffer;
 use std::process::ExitCode;
 use tfpg_base::{NoMemory, append_words};
+use tfpg_check::CheckCause;
 use tfpg_graph::GraphCause;
 use tfpg_hyp::TableFault;
 use tfpg_words::{PlanFault, UsageCause};
-
-/// Why a line of the input or of the script is refused.
-#[derive(Clone, Copy, Debug, PartialEq, Eq)]
-pub enum CheckCause {
-    /// No map begins with the lines up to this one.
-    BadMap,
-    /// Of `simulate`: the first line of the script that is at fault.
-    BadScript,
-}
 
 /// How a run ends. Of several that would hold, the first in the order of the work decides: the words, the files in their order,
 /// the graph, the script, the number of sets, and then input and output line by line.
@@ -254,6 +246,24 @@ fn check_cause_word(cause: CheckCause) -> &'static [u8]
     ensures { result.now ≡ check_cause_name cause }
 {
     match cause {
+        CheckCause::AfterClosed => b"AfterClosed",
+        CheckCause::NotReusable => b"NotReusable",
+        CheckCause::NotAClause => b"NotAClause",
+        CheckCause::NotAFact => b"NotAFact",
+        CheckCause::NotOnPath => b"NotOnPath",
+        CheckCause::Unchained => b"Unchained",
+        CheckCause::NotNegative => b"NotNegative",
+        CheckCause::BadReport => b"BadReport",
+        CheckCause::Surplus => b"Surplus",
+        CheckCause::WrongRound => b"WrongRound",
+        CheckCause::WrongHypothesis => b"WrongHypothesis",
+        CheckCause::WrongRanked => b"WrongRanked",
+        CheckCause::NotATrace => b"NotATrace",
+        CheckCause::WrongOpen => b"WrongOpen",
+        CheckCause::WrongRejected => b"WrongRejected",
+        CheckCause::WrongStatus => b"WrongStatus",
+        CheckCause::WrongCounts => b"WrongCounts",
+        CheckCause::EndsEarly => b"EndsEarly",
         CheckCause::BadMap => b"BadMap",
         CheckCause::BadScript => b"BadScript",
     }

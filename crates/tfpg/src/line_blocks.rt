@@ -1,12 +1,13 @@
 //! The block of a line of the log.
 
-ghost use Rattle.std.specs.Prelude.{◌≡◌, ◌≤◌, ℕ, IfOk, length};
+ghost use Rattle.std.specs.Prelude.{◌≡◌, ◌≤◌, IfOk, length};
 ghost use Rattle.tfpg_base.specs.declared.limits.TheConstants.{LONGEST_LINE};
 ghost use Rattle.tfpg_evidence.specs.RoundOf.{IsRoundOf};
 ghost use Rattle.tfpg_graph.specs.Graph.{Tfpg, sizes_of};
 ghost use Rattle.tfpg_report.specs.Blocks.{refused_text, round_text};
 ghost use Rattle.tfpg_check.specs.Report.{Progress};
-ghost use Rattle.tfpg.specs.inside.LineBlocks.{EngineReports, HasBlock, IsEngineReady};
+ghost use Rattle.tfpg_base.specs.declared.terms.Terms.{Terms};
+ghost use Rattle.tfpg.specs.inside.LineBlocks.{EngineReports, HasBlock, IsEngineReady, numbered};
 
 use std::alloc::Global;
 use std::sync::ledger::Ledger;
@@ -28,10 +29,10 @@ pub(crate) fn line_block<L: Ledger>(
     work: &mut Steps<L>,
 ) -> Result<Vec<u8>, NoMemory>
     requires { IsEngineReady engine.old }
-    ensures { (graph : Tfpg) (k budget : ℕ) (before : Progress) →
-        EngineReports graph k budget engine.old before
+    ensures { (graph : Tfpg) (terms : Terms) (before : Progress) →
+        EngineReports graph terms engine.old before
         → length text.now ≤ LONGEST_LINE → IfOk result
-        (λ block. HasBlock graph k budget before number text.now block.items engine.new) }
+        (λ block. HasBlock graph terms before (numbered number text.now) block.items engine.new) }
 {
     rounds_say_which_sets_fit();
     statuses_are_those_of_minimal_sets();

@@ -1,7 +1,7 @@
 //! The program: a diagnoser for timed failure propagation graphs.
 //!
 //! [`run::run`] is the top call, over any shelf of files, input and output. `main` calls it on the real ones. [`laws`] says
-//! that lines spell at most one map, and that the text of a map spells it.
+//! that lines spell at most one map, that the text of a map spells it, and that a simulated set is rejected in no round.
 //!
 //! ```text
 //! ./tfpg diagnose examples/pump.tfpg < examples/pump.log

@@ -4,8 +4,8 @@ ghost use Rattle.std.specs.Prelude.{◌≡◌, ℕ, List, map, option_map, IfSom
 ghost use Rattle.tfpg_base.specs.declared.activation.Activation.{Activation};
 ghost use Rattle.tfpg_base.specs.Words.{words_of};
 ghost use Rattle.tfpg_graph.specs.Valid.{IsValid};
-ghost use Rattle.tfpg_graph.specs.Graph.{name_word, IsSetOf};
-ghost use Rattle.tfpg_report.specs.Blocks.{activation_line, failure_word, set_word};
+ghost use Rattle.tfpg_graph.specs.Graph.{name_word, IsSetOf, failure_word};
+ghost use Rattle.tfpg_report.specs.Blocks.{activation_line, set_word};
 ghost use Rattle.tfpg.specs.Map.{IsActivationOf, set_line};
 ghost use Rattle.tfpg.specs.inside.MapLines.{word_after_set, words_after_at, position_named, AreRisingFrom};
 

@@ -2,7 +2,7 @@
 
 ghost use Rattle.std.specs.Prelude.{◌<◌, ◌≡◌, IfOk, IfErr, All, length};
 ghost use Rattle.tfpg_base.specs.Outside.{SourceState};
-ghost use Rattle.tfpg.specs.inside.MapReading.{IsReadingMap, ReadsOn, LacksMap, ReadsMap, ReturnsMap};
+ghost use Rattle.tfpg.specs.inside.MapReading.{IsReadingMap, ReadsOn, LacksMap, ReadsMap, ReturnsMap, map_reading_at};
 
 use crate::map::{Map, MapFault, MapReader, NoMap};
 use std::alloc::Global;
@@ -44,11 +44,12 @@ fn take_line<S: Source>(
     graph: &Graph,
     input: &mut S,
 ) -> Result<MapTurn, NoMap>
-    ensures turn { (before : SourceState) → IsReadingMap graph.now before (S.state input.old) lines.old
-        reader.old
-        → IfOk result (ReadsOn graph.now before (S.state input.new) lines.old.number lines.new reader.new) }
-    ensures none { (before : SourceState) → IsReadingMap graph.now before (S.state input.old) lines.old
-        reader.old
+    ensures turn { (before : SourceState) → IsReadingMap graph.now before
+        (map_reading_at (S.state input.old) lines.old reader.old)
+        → IfOk result (ReadsOn graph.now before lines.old.number
+        (map_reading_at (S.state input.new) lines.new reader.new)) }
+    ensures none { (before : SourceState) → IsReadingMap graph.now before
+        (map_reading_at (S.state input.old) lines.old reader.old)
         → IfErr result (LacksMap graph.now before (S.state input.new)) }
 {
     match lines.next(input)? {

@@ -6,11 +6,11 @@ ghost use Rattle.tfpg_base.specs.declared.limits.TheConstants.{MAX_CASE_SIZE};
 ghost use Rattle.tfpg.specs.Completeness.{CanBeDone, IsCompleted, NothingFails};
 ghost use Rattle.tfpg_words.specs.Plans.{meaning_of};
 ghost use Rattle.tfpg.specs.inside.Plans.{AreWithinLimits};
-ghost use Rattle.tfpg.specs.EndsOf.{end_of_result};
+ghost use Rattle.tfpg.specs.EndsOf.{EndsBy, end_of_generate_fault, end_of_result};
 ghost use Rattle.tfpg.specs.Fetch.{AsksOnly, AsksFor, AsksInOrder};
-ghost use Rattle.tfpg.specs.Generating.{GenerateEnds};
+ghost use Rattle.tfpg.specs.Generating.{GenerationEnds};
 ghost use Rattle.tfpg.specs.Run.{RunEnds, CommandEnds, DiagnoseEnds, ExplainEnds};
-ghost use Rattle.tfpg.specs.Streams.{streams};
+ghost use Rattle.tfpg.specs.World.{world};
 
 use crate::course::diagnose;
 use crate::end::End;
@@ -20,7 +20,7 @@ use crate::judging::judge;
 use crate::simulating::simulate_files;
 use std::alloc::Global;
 use std::sync::ledger::Ledger;
-use tfpg_base::{Shelf, Sink, Source, Steps};
+use tfpg_base::{Shelf, Sink, Source, Steps, Terms};
 use tfpg_engine::Engine;
 use tfpg_graph::laws::a_text_has_at_most_one_first_fault;
 use tfpg_words::laws::numbers_are_within_their_limits;
@@ -40,16 +40,16 @@ pub fn run<F: Shelf, S: Source, K: Sink, L: Ledger>(
     work: &mut Steps<L>,
 ) -> End
     // Each end has its cause, and what was written by then is right.
-    ensures ends { RunEnds (meaning (map string_bytes words.now)) (F.state shelf.old) (F.state shelf.new)
-        (streams (S.state input.old) (K.state out.old))
-        (streams (S.state input.new) (K.state out.new)) result }
+    ensures ends { RunEnds (meaning (map string_bytes words.now))
+        (world (F.state shelf.old) (S.state input.old) (K.state out.old))
+        (world (F.state shelf.new) (S.state input.new) (K.state out.new)) result }
 
     // Where the words are right, the files and the input serve them and nothing fails, it is done, or memory ran out.
     ensures completes { (meant : Meaning) → meaning (map string_bytes words.now) ≡ Ok meant →
-        CanBeDone meant (F.state shelf.old) (S.state input.old) →
-        NothingFails (F.state shelf.old) (F.state shelf.new)
-        (streams (S.state input.old) (K.state out.old)) (streams (S.state input.new) (K.state out.new)) →
-        IsCompleted meant result }
+        CanBeDone meant (world (F.state shelf.old) (S.state input.old) (K.state out.old)) →
+        NothingFails (world (F.state shelf.old) (S.state input.old) (K.state out.old))
+        (world (F.state shelf.new) (S.state input.new) (K.state out.new)) →
+        IsCompleted result }
 
     // No file is asked for but those that the words name.
     ensures asks { AsksOnly (meaning (map string_bytes words.now)) (F.state shelf.old).asked
@@ -73,19 +73,22 @@ fn perform<F: Shelf, S: Source, K: Sink, L: Ledger>(
     work: &mut Steps<L>,
 ) -> Result<(), End>
     requires { AreWithinLimits (meaning_of command.now) }
-    ensures done { OnOk result (CommandEnds (Ok (meaning_of command.now)) (F.state shelf.old)
-        (F.state shelf.new)
-        (streams (S.state input.old) (K.state out.old))
-        (streams (S.state input.new) (K.state out.new)) End.Done) }
-    ensures stopped { IfErr result (CommandEnds (Ok (meaning_of command.now)) (F.state shelf.old)
-        (F.state shelf.new)
-        (streams (S.state input.old) (K.state out.old)) (streams (S.state input.new) (K.state out.new))) }
+    ensures done { OnOk result (CommandEnds (Ok (meaning_of command.now))
+        (world (F.state shelf.old) (S.state input.old) (K.state out.old))
+        (world (F.state shelf.new) (S.state input.new) (K.state out.new)) End.Done) }
+    ensures stopped { IfErr result (CommandEnds (Ok (meaning_of command.now))
+        (world (F.state shelf.old) (S.state input.old) (K.state out.old))
+        (world (F.state shelf.new) (S.state input.new) (K.state out.new))) }
     ensures asks { AsksOnly (Ok (meaning_of command.now)) (F.state shelf.old).asked
         (F.state shelf.new).asked }
 {
     match command {
         Command::Diagnose { k, budget, graph } => {
-            diagnose_file(alloc, *k, *budget, graph.as_str(), shelf, input, out, work)
+            let terms = Terms {
+                k: *k,
+                budget: *budget,
+            };
+            diagnose_file(alloc, terms, graph.as_str(), shelf, input, out, work)
         }
         Command::Explain { graph, log } => {
             explain_by_files(alloc, graph.as_str(), log.as_str(), shelf, input, out)
@@ -118,27 +121,27 @@ fn end_of(work: Result<(), End>) -> End
     }
 }
 
-/// Diagnoses the graph of the file of this name, for all sets of at most `k` failure modes.
+/// Diagnoses the graph of the file of this name on these terms.
 fn diagnose_file<F: Shelf, S: Source, K: Sink, L: Ledger>(
     alloc: Global,
-    k: u32,
-    budget: u64,
+    terms: Terms,
     name: &str,
     shelf: &mut F,
     input: &mut S,
     out: &mut K,
     work: &mut Steps<L>,
 ) -> Result<(), End>
-    requires { 1 ≤ budget }
-    ensures done { OnOk result (DiagnoseEnds (F.state shelf.old) (F.state shelf.new) k budget name.now
-        (streams (S.state input.old) (K.state out.old))
-        (streams (S.state input.new) (K.state out.new)) End.Done) }
-    ensures stopped { IfErr result (DiagnoseEnds (F.state shelf.old) (F.state shelf.new) k budget name.now
-        (streams (S.state input.old) (K.state out.old)) (streams (S.state input.new) (K.state out.new))) }
+    requires { 1 ≤ terms.budget }
+    ensures done { OnOk result (DiagnoseEnds terms name.now
+        (world (F.state shelf.old) (S.state input.old) (K.state out.old))
+        (world (F.state shelf.new) (S.state input.new) (K.state out.new)) End.Done) }
+    ensures stopped { IfErr result (DiagnoseEnds terms name.now
+        (world (F.state shelf.old) (S.state input.old) (K.state out.old))
+        (world (F.state shelf.new) (S.state input.new) (K.state out.new))) }
     ensures asks { AsksFor name.now (F.state shelf.old).asked (F.state shelf.new).asked }
 {
     let graph = fetch_graph(alloc, shelf, name)?;
-    let mut engine = Engine::new(alloc, graph, k, budget)?;
+    let mut engine = Engine::new(alloc, graph, terms.k, terms.budget)?;
     Ok(diagnose(alloc, &mut engine, input, out, work)?)
 }
 
@@ -152,8 +155,10 @@ fn generate_summary<K: Sink, L: Ledger>(
 ) -> Result<(), End>
     requires some { 1 ≤ size }
     requires few { size ≤ MAX_CASE_SIZE }
-    ensures done { OnOk result (GenerateEnds number size (K.state out.old) (K.state out.new) End.Done) }
-    ensures stopped { IfErr result (GenerateEnds number size (K.state out.old) (K.state out.new)) }
+    ensures done { OnOk result (EndsBy (GenerationEnds number size (K.state out.old) (K.state out.new))
+        end_of_generate_fault End.Done) }
+    ensures stopped { IfErr result (EndsBy (GenerationEnds number size (K.state out.old) (K.state out.new))
+        end_of_generate_fault) }
 {
     Ok(write_generated(alloc, number, size, out, work)?)
 }
@@ -167,13 +172,12 @@ fn explain_by_files<F: Shelf, S: Source, K: Sink>(
     input: &mut S,
     out: &mut K,
 ) -> Result<(), End>
-    ensures done { OnOk result (ExplainEnds (F.state shelf.old) (F.state shelf.new) graph_name.now
-        log_name.now
-        (streams (S.state input.old) (K.state out.old))
-        (streams (S.state input.new) (K.state out.new)) End.Done) }
-    ensures stopped { IfErr result (ExplainEnds (F.state shelf.old) (F.state shelf.new) graph_name.now
-        log_name.now
-        (streams (S.state input.old) (K.state out.old)) (streams (S.state input.new) (K.state out.new))) }
+    ensures done { OnOk result (ExplainEnds graph_name.now log_name.now
+        (world (F.state shelf.old) (S.state input.old) (K.state out.old))
+        (world (F.state shelf.new) (S.state input.new) (K.state out.new)) End.Done) }
+    ensures stopped { IfErr result (ExplainEnds graph_name.now log_name.now
+        (world (F.state shelf.old) (S.state input.old) (K.state out.old))
+        (world (F.state shelf.new) (S.state input.new) (K.state out.new))) }
     ensures asks { AsksInOrder (graph_name.now ∷ log_name.now ∷ []) (F.state shelf.old).asked
         (F.state shelf.new).asked }
 {

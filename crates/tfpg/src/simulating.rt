@@ -1,11 +1,12 @@
 //! Simulating the script of a file on the graph of another.
 
 ghost use Rattle.std.specs.Prelude.{◌≡◌, ◌∷◌, ◌<◌, [], All, IfOk, IfErr, OnOk, Ok, Err, length};
+ghost use Rattle.tfpg_base.specs.Outside.{SourceState};
 ghost use Rattle.tfpg_graph.specs.Graph.{AreFailures};
-ghost use Rattle.tfpg_sim.specs.Script.{script_of};
 ghost use Rattle.tfpg_sim.specs.ScriptFaults.{IsSimFault};
 ghost use Rattle.tfpg.specs.Fetch.{AsksInOrder};
 ghost use Rattle.tfpg.specs.Simulating.{HasSimulation, SimulateEnds, SimulationEnds, simulated_text};
+ghost use Rattle.tfpg.specs.World.{world};
 
 use crate::end::End;
 use crate::fault::SimulateFault;
@@ -29,12 +30,14 @@ pub(crate) fn simulate_files<F: Shelf, K: Sink>(
     shelf: &mut F,
     out: &mut K,
 ) -> Result<(), End>
-    ensures done { OnOk result (SimulateEnds (F.state shelf.old) (F.state shelf.new) graph_name.now
-        script_name.now draw trace
-        (K.state out.old) (K.state out.new) End.Done) }
-    ensures stopped { IfErr result (SimulateEnds (F.state shelf.old) (F.state shelf.new) graph_name.now
-        script_name.now draw trace
-        (K.state out.old) (K.state out.new)) }
+    ensures done { (input : SourceState) → OnOk result (SimulateEnds (HasSimulation draw trace)
+        graph_name.now script_name.now
+        (world (F.state shelf.old) input (K.state out.old))
+        (world (F.state shelf.new) input (K.state out.new)) End.Done) }
+    ensures stopped { (input : SourceState) → IfErr result (SimulateEnds (HasSimulation draw trace)
+        graph_name.now script_name.now
+        (world (F.state shelf.old) input (K.state out.old))
+        (world (F.state shelf.new) input (K.state out.new))) }
     ensures asks { AsksInOrder (graph_name.now ∷ script_name.now ∷ []) (F.state shelf.old).asked
         (F.state shelf.new).asked }
 {
@@ -51,10 +54,10 @@ fn write_simulation<K: Sink>(
     trace: bool,
     out: &mut K,
 ) -> Result<(), SimulateFault>
-    ensures done { OnOk result (SimulationEnds graph.now script.now draw trace (K.state out.old)
-        (K.state out.new) (Ok tt)) }
-    ensures stopped { IfErr result (λ fault. SimulationEnds graph.now script.now draw trace (K.state out.old)
-        (K.state out.new) (Err fault)) }
+    ensures done { OnOk result (SimulationEnds (HasSimulation draw trace) graph.now script.now
+        (K.state out.old) (K.state out.new) (Ok tt)) }
+    ensures stopped { IfErr result (λ fault. SimulationEnds (HasSimulation draw trace) graph.now script.now
+        (K.state out.old) (K.state out.new) (Err fault)) }
 {
     let text = simulation_text(alloc, graph, script, draw, trace)?;
     write_all(out, &text)?;
@@ -69,8 +72,8 @@ fn simulation_text(
     draw: u64,
     trace: bool,
 ) -> Result<Vec<u8>, SimFault>
-    ensures text { IfOk result (λ text. HasSimulation graph.now script.now draw trace text.items) }
-    ensures fault { IfErr result (IsSimFault (script_of graph.now script.now)) }
+    ensures text { IfOk result (λ text. HasSimulation draw trace graph.now script.now text.items) }
+    ensures fault { IfErr result (IsSimFault graph.now script.now) }
 {
     let simulated = simulate(alloc, graph, script, draw)?;
     let _valid = graph.node_count();

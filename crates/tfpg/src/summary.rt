@@ -3,7 +3,7 @@
 ghost use Rattle.std.specs.Prelude.{◌≡◌, Any, Contains, IfOk, IsSomeAnd, length};
 ghost use Rattle.tfpg_base.specs.Append.{Appends};
 ghost use Rattle.tfpg_graph.specs.Graph.{AreFailures};
-ghost use Rattle.tfpg.specs.Summary.{drawn_text, rounds_text, status_word, truth_text};
+ghost use Rattle.tfpg.specs.Summary.{drawing, drawn_text, rounds_text, status_word, truth_text};
 ghost use Rattle.tfpg.specs.inside.Summary.{HasFindingOn, SaysOfRound};
 
 use crate::diagnosis::Diagnosis;
@@ -25,8 +25,8 @@ pub(crate) fn summary_of(
     requires members { AreFailures diagnosis.now.engine.graph set }
     requires found { IsSomeAnd diagnosis.now.last (HasFindingOn set) }
     ensures { IfOk result (λ text. IsSomeAnd diagnosis.now.last
-        (SaysOfRound number size diagnosis.now.engine.graph
-        (length diagnosis.now.engine.log.events) set text.items)) }
+        (SaysOfRound (drawing number size diagnosis.now.engine.graph
+        (length diagnosis.now.engine.log.events)) set text.items)) }
 {
     match &diagnosis.last {
         Some(last) => {
@@ -50,7 +50,8 @@ fn summary_text(
 ) -> Result<Vec<u8>, NoMemory>
     requires members { AreFailures graph.now set }
     requires found { HasFindingOn set last.now }
-    ensures { IfOk result (λ text. SaysOfRound number size graph.now rounds set text.items last.entry.now) }
+    ensures { IfOk result (λ text. SaysOfRound (drawing number size graph.now rounds) set text.items
+        last.entry.now) }
 {
     let finding = finding_on(last.findings.as_slice(), set);
     let mut text = Vec::new(alloc);
@@ -82,7 +83,7 @@ fn append_drawn(
     lines: u32,
     into: &mut Vec<u8>,
 ) -> Result<(), NoMemory>
-    ensures { Appends result into.old.items into.new.items (drawn_text number size graph.now lines) }
+    ensures { Appends result into.old.items into.new.items (drawn_text (drawing number size graph.now lines)) }
 {
     let mut number_digits = Buffer::new();
     let mut size_digits = Buffer::new();

@@ -8,8 +8,10 @@ pub mod Numbers
 pub mod Separators
 pub mod WordLengths
 pub mod Sets
+pub mod NodeSets
 pub mod Traces
 pub mod TraceTimes
+pub mod SameTraces
 pub mod Taking
 pub mod LinesOf
 pub mod LinesAndParts

@@ -304,6 +304,11 @@ bits_say_subset a b xs ys view_a view_b small =
 
 -- ---- how long a subset is
 
+-- nothing but the empty set is a subset of it
+pub IsSubset-none : (subset : List ℕ) → IsSubset subset [] → subset ≡ []
+IsSubset-none [] within = refl
+IsSubset-none (p ∷ ps) within = absurd (Contains-nil p (All-contains (Contains []) (p ∷ ps) p within (Contains-head p ps)))
+
 -- A subset is the whole or shorter.
 pub IsSubset-cases : (whole subset : List ℕ) → Rises subset → Rises whole → IsSubset subset whole → (subset ≡ whole) ⊎ (length subset < length whole)
 IsSubset-cases [] [] rises_subset rises_whole within = inl refl

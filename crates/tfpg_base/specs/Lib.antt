@@ -7,6 +7,8 @@ pub mod TextLine
 pub mod Append
 pub mod Set
 pub mod SetBits
+pub mod Hypothesis
+pub mod NodeSet
 pub mod Trace
 pub mod Constraint
 pub mod ConstraintCycle

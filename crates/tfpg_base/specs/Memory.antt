@@ -1,5 +1,5 @@
 -- What contracts see of the sources, sinks and shelves in memory.
-use Rattle.std.specs.Prelude.{◌≡◌, ◌⊎◌, ◌<◌, ◌≤◌, ◌^◌, ◌+◌, ◌-◌, ℕ, min, List, [], ◌∷◌, ◌++◌, Bool, ◌||◌, ◌&&◌, ◌==◌, nat_lt, take, drop, Contains, length, Option, Some, None, Result, Ok, Err}
+use Rattle.std.specs.Prelude.{◌≡◌, ◌⊎◌, ◌<◌, ◌≤◌, ◌^◌, ◌+◌, ◌-◌, ℕ, min, List, [], ◌∷◌, ◌++◌, Bool, ◌||◌, ◌&&◌, ◌==◌, nat_lt, if◌then◌else◌, take, drop, Contains, length, Option, Some, None, Result, Ok, Err}
 use Rattle.tfpg_base.specs.declared.outside.Failed.{Failed}
 use Rattle.tfpg_base.specs.declared.outside.ShelfFault.{ShelfFault}
 use Rattle.tfpg_base.specs.declared.outside.ShelfFault.TheVariants as faults
@@ -50,14 +50,19 @@ abbrev pub filled : List ℕ → List ℕ → Result ℕ Failed → List ℕ
 filled left room (Ok count) = take count left ++ drop count room
 filled left room (Err failed) = room
 
--- The bytes of a sink that fails at chosen calls: all of them so far, the limit of one call, the numbers of the
--- calls that are to fail, how many calls came, and how many failed.
+-- The bytes of a sink that fails at chosen calls: all of them so far, for how many it was made with room, the limit of
+-- one call, the numbers of the calls that are to fail, how many calls came, and how many failed.
 pub record MemorySinkState : Type 0 where
   pub holds : List ℕ
+  pub room : ℕ
   pub limit : ℕ
   pub failing : List ℕ
   pub calls : ℕ
   pub faults : ℕ
+
+-- What the sink holds and what a call takes of this piece fit the room that it was made with.
+abbrev pub FitsRoom : MemorySinkState → List ℕ → Type 0
+FitsRoom sink piece = length sink.holds + min (length piece) sink.limit ≤ sink.room
 
 -- a sink after a call for this piece
 abbrev pub after_put : MemorySinkState → List ℕ → Result ℕ Failed → MemorySinkState
@@ -88,6 +93,16 @@ Fetches fails content copy (Ok done) = (fails → ⊥) × Copies content copy (O
 Fetches fails content copy (Err faults.TooLong) = (fails → ⊥) × Copies content copy (Err faults.TooLong)
 Fetches fails content copy (Err faults.NoMemory) = copy ≡ []
 Fetches fails content copy (Err faults.Failed) = (copy ≡ []) × (fails ⊎ (content ≡ None))
+
+-- What fetching a file comes to where the call is to fail or there is no file: it fails, or memory runs out.
+abbrev pub FailsOrLacksMemory : Result (Unit {0}) ShelfFault → Type 0
+FailsOrLacksMemory result = (result ≡ Err faults.Failed) ⊎ (result ≡ Err faults.NoMemory)
+
+-- What fetching the file of this content comes to: the file where it is not longer than a file may be, and else that it is
+-- too long, unless memory runs out.
+abbrev pub GivesOrLacksMemory : List ℕ → Result (Unit {0}) ShelfFault → Type 0
+GivesOrLacksMemory content result =
+    (result ≡ (if nat_lt LONGEST_FILE (length content) then Err faults.TooLong else Ok tt)) ⊎ (result ≡ Err faults.NoMemory)
 
 -- a shelf after a call for this name
 abbrev pub after_fetch : MemoryShelfState → List ℕ → Result (Unit {0}) ShelfFault → MemoryShelfState

@@ -2,4 +2,5 @@
 pub mod LineSearch
 pub mod Buffer
 pub mod BitsOfMembers
+pub mod NodeWords
 pub mod TraceSearch

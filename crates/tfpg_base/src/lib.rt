@@ -9,8 +9,10 @@
 //! - [`append_to_file`] appends a part of a file, as far as a file may go.
 //! - [`Words`] cuts a line into words, [`parts_at_commas`] a word into parts, and [`has_empty_word`] finds an empty word.
 //!   [`read_name`] and [`read_number`] know the two forms of words that every text format uses; [`Number`] says what is read.
-//! - [`Set`] is a set of failure modes. [`Trace`] says when which node became active, with an [`Activation`] for each.
+//! - [`Set`] is a set of failure modes, [`Doubts`] one of monitors that may be wrong; [`NodeNumbers`] is what sets of nodes
+//!   stand on. [`Trace`] says when which node became active, with an [`Activation`] for each.
 //!   [`Constraint`] is a difference constraint over the times of nodes.
+//! - [`Terms`] are what a diagnosis is asked with: the greatest size of its hypotheses, and the budget of a round.
 //! - [`MAX_TIME`] and the other limits say how long or how large things may be.
 //! - [`Items`] is a list that contracts see as one; [`Bytes`], [`NumberList`] and [`LineList`] are such lists, and a crate
 //!   names one of its own items by `pub type StepList = Items<Step>;`. [`Text`] is a text that is kept.
@@ -35,6 +37,7 @@
 
 mod activation;
 mod constraint;
+mod doubts;
 mod fault_count;
 mod file;
 mod items;
@@ -45,9 +48,11 @@ mod line;
 mod lines;
 mod memory;
 mod no_memory;
+mod node_numbers;
 mod outside;
 mod set;
 mod steps;
+mod terms;
 mod text;
 mod text_line;
 mod times;
@@ -57,21 +62,24 @@ mod words;
 
 pub use activation::Activation;
 pub use constraint::Constraint;
+pub use doubts::Doubts;
 pub use fault_count::FaultCount;
 pub use file::append_to_file;
 pub use items::{Bytes, Items, LineList, NumberList};
 pub use last_line_end::without_last_line_end;
 pub use limits::{
     BUFFER_SIZE, LONGEST_FILE, LONGEST_LINE, LONGEST_NAME, MAX_BYTES, MAX_CASE_SIZE, MAX_MEMBERS,
-    MAX_TIME, MAX_WORDS, NEVER,
+    MAX_NODE_NUMBERS, MAX_TIME, MAX_WORDS, NEVER,
 };
 pub use line::{Line, LineFault};
 pub use lines::Lines;
 pub use memory::{Discard, MemoryShelf, MemorySink, MemorySource, SteadySource};
 pub use no_memory::NoMemory;
+pub use node_numbers::NodeNumbers;
 pub use outside::{Failed, Shelf, ShelfFault, Sink, Source};
 pub use set::Set;
 pub use steps::Steps;
+pub use terms::Terms;
 pub use text::Text;
 pub use text_line::{append_line, append_part, append_words};
 pub use times::earlier;

@@ -18,6 +18,9 @@ pub const LONGEST_NAME: usize = 32;
 /// How many members a set of failure modes has at most: their positions are below this.
 pub const MAX_MEMBERS: u32 = 64;
 
+/// How many numbers a set of nodes has at most: each is below this.
+pub const MAX_NODE_NUMBERS: u32 = 512;
+
 /// How many words a line of any text format has at most.
 pub const MAX_WORDS: usize = 9;
 

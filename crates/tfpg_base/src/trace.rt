@@ -62,6 +62,15 @@ impl Trace {
         }
     }
 
+    /// A trace with the same activations. Takes time and memory linear in the length.
+    pub fn copy(&self, alloc: Global) -> Result<Trace, NoMemory>
+        ensures { IfOk result (λ copy. copy ≡ self.now) }
+    {
+        let mut items = Vec::new(alloc);
+        items.extend_from_slice(&self.items)?;
+        Ok(Trace { items })
+    }
+
     /// The activations, by rising nodes.
     pub fn as_slice(&self) -> &[Activation]
         ensures value { result.now ≡ self.now }

@@ -1,5 +1,6 @@
 -- The report of a graph and a list of lines.
-use Rattle.std.specs.Prelude.{◌≡◌, ℕ, ◌+◌, ◌<◌, ◌≤◌, List, [], ◌∷◌, ◌++◌, length, take, flat_map, AllPairs, if◌then◌else◌, Some, slice_get, Result, Ok, Err}
+use Rattle.std.specs.Prelude.{◌≡◌, ℕ, ◌+◌, ◌<◌, List, [], ◌∷◌, ◌++◌, length, take, flat_map, AllPairs, if◌then◌else◌, Some, slice_get, Result, Ok, Err}
+use Rattle.tfpg_base.specs.declared.terms.Terms.{Terms}
 use Rattle.tfpg_graph.specs.Graph.{Tfpg}
 use Rattle.tfpg_log.specs.declared.event.Event.{Event}
 use Rattle.tfpg_log.specs.declared.event.Offered.{Offered}
@@ -49,42 +50,32 @@ progress_of graph lines blocks = record { rounds = flat_map rounds_of blocks; lo
 -- What block a line has. A refused line has the block of its refusal. An accepted one has the block of some round that
 -- meets the definition of a round for all events and all rounds so far; panels may be lost at it, in the order of their
 -- numbers.
-abbrev pub IsBlockOf : Tfpg → ℕ → ℕ → Progress → ℕ → Block → Result Event RefusedLine → Type 0
-IsBlockOf graph k budget before number block (Err cause) = block ≡ RefusedBlock number cause
-IsBlockOf graph k budget before number block (Ok event) =
+abbrev pub IsBlockOf : Tfpg → Terms → Progress → ℕ → Block → Result Event RefusedLine → Type 0
+IsBlockOf graph terms before number block (Err cause) = block ≡ RefusedBlock number cause
+IsBlockOf graph terms before number block (Ok event) =
     (round : Round) × (losses : List Loss) × (block ≡ RoundBlock round losses)
-    × IsRound graph k budget before.rounds (with_event before.log event) number round
+    × IsRound graph terms before.rounds (with_event before.log event) number round
     × AllPairs (λ earlier later. earlier.panel < later.panel) losses
 
 -- This is the block of a line of this number, after what the report has come to.
-abbrev pub IsBlock : Tfpg → ℕ → ℕ → Progress → ℕ → List ℕ → Block → Type 0
-IsBlock graph k budget before number line block =
-    IsBlockOf graph k budget before number block (event_of_line graph before.log line)
+abbrev pub IsBlock : Tfpg → Terms → Progress → ℕ → List ℕ → Block → Type 0
+IsBlock graph terms before number line block =
+    IsBlockOf graph terms before number block (event_of_line graph before.log line)
 
 -- These are the blocks of the lines, one for each line in order. Lines are numbered from 1, and indexes from 0.
-pub record AreBlocks (graph : Tfpg) (k budget : ℕ) (lines : List (List ℕ)) (blocks : List Block) : Type 0 where
+pub record AreBlocks (graph : Tfpg) (terms : Terms) (lines : List (List ℕ))
+    (blocks : List Block) : Type 0 where
   pub one_each : length blocks ≡ length lines
   pub each : (index : ℕ) (line : List ℕ) (block : Block) → slice_get lines index ≡ Some line
       → slice_get blocks index ≡ Some block
-      → IsBlock graph k budget (progress_of graph (take index lines) (take index blocks)) (index + 1) line block
+      → IsBlock graph terms (progress_of graph (take index lines) (take index blocks)) (index + 1) line block
 
 -- the text of a report with these blocks
-abbrev pub report_text : Tfpg → ℕ → ℕ → List Block → List ℕ
-report_text graph k budget blocks = head_text k budget ++ flat_map (block_text graph) blocks
+abbrev pub report_text : Tfpg → Terms → List Block → List ℕ
+report_text graph terms blocks = head_text terms ++ flat_map (block_text graph) blocks
 
--- The bytes are a report of the graph, of sets of at most k failure modes, of this budget and of these lines, with
--- these blocks.
-pub record IsReport (graph : Tfpg) (k budget : ℕ) (lines : List (List ℕ)) (blocks : List Block)
+-- The bytes are a report of the graph, on these terms and of these lines, with these blocks.
+pub record IsReport (graph : Tfpg) (terms : Terms) (lines : List (List ℕ)) (blocks : List Block)
     (bytes : List ℕ) : Type 0 where
-  pub are_blocks : AreBlocks graph k budget lines blocks
-  pub text : bytes ≡ report_text graph k budget blocks
-
--- The bytes begin a report of the first of these lines, with these blocks.
-pub record BeginsReport (graph : Tfpg) (k budget : ℕ) (lines : List (List ℕ)) (blocks : List Block)
-    (bytes : List ℕ) : Type 0 where
-  pub count : ℕ
-  pub within : count ≤ length lines
-  pub report : List ℕ
-  pub is_report : IsReport graph k budget (take count lines) blocks report
-  pub more : List ℕ
-  pub begins : report ≡ bytes ++ more
+  pub are_blocks : AreBlocks graph terms lines blocks
+  pub text : bytes ≡ report_text graph terms blocks

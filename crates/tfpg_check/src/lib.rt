@@ -1,6 +1,7 @@
 //! What a report of a list of lines is.
 //!
-//! So far the crate has the definition alone, in `specs/`. The judge of reports is still to come.
+//! So far the crate has the definition, in `specs/`, and the causes for which lines are refused, [`CheckCause`]. The judge of
+//! reports is still to come.
 //!
 //! [`laws`] says how far a report has come after each block.
 //!
@@ -12,4 +13,7 @@
 //! ```
 #![tactic(auto)]
 
+mod cause;
 pub mod laws;
+
+pub use cause::CheckCause;

@@ -12,7 +12,7 @@ use Rattle.tfpg_base.specs.Choice.{each_of, item_at}
 use Rattle.tfpg_base.specs.declared.constraint.Constraint.{Constraint}
 use Rattle.tfpg_base.proofs.lists.Choices.{each_of-map_at, each_of-map_none, each_of-map_push, length-each_of_map, then_some-true}
 use Rattle.tfpg_log.specs.declared.span.Window.{Window}
-use Rattle.tfpg_clause.specs.declared.due.Due.{Due}
+use Rattle.tfpg_clause.specs.Clauses.{Due}
 use Rattle.tfpg_base.specs.Bounds.{at_most}
 use Rattle.tfpg_clause.specs.Clauses.{starts_late, follows_in_time, latest_of, must_alternatives, must_in}
 use Rattle.tfpg_clause.specs.inside.Alternatives.{latest_within}

@@ -13,8 +13,8 @@ use Rattle.tfpg_log.specs.declared.span.Window.{Window}
 use Rattle.tfpg_log.specs.Spans.{span_at, window_of, joint_of}
 use Rattle.tfpg_evidence.specs.declared.clause_name.ClauseName.{ClauseName}
 use Rattle.tfpg_evidence.specs.declared.clause_name.ClauseName.TheVariants.{OrMay, AndMay, OrMust, AndMust}
-use Rattle.tfpg_clause.specs.declared.due.Due.{Due}
-use Rattle.tfpg_clause.specs.Clauses.{alternatives, outside_span, count_of, arrival, due_over, may_by, must_by, must_in, must_alternatives, alternatives_limit}
+use Rattle.tfpg_clause.specs.Clauses.{Due}
+use Rattle.tfpg_clause.specs.Clauses.{alternatives, outside_span, count_of, arrival, due_over, may_by, must_by, must_in, must_alternatives, alternatives_limit, dues_of}
 use Rattle.tfpg_base.proofs.lists.Choices.{length-each_of_map, IfSome-then_some, IfSome-option_and_then, IfSome-option_map}
 use Rattle.tfpg_base.proofs.lists.Passing.{length-filter_map}
 use Rattle.tfpg_clause.proofs.Dues.{must_length}
@@ -38,7 +38,7 @@ may_few log limit holds target edges number horizon few = by (span_at log number
         (omega (arith, length-append (outside_span target s) (filter_map (arrival log number horizon s) edges), length-filter_map (arrival log number horizon s) edges, few))
 
 must_few : (log : Logbook) (limit : ℕ) (holds : Bool) (target : ℕ) (edges : List Edge) (window : Option Window) (number horizon : ℕ) → length edges + length edges + 1 < limit
-    → HasFewer limit (must_by log holds target edges window number horizon)
+    → HasFewer limit (must_by holds target number window (dues_of log number horizon edges))
 must_few log limit false target edges window number horizon few = tt
 must_few log limit true target edges window number horizon few = by (each_of (map (due_over log number horizon) edges)) refl window
   where
@@ -63,7 +63,7 @@ module _ (graph : Tfpg) (log : Logbook) (maximum : ℕ) (within : (node : ℕ) �
       IfSome-option_and_then (IsBelow limit) (λ (e : Edge). may_by log (is_kind_at is_and graph e.target) e.target (e ∷ []) number horizon) (slice_get graph.edges edge)
       (λ e at. may_few log limit (is_kind_at is_and graph e.target) e.target (e ∷ []) number horizon (omega (arith, some_enter edge e at)))
   all_fewer (OrMust edge number horizon) =
-      IfSome-option_and_then (IsBelow limit) (λ (e : Edge). must_by log (is_kind_at is_or graph e.target) e.target (e ∷ []) (window_of log e number horizon) number horizon) (slice_get graph.edges edge)
+      IfSome-option_and_then (IsBelow limit) (λ (e : Edge). must_by (is_kind_at is_or graph e.target) e.target number (window_of log e number horizon) (dues_of log number horizon (e ∷ []))) (slice_get graph.edges edge)
       (λ e at. must_few log limit (is_kind_at is_or graph e.target) e.target (e ∷ []) (window_of log e number horizon) number horizon (omega (arith, some_enter edge e at)))
   all_fewer (AndMust node number horizon) =
       must_few log limit (is_kind_at is_and graph node) node (edges_into graph node) (joint_of graph log node number horizon) number horizon (omega (arith, within node))

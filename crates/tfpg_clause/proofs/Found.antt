@@ -11,8 +11,8 @@ use Rattle.tfpg_log.specs.declared.span.Span.{Span}
 use Rattle.tfpg_log.specs.declared.span.Window.{Window}
 use Rattle.tfpg_log.specs.Log.{Logbook}
 use Rattle.tfpg_log.specs.Spans.{span_at, window_of, joint_of}
-use Rattle.tfpg_clause.specs.declared.due.Due.{Due}
-use Rattle.tfpg_clause.specs.Clauses.{outside_span, arrival, due_over, must_in, may_by, must_by, and_may, or_must, and_must}
+use Rattle.tfpg_clause.specs.Clauses.{Due}
+use Rattle.tfpg_clause.specs.Clauses.{outside_span, arrival, due_over, must_in, may_by, must_by, and_may, or_must, and_must, dues_of}
 use Rattle.tfpg_clause.specs.inside.Alternatives.{dues_over, target_of_kind}
 use Rattle.tfpg_base.proofs.lists.Numbered.{mapped_by_number}
 use Rattle.tfpg_base.proofs.lists.Choices.{then_some-true}
@@ -27,7 +27,7 @@ module _ (log : Logbook) (holds : Bool) (target : ℕ) (edges : List Edge) (numb
 
   -- a must clause, where there is the window
   pub must_found : (window : Option Window) (w : Window) → window ≡ Some w
-      → must_by log holds target edges window number horizon ≡ option_and_then (λ dues. must_in target number w dues) (each_of (map (due_over log number horizon) edges))
+      → must_by holds target number window (dues_of log number horizon edges) ≡ option_and_then (λ dues. must_in target number w dues) (each_of (map (due_over log number horizon) edges))
   must_found window w at = λ i.
       cond (passes i) (option_and_then (λ (dues : List Due). option_and_then (λ (x : Window). must_in target number x dues) (at i)) (each_of (map (due_over log number horizon) edges))) None
 
@@ -50,7 +50,7 @@ no_may log holds target edges number horizon fails = by (span_at log number hori
 
 -- nor a must clause.
 no_must : (log : Logbook) (holds : Bool) (target : ℕ) (edges : List Edge) (window : Option Window) (number horizon : ℕ) → holds ≡ false
-    → must_by log holds target edges window number horizon ≡ None
+    → must_by holds target number window (dues_of log number horizon edges) ≡ None
 no_must log true target edges window number horizon fails = absurd cc
 no_must log false target edges window number horizon fails = refl
 

@@ -1,5 +1,5 @@
 -- What is allowed at a log stays allowed at each log that goes on from it.
-use Rattle.std.proofs.Common.{◌-◌, not, ltb, take, ◌≡◌, ℕ, zero, suc, ◌+◌, ◌≤◌, Bool, true, false, ◌&&◌, cond, eqb, leb, List, [], ◌∷◌, ◌++◌, length, max, Option, Some, None, refl, sym, ap, ◌∙◌, arith, pos}
+use Rattle.std.proofs.Common.{◌-◌, not, ltb, ◌≡◌, ℕ, zero, suc, ◌+◌, ◌≤◌, Bool, true, false, ◌&&◌, cond, eqb, leb, List, [], ◌∷◌, ◌++◌, length, max, Option, Some, None, refl, sym, ap, ◌∙◌, arith, pos}
 use Rattle.std.specs.Prelude.{nat_le, slice_get, map, filter_map, option_map, option_and_then}
 use Rattle.std.specs.Bool.{then_some}
 use Rattle.std.specs.List.{list_all}
@@ -13,16 +13,17 @@ use Rattle.tfpg_graph.specs.Graph.{Tfpg, is_kind_at, is_or, is_and, edges_into}
 use Rattle.tfpg_log.specs.declared.span.Span.{Span}
 use Rattle.tfpg_log.specs.declared.span.Window.{Window}
 use Rattle.tfpg_log.specs.declared.event.Event.{Event}
-use Rattle.tfpg_log.specs.Log.{Logbook, GoesOn, IsOrdered, now_of, event_at, quiet_at, quiet_time}
+use Rattle.tfpg_log.specs.Log.{Logbook, GoesOn, IsOrdered, now_of, event_at, first_events, quiet_at, quiet_time}
 use Rattle.tfpg_log.specs.Spans.{span_at, window_of, joint_of}
 use Rattle.tfpg_log.proofs.PastKept.{spans_kept, windows_kept, joints_kept, now_kept, events_kept, silences_kept}
 use Rattle.tfpg_evidence.specs.declared.clause_name.ClauseName.{ClauseName}
 use Rattle.tfpg_evidence.specs.declared.clause_name.ClauseName.TheVariants.{OrMay, AndMay, OrMust, AndMust}
 use Rattle.tfpg_base.specs.Bounds.{at_most, at_least, at_least_after}
-use Rattle.tfpg_clause.specs.Clauses.{outside_span, due_over, must_in, must_alternatives, may_by, must_by, and_may, or_must, alternatives, count_of}
-use Rattle.tfpg_clause.specs.declared.due.Due.{Due}
+use Rattle.tfpg_clause.specs.Clauses.{outside_span, due_over, must_in, must_alternatives, may_by, must_by, and_may, or_must, alternatives, count_of, dues_of}
+use Rattle.tfpg_clause.specs.Clauses.{Due}
 use Rattle.tfpg_clause.proofs.Dues.{fits}
 use Rattle.tfpg_clause.specs.Order.{horizon_of}
+use Rattle.tfpg_clause.specs.Case.{case_of}
 use Rattle.tfpg_clause.specs.Facts.{fact, from_alarm, upto_alarm}
 use Rattle.tfpg_evidence.specs.declared.reason.Reason.{Reason}
 use Rattle.tfpg_evidence.specs.declared.reason.Reason.TheVariants.{Zero, Top, Unreached, From, Upto, Quiet, Pick}
@@ -62,7 +63,7 @@ module _ (graph : Tfpg) (earlier later : Logbook) (ordered : IsOrdered later) (g
       may_from (λ edge. windows_kept earlier later ordered goes_on number horizon upto edge i) (spans_kept earlier later ordered goes_on number horizon upto i) holds target edges
 
   must_kept : (holds : Bool) (target : ℕ) (edges : List Edge) (before after : Option Window) → after ≡ before
-      → must_by later holds target edges after number horizon ≡ must_by earlier holds target edges before number horizon
+      → must_by holds target number after (dues_of later number horizon edges) ≡ must_by holds target number before (dues_of earlier number horizon edges)
   must_kept holds target edges before after same = λ i. must_from (λ edge. windows_kept earlier later ordered goes_on number horizon upto edge i) holds target edges (same i) number
 
 -- Where there is a span, or a window, the horizon is not after now.
@@ -84,7 +85,7 @@ may_by_now log holds target edges number horizon clause at = some_span log numbe
 
 -- there is a must clause only where there is the window, and where it begins with the span
 pub must_has_window : (log : Logbook) (holds : Bool) (target : ℕ) (edges : List Edge) (window : Option Window) (number horizon : ℕ) (clause : List (List Constraint))
-    → must_by log holds target edges window number horizon ≡ Some clause → (w : Window) × (window ≡ Some w) × (w.first ≡ number)
+    → must_by holds target number window (dues_of log number horizon edges) ≡ Some clause → (w : Window) × (window ≡ Some w) × (w.first ≡ number)
 must_has_window log true target edges window number horizon clause at =
     option_and_then_some _ (each_of (map (due_over log number horizon) edges)) clause at
     (λ dues are rest. option_and_then_some _ window clause rest (λ w there others. (w, there, begins_so w dues others)))
@@ -118,7 +119,7 @@ silence_within graph log zero node stated at = absurd cc
 silence_within graph log (suc before) node stated at = by (slice_get log.events before) refl at
   where
     by : (found : Option Event) → slice_get log.events before ≡ found
-        → option_map (λ time. at_least node (time + 1)) (option_and_then (λ event. quiet_time graph (take (suc before - 1) log.events) event node) found) ≡ Some stated
+        → option_map (λ time. at_least node (time + 1)) (option_and_then (λ event. quiet_time graph (first_events log (suc before - 1)) event node) found) ≡ Some stated
         → suc before ≤ length log.events
     by None none kept = absurd cc
     by (Some event) there kept = slice_get_within log.events before event there
@@ -152,7 +153,7 @@ module _ (graph : Tfpg) (earlier later : Logbook) (ordered : IsOrdered later) (g
 
   module _ (reach : List ℕ) where
     -- So does a fact.
-    pub fact_stays : (reason : Reason) (stated : Constraint) → fact graph earlier reach reason ≡ Some stated → fact graph later reach reason ≡ Some stated
+    pub fact_stays : (reason : Reason) (stated : Constraint) → fact (case_of graph earlier reach) reason ≡ Some stated → fact (case_of graph later reach) reason ≡ Some stated
     fact_stays (Zero node) stated at = at
     fact_stays (Top node) stated at = at
     fact_stays (Unreached node horizon) stated at =
@@ -162,11 +163,11 @@ module _ (graph : Tfpg) (earlier later : Logbook) (ordered : IsOrdered later) (g
         let after : leb horizon (now_of later) ≡ true = le-leb horizon (now_of later) (omega (arith, leb-true horizon (now_of earlier) before, now_kept earlier later ordered goes_on)) in
         ap (λ (upto : Bool). then_some (ltb node (length graph.nodes) && (upto && not (is_among reach node))) (at_least node (horizon + 1))) (after ∙ sym before) ∙ at
     fact_stays (From event) stated at =
-        option_and_then_some (from_alarm graph) (event_at earlier event) stated at
-        (λ e there rest. ap (option_and_then (from_alarm graph)) (events_kept earlier later goes_on event e there) ∙ rest)
+        option_and_then_some (from_alarm graph earlier) (event_at earlier event) stated at
+        (λ e there rest. ap (option_and_then (from_alarm graph later)) (events_kept earlier later goes_on event e there) ∙ rest)
     fact_stays (Upto event) stated at =
-        option_and_then_some upto_alarm (event_at earlier event) stated at
-        (λ e there rest. ap (option_and_then upto_alarm) (events_kept earlier later goes_on event e there) ∙ rest)
+        option_and_then_some (upto_alarm graph earlier) (event_at earlier event) stated at
+        (λ e there rest. ap (option_and_then (upto_alarm graph later)) (events_kept earlier later goes_on event e there) ∙ rest)
     fact_stays (Quiet event node) stated at =
         ap (option_map (λ time. at_least node (time + 1))) (silence_same event node (silence_within graph earlier event node stated at)) ∙ at
       where

@@ -5,7 +5,7 @@ use Rattle.std.specs.Prelude.{Contains}
 use Rattle.std.proofs.lemmas.Bool.{cases_lt}
 use Rattle.tfpg_base.proofs.lists.Elements.{Contains-head, Contains-tail, Contains-nil, Contains-cons_cases}
 use Rattle.tfpg_base.proofs.lists.Maxima.{fold-max_member, fold-max_upto}
-use Rattle.tfpg_clause.specs.declared.due.Due.{Due}
+use Rattle.tfpg_clause.specs.Clauses.{Due}
 use Rattle.tfpg_clause.specs.Clauses.{latest_of}
 
 -- each is due by the latest

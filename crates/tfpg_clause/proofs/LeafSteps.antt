@@ -1,79 +1,43 @@
--- What a right step does to the present leaf, and to the frames that are at it.
-use Rattle.std.proofs.Common.{◌≡◌, ℕ, List, [], ◌∷◌, ◌++◌, length, Option, Some, None, refl, ap, subst, ◌∙◌}
-use Rattle.tfpg_base.proofs.lists.Zipped.{AllZip-push}
-use Rattle.tfpg_base.specs.declared.constraint.Constraint.{Constraint}
-use Rattle.tfpg_graph.specs.Graph.{Tfpg}
-use Rattle.tfpg_log.specs.Log.{Logbook, GoesOn, IsOrdered, first_events}
+-- What a right step does to the present leaf.
+use Rattle.std.proofs.Common.{◌≡◌, List, [], ◌∷◌, ◌++◌, length, Option, Some, None, sym, ap, subst}
 use Rattle.tfpg_log.proofs.Events.{whole_log}
-use Rattle.tfpg_evidence.specs.declared.clause_name.ClauseName.{ClauseName}
-use Rattle.tfpg_evidence.specs.declared.reason.Reason.{Reason}
-use Rattle.tfpg_evidence.specs.declared.step.Step.TheVariants.{Split, Cycle}
-use Rattle.tfpg_clause.specs.Clauses.{count_of}
-use Rattle.tfpg_clause.specs.Trees.{Judged, PathSplit, IsClosedBy, IsClosedLeaf, IsRefutation, IsPresentLeaf}
-use Rattle.tfpg_clause.specs.Paths.{with_step, IsFrameOf, IsAtLeaf, new_frame, path_after, stated_by, new_split, next_leaf}
-use Rattle.tfpg_clause.specs.declared.path.Frame.{Frame}
-use Rattle.tfpg_clause.proofs.TreeSteps.{cut_of_leaf, leaf_of_cut, first_cut, split_step, last_cycle, cycle_step}
-use Rattle.tfpg_clause.proofs.TreesKept.{leaf_stays}
-use Rattle.tfpg_clause.proofs.FramePaths.{goes_too, ends_too, states_same, frames_stay}
+use Rattle.tfpg_evidence.specs.declared.step.Step.{Step}
+use Rattle.tfpg_evidence.specs.declared.step.Step.TheVariants.{Split, Cycle, Again}
+use Rattle.tfpg_clause.specs.Case.{Case, at_log, case_at}
+use Rattle.tfpg_clause.specs.Trees.{Judged, new_split, IsRefutation, IsPresentLeaf}
+use Rattle.tfpg_clause.specs.Paths.{with_step, MovesTo}
+use Rattle.tfpg_clause.specs.declared.path.PathSplit.{PathSplit}
+use Rattle.tfpg_clause.proofs.TreeSteps.{Cut, cut_of_leaf, leaf_of_cut, first_cut, split_step, last_cycle, cycle_step}
 
--- A clause has as many alternatives at a log as at its first events, where these are all of them.
-pub count_now : (graph : Tfpg) (log : Logbook) (name : ClauseName) (count : Option ℕ) → count_of graph log name ≡ count → count_of graph (first_events log (length log.events)) name ≡ count
-count_now graph log name count is = ap (λ (l : Logbook). count_of graph l name) (whole_log log) ∙ is
+-- The case at its first events, where these are all of them.
+pub whole_case : (case : Case) → case_at case (length case.log.events) ≡ case
+whole_case case = ap (at_log case) (whole_log case.log)
 
-module _ (graph : Tfpg) (log : Logbook) (reach : List ℕ) where
-  pub leaf_begins : IsPresentLeaf graph log reach [] []
-  leaf_begins = leaf_of_cut graph log reach [] [] (first_cut graph log reach)
+module _ (case : Case) where
+  pub leaf_begins : IsPresentLeaf case [] []
+  leaf_begins = leaf_of_cut case [] [] (first_cut case)
 
-  pub leaf_splits : (steps : List Judged) (path : List PathSplit) (name : ClauseName) (count : ℕ) → IsPresentLeaf graph log reach steps path → count_of graph log name ≡ Some count
-      → IsPresentLeaf graph log reach (with_step steps log (Split name)) (path ++ new_split log name ∷ [])
-  leaf_splits steps path name count leaf is =
-      leaf_of_cut graph log reach (with_step steps log (Split name)) (path ++ new_split log name ∷ [])
-      (split_step graph log reach steps path (length log.events) name count (cut_of_leaf graph log reach steps path leaf) (count_now graph log name (Some count) is))
+  moves_now : (path : List PathSplit) (step : Step) (next : Option (List PathSplit)) → MovesTo case path step next → MovesTo (case_at case (length case.log.events)) path step next
+  moves_now path step next moves = subst (λ (c : Case). MovesTo c path step next) (sym (whole_case case)) moves
 
-  pub leaf_goes : (steps : List Judged) (path next : List PathSplit) (reasons : List Reason) → IsPresentLeaf graph log reach steps path
-      → IsClosedLeaf graph log reach path (length log.events) reasons → next_leaf graph log path ≡ Some next → IsPresentLeaf graph log reach (with_step steps log (Cycle reasons)) next
-  leaf_goes steps path next reasons leaf closed is =
-      leaf_of_cut graph log reach (with_step steps log (Cycle reasons)) next
-      (cycle_step graph log reach steps path next (length log.events) reasons (cut_of_leaf graph log reach steps path leaf) closed is)
+  -- the present leaf moves on
+  pub leaf_moves : (steps : List Judged) (path next : List PathSplit) (step : Step) → IsPresentLeaf case steps path → MovesTo case path step (Some next) → IsPresentLeaf case (with_step steps case.log step) next
+  leaf_moves steps path next (Split name) leaf moves =
+      let counted = moves_now path (Split name) (Some next) moves in
+      let same : next ≡ path ++ new_split name counted.0 ∷ [] = (let is : Some next ≡ Some (path ++ new_split name counted.0 ∷ []) = counted.2 in cc) in
+      leaf_of_cut case (with_step steps case.log (Split name)) next
+      (subst (Cut case (with_step steps case.log (Split name))) (sym same)
+      (split_step case steps path (length case.log.events) name counted.0 (cut_of_leaf case steps path leaf) counted.1))
+  leaf_moves steps path next (Cycle reasons) leaf moves =
+      let closed = moves_now path (Cycle reasons) (Some next) moves in
+      leaf_of_cut case (with_step steps case.log (Cycle reasons)) next
+      (cycle_step case steps path next (length case.log.events) reasons (cut_of_leaf case steps path leaf) closed.0 (sym closed.1))
+  leaf_moves steps path next Again leaf moves = absurd moves
 
-  pub leaf_ends : (steps : List Judged) (path : List PathSplit) (reasons : List Reason) → IsPresentLeaf graph log reach steps path
-      → IsClosedLeaf graph log reach path (length log.events) reasons → next_leaf graph log path ≡ None → IsRefutation graph log reach (with_step steps log (Cycle reasons))
-  leaf_ends steps path reasons leaf closed none = last_cycle graph log reach steps path (length log.events) reasons (cut_of_leaf graph log reach steps path leaf) closed none
-
-  -- ---- frames
-
-  pub frames_begin : IsAtLeaf graph log reach [] []
-  frames_begin = record { path = []; leaf = leaf_begins; frames_are = tt }
-
-  pub frames_split : (frames : List Frame) (steps : List Judged) (name : ClauseName) (count : ℕ) → IsAtLeaf graph log reach frames steps → count_of graph log name ≡ Some count
-      → IsAtLeaf graph log reach (frames ++ new_frame name count ∷ []) (with_step steps log (Split name))
-  frames_split frames steps name count at is = record {
-    path = at.path ++ new_split log name ∷ [];
-    leaf = leaf_splits steps at.path name count at.leaf is;
-    frames_are =
-        AllZip-push (IsFrameOf graph log) at.path frames (new_split log name) (new_frame name count) at.frames_are
-        (record { name = refl; alternative = refl; alternatives = count_now graph log name (Some count) is });
-  }
-
-  module _ (ordered : IsOrdered log) (frames : List Frame) (steps : List Judged) (reasons : List Reason) (at : IsAtLeaf graph log reach frames steps)
-      (closed : IsClosedBy (stated_by graph log reach frames) reasons) where
-    closed_here : IsClosedLeaf graph log reach at.path (length log.events) reasons
-    closed_here =
-        subst (λ (f : Reason → Option Constraint). IsClosedBy f reasons) (λ i reason. states_same graph log ordered reach at.path frames at.frames_are reason i) closed
-
-    pub frames_go : (after : List Frame) → path_after frames ≡ Some after → IsAtLeaf graph log reach after (with_step steps log (Cycle reasons))
-    frames_go after is =
-        let next = goes_too graph log at.path frames after at.frames_are is in
-        record { path = next.0; leaf = leaf_goes steps at.path next.0 reasons at.leaf closed_here next.1; frames_are = next.2 }
-
-    pub frames_end : path_after frames ≡ None → IsRefutation graph log reach (with_step steps log (Cycle reasons))
-    frames_end none = leaf_ends steps at.path reasons at.leaf closed_here (ends_too graph log at.path frames at.frames_are none)
-
--- at a log that goes on
-pub frames_remain : (graph : Tfpg) (earlier later : Logbook) (reach : List ℕ) (frames : List Frame) (steps : List Judged) → IsOrdered later → GoesOn earlier later
-    → IsAtLeaf graph earlier reach frames steps → IsAtLeaf graph later reach frames steps
-frames_remain graph earlier later reach frames steps ordered goes_on at = record {
-  path = at.path;
-  leaf = leaf_stays graph earlier later ordered goes_on reach steps at.path at.leaf;
-  frames_are = frames_stay graph earlier later ordered goes_on at.path frames at.frames_are;
-}
+  -- or there is none left
+  pub leaf_ends : (steps : List Judged) (path : List PathSplit) (step : Step) → IsPresentLeaf case steps path → MovesTo case path step None → IsRefutation case (with_step steps case.log step)
+  leaf_ends steps path (Split name) leaf moves = let is : None ≡ Some (path ++ new_split name moves.0 ∷ []) = moves.2 in cc
+  leaf_ends steps path (Cycle reasons) leaf moves =
+      let closed = moves_now path (Cycle reasons) None moves in
+      last_cycle case steps path (length case.log.events) reasons (cut_of_leaf case steps path leaf) closed.0 (sym closed.1)
+  leaf_ends steps path Again leaf moves = absurd moves

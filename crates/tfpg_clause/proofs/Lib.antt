@@ -33,7 +33,6 @@ pub mod TreeFronts
 pub mod TraceNumbers
 pub mod NoTrace
 pub mod PresentLeaf
-pub mod FramePaths
 pub mod LeafSteps
 -- Alternatives are small.
 pub mod Sizes

@@ -88,7 +88,7 @@ module _ (log : Logbook) (trace : List Activation) (numbers : List ℕ) (count :
     arrives_in horizon span at upto edge member from till has =
         let is = is_span log number horizon span at in
         let time : ℕ = get_or numbers target 0 in
-        let by : HasAgeInWindow log trace edge (span_number log time) horizon time edge.tmin =
+        let by : HasAgeInWindow (window_of log edge (span_number log time) horizon) trace edge time edge.tmin =
         (exactly log trace edge time horizon edge.tmin (omega (arith, till, is.run.in_range)) upto).0 has in
         let there : window_of log edge number horizon ≡ Some by.window = subst (λ n. window_of log edge n horizon ≡ Some by.window) (is.numbered time from till) by.there in
         let room : leb (by.window.lo + edge.tmin) span.hi ≡ true = le-leb (by.window.lo + edge.tmin) span.hi (omega (arith, by.since_window, till)) in

@@ -20,11 +20,11 @@ use Rattle.tfpg_log.specs.Rules.{HasAge, IsDue, IsActive}
 use Rattle.tfpg_log.specs.AgeInWindow.{HasAgeInWindow}
 use Rattle.tfpg_log.specs.Spans.{window_of}
 use Rattle.tfpg_log.proofs.WindowAges.{by_window}
-use Rattle.tfpg_clause.specs.declared.due.Due.{Due}
+use Rattle.tfpg_clause.specs.Clauses.{Due}
 use Rattle.tfpg_base.specs.Bounds.{at_most, at_least, at_most_after}
 use Rattle.tfpg_base.specs.Constraint.{Meets}
 use Rattle.tfpg_base.proofs.lists.Choices.{Contains-each_of_only, Contains-each_of, each_of-from_each, then_some-true}
-use Rattle.tfpg_clause.specs.Clauses.{due_over, must_in, must_by, must_alternatives, starts_late, follows_in_time, latest_of, MeetsClause}
+use Rattle.tfpg_clause.specs.Clauses.{due_over, must_in, must_by, must_alternatives, starts_late, follows_in_time, latest_of, MeetsClause, dues_of}
 use Rattle.tfpg_clause.proofs.Bounded.{met_at_most, met_at_least, met_at_most_after, says_at_most, says_at_least, says_at_most_after}
 use Rattle.tfpg_clause.proofs.Agreed.{Agree, active_from, active_only}
 use Rattle.tfpg_clause.proofs.Found.{must_found}
@@ -108,7 +108,7 @@ module _ (log : Logbook) (trace : List Activation) (numbers : List ℕ) (count :
         let own = common.of_each edge member in
         let most : is.0 ≡ due.tmax = cc (is.1, of.tmax) in
         let has : HasAge log trace edge instant due.tmax = subst (λ age. HasAge log trace edge instant age) most is.2 in
-        let age : HasAgeInWindow log trace edge number horizon instant due.tmax =
+        let age : HasAgeInWindow (window_of log edge number horizon) trace edge instant due.tmax =
         (by_window log trace edge number horizon instant due.tmax own.0 own.1 (omega (arith, own.2, from)) (omega (arith, own.3, till))).0 has in
         let same : age.window ≡ of.window = cc (age.there, of.there) in
         let lo : age.window.lo ≡ of.window.lo = ap (λ (w : Window). w.lo) same in
@@ -211,7 +211,7 @@ module _ (log : Logbook) (trace : List Activation) (numbers : List ℕ) (count :
 
     -- The clause is met where the target is active once all edges are due.
     pub must_is_met : (holds : Bool) (clause : List (List Constraint)) → target < count → All (λ (edge : Edge). edge.source < count) edges → All (λ (edge : Edge). edge.target ≡ target) edges
-        → horizon ≤ now_of log → ((instant : ℕ) → instant ≤ now_of log → ActiveOnce target edges instant) → must_by log holds target edges (Some window) number horizon ≡ Some clause
+        → horizon ≤ now_of log → ((instant : ℕ) → instant ≤ now_of log → ActiveOnce target edges instant) → must_by holds target number (Some window) (dues_of log number horizon edges) ≡ Some clause
         → MeetsClause numbers clause
     must_is_met true clause within sources own upto rule allowed =
         option_and_then_some (λ (ds : List Due). must_in target number window ds) (each_of (map (due_over log number horizon) edges)) clause allowed
@@ -226,7 +226,7 @@ module _ (log : Logbook) (trace : List Activation) (numbers : List ℕ) (count :
     -- The target is active once all edges are due, where the clause is met.
     pub must_is_kept : (holds : Bool) (instant : ℕ) → holds ≡ true → window.first ≡ number → target < count → All (λ (edge : Edge). edge.target ≡ target) edges → horizon ≤ now_of log
         → window.lo ≤ instant → instant ≤ window.hi
-        → ((clause : List (List Constraint)) → must_by log holds target edges (Some window) number horizon ≡ Some clause → MeetsClause numbers clause) → ActiveOnce target edges instant
+        → ((clause : List (List Constraint)) → must_by holds target number (Some window) (dues_of log number horizon edges) ≡ Some clause → MeetsClause numbers clause) → ActiveOnce target edges instant
     must_is_kept holds instant passes first within own upto from till met dues =
         let there = each_of-from_each (due_over log number horizon) edges (λ edge member. is_there edge member) in
         let ds : List Due = there.0 in
@@ -237,7 +237,7 @@ module _ (log : Logbook) (trace : List Activation) (numbers : List ℕ) (count :
         let room : list_all (fits window.hi) ds ≡ true =
         list_all-from_AllPass (fits window.hi) ds (All-from_members (λ (due : Due). fits window.hi due ≡ true) ds (λ due member. le-leb due.by window.hi (omega (arith, (past due member).0, till)))) in
         let test : (eqb window.first number && list_all (fits window.hi) ds) ≡ true = and_from (eqb window.first number) (list_all (fits window.hi) ds) (eq-eqb window.first number first) room in
-        let clause : must_by log holds target edges (Some window) number horizon ≡ Some (must_alternatives target window.hi ds) =
+        let clause : must_by holds target number (Some window) (dues_of log number horizon edges) ≡ Some (must_alternatives target window.hi ds) =
         must_found log holds target edges number horizon passes (Some window) window refl
         ∙ ap (option_and_then (λ (xs : List Due). must_in target number window xs)) there.1
         ∙ ap (λ (b : Bool). then_some b (must_alternatives target window.hi ds)) test in

@@ -17,7 +17,7 @@ use Rattle.tfpg_clause.specs.inside.Musts.{AreEdgesOf, musts_of, window_by}
 use Rattle.tfpg_clause.proofs.Found.{or_must_found, and_must_found, no_must_of_edge}
 use Rattle.tfpg_clause.proofs.Kept.{must_has_window}
 use Rattle.tfpg_clause.proofs.MustSpans.{violated_from, met_without, met_within, met_all}
-use Rattle.tfpg_clause.specs.inside.Alternatives.{target_of_kind}
+use Rattle.tfpg_clause.specs.inside.Alternatives.{target_of_kind, dues_over}
 
 -- an edge that enters the target is there
 pub entered : (edge : Option Edge) (target : ℕ) → Some target ≡ option_map (λ (e : Edge). e.target) edge → IsSomeAnd edge (λ e. e.target ≡ target)
@@ -34,7 +34,7 @@ pub record AreMusts (graph : Tfpg) (log : Logbook) (node : ℕ) (edges : List �
   pub begins : (number : ℕ) (all : List (List Constraint)) → clauses number ≡ Some all →
       (window : Window) × (window_by graph log node edge number (now_of log) ≡ Some window) × (window.first ≡ number)
   pub is : (number : ℕ) (window : Window) → window_by graph log node edge number (now_of log) ≡ Some window →
-      clauses number ≡ must_over graph log node edges window (now_of log) number
+      clauses number ≡ must_over node number window (dues_over graph log number (now_of log) edges)
 
 module _ (graph : Tfpg) (log : Logbook) (times : List ℕ) where
   -- ---- an OR node
@@ -64,7 +64,7 @@ module _ (graph : Tfpg) (log : Logbook) (times : List ℕ) where
 
       module _ (or : is_kind_at is_or graph target ≡ true) where
         edge_is : (number : ℕ) (window : Window) → option_and_then (λ e. window_of log e number (now_of log)) (slice_get graph.edges edge) ≡ Some window
-            → option_and_then (λ e. or_must graph log e number (now_of log)) (slice_get graph.edges edge) ≡ must_over graph log target (edge ∷ []) window (now_of log) number
+            → option_and_then (λ e. or_must graph log e number (now_of log)) (slice_get graph.edges edge) ≡ must_over target number window (dues_over graph log number (now_of log) (edge ∷ []))
         edge_is number window there =
             let one = IsSomeAnd-there (λ (e : Edge). e.target ≡ target) (slice_get graph.edges edge) own in
             or_must_found graph log number (now_of log) target window (slice_get graph.edges edge) (sym (ap (option_map (λ (e : Edge). e.target)) one.1 ∙ ap Some one.2)) or (sym there)
@@ -115,14 +115,14 @@ module _ (graph : Tfpg) (log : Logbook) (times : List ℕ) (node : ℕ) (edges :
     window_is = sym (there ∙ ap (window_by graph log node edge number) at)
 
     -- where the clause in it is met,
-    pub must_met_within : (result : Option ℕ) → MeetsIfAny times (must_over graph log node edges window (now_of log) number)
+    pub must_met_within : (result : Option ℕ) → MeetsIfAny times (must_over node number window (dues_over graph log number (now_of log) edges))
         → result ≡ cond (leb window.hi (now_of log)) (Some (span_number log window.hi)) None → MeetsUpTo times (musts_of graph log node edge) number result
     must_met_within result met end =
         met_within log times musts.passes (λ n. window_by graph log node edge n (now_of log)) (musts_of graph log node edge) musts.found musts.begins number window result window_is
         (subst (MeetsIfAny times) (sym (musts.is number window window_is)) met) end
 
     -- and where it is not.
-    pub must_not_met : (MeetsIfAny times (must_over graph log node edges window (now_of log) number) → ⊥) → IsViolated times (musts_of graph log node edge number)
+    pub must_not_met : (MeetsIfAny times (must_over node number window (dues_over graph log number (now_of log) edges)) → ⊥) → IsViolated times (musts_of graph log node edge number)
     must_not_met not_met = violated_from times (musts_of graph log node edge number) (λ met. not_met (subst (MeetsIfAny times) (musts.is number window window_is) met))
 
   -- No clause is left after the span of now.

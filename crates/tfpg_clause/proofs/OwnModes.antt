@@ -10,6 +10,7 @@ use Rattle.tfpg_log.specs.Log.{Logbook, now_of, IsLogOf, IsOrdered}
 use Rattle.tfpg_log.specs.Explains.{IsMember}
 use Rattle.tfpg_evidence.specs.declared.reason.Reason.{Reason}
 use Rattle.tfpg_base.specs.Constraint.{Meets}
+use Rattle.tfpg_clause.specs.Case.{case_of}
 use Rattle.tfpg_clause.specs.Facts.{fact}
 use Rattle.tfpg_clause.specs.Cut.{cut, AreNumbers}
 use Rattle.tfpg_clause.proofs.Agreed.{of_cut}
@@ -19,7 +20,7 @@ use Rattle.std.proofs.lemmas.List.Elements.{All-contains}
 
 -- Where the numbers meet each fact, the failure modes that their trace activates are members of the set.
 pub only_members : (graph : Tfpg) (log : Logbook) (set reach : List ℕ) (is_reach : IsReach graph set reach) (of : IsLogOf graph log) (ordered : IsOrdered log) (numbers : List ℕ) (are : AreNumbers graph numbers)
-    → ((reason : Reason) (stated : Constraint) → fact graph log reach reason ≡ Some stated → Meets numbers stated)
+    → ((reason : Reason) (stated : Constraint) → fact (case_of graph log reach) reason ≡ Some stated → Meets numbers stated)
     → All (λ activation. IsTrue (is_kind_at is_failure graph activation.node) → IsMember graph set activation.node) (cut (now_of log) numbers)
 only_members graph log set reach is_reach of ordered numbers are met =
     All-from_members (λ activation. IsTrue (is_kind_at is_failure graph activation.node) → IsMember graph set activation.node) (cut (now_of log) numbers)

@@ -28,7 +28,7 @@ use Rattle.tfpg_log.proofs.WindowInstants.{is_window, window_there, throughout}
 use Rattle.tfpg_log.proofs.JointWindows as joint
 use Rattle.tfpg_evidence.specs.declared.clause_name.ClauseName.{ClauseName}
 use Rattle.tfpg_evidence.specs.declared.clause_name.ClauseName.TheVariants.{OrMay, AndMay, OrMust, AndMust}
-use Rattle.tfpg_clause.specs.Clauses.{outside_span, arrival, may_by, must_by, and_may, or_must, alternatives, MeetsClause}
+use Rattle.tfpg_clause.specs.Clauses.{outside_span, arrival, may_by, must_by, and_may, or_must, alternatives, MeetsClause, dues_of}
 use Rattle.tfpg_clause.specs.Order.{horizon_of}
 use Rattle.tfpg_clause.proofs.Kept.{allowed_by_now, must_has_window}
 use Rattle.tfpg_clause.proofs.Agreed.{Agree}
@@ -97,7 +97,7 @@ may_holds log holds target edges number horizon clause allowed =
     (λ span at rest. (then_some-true holds (outside_span target span ++ filter_map (arrival log number horizon span) edges) clause rest).0)
 
 pub must_holds : (log : Logbook) (holds : Bool) (target : ℕ) (edges : List Edge) (window : Option Window) (number horizon : ℕ) (clause : List (List Constraint))
-    → must_by log holds target edges window number horizon ≡ Some clause → holds ≡ true
+    → must_by holds target number window (dues_of log number horizon edges) ≡ Some clause → holds ≡ true
 must_holds log true target edges window number horizon clause allowed = refl
 must_holds log false target edges window number horizon clause allowed = absurd cc
 
@@ -128,7 +128,7 @@ module _ (graph : Tfpg) (log : Logbook) (trace : List Activation) (numbers : Lis
 
     or_must_met : (k : ℕ) (edge : Edge) (number horizon : ℕ) (clause : List (List Constraint)) → slice_get graph.edges k ≡ Some edge → horizon ≤ now_of log
         → is_kind_at is_or graph edge.target ≡ true
-        → must_by log (is_kind_at is_or graph edge.target) edge.target (edge ∷ []) (window_of log edge number horizon) number horizon ≡ Some clause → MeetsClause numbers clause
+        → must_by (is_kind_at is_or graph edge.target) edge.target number (window_of log edge number horizon) (dues_of log number horizon (edge ∷ [])) ≡ Some clause → MeetsClause numbers clause
     or_must_met k edge number horizon clause there upto or allowed =
         let window = must_has_window log (is_kind_at is_or graph edge.target) edge.target (edge ∷ []) (window_of log edge number horizon) number horizon clause allowed in
         must_is_met log trace numbers (length graph.nodes) agree edge.target (edge ∷ []) number horizon window.0 (edge_common log edge number horizon window.0 window.1)
@@ -136,16 +136,16 @@ module _ (graph : Tfpg) (log : Logbook) (trace : List Activation) (numbers : Lis
         (λ instant by_now dues.
         ((rules edge.target (kind_within graph is_or edge.target or)).must instant by_now).or_node or edge (edge_into graph k edge there)
         (All-head (λ e. IsDue log trace e instant) edge [] dues))
-        (ap (λ w. must_by log (is_kind_at is_or graph edge.target) edge.target (edge ∷ []) w number horizon) (sym window.1) ∙ allowed)
+        (ap (λ w. must_by (is_kind_at is_or graph edge.target) edge.target number w (dues_of log number horizon (edge ∷ []))) (sym window.1) ∙ allowed)
 
     and_must_met : (node number horizon : ℕ) (clause : List (List Constraint)) → horizon ≤ now_of log → is_kind_at is_and graph node ≡ true
-        → must_by log (is_kind_at is_and graph node) node (edges_into graph node) (joint_of graph log node number horizon) number horizon ≡ Some clause → MeetsClause numbers clause
+        → must_by (is_kind_at is_and graph node) node number (joint_of graph log node number horizon) (dues_of log number horizon (edges_into graph node)) ≡ Some clause → MeetsClause numbers clause
     and_must_met node number horizon clause upto and allowed =
         let window = must_has_window log (is_kind_at is_and graph node) node (edges_into graph node) (joint_of graph log node number horizon) number horizon clause allowed in
         must_is_met log trace numbers (length graph.nodes) agree node (edges_into graph node) number horizon window.0 (joint_common graph log node number horizon window.0 window.1)
         (is_kind_at is_and graph node) clause (kind_within graph is_and node and) (sources_within graph valid node) (targets_are graph node) upto
         (λ instant by_now dues. ((rules node (kind_within graph is_and node and)).must instant by_now).and_node and dues)
-        (ap (λ w. must_by log (is_kind_at is_and graph node) node (edges_into graph node) w number horizon) (sym window.1) ∙ allowed)
+        (ap (λ w. must_by (is_kind_at is_and graph node) node number w (dues_of log number horizon (edges_into graph node))) (sym window.1) ∙ allowed)
 
     -- Where the trace keeps the rules, the numbers meet each allowed clause.
     pub clause_is_met : (name : ClauseName) (clause : List (List Constraint)) → alternatives graph log name ≡ Some clause → MeetsClause numbers clause
@@ -205,7 +205,7 @@ module _ (graph : Tfpg) (log : Logbook) (trace : List Activation) (numbers : Lis
         (λ clause allowed.
         met (OrMust found.0 first (now_of log)) clause refl
         (ap (option_and_then (λ e. or_must graph log e first (now_of log))) found.1
-        ∙ ap (λ w. must_by log (is_kind_at is_or graph edge.target) edge.target (edge ∷ []) w first (now_of log)) there ∙ allowed))
+        ∙ ap (λ w. must_by (is_kind_at is_or graph edge.target) edge.target first w (dues_of log first (now_of log) (edge ∷ []))) there ∙ allowed))
         (All-cons (λ e. IsDue log trace e instant) edge [] due (All-nil _)) in
         subst (λ n. IsActive trace n instant) target active
 
@@ -225,7 +225,7 @@ module _ (graph : Tfpg) (log : Logbook) (trace : List Activation) (numbers : Lis
         (is_kind_at is_and graph node) instant and refl (kind_within graph is_and node and) (targets_are graph node) (omega arith) window.2 window.3
         (λ clause allowed.
         met (AndMust node first (now_of log)) clause refl
-        (ap (λ w. must_by log (is_kind_at is_and graph node) node (edges_into graph node) w first (now_of log)) there ∙ allowed))
+        (ap (λ w. must_by (is_kind_at is_and graph node) node first w (dues_of log first (now_of log) (edges_into graph node))) there ∙ allowed))
         dues
 
     -- Where the numbers meet each allowed clause with the horizon now, the trace keeps the rules.

@@ -19,9 +19,9 @@ use Rattle.tfpg_log.specs.declared.span.Window.{Window}
 use Rattle.tfpg_log.specs.Spans.{span_at, window_of, joint_of}
 use Rattle.tfpg_evidence.specs.declared.clause_name.ClauseName.{ClauseName}
 use Rattle.tfpg_evidence.specs.declared.clause_name.ClauseName.TheVariants.{OrMay, AndMay, OrMust, AndMust}
-use Rattle.tfpg_clause.specs.declared.due.Due.{Due}
+use Rattle.tfpg_clause.specs.Clauses.{Due}
 use Rattle.tfpg_base.specs.Bounds.{at_most, at_least, at_most_after, at_least_after}
-use Rattle.tfpg_clause.specs.Clauses.{IsOver, IsSmall, outside_span, arrival, due_over, starts_late, follows_in_time, latest_of, must_alternatives, may_by, must_in, must_by, and_may, or_must, alternatives}
+use Rattle.tfpg_clause.specs.Clauses.{IsOver, IsSmall, outside_span, arrival, due_over, starts_late, follows_in_time, latest_of, must_alternatives, may_by, must_in, must_by, and_may, or_must, alternatives, dues_of}
 
 -- The edge is between two of so many nodes.
 record Joins (nodes : ℕ) (edge : Edge) : Type 0 where
@@ -136,7 +136,7 @@ module _ (nodes : ℕ) where
       (All-nil (IsSmall nodes)))
 
   small_must : (log : Logbook) (holds : Bool) (target : ℕ) (edges : List Edge) (window : Option Window) (number horizon : ℕ) (clause : List (List Constraint)) → (holds ≡ true → target < nodes)
-      → All (Joins nodes) edges → must_by log holds target edges window number horizon ≡ Some clause → AreSmall clause
+      → All (Joins nodes) edges → must_by holds target number window (dues_of log number horizon edges) ≡ Some clause → AreSmall clause
   small_must log false target edges window number horizon clause within joins is = cc
   small_must log true target edges None number horizon clause within joins is = none (each_of (map (due_over log number horizon) edges)) is
     where

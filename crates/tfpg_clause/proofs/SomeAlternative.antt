@@ -13,10 +13,10 @@ use Rattle.tfpg_log.specs.declared.span.Window.{Window}
 use Rattle.tfpg_log.specs.Spans.{span_at, window_of, joint_of}
 use Rattle.tfpg_evidence.specs.declared.clause_name.ClauseName.{ClauseName}
 use Rattle.tfpg_evidence.specs.declared.clause_name.ClauseName.TheVariants.{OrMay, AndMay, OrMust, AndMust}
-use Rattle.tfpg_clause.specs.declared.due.Due.{Due}
+use Rattle.tfpg_clause.specs.Clauses.{Due}
 use Rattle.tfpg_base.proofs.lists.Choices.{IfSome-then_some, IfSome-option_and_then, IfSome-option_map}
 use Rattle.tfpg_clause.proofs.Dues.{must_length}
-use Rattle.tfpg_clause.specs.Clauses.{alternatives, outside_span, count_of, arrival, due_over, may_by, must_by, must_in, must_alternatives}
+use Rattle.tfpg_clause.specs.Clauses.{alternatives, outside_span, count_of, arrival, due_over, may_by, must_by, must_in, must_alternatives, dues_of}
 
 -- there is an alternative
 abbrev IsNonEmpty : List (List Constraint) → Type 0
@@ -33,7 +33,7 @@ may_some log holds target edges number horizon = by (span_at log number horizon)
     by None = tt
     by (Some s) = IfSome-then_some IsNonEmpty holds (outside_span target s ++ filter_map (arrival log number horizon s) edges) (omega arith)
 
-must_some : (log : Logbook) (holds : Bool) (target : ℕ) (edges : List Edge) (window : Option Window) (number horizon : ℕ) → HasSome (must_by log holds target edges window number horizon)
+must_some : (log : Logbook) (holds : Bool) (target : ℕ) (edges : List Edge) (window : Option Window) (number horizon : ℕ) → HasSome (must_by holds target number window (dues_of log number horizon edges))
 must_some log false target edges window number horizon = tt
 must_some log true target edges window number horizon = by (each_of (map (due_over log number horizon) edges)) window
   where
@@ -50,7 +50,7 @@ alternatives_some graph log (AndMay edge number horizon) =
     IfSome-option_and_then IsNonEmpty (λ (e : Edge). may_by log (is_kind_at is_and graph e.target) e.target (e ∷ []) number horizon) (slice_get graph.edges edge)
     (λ e at. may_some log (is_kind_at is_and graph e.target) e.target (e ∷ []) number horizon)
 alternatives_some graph log (OrMust edge number horizon) =
-    IfSome-option_and_then IsNonEmpty (λ (e : Edge). must_by log (is_kind_at is_or graph e.target) e.target (e ∷ []) (window_of log e number horizon) number horizon) (slice_get graph.edges edge)
+    IfSome-option_and_then IsNonEmpty (λ (e : Edge). must_by (is_kind_at is_or graph e.target) e.target number (window_of log e number horizon) (dues_of log number horizon (e ∷ []))) (slice_get graph.edges edge)
     (λ e at. must_some log (is_kind_at is_or graph e.target) e.target (e ∷ []) (window_of log e number horizon) number horizon)
 alternatives_some graph log (AndMust node number horizon) = must_some log (is_kind_at is_and graph node) node (edges_into graph node) (joint_of graph log node number horizon) number horizon
 

@@ -12,7 +12,6 @@ use Rattle.tfpg_log.specs.declared.span.Window.{Window}
 use Rattle.tfpg_log.specs.Spans.{span_at, window_of, joint_of}
 use Rattle.tfpg_evidence.specs.declared.clause_name.ClauseName.{ClauseName}
 use Rattle.tfpg_evidence.specs.declared.clause_name.ClauseName.TheVariants.{OrMay, AndMay, OrMust, AndMust}
-use Rattle.tfpg_clause.specs.declared.due.Due.{Due}
 use Rattle.tfpg_clause.specs.declared.limits.TheConstants.{MAX_CONSTRAINTS}
 use Rattle.tfpg_base.specs.Bounds.{at_most, at_least, at_most_after, at_least_after}
 use Rattle.tfpg_base.specs.Constraint.{Meets}
@@ -31,6 +30,14 @@ arrival log number horizon span edge =
     ∷ at_most edge.target (pos span.hi) ∷ []))
     (window_of log edge number horizon)
 
+-- A failure on its way over an edge with a finite greatest delay: the nodes that the edge leaves and enters, the delay, and
+-- by when the failure arrives if it has been on its way since the beginning of the edge's window.
+pub record Due : Type 0 where
+  pub source : ℕ
+  pub target : ℕ
+  pub tmax : ℕ
+  pub by : ℕ
+
 -- what is due over an edge, where its greatest delay is finite and it is active in the span
 abbrev pub due_over : Logbook → ℕ → ℕ → Edge → Option Due
 due_over log number horizon edge =
@@ -39,6 +46,10 @@ due_over log number horizon edge =
     option_map (λ window. record { source = edge.source; target = edge.target; tmax = tmax; by = window.lo + tmax })
     (window_of log edge number horizon))
     edge.tmax
+
+-- what is due over all these edges, where something is over each
+abbrev pub dues_of : Logbook → ℕ → ℕ → List Edge → Option (List Due)
+dues_of log number horizon edges = each_of (map (due_over log number horizon) edges)
 
 -- The source becomes active too late for the failure to be due within a window that ends here.
 abbrev pub starts_late : ℕ → Due → List Constraint
@@ -74,13 +85,10 @@ must_in target number window dues =
     then_some ((window.first == number) && list_all (λ due. nat_le due.by window.hi) dues)
     (must_alternatives target window.hi dues)
 
--- The same, where the test holds, there is the window, and each greatest delay is finite.
-abbrev pub must_by : Logbook → Bool → ℕ → List Edge → Option Window → ℕ → ℕ → Option (List (List Constraint))
-must_by log holds target edges window number horizon =
-    if holds then
-    option_and_then (λ dues. option_and_then (λ w. must_in target number w dues) window)
-    (each_of (map (due_over log number horizon) edges))
-    else None
+-- The same, where the test holds, there is the window, and something is due over each edge.
+abbrev pub must_by : Bool → ℕ → ℕ → Option Window → Option (List Due) → Option (List (List Constraint))
+must_by holds target number window dues =
+    if holds then option_and_then (λ all. option_and_then (λ w. must_in target number w all) window) dues else None
 
 -- the clause that an OR node becomes active in a span only where the failure arrives by some edge
 abbrev pub or_may : Tfpg → Logbook → ℕ → ℕ → ℕ → Option (List (List Constraint))
@@ -95,14 +103,14 @@ and_may graph log edge number horizon =
 -- the clause that an OR node is active once the failure is due by this edge
 abbrev pub or_must : Tfpg → Logbook → Edge → ℕ → ℕ → Option (List (List Constraint))
 or_must graph log edge number horizon =
-    must_by log (is_kind_at is_or graph edge.target) edge.target (edge ∷ []) (window_of log edge number horizon) number
-    horizon
+    must_by (is_kind_at is_or graph edge.target) edge.target number (window_of log edge number horizon)
+    (dues_of log number horizon (edge ∷ []))
 
 -- the clause that an AND node is active once the failure is due by all edges
 abbrev pub and_must : Tfpg → Logbook → ℕ → ℕ → ℕ → Option (List (List Constraint))
 and_must graph log node number horizon =
-    must_by log (is_kind_at is_and graph node) node (edges_into graph node) (joint_of graph log node number horizon)
-    number horizon
+    must_by (is_kind_at is_and graph node) node number (joint_of graph log node number horizon)
+    (dues_of log number horizon (edges_into graph node))
 
 -- The alternatives of a clause in order, each a list of constraints, where the name is allowed at the log.
 abbrev pub alternatives : Tfpg → Logbook → ClauseName → Option (List (List Constraint))

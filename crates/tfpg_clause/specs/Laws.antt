@@ -7,13 +7,14 @@ use Rattle.tfpg_graph.specs.Valid.{IsValid}
 use Rattle.tfpg_log.specs.Log.{Logbook, GoesOn, IsOrdered, first_events}
 use Rattle.tfpg_evidence.specs.declared.clause_name.ClauseName.{ClauseName}
 use Rattle.tfpg_evidence.specs.declared.reason.Reason.{Reason}
-use Rattle.tfpg_evidence.specs.declared.step.Step.TheVariants.{Split, Cycle}
+use Rattle.tfpg_evidence.specs.declared.step.Step.{Step}
 use Rattle.tfpg_base.specs.Bounds.{at_least, at_most}
+use Rattle.tfpg_clause.specs.Case.{Case, at_log}
 use Rattle.tfpg_clause.specs.Facts.{fact}
 use Rattle.tfpg_clause.specs.Clauses.{alternatives, count_of, alternatives_limit, IsSmall}
-use Rattle.tfpg_clause.specs.Trees.{Judged, PathSplit, stated, IsClosedBy, IsRefutation, IsPartial, IsPresentLeaf}
-use Rattle.tfpg_clause.specs.Paths.{with_step, IsRightNext, AreFramesOf, IsAtLeaf, new_frame, path_after, stated_by}
-use Rattle.tfpg_clause.specs.declared.path.Frame.{Frame}
+use Rattle.tfpg_clause.specs.Trees.{Judged, stated, IsRefutation, IsPartial, IsPresentLeaf}
+use Rattle.tfpg_clause.specs.Paths.{with_step, MovesTo, IsRightNext}
+use Rattle.tfpg_clause.specs.declared.path.PathSplit.{PathSplit}
 
 -- Times meet the bound "at least so much" exactly where the time of its node is at least so much.
 abbrev pub LowerBoundsHold : Type 0
@@ -57,123 +58,85 @@ AllowedClausesStay =
 -- What a reason states as a fact at a log, it states at each log that goes on from it.
 abbrev pub FactsStay : Type 0
 FactsStay =
-    (graph : Tfpg) (earlier later : Logbook) (reach : List ℕ) (reason : Reason) (stated : Constraint) → IsOrdered later
-    → GoesOn earlier later
-    → fact graph earlier reach reason ≡ Some stated → fact graph later reach reason ≡ Some stated
+    (case : Case) (later : Logbook) (reason : Reason) (stated : Constraint) → IsOrdered later → GoesOn case.log later
+    → fact case reason ≡ Some stated → fact (at_log case later) reason ≡ Some stated
+
+-- What a reason states on a path at a log, it states there at each log that goes on from it.
+abbrev pub StatedConstraintsStay : Type 0
+StatedConstraintsStay =
+    (case : Case) (later : Logbook) (path : List PathSplit) (reason : Reason) (constraint : Constraint)
+    → IsOrdered later → GoesOn case.log later
+    → stated case path reason ≡ Some constraint → stated (at_log case later) path reason ≡ Some constraint
 
 -- What a partial tree begins with is a partial tree.
 abbrev pub FrontsOfPartialTreesArePartial : Type 0
 FrontsOfPartialTreesArePartial =
-    (graph : Tfpg) (log : Logbook) (reach : List ℕ) (front back : List Judged)
-    → IsPartial graph log reach (front ++ back) → IsPartial graph log reach front
+    (case : Case) (front back : List Judged) → IsPartial case (front ++ back) → IsPartial case front
 
 -- What a refutation begins with is a partial tree, where at least one step comes after.
 abbrev pub FrontsOfRefutationsArePartial : Type 0
 FrontsOfRefutationsArePartial =
-    (graph : Tfpg) (log : Logbook) (reach : List ℕ) (front : List Judged) (next : Judged) (back : List Judged)
-    → IsRefutation graph log reach (front ++ next ∷ back)
-    → IsPartial graph log reach front
+    (case : Case) (front : List Judged) (next : Judged) (back : List Judged) → IsRefutation case (front ++ next ∷ back)
+    → IsPartial case front
 
 -- Without a step the present leaf is the root.
 abbrev pub TreesBeginAtTheRoot : Type 0
-TreesBeginAtTheRoot =
-    (graph : Tfpg) (log : Logbook) (reach : List ℕ) → IsPresentLeaf graph log reach [] []
+TreesBeginAtTheRoot = (case : Case) → IsPresentLeaf case [] []
+
+-- After a step that is right at the present leaf and moves to a next leaf, that one is the present leaf.
+abbrev pub PresentLeavesFollowSteps : Type 0
+PresentLeavesFollowSteps =
+    (case : Case) (steps : List Judged) (path next : List PathSplit) (step : Step) → IsPresentLeaf case steps path
+    → MovesTo case path step (Some next) → IsPresentLeaf case (with_step steps case.log step) next
+
+-- After a step that is right at the present leaf, and from which no leaf is left, the steps are a refutation.
+abbrev pub LastLeavesEndInRefutations : Type 0
+LastLeavesEndInRefutations =
+    (case : Case) (steps : List Judged) (path : List PathSplit) (step : Step) → IsPresentLeaf case steps path
+    → MovesTo case path step None → IsRefutation case (with_step steps case.log step)
 
 -- A partial tree has a present leaf.
 abbrev pub PartialTreesHaveAPresentLeaf : Type 0
 PartialTreesHaveAPresentLeaf =
-    (graph : Tfpg) (log : Logbook) (reach : List ℕ) (steps : List Judged) → IsPartial graph log reach steps
-    → (path : List PathSplit) × IsPresentLeaf graph log reach steps path
+    (case : Case) (steps : List Judged) → IsPartial case steps
+    → (path : List PathSplit) × IsPresentLeaf case steps path
 
 -- A partial tree has no two present leaves.
 abbrev pub PresentLeavesAreAlone : Type 0
 PresentLeavesAreAlone =
-    (graph : Tfpg) (log : Logbook) (reach : List ℕ) (steps : List Judged) (one other : List PathSplit)
-    → IsPresentLeaf graph log reach steps one → IsPresentLeaf graph log reach steps other → one ≡ other
+    (case : Case) (steps : List Judged) (one other : List PathSplit) → IsPresentLeaf case steps one
+    → IsPresentLeaf case steps other → one ≡ other
 
 -- A present leaf at a log is one at each log that goes on from it.
 abbrev pub PresentLeavesStay : Type 0
 PresentLeavesStay =
-    (graph : Tfpg) (earlier later : Logbook) (reach : List ℕ) (steps : List Judged) (path : List PathSplit)
-    → IsOrdered later → GoesOn earlier later
-    → IsPresentLeaf graph earlier reach steps path → IsPresentLeaf graph later reach steps path
+    (case : Case) (later : Logbook) (steps : List Judged) (path : List PathSplit) → IsOrdered later
+    → GoesOn case.log later → IsPresentLeaf case steps path → IsPresentLeaf (at_log case later) steps path
 
 -- A partial tree at a log is one at each log that goes on from it.
 abbrev pub PartialTreesStay : Type 0
 PartialTreesStay =
-    (graph : Tfpg) (earlier later : Logbook) (reach : List ℕ) (steps : List Judged) → IsOrdered later
-    → GoesOn earlier later
-    → IsPartial graph earlier reach steps → IsPartial graph later reach steps
+    (case : Case) (later : Logbook) (steps : List Judged) → IsOrdered later → GoesOn case.log later
+    → IsPartial case steps → IsPartial (at_log case later) steps
 
 -- A refutation at a log is one at each log that goes on from it.
 abbrev pub RefutationsStay : Type 0
 RefutationsStay =
-    (graph : Tfpg) (earlier later : Logbook) (reach : List ℕ) (steps : List Judged) → IsOrdered later
-    → GoesOn earlier later
-    → IsRefutation graph earlier reach steps → IsRefutation graph later reach steps
+    (case : Case) (later : Logbook) (steps : List Judged) → IsOrdered later → GoesOn case.log later
+    → IsRefutation case steps → IsRefutation (at_log case later) steps
 
 -- A refutation is no partial tree: no step comes after it.
 abbrev pub RefutationsAreNotPartial : Type 0
-RefutationsAreNotPartial =
-    (graph : Tfpg) (log : Logbook) (reach : List ℕ) (steps : List Judged) → IsRefutation graph log reach steps
-    → IsPartial graph log reach steps → ⊥
+RefutationsAreNotPartial = (case : Case) (steps : List Judged) → IsRefutation case steps → IsPartial case steps → ⊥
 
 -- The last step of a refutation is right at the present leaf of the steps before it.
 abbrev pub LastStepsOfRefutationsAreRight : Type 0
 LastStepsOfRefutationsAreRight =
-    (graph : Tfpg) (log : Logbook) (reach : List ℕ) (steps : List Judged) (last : Judged)
-    → IsRefutation graph log reach (steps ++ last ∷ [])
-    → IsRightNext graph log reach steps last
+    (case : Case) (steps : List Judged) (last : Judged) → IsRefutation case (steps ++ last ∷ [])
+    → IsRightNext case steps last
 
 -- The last step of a partial tree is right at the present leaf of the steps before it.
 abbrev pub LastStepsOfPartialTreesAreRight : Type 0
 LastStepsOfPartialTreesAreRight =
-    (graph : Tfpg) (log : Logbook) (reach : List ℕ) (steps : List Judged) (last : Judged)
-    → IsPartial graph log reach (steps ++ last ∷ [])
-    → IsRightNext graph log reach steps last
-
--- Without a step the path to the present leaf has no frame.
-abbrev pub FramesBeginAtTheRoot : Type 0
-FramesBeginAtTheRoot =
-    (graph : Tfpg) (log : Logbook) (reach : List ℕ) → IsAtLeaf graph log reach [] []
-
--- After a split on an allowed name its frame comes at the end of the frames.
-abbrev pub FramesFollowSplits : Type 0
-FramesFollowSplits =
-    (graph : Tfpg) (log : Logbook) (reach : List ℕ) (frames : List Frame) (steps : List Judged)
-    (name : ClauseName) (count : ℕ)
-    → IsAtLeaf graph log reach frames steps → count_of graph log name ≡ Some count
-    → IsAtLeaf graph log reach (frames ++ new_frame name count ∷ []) (with_step steps log (Split name))
-
--- Where reasons close the leaf of the frames and there is a next leaf, the frames after that cycle are at it.
-abbrev pub FramesFollowCycles : Type 0
-FramesFollowCycles =
-    (graph : Tfpg) (log : Logbook) (reach : List ℕ) (frames after : List Frame) (steps : List Judged)
-    (reasons : List Reason) → IsOrdered log
-    → IsAtLeaf graph log reach frames steps → IsClosedBy (stated_by graph log reach frames) reasons
-    → path_after frames ≡ Some after
-    → IsAtLeaf graph log reach after (with_step steps log (Cycle reasons))
-
--- Where reasons close the leaf of the frames and there is no next leaf, the steps and that cycle are a refutation.
-abbrev pub FramesEndInRefutations : Type 0
-FramesEndInRefutations =
-    (graph : Tfpg) (log : Logbook) (reach : List ℕ) (frames : List Frame) (steps : List Judged) (reasons : List Reason)
-    → IsOrdered log
-    → IsAtLeaf graph log reach frames steps → IsClosedBy (stated_by graph log reach frames) reasons
-    → path_after frames ≡ None
-    → IsRefutation graph log reach (with_step steps log (Cycle reasons))
-
--- Frames at the present leaf of some steps at a log are there at each log that goes on from it.
-abbrev pub FramesStayAtTheLeaf : Type 0
-FramesStayAtTheLeaf =
-    (graph : Tfpg) (earlier later : Logbook) (reach : List ℕ) (frames : List Frame) (steps : List Judged)
-    → IsOrdered later → GoesOn earlier later
-    → IsAtLeaf graph earlier reach frames steps → IsAtLeaf graph later reach frames steps
-
--- Judged by the whole log, a reason states the same by the frames of a path and by the path.
-abbrev pub FramesStateWhatPathsState : Type 0
-FramesStateWhatPathsState =
-    (graph : Tfpg) (log : Logbook) (reach : List ℕ) (path : List PathSplit) (frames : List Frame) (reason : Reason)
-    → IsOrdered log
-    → AreFramesOf graph log path frames
-    → stated_by graph log reach frames reason ≡ stated graph log reach path (length log.events) reason
+    (case : Case) (steps : List Judged) (last : Judged) → IsPartial case (steps ++ last ∷ [])
+    → IsRightNext case steps last

@@ -3,6 +3,7 @@ pub use Rattle.tfpg_log.specs.Spans
 pub use Rattle.tfpg_graph.specs.Graph
 pub use Rattle.tfpg_graph.specs.Reach
 -- What the public contracts say.
+pub mod Case
 pub mod Facts
 pub mod Clauses
 pub mod Order

@@ -5,14 +5,16 @@ use Rattle.tfpg_base.specs.Choice.{each_of, item_at}
 use Rattle.tfpg_base.specs.ConstraintCycle.{IsNegativeCycle}
 use Rattle.tfpg_base.specs.declared.constraint.Constraint.{Constraint}
 use Rattle.tfpg_graph.specs.Graph.{Tfpg}
-use Rattle.tfpg_log.specs.Log.{Logbook, first_events}
+use Rattle.tfpg_log.specs.Log.{Logbook}
 use Rattle.tfpg_evidence.specs.declared.clause_name.ClauseName.{ClauseName}
 use Rattle.tfpg_evidence.specs.declared.reason.Reason.{Reason}
 use Rattle.tfpg_evidence.specs.declared.reason.Reason.TheVariants.{Zero, Top, Unreached, From, Upto, Quiet, Pick}
 use Rattle.tfpg_evidence.specs.declared.step.Step.{Step}
-use Rattle.tfpg_evidence.specs.declared.step.Step.TheVariants.{Split, Cycle}
+use Rattle.tfpg_evidence.specs.declared.step.Step.TheVariants.{Split, Cycle, Again}
+use Rattle.tfpg_clause.specs.Case.{Case, case_at}
 use Rattle.tfpg_clause.specs.Facts.{fact}
 use Rattle.tfpg_clause.specs.Clauses.{alternatives, count_of, constraint_at}
+use Rattle.tfpg_clause.specs.declared.path.PathSplit.{PathSplit}
 
 -- a step, with the number of events of the log that judged it
 pub record Judged : Type 0 where
@@ -23,6 +25,7 @@ pub record Judged : Type 0 where
 abbrev pub is_split : Step → Bool
 is_split (Split name) = true
 is_split (Cycle reasons) = false
+is_split Again = false
 
 -- how many of the steps are splits
 abbrev pub split_count : List Step → ℕ
@@ -45,11 +48,13 @@ abbrev pub how_many : Subtrees → ℕ
 how_many NoMore = 0
 how_many (Next tree others) = suc (how_many others)
 
--- a split on the path to a step, with the number of the alternative in whose subtree the step stands, counted from 1
-pub record PathSplit : Type 0 where
-  pub name : ClauseName
-  pub seen : ℕ
-  pub alternative : ℕ
+-- a new split on a clause with so many alternatives, in its first alternative
+abbrev pub new_split : ClauseName → ℕ → PathSplit
+new_split name count = record { name = name; alternative = 1; alternatives = count }
+
+-- the split in its next alternative
+abbrev pub next_alternative : PathSplit → PathSplit
+next_alternative split = record split { alternative = split.alternative + 1 }
 
 -- a step in its place in a tree: the splits from the root to it, the step, and how many subtrees it has
 pub record StepPlace : Type 0 where
@@ -57,21 +62,28 @@ pub record StepPlace : Type 0 where
   pub step : Judged
   pub subtrees : ℕ
 
+-- the place of a leaf of this path
+abbrev pub leaf_place : List PathSplit → ℕ → List Reason → StepPlace
+leaf_place path seen reasons =
+    record { path = path; step = record { seen = seen; step = Cycle reasons }; subtrees = 0 }
+
+-- the place of a branch of this path
+abbrev pub branch_place : List PathSplit → ℕ → ClauseName → ℕ → StepPlace
+branch_place path seen name subtrees =
+    record { path = path; step = record { seen = seen; step = Split name }; subtrees = subtrees }
+
 -- The places of a tree, in the order of the steps: a split, and then its subtrees one after the other.
 abbrev mutual
   pub places : List PathSplit → Tree → List StepPlace
-  places path (Leaf seen reasons) =
-      record { path = path; step = record { seen = seen; step = Cycle reasons }; subtrees = 0 } ∷ []
+  places path (Leaf seen reasons) = leaf_place path seen reasons ∷ []
   places path (Branch seen name subtrees) =
-      record { path = path; step = record { seen = seen; step = Split name }; subtrees = how_many subtrees }
-      ∷ places_from path name seen 1 subtrees
+      branch_place path seen name (how_many subtrees) ∷ places_from path (new_split name (how_many subtrees)) subtrees
 
-  -- the places of the subtrees of a split, the first of which is that of the alternative of this number
-  pub places_from : List PathSplit → ClauseName → ℕ → ℕ → Subtrees → List StepPlace
-  places_from path name seen number NoMore = []
-  places_from path name seen number (Next tree others) =
-      places (path ++ record { name = name; seen = seen; alternative = number } ∷ []) tree
-      ++ places_from path name seen (number + 1) others
+  -- the places of the subtrees of a split, the first of which is that of the split's present alternative
+  pub places_from : List PathSplit → PathSplit → Subtrees → List StepPlace
+  places_from path split NoMore = []
+  places_from path split (Next tree others) =
+      places (path ++ split ∷ []) tree ++ places_from path (next_alternative split) others
 
 -- the places of a whole tree
 abbrev pub places_of : Tree → List StepPlace
@@ -81,13 +93,15 @@ places_of tree = places [] tree
 abbrev pub steps_of : Tree → List Judged
 steps_of tree = map (λ place. place.step) (places_of tree)
 
--- the constraint with this number in the alternative that was taken at a split, both numbered from 1
+-- The constraint with this number in the alternative that was taken at a split, both numbered from 1, at this log. The log
+-- is that which judges the step that cites the constraint, and not that which judged the split. What is allowed at a log
+-- is allowed with the same constraints at each later one, and the steps of rounds are judged by later and later logs: so
+-- for them it is the same.
 abbrev pub picked : Tfpg → Logbook → List PathSplit → ℕ → ℕ → Option Constraint
 picked graph log path split number =
     option_and_then
     (λ (taken : PathSplit).
-    option_and_then (λ clause. constraint_at clause taken.alternative number)
-    (alternatives graph (first_events log taken.seen) taken.name))
+    option_and_then (λ clause. constraint_at clause taken.alternative number) (alternatives graph log taken.name))
     (item_at path split)
 
 -- The constraint that a reason states, where one function gives each pick, and another each fact.
@@ -100,11 +114,9 @@ stated_with pick_at fact_of (From event) = fact_of (From event)
 stated_with pick_at fact_of (Upto event) = fact_of (Upto event)
 stated_with pick_at fact_of (Quiet event node) = fact_of (Quiet event node)
 
--- The constraint that a reason states at a leaf of this path, judged by the log of so many events: a fact, or one that
--- was picked on the path.
-abbrev pub stated : Tfpg → Logbook → List ℕ → List PathSplit → ℕ → Reason → Option Constraint
-stated graph log reach path seen reason =
-    stated_with (picked graph log path) (fact graph (first_events log seen) reach) reason
+-- The constraint that a reason states at a leaf of this path: a fact, or one that was picked on the path.
+abbrev pub stated : Case → List PathSplit → Reason → Option Constraint
+stated case path reason = stated_with (picked case.graph case.log path) (fact case) reason
 
 -- The reasons close a leaf: each states its constraint, and these are a negative cycle.
 pub record IsClosedBy (stated : Reason → Option Constraint) (reasons : List Reason) : Type 0 where
@@ -112,38 +124,37 @@ pub record IsClosedBy (stated : Reason → Option Constraint) (reasons : List Re
   pub hold : each_of (map stated reasons) ≡ Some constraints
   pub negative_cycle : IsNegativeCycle constraints
 
--- The leaf of this path is closed by the reasons, judged by the log of so many events.
-abbrev pub IsClosedLeaf : Tfpg → Logbook → List ℕ → List PathSplit → ℕ → List Reason → Type 0
-IsClosedLeaf graph log reach path seen reasons = IsClosedBy (stated graph log reach path seen) reasons
+-- The leaf of this path is closed by the reasons.
+abbrev pub IsClosedLeaf : Case → List PathSplit → List Reason → Type 0
+IsClosedLeaf case path reasons = IsClosedBy (stated case path) reasons
 
--- The step is right in a place: a split has an allowed name, and one subtree for each alternative; a cycle closes its
--- leaf.
-abbrev pub IsRightStep : Tfpg → Logbook → List ℕ → List PathSplit → ℕ → ℕ → Step → Type 0
-IsRightStep graph log reach path seen subtrees (Split name) =
-    count_of graph (first_events log seen) name ≡ Some subtrees
-IsRightStep graph log reach path seen subtrees (Cycle reasons) = IsClosedLeaf graph log reach path seen reasons
+-- The step, with so many subtrees, is right at the leaf of this path: a split has an allowed name, and one subtree for each
+-- alternative; a cycle closes the leaf; and no subtree is reused yet.
+abbrev pub IsRightStep : Case → List PathSplit → ℕ → Step → Type 0
+IsRightStep case path subtrees (Split name) = count_of case.graph case.log name ≡ Some subtrees
+IsRightStep case path subtrees (Cycle reasons) = IsClosedLeaf case path reasons
+IsRightStep case path subtrees Again = ⊥
 
--- the step of a place is right there
-abbrev pub IsRight : Tfpg → Logbook → List ℕ → StepPlace → Type 0
-IsRight graph log reach place = IsRightStep graph log reach place.path place.step.seen place.subtrees place.step.step
+-- The step of a place is right there, judged by the first events of the log that judged it.
+abbrev pub IsRight : Case → StepPlace → Type 0
+IsRight case place = IsRightStep (case_at case place.step.seen) place.path place.subtrees place.step.step
 
 -- The steps are a refutation: those of a tree all of whose places are right.
-pub record IsRefutation (graph : Tfpg) (log : Logbook) (reach : List ℕ) (steps : List Judged) : Type 0 where
+pub record IsRefutation (case : Case) (steps : List Judged) : Type 0 where
   pub tree : Tree
   pub steps_are : steps ≡ steps_of tree
-  pub right : All (IsRight graph log reach) (places_of tree)
+  pub right : All (IsRight case) (places_of tree)
 
 -- The steps are a partial tree: a tree begins with them and goes on, and its places so far are right.
-pub record IsPartial (graph : Tfpg) (log : Logbook) (reach : List ℕ) (steps : List Judged) : Type 0 where
+pub record IsPartial (case : Case) (steps : List Judged) : Type 0 where
   pub tree : Tree
   pub more : List Judged
   pub unfinished : 0 < length more
   pub steps_are : steps ++ more ≡ steps_of tree
-  pub right : All (IsRight graph log reach) (take (length steps) (places_of tree))
+  pub right : All (IsRight case) (take (length steps) (places_of tree))
 
 -- The present leaf of a partial tree has this path: the next step would stand there.
-pub record IsPresentLeaf (graph : Tfpg) (log : Logbook) (reach : List ℕ) (steps : List Judged)
-    (path : List PathSplit) : Type 0 where
-  pub partial : IsPartial graph log reach steps
+pub record IsPresentLeaf (case : Case) (steps : List Judged) (path : List PathSplit) : Type 0 where
+  pub partial : IsPartial case steps
   pub here : option_map (λ (place : StepPlace). place.path) (slice_get (places_of partial.tree) (length steps)) ≡
       Some path

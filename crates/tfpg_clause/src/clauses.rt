@@ -13,6 +13,7 @@ ghost use Rattle.tfpg_clause.specs.inside.Ranges.{IsSmallWindow};
 use crate::alternative::{Alternative, constraint_in};
 use crate::may::{edge_of, find_span, may_alternative, may_count};
 use crate::must::{find_joint, find_window, latest_due, must_alternative, must_count};
+use crate::site::Site;
 use tfpg_base::Constraint;
 use tfpg_evidence::ClauseName;
 use tfpg_graph::Graph;
@@ -34,22 +35,54 @@ pub fn count(graph: &Graph, log: &Log, name: ClauseName) -> Result<u32, NotAClau
             node,
             span,
             horizon,
-        } => count_or_may(graph, log, node, span, horizon),
+        } => count_or_may(
+            &Site {
+                graph,
+                log,
+                span,
+                horizon,
+            },
+            node,
+        ),
         ClauseName::AndMay {
             edge,
             span,
             horizon,
-        } => count_and_may(graph, log, edge, span, horizon),
+        } => count_and_may(
+            &Site {
+                graph,
+                log,
+                span,
+                horizon,
+            },
+            edge,
+        ),
         ClauseName::OrMust {
             edge,
             span,
             horizon,
-        } => count_or_must(graph, log, edge, span, horizon),
+        } => count_or_must(
+            &Site {
+                graph,
+                log,
+                span,
+                horizon,
+            },
+            edge,
+        ),
         ClauseName::AndMust {
             node,
             span,
             horizon,
-        } => count_and_must(graph, log, node, span, horizon),
+        } => count_and_must(
+            &Site {
+                graph,
+                log,
+                span,
+                horizon,
+            },
+            node,
+        ),
     }
     .ok_or(NotAClause)
 }
@@ -88,204 +121,202 @@ pub(crate) fn alternative_of(
             node,
             span,
             horizon,
-        } => or_may_alternative(graph, log, node, span, horizon, alternative),
+        } => or_may_alternative(
+            &Site {
+                graph,
+                log,
+                span,
+                horizon,
+            },
+            node,
+            alternative,
+        ),
         ClauseName::AndMay {
             edge,
             span,
             horizon,
-        } => and_may_alternative(graph, log, edge, span, horizon, alternative),
+        } => and_may_alternative(
+            &Site {
+                graph,
+                log,
+                span,
+                horizon,
+            },
+            edge,
+            alternative,
+        ),
         ClauseName::OrMust {
             edge,
             span,
             horizon,
-        } => or_must_alternative(graph, log, edge, span, horizon, alternative),
+        } => or_must_alternative(
+            &Site {
+                graph,
+                log,
+                span,
+                horizon,
+            },
+            edge,
+            alternative,
+        ),
         ClauseName::AndMust {
             node,
             span,
             horizon,
-        } => and_must_alternative(graph, log, node, span, horizon, alternative),
+        } => and_must_alternative(
+            &Site {
+                graph,
+                log,
+                span,
+                horizon,
+            },
+            node,
+            alternative,
+        ),
     }
 }
 
-fn count_or_may(graph: &Graph, log: &Log, node: u32, number: u32, horizon: u64) -> Option<u32>
-    ensures { result ≡ option_map length (or_may graph.now log.now node number horizon) }
+fn count_or_may(site: &Site<'_>, node: u32) -> Option<u32>
+    ensures { result ≡ option_map length
+        (or_may site.now.graph.now site.now.log.now node site.now.span site.now.horizon) }
 {
-    if !graph.is_or(node) {
+    if !site.graph.is_or(node) {
         return None;
     }
-    may_count(graph, log, graph.incoming(node), number, horizon)
+    may_count(site, site.graph.incoming(node))
 }
 
-fn count_and_may(graph: &Graph, log: &Log, edge: u32, number: u32, horizon: u64) -> Option<u32>
+fn count_and_may(site: &Site<'_>, edge: u32) -> Option<u32>
     ensures { result ≡ option_map length
-        (option_and_then (λ e. and_may graph.now log.now e number horizon) (slice_get graph.now.edges edge)) }
+        (option_and_then (λ e. and_may site.now.graph.now site.now.log.now e site.now.span site.now.horizon)
+        (slice_get site.now.graph.now.edges edge)) }
 {
-    let target = and_target(graph, edge)?;
-    may_count(graph, log, &[edge], number, horizon)
+    let target = and_target(site.graph, edge)?;
+    may_count(site, &[edge])
 }
 
-fn count_or_must(graph: &Graph, log: &Log, edge: u32, number: u32, horizon: u64) -> Option<u32>
+fn count_or_must(site: &Site<'_>, edge: u32) -> Option<u32>
     ensures { result ≡ option_map length
-        (option_and_then (λ e. or_must graph.now log.now e number horizon) (slice_get graph.now.edges edge)) }
+        (option_and_then (λ e. or_must site.now.graph.now site.now.log.now e site.now.span site.now.horizon)
+        (slice_get site.now.graph.now.edges edge)) }
 {
-    let target = or_target(graph, edge)?;
-    let window = find_window(graph, log, edge, number, horizon)?;
-    must_count(graph, log, &[edge], window, number, horizon)
+    let target = or_target(site.graph, edge)?;
+    let window = find_window(site, edge)?;
+    must_count(site, &[edge], window)
 }
 
-fn count_and_must(graph: &Graph, log: &Log, node: u32, number: u32, horizon: u64) -> Option<u32>
-    ensures { result ≡ option_map length (and_must graph.now log.now node number horizon) }
+fn count_and_must(site: &Site<'_>, node: u32) -> Option<u32>
+    ensures { result ≡ option_map length
+        (and_must site.now.graph.now site.now.log.now node site.now.span site.now.horizon) }
 {
-    if !graph.is_and(node) {
+    if !site.graph.is_and(node) {
         return None;
     }
-    let window = find_joint(graph, log, node, number, horizon)?;
-    must_count(graph, log, graph.incoming(node), window, number, horizon)
+    let window = find_joint(site, node)?;
+    must_count(site, site.graph.incoming(node), window)
 }
 
 fn or_may_alternative(
-    graph: &Graph,
-    log: &Log,
+    site: &Site<'_>,
     node: u32,
-    number: u32,
-    horizon: u64,
     alternative: u32,
 ) -> Result<Option<Alternative>, NotAClause>
     ensures { option_map (option_map constraints_in) (result_ok result)
-        ≡ option_map (λ clause. item_at clause alternative) (or_may graph.now log.now node number horizon) }
+        ≡ option_map (λ clause. item_at clause alternative)
+        (or_may site.now.graph.now site.now.log.now node site.now.span site.now.horizon) }
 {
-    if !graph.is_or(node) {
+    if !site.graph.is_or(node) {
         return Err(NotAClause);
     }
-    let edges = graph.incoming(node);
-    may_alternative_in(graph, log, node, edges, number, horizon, alternative)
+    let edges = site.graph.incoming(node);
+    may_alternative_in(site, node, edges, alternative)
 }
 
 fn and_may_alternative(
-    graph: &Graph,
-    log: &Log,
+    site: &Site<'_>,
     edge: u32,
-    number: u32,
-    horizon: u64,
     alternative: u32,
 ) -> Result<Option<Alternative>, NotAClause>
     ensures { option_map (option_map constraints_in) (result_ok result)
         ≡ option_map (λ clause. item_at clause alternative)
-        (option_and_then (λ e. and_may graph.now log.now e number horizon) (slice_get graph.now.edges edge)) }
+        (option_and_then (λ e. and_may site.now.graph.now site.now.log.now e site.now.span site.now.horizon)
+        (slice_get site.now.graph.now.edges edge)) }
 {
-    let target = and_target(graph, edge).ok_or(NotAClause)?;
-    may_alternative_in(graph, log, target, &[edge], number, horizon, alternative)
+    let target = and_target(site.graph, edge).ok_or(NotAClause)?;
+    may_alternative_in(site, target, &[edge], alternative)
 }
 
 fn or_must_alternative(
-    graph: &Graph,
-    log: &Log,
+    site: &Site<'_>,
     edge: u32,
-    number: u32,
-    horizon: u64,
     alternative: u32,
 ) -> Result<Option<Alternative>, NotAClause>
     ensures { option_map (option_map constraints_in) (result_ok result)
         ≡ option_map (λ clause. item_at clause alternative)
-        (option_and_then (λ e. or_must graph.now log.now e number horizon) (slice_get graph.now.edges edge)) }
+        (option_and_then (λ e. or_must site.now.graph.now site.now.log.now e site.now.span site.now.horizon)
+        (slice_get site.now.graph.now.edges edge)) }
 {
-    let target = or_target(graph, edge).ok_or(NotAClause)?;
-    let window = find_window(graph, log, edge, number, horizon).ok_or(NotAClause)?;
-    must_alternative_in(
-        graph,
-        log,
-        target,
-        &[edge],
-        window,
-        number,
-        horizon,
-        alternative,
-    )
+    let target = or_target(site.graph, edge).ok_or(NotAClause)?;
+    let window = find_window(site, edge).ok_or(NotAClause)?;
+    must_alternative_in(site, target, &[edge], window, alternative)
 }
 
 fn and_must_alternative(
-    graph: &Graph,
-    log: &Log,
+    site: &Site<'_>,
     node: u32,
-    number: u32,
-    horizon: u64,
     alternative: u32,
 ) -> Result<Option<Alternative>, NotAClause>
     ensures { option_map (option_map constraints_in) (result_ok result)
-        ≡ option_map (λ clause. item_at clause alternative) (and_must graph.now log.now node number horizon) }
+        ≡ option_map (λ clause. item_at clause alternative)
+        (and_must site.now.graph.now site.now.log.now node site.now.span site.now.horizon) }
 {
-    if !graph.is_and(node) {
+    if !site.graph.is_and(node) {
         return Err(NotAClause);
     }
-    let window = find_joint(graph, log, node, number, horizon).ok_or(NotAClause)?;
-    let edges = graph.incoming(node);
-    must_alternative_in(
-        graph,
-        log,
-        node,
-        edges,
-        window,
-        number,
-        horizon,
-        alternative,
-    )
+    let window = find_joint(site, node).ok_or(NotAClause)?;
+    let edges = site.graph.incoming(node);
+    must_alternative_in(site, node, edges, window, alternative)
 }
 
-/// The alternative of a may in the span of this number.
+/// The alternative of a may in the span of the site.
 fn may_alternative_in(
-    graph: &Graph,
-    log: &Log,
+    site: &Site<'_>,
     node: u32,
     edges: &[u32],
-    number: u32,
-    horizon: u64,
     alternative: u32,
 ) -> Result<Option<Alternative>, NotAClause>
     requires node { node < MAX_NODES }
-    requires edges { All (λ edge. edge < length graph.now.edges) edges.now }
+    requires edges { All (λ edge. edge < length site.now.graph.now.edges) edges.now }
     ensures { option_map (option_map constraints_in) (result_ok result)
         ≡ option_map (λ clause. item_at clause alternative)
-        (may_over graph.now log.now node edges.now horizon number) }
+        (may_over site.now.graph.now site.now.log.now node edges.now site.now.horizon site.now.span) }
 {
-    let span = find_span(log, number, horizon).ok_or(NotAClause)?;
-    Ok(may_alternative(graph, log, node, edges, number, horizon, span, alternative))
+    let span = find_span(site).ok_or(NotAClause)?;
+    Ok(may_alternative(site, node, edges, span, alternative))
 }
 
 /// The alternative of a must in this window.
 fn must_alternative_in(
-    graph: &Graph,
-    log: &Log,
+    site: &Site<'_>,
     node: u32,
     edges: &[u32],
     window: Window,
-    number: u32,
-    horizon: u64,
     alternative: u32,
 ) -> Result<Option<Alternative>, NotAClause>
     requires node { node < MAX_NODES }
-    requires edges { All (λ edge. edge < length graph.now.edges) edges.now }
+    requires edges { All (λ edge. edge < length site.now.graph.now.edges) edges.now }
     requires few { length edges.now ≤ MAX_INCOMING }
     requires small { IsSmallWindow window }
     ensures { option_map (option_map constraints_in) (result_ok result)
         ≡ option_map (λ clause. item_at clause alternative)
-        (option_and_then (λ dues. must_in node number window dues)
-        (dues_over graph.now log.now number horizon edges.now)) }
+        (option_and_then (λ dues. must_in node site.now.span window dues)
+        (dues_over site.now.graph.now site.now.log.now site.now.span site.now.horizon edges.now)) }
 {
-    if window.first != number {
+    if window.first != site.span {
         return Err(NotAClause);
     }
-    let latest = latest_due(graph, log, edges, window.hi, number, horizon, &[]).ok_or(NotAClause)?;
-    Ok(must_alternative(
-        graph,
-        log,
-        node,
-        edges,
-        window.hi,
-        latest,
-        number,
-        horizon,
-        alternative,
-    ))
+    let latest = latest_due(site, edges, window.hi, &[]).ok_or(NotAClause)?;
+    Ok(must_alternative(site, node, edges, window.hi, latest, alternative))
 }
 
 /// The target of the edge, where it is an AND node.

@@ -2,7 +2,7 @@
 
 /// A failure on its way over an edge with a finite greatest delay.
 #[derive(Clone, Copy)]
-pub(crate) struct Due {
+pub(crate) struct EdgeDue {
     /// The number of the node that the edge leaves.
     pub(crate) source: u32,
     /// The number of the discrepancy that it enters.

@@ -5,17 +5,18 @@ ghost use Rattle.std.specs.Result.{result_ok};
 ghost use Rattle.std.specs.Bool.{then_some};
 ghost use Rattle.tfpg_base.specs.declared.limits.TheConstants.{MAX_TIME, NEVER};
 ghost use Rattle.tfpg_graph.specs.declared.limits.TheConstants.{MAX_NODES};
-ghost use Rattle.tfpg_log.specs.Log.{IsLogOf, now_of, event_at, quiet_at};
+ghost use Rattle.tfpg_log.specs.Log.{IsLogOf, now_of, event_at, alarm_interval, quiet_at};
 ghost use Rattle.tfpg_graph.specs.Reach.{is_among};
 ghost use Rattle.tfpg_clause.specs.inside.Ranges.{IsSmallAlarm};
 ghost use Rattle.tfpg_base.specs.Bounds.{at_least, at_most};
+ghost use Rattle.tfpg_clause.specs.Case.{case_of};
 ghost use Rattle.tfpg_clause.specs.Facts.{fact, from_alarm, upto_alarm};
 
 use crate::bounds::{at_least, at_most};
 use tfpg_base::{Constraint, NEVER};
 use tfpg_evidence::Reason;
 use tfpg_graph::{Graph, NodeSet};
-use tfpg_log::{Event, Log};
+use tfpg_log::{Event, Interval, Log};
 
 /// The reason states no fact.
 #[derive(Clone, Copy, Debug, PartialEq, Eq)]
@@ -30,7 +31,7 @@ pub fn fact(
     reason: Reason,
 ) -> Result<Constraint, NotAFact>
     requires of { IsLogOf graph.now log.now }
-    ensures { result_ok result ≡ fact graph.now log.now reach.now reason }
+    ensures { result_ok result ≡ fact (case_of graph.now log.now reach.now) reason }
 {
     fact_of(graph, log, reach, reason).ok_or(NotAFact)
 }
@@ -38,7 +39,7 @@ pub fn fact(
 /// The constraint of the fact that the reason states, where it states one.
 fn fact_of(graph: &Graph, log: &Log, reach: &NodeSet, reason: Reason) -> Option<Constraint>
     requires of { IsLogOf graph.now log.now }
-    ensures { result ≡ fact graph.now log.now reach.now reason }
+    ensures { result ≡ fact (case_of graph.now log.now reach.now) reason }
 {
     match reason {
         Reason::Zero { node } => zero(graph, node),
@@ -96,33 +97,47 @@ fn unreached(
     }
 }
 
-/// The node of an alarm became active at most its lag before.
+/// The node of an alarm did not become active before the instants that the alarm leaves.
 fn from(graph: &Graph, log: &Log, number: u32) -> Option<Constraint>
     requires { IsLogOf graph.now log.now }
-    ensures { result ≡ option_and_then (from_alarm graph.now) (event_at log.now number) }
+    ensures { result ≡ option_and_then (from_alarm graph.now log.now) (event_at log.now number) }
 {
     match find_event(graph, log, number)? {
         Event::Alarm { time, node } => {
-            Some(at_least(node, time.saturating_sub(graph.lag_or_zero(node))))
+            let interval = alarm_interval(graph, log, node, time)?;
+            Some(at_least(node, interval.earliest))
         }
         Event::Silent { .. } | Event::Sweep { .. } | Event::Tick { .. } | Event::Mode { .. } =>
             None,
     }
 }
 
-/// The node of an alarm was active by then.
+/// The node of an alarm did not become active after the instants that the alarm leaves.
 fn upto(graph: &Graph, log: &Log, number: u32) -> Option<Constraint>
     requires { IsLogOf graph.now log.now }
-    ensures { result ≡ option_and_then upto_alarm (event_at log.now number) }
+    ensures { result ≡ option_and_then (upto_alarm graph.now log.now) (event_at log.now number) }
 {
     match find_event(graph, log, number)? {
-        Event::Alarm { time, node } => Some(at_most(node, time)),
+        Event::Alarm { time, node } => {
+            let interval = alarm_interval(graph, log, node, time)?;
+            Some(at_most(node, interval.latest))
+        }
         Event::Silent { .. } | Event::Sweep { .. } | Event::Tick { .. } | Event::Mode { .. } =>
             None,
     }
 }
 
-/// A silent node was not active by then.
+/// The instants that an alarm of the node at this time leaves for its activation. None of them is after the alarm.
+fn alarm_interval(graph: &Graph, log: &Log, node: u32, time: u64) -> Option<Interval>
+    requires node { node < length graph.now.nodes }
+    ensures value { result ≡ alarm_interval graph.now log.now node time }
+    ensures by_alarm { IfSome result
+        (λ interval. (interval.earliest ≤ time) × (interval.latest ≤ time)) }
+{
+    log.alarm_interval(graph, node, time)
+}
+
+/// A node is not active up to the instant of which a silence of it says so.
 fn quiet(graph: &Graph, log: &Log, event: u32, node: u32) -> Option<Constraint>
     requires { IsLogOf graph.now log.now }
     ensures { result ≡ option_map (λ time. at_least node (time + 1)) (quiet_at graph.now log.now event node) }
@@ -131,7 +146,7 @@ fn quiet(graph: &Graph, log: &Log, event: u32, node: u32) -> Option<Constraint>
     Some(at_least(node, time + 1))
 }
 
-/// The time of the event of this number, where it is a silence of the node, which is then a node of the graph.
+/// The instant up to which the event of this number says that the node is not active. The node is then one of the graph.
 fn quiet_at(graph: &Graph, log: &Log, event: u32, node: u32) -> Option<u64>
     requires { IsLogOf graph.now log.now }
     ensures value { result ≡ quiet_at graph.now log.now event node }

@@ -1,6 +1,6 @@
 //! What facts, clauses and refutations come to, as functions that do nothing: each says its law in its clauses.
 
-ghost use Rattle.std.specs.Prelude.{◌≡◌, ℕ, pos, ◌≤ℤ◌, ◌↔◌, ◌⊎◌, ◌<◌, ◌≤◌, ◌+◌, length, List, All, IsTrue, Some, slice_index};
+ghost use Rattle.std.specs.Prelude.{◌≡◌, ℕ, pos, ◌≤ℤ◌, ◌↔◌, ◌⊎◌, ◌<◌, ◌≤◌, ◌+◌, length, List, All, Contains, IsTrue, Some, slice_index};
 ghost use Rattle.tfpg_base.specs.declared.activation.Activation.{Activation};
 ghost use Rattle.tfpg_base.specs.declared.constraint.Constraint.{Constraint};
 ghost use Rattle.tfpg_graph.specs.Graph.{Tfpg, is_kind_at, is_failure};
@@ -14,19 +14,21 @@ ghost use Rattle.tfpg_evidence.specs.declared.reason.Reason.{Reason};
 ghost use Rattle.tfpg_base.specs.Constraint.{Meets};
 ghost use Rattle.tfpg_clause.specs.Laws.{LowerBoundsHold, UpperBoundsHold, AllowedClausesHaveAlternatives, AllowedClausesAreShort, AllowedClausesAreSmall, LogsGoOnFromTheirFirstEvents, AllowedClausesStay, FactsStay, PartialTreesHaveAPresentLeaf, PresentLeavesAreAlone};
 ghost use Rattle.tfpg_base.specs.Bounds.{at_least_after, at_most_after};
+ghost use Rattle.tfpg_clause.specs.Case.{Case, case_of, case_at};
 ghost use Rattle.tfpg_clause.specs.Facts.{fact, IsLow, IsHigh};
+ghost use Rattle.tfpg_clause.specs.declared.path.PathSplit.{PathSplit};
+ghost use Rattle.tfpg_evidence.specs.declared.reason.Reason.TheVariants.{Pick};
 ghost use Rattle.tfpg_clause.specs.Clauses.{alternatives, MeetsClause};
 ghost use Rattle.tfpg_clause.specs.Order.{horizon_of, ComesBefore};
 ghost use Rattle.tfpg_clause.specs.Cut.{cut, AreNumbers, AreNumbersOf};
-ghost use Rattle.tfpg_clause.specs.Trees.{Judged, PathSplit, picked, IsClosedLeaf, IsRefutation};
+ghost use Rattle.tfpg_clause.specs.Trees.{Judged, picked, IsClosedLeaf, IsRefutation};
 ghost use Rattle.tfpg_base.specs.ConstraintCycle.{IsCycle, sum_of};
 
 mod tree_laws;
 
 pub use tree_laws::{
-    a_partial_tree_grows, a_refutation_is_finished, a_tree_stays, frames_are_at_the_present_leaf,
-    frames_follow_the_path, the_front_of_a_tree_is_a_partial_tree,
-    the_last_step_of_a_tree_is_right,
+    a_partial_tree_grows, a_refutation_is_finished, a_tree_stays,
+    the_front_of_a_tree_is_a_partial_tree, the_last_step_of_a_tree_is_right,
 };
 
 /// What is allowed at a log stays allowed at each log that goes on from it, with the same constraints: `clause` says it of
@@ -67,13 +69,15 @@ pub fn clauses_of_one_horizon_have_an_order()
 /// `one_low` and `one_high` that there is no other.
 pub fn facts_give_a_node_one_low_and_one_high()
     ensures low { (graph : Tfpg) (log : Logbook) (reach : List ℕ) (node : ℕ) →
-        node < length graph.nodes → (low : ℕ) × IsLow graph log reach node low }
+        node < length graph.nodes → (low : ℕ) × IsLow (case_of graph log reach) node low }
     ensures high { (graph : Tfpg) (log : Logbook) (reach : List ℕ) (node : ℕ) →
-        node < length graph.nodes → (high : ℕ) × IsHigh graph log reach node high }
+        node < length graph.nodes → (high : ℕ) × IsHigh (case_of graph log reach) node high }
     ensures one_low { (graph : Tfpg) (log : Logbook) (reach : List ℕ) (node one other : ℕ) →
-        IsLow graph log reach node one → IsLow graph log reach node other → one ≡ other }
+        IsLow (case_of graph log reach) node one → IsLow (case_of graph log reach) node other →
+        one ≡ other }
     ensures one_high { (graph : Tfpg) (log : Logbook) (reach : List ℕ) (node one other : ℕ) →
-        IsHigh graph log reach node one → IsHigh graph log reach node other → one ≡ other }
+        IsHigh (case_of graph log reach) node one → IsHigh (case_of graph log reach) node other →
+        one ≡ other }
 {}
 
 /// The constraints of facts and clauses bound the times of nodes as their names say.
@@ -110,7 +114,7 @@ pub fn traces_meet_facts_and_clauses()
         IsValid graph → IsLogOf graph log → IsOrdered log → IsReach graph set reach →
         Explains graph log set trace → AreNumbersOf graph (now_of log) trace numbers →
         (reason : Reason) (stated : Constraint) →
-        fact graph log reach reason ≡ Some stated → Meets numbers stated }
+        fact (case_of graph log reach) reason ≡ Some stated → Meets numbers stated }
     ensures clauses { (graph : Tfpg) (log : Logbook) (set : List ℕ)
         (trace : List Activation) (numbers : List ℕ) →
         IsValid graph → Explains graph log set trace → AreNumbersOf graph (now_of log) trace numbers →
@@ -134,12 +138,12 @@ pub fn numbers_that_meet_all_give_a_trace()
     ensures shown { (graph : Tfpg) (log : Logbook) (set reach : List ℕ) (numbers : List ℕ) →
         IsLogOf graph log → IsOrdered log → IsReach graph set reach → AreNumbers graph numbers →
         ((reason : Reason) (stated : Constraint) →
-        fact graph log reach reason ≡ Some stated → Meets numbers stated) →
-        ShowsAll graph (cut (now_of log) numbers) log.events }
+        fact (case_of graph log reach) reason ≡ Some stated → Meets numbers stated) →
+        ShowsAll graph log (cut (now_of log) numbers) }
     ensures from_set { (graph : Tfpg) (log : Logbook) (set reach : List ℕ) (numbers : List ℕ) →
         IsLogOf graph log → IsOrdered log → IsReach graph set reach → AreNumbers graph numbers →
         ((reason : Reason) (stated : Constraint) →
-        fact graph log reach reason ≡ Some stated → Meets numbers stated) →
+        fact (case_of graph log reach) reason ≡ Some stated → Meets numbers stated) →
         All (λ activation. IsTrue (is_kind_at is_failure graph activation.node) →
         IsMember graph set activation.node)
         (cut (now_of log) numbers) }
@@ -147,7 +151,7 @@ pub fn numbers_that_meet_all_give_a_trace()
         IsValid graph → IsLogOf graph log → IsOrdered log → IsReach graph set reach →
         AreNumbers graph numbers →
         ((reason : Reason) (stated : Constraint) →
-        fact graph log reach reason ≡ Some stated → Meets numbers stated) →
+        fact (case_of graph log reach) reason ≡ Some stated → Meets numbers stated) →
         ((name : ClauseName) (clause : List (List Constraint)) → horizon_of name ≡ now_of log →
         alternatives graph log name ≡ Some clause → MeetsClause numbers clause) →
         Explains graph log set (cut (now_of log) numbers) }
@@ -160,15 +164,21 @@ pub fn a_partial_tree_has_one_present_leaf()
     ensures only_one { PresentLeavesAreAlone }
 {}
 
-/// A closed leaf is sound: no numbers meet all facts of the log and the constraints that are picked on the path of the leaf.
+/// A closed leaf is sound: no numbers meet all facts of the log and the constraints that the picks among its reasons state.
+/// `cited` says so, and `path` says it of numbers that meet all constraints that are picked on the path of the leaf.
 pub fn a_closed_leaf_leaves_no_numbers()
-    ensures { (graph : Tfpg) (log : Logbook) (reach : List ℕ)
-        (path : List PathSplit) (seen : ℕ) (reasons : List Reason) (numbers : List ℕ) →
-        IsOrdered log → IsClosedLeaf graph log reach path seen reasons →
-        ((reason : Reason) (stated : Constraint) →
-        fact graph log reach reason ≡ Some stated → Meets numbers stated) →
+    ensures cited { (case : Case) (path : List PathSplit) (seen : ℕ) (reasons : List Reason)
+        (numbers : List ℕ) →
+        IsOrdered case.log → IsClosedLeaf (case_at case seen) path reasons →
+        ((reason : Reason) (stated : Constraint) → fact case reason ≡ Some stated → Meets numbers stated) →
+        ((split number : ℕ) (stated : Constraint) → Contains reasons (Pick split number) →
+        picked case.graph case.log path split number ≡ Some stated → Meets numbers stated) → ⊥ }
+    ensures path { (case : Case) (path : List PathSplit) (seen : ℕ) (reasons : List Reason)
+        (numbers : List ℕ) →
+        IsOrdered case.log → IsClosedLeaf (case_at case seen) path reasons →
+        ((reason : Reason) (stated : Constraint) → fact case reason ≡ Some stated → Meets numbers stated) →
         ((split number : ℕ) (stated : Constraint) →
-        picked graph log path split number ≡ Some stated → Meets numbers stated) → ⊥ }
+        picked case.graph case.log path split number ≡ Some stated → Meets numbers stated) → ⊥ }
 {}
 
 /// A refutation is sound and final: where steps are one at a log, for the reach of a set, no trace explains that log from the
@@ -176,5 +186,5 @@ pub fn a_closed_leaf_leaves_no_numbers()
 pub fn a_refutation_leaves_no_trace()
     ensures { (graph : Tfpg) (earlier log : Logbook) (set reach : List ℕ) (steps : List Judged) →
         IsValid graph → IsLogOf graph log → IsOrdered log → IsReach graph set reach →
-        GoesOn earlier log → IsRefutation graph earlier reach steps → Fits graph log set → ⊥ }
+        GoesOn earlier log → IsRefutation (case_of graph earlier reach) steps → Fits graph log set → ⊥ }
 {}

@@ -5,9 +5,8 @@
 //! - [`count`] and [`constraint`] are the alternatives of a clause and their constraints, where the clause is allowed.
 //! - [`MAX_CONSTRAINTS`] says how many constraints an alternative has at most.
 //! - [`violated`] is the first clause with the horizon now that some times violate.
-//! - [`Frame`] is a split on the path to the present leaf of a partial tree, as a program keeps it. [`Frame::of_split`] splits
-//!   the leaf, [`advance`] moves the path on once the leaf is closed, and [`stated_by`] and [`framed`] look up what a reason
-//!   states there.
+//! - [`PathSplit`] is a split on the path to the present leaf of a partial tree. [`PathSplit::on_clause`] splits the leaf,
+//!   [`advance`] moves the path on once the leaf is closed, and [`stated`] and [`picked`] look up what a reason states there.
 //! - [`laws`] ties facts, clauses and refutations to the traces that explain a log, and says how trees grow.
 //!
 //! Its definitions, in `specs/`, say which constraints are facts of a log and a reach, which clauses every trace meets,
@@ -40,9 +39,10 @@ mod meets;
 mod must;
 mod must_violated;
 mod path;
+mod site;
 
 pub use clauses::{NotAClause, constraint, count};
 pub use facts::{NotAFact, fact};
 pub use first_clause::violated;
 pub use limits::MAX_CONSTRAINTS;
-pub use path::{Frame, advance, framed, stated_by};
+pub use path::{PathSplit, advance, picked, stated};

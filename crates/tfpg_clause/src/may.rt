@@ -11,73 +11,61 @@ ghost use Rattle.tfpg_clause.specs.inside.FirstSpan.{may_over};
 
 use crate::alternative::Alternative;
 use crate::bounds::{at_least, at_least_after, at_most, at_most_before};
+use crate::site::Site;
 use tfpg_graph::{Edge, Graph};
-use tfpg_log::{Log, Span};
+use tfpg_log::Span;
 
 /// The alternative of this number, counted from 1, of the clause that the node becomes active in the span only where the
 /// failure arrives by one of these edges.
 pub(crate) fn may_alternative(
-    graph: &Graph,
-    log: &Log,
+    site: &Site<'_>,
     node: u32,
     edges: &[u32],
-    number: u32,
-    horizon: u64,
     span: Span,
     alternative: u32,
 ) -> Option<Alternative>
     requires node { node < MAX_NODES }
-    requires edges { All (λ edge. edge < length graph.now.edges) edges.now }
+    requires edges { All (λ edge. edge < length site.now.graph.now.edges) edges.now }
     requires small { IsSmallSpan span }
     ensures { option_map constraints_in result
         ≡ item_at
         (outside_span node span
-        ++ arrivals_over graph.now log.now number horizon span edges.now) alternative }
+        ++ arrivals_over site.now.graph.now site.now.log.now site.now.span site.now.horizon span edges.now)
+        alternative }
 {
     match alternative {
         0 => None,
         1 => Some(Alternative::One(at_most_before(node, span.lo))),
         2 => Some(Alternative::One(at_least(node, span.hi + 1))),
-        _ => arrival_at(graph, log, edges, number, horizon, span, alternative - 3),
+        _ => arrival_at(site, edges, span, alternative - 3),
     }
 }
 
-/// How many alternatives the clause has that a node becomes active in the span of this number only where the failure
+/// How many alternatives the clause has that a node becomes active in the span of the site only where the failure
 /// arrives by one of these edges, where there is such a span.
-pub(crate) fn may_count(
-    graph: &Graph,
-    log: &Log,
-    edges: &[u32],
-    number: u32,
-    horizon: u64,
-) -> Option<u32>
-    requires edges { All (λ edge. edge < length graph.now.edges) edges.now }
+pub(crate) fn may_count(site: &Site<'_>, edges: &[u32]) -> Option<u32>
+    requires edges { All (λ edge. edge < length site.now.graph.now.edges) edges.now }
     requires few { length edges.now ≤ MAX_INCOMING }
     ensures { (node : ℕ) → result
-        ≡ option_map length (may_over graph.now log.now node edges.now horizon number) }
+        ≡ option_map length (may_over site.now.graph.now site.now.log.now node edges.now site.now.horizon
+        site.now.span) }
 {
-    let span = find_span(log, number, horizon)?;
-    Some(2 + arrival_count(graph, log, edges, number, horizon, span))
+    let span = find_span(site)?;
+    Some(2 + arrival_count(site, edges, span))
 }
 
 /// How many of these edges the failure may arrive by within the span.
-fn arrival_count(
-    graph: &Graph,
-    log: &Log,
-    edges: &[u32],
-    number: u32,
-    horizon: u64,
-    span: Span,
-) -> u32
-    requires edges { All (λ edge. edge < length graph.now.edges) edges.now }
+fn arrival_count(site: &Site<'_>, edges: &[u32], span: Span) -> u32
+    requires edges { All (λ edge. edge < length site.now.graph.now.edges) edges.now }
     requires few { length edges.now ≤ MAX_INCOMING }
     requires small { IsSmallSpan span }
-    ensures count { result ≡ length (arrivals_over graph.now log.now number horizon span edges.now) }
+    ensures count { result ≡ length
+        (arrivals_over site.now.graph.now site.now.log.now site.now.span site.now.horizon span edges.now) }
     ensures few { result ≤ MAX_INCOMING }
 {
     let mut count = 0;
     for edge in edges {
-        if arrival_over(graph, log, *edge, number, horizon, span).is_some() {
+        if arrival_over(site, *edge, span).is_some() {
             count += 1;
         }
     }
@@ -85,23 +73,16 @@ fn arrival_count(
 }
 
 /// The alternative of the edge of this number, counted from 0, among those of these edges that the failure may arrive by.
-fn arrival_at(
-    graph: &Graph,
-    log: &Log,
-    edges: &[u32],
-    number: u32,
-    horizon: u64,
-    span: Span,
-    index: u32,
-) -> Option<Alternative>
-    requires edges { All (λ edge. edge < length graph.now.edges) edges.now }
+fn arrival_at(site: &Site<'_>, edges: &[u32], span: Span, index: u32) -> Option<Alternative>
+    requires edges { All (λ edge. edge < length site.now.graph.now.edges) edges.now }
     requires small { IsSmallSpan span }
     ensures { option_map constraints_in result
-        ≡ slice_get (arrivals_over graph.now log.now number horizon span edges.now) index }
+        ≡ slice_get (arrivals_over site.now.graph.now site.now.log.now site.now.span site.now.horizon span
+        edges.now) index }
 {
     let mut left = index;
     for edge in edges {
-        let arrival = arrival_over(graph, log, *edge, number, horizon, span);
+        let arrival = arrival_over(site, *edge, span);
         if arrival.is_some() {
             if left == 0 {
                 return arrival;
@@ -114,20 +95,16 @@ fn arrival_at(
 
 /// The alternative that the failure arrives by the edge within the span, where it can: the edge's window began the least
 /// delay before the end of the span, or earlier.
-pub(crate) fn arrival_over(
-    graph: &Graph,
-    log: &Log,
-    edge: u32,
-    number: u32,
-    horizon: u64,
-    span: Span,
-) -> Option<Alternative>
-    requires edge { edge < length graph.now.edges }
+pub(crate) fn arrival_over(site: &Site<'_>, edge: u32, span: Span) -> Option<Alternative>
+    requires edge { edge < length site.now.graph.now.edges }
     requires small { IsSmallSpan span }
-    ensures { option_map constraints_in result ≡ arrival_over graph.now log.now number horizon span edge }
+    ensures { option_map constraints_in result
+        ≡ arrival_over site.now.graph.now site.now.log.now site.now.span site.now.horizon span edge }
 {
-    let window = log.window_of(graph, edge, number, horizon)?;
-    let propagation = edge_of(graph, edge);
+    let window = site
+        .log
+        .window_of(site.graph, edge, site.span, site.horizon)?;
+    let propagation = edge_of(site.graph, edge);
     let earliest = window.lo.checked_add(propagation.tmin)?;
     if earliest > span.hi {
         return None;
@@ -149,11 +126,11 @@ pub(crate) fn edge_of(graph: &Graph, edge: u32) -> Edge
     graph.edge(edge)
 }
 
-/// The span of this number, up to a horizon, where there is one.
-pub(crate) fn find_span(log: &Log, number: u32, horizon: u64) -> Option<Span>
-    ensures value { result ≡ span_at log.now number horizon }
+/// The span of the site, where there is one.
+pub(crate) fn find_span(site: &Site<'_>) -> Option<Span>
+    ensures value { result ≡ span_at site.now.log.now site.now.span site.now.horizon }
     ensures small { IfSome result IsSmallSpan }
 {
-    let _ordered = log.len();
-    log.span(number, horizon)
+    let _ordered = site.log.len();
+    site.log.span(site.span, site.horizon)
 }

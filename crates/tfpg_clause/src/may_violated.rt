@@ -18,6 +18,7 @@ use crate::clauses::and_target;
 use crate::facts::now;
 use crate::may::{arrival_over, find_span};
 use crate::meets::meets;
+use crate::site::Site;
 use tfpg_graph::Graph;
 use tfpg_log::{Log, Span};
 
@@ -50,33 +51,31 @@ fn may_violated(graph: &Graph, log: &Log, times: &[u64], node: u32, edges: &[u32
     requires in_range { All (λ time. time ≤ NEVER) times.now }
     ensures { FindsFirst times.now (may_over graph.now log.now node edges.now (now_of log.now)) result }
 {
-    let horizon = now(log);
     let number = log.span_of(times[node as usize])?;
-    let span = find_span(log, number, horizon)?;
-    if has_arrived(graph, log, times, edges, number, horizon, span) {
+    let site = Site {
+        graph,
+        log,
+        span: number,
+        horizon: now(log),
+    };
+    let span = find_span(&site)?;
+    if has_arrived(&site, times, edges, span) {
         return None;
     }
     Some(number)
 }
 
 /// Whether the failure arrives by one of these edges within the span, at the times.
-fn has_arrived(
-    graph: &Graph,
-    log: &Log,
-    times: &[u64],
-    edges: &[u32],
-    number: u32,
-    horizon: u64,
-    span: Span,
-) -> bool
-    requires edges { All (λ edge. edge < length graph.now.edges) edges.now }
+fn has_arrived(site: &Site<'_>, times: &[u64], edges: &[u32], span: Span) -> bool
+    requires edges { All (λ edge. edge < length site.now.graph.now.edges) edges.now }
     requires in_range { All (λ time. time ≤ NEVER) times.now }
     requires small { IsSmallSpan span }
     ensures { IsTrue result
-        ↔ MeetsClause times.now (arrivals_over graph.now log.now number horizon span edges.now) }
+        ↔ MeetsClause times.now
+        (arrivals_over site.now.graph.now site.now.log.now site.now.span site.now.horizon span edges.now) }
 {
     for edge in edges {
-        if has_arrived_by(graph, log, times, *edge, number, horizon, span) {
+        if has_arrived_by(site, times, *edge, span) {
             return true;
         }
     }
@@ -84,22 +83,15 @@ fn has_arrived(
 }
 
 /// Whether the failure arrives by the edge within the span, at the times.
-fn has_arrived_by(
-    graph: &Graph,
-    log: &Log,
-    times: &[u64],
-    edge: u32,
-    number: u32,
-    horizon: u64,
-    span: Span,
-) -> bool
-    requires edge { edge < length graph.now.edges }
+fn has_arrived_by(site: &Site<'_>, times: &[u64], edge: u32, span: Span) -> bool
+    requires edge { edge < length site.now.graph.now.edges }
     requires in_range { All (λ time. time ≤ NEVER) times.now }
     requires small { IsSmallSpan span }
     ensures { IsTrue result
-        ↔ IsSomeAnd (arrival_over graph.now log.now number horizon span edge) (All (Meets times.now)) }
+        ↔ IsSomeAnd (arrival_over site.now.graph.now site.now.log.now site.now.span site.now.horizon span
+        edge) (All (Meets times.now)) }
 {
-    match arrival_over(graph, log, edge, number, horizon, span) {
+    match arrival_over(site, edge, span) {
         Some(alternative) => meets(times, alternative),
         None => false,
     }

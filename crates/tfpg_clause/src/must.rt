@@ -4,81 +4,66 @@ ghost use Rattle.std.specs.Prelude.{◌≡◌, ◌<◌, ◌≤◌, ℕ, List, le
 ghost use Rattle.tfpg_base.specs.declared.limits.TheConstants.{MAX_TIME};
 ghost use Rattle.tfpg_graph.specs.declared.limits.TheConstants.{MAX_INCOMING, MAX_NODES};
 ghost use Rattle.tfpg_log.specs.Spans.{window_of, joint_of};
-ghost use Rattle.tfpg_clause.specs.declared.due.Due.{Due};
-ghost use Rattle.tfpg_clause.specs.Clauses.{must_in, must_alternatives, starts_late, follows_in_time};
+ghost use Rattle.tfpg_clause.specs.Clauses.{Due, must_in, must_alternatives, starts_late, follows_in_time};
 ghost use Rattle.tfpg_base.specs.Choice.{item_at};
 ghost use Rattle.tfpg_clause.specs.inside.Ranges.{IsSmallDue, IsSmallWindow};
-ghost use Rattle.tfpg_clause.specs.inside.Alternatives.{constraints_in, due_by_number, dues_over, latest_within};
+ghost use Rattle.tfpg_clause.specs.inside.Alternatives.{constraints_in, due_seen, due_by_number, dues_over, latest_within};
 ghost use Rattle.tfpg_clause.specs.inside.KnownWindows.{IsWindowOver, AreKnown};
 
 use crate::alternative::Alternative;
 use crate::bounds::{at_least, at_most, at_most_after};
-use crate::due::Due;
+use crate::due::EdgeDue;
 use crate::known_windows::{known_at, window_over};
 use crate::may::edge_of;
-use tfpg_graph::Graph;
-use tfpg_log::{Log, Window};
+use crate::site::Site;
+use tfpg_log::Window;
 
 /// How many alternatives the clause has that a node is active once the failure is due by all these edges, where it is
 /// allowed: its window begins with the span, and has room for each greatest delay, which is finite.
-pub(crate) fn must_count(
-    graph: &Graph,
-    log: &Log,
-    edges: &[u32],
-    window: Window,
-    number: u32,
-    horizon: u64,
-) -> Option<u32>
-    requires edges { All (λ edge. edge < length graph.now.edges) edges.now }
+pub(crate) fn must_count(site: &Site<'_>, edges: &[u32], window: Window) -> Option<u32>
+    requires edges { All (λ edge. edge < length site.now.graph.now.edges) edges.now }
     requires few { length edges.now ≤ MAX_INCOMING }
     ensures { (target : ℕ) → result ≡ option_map length
-        (option_and_then (λ dues. must_in target number window dues)
-        (dues_over graph.now log.now number horizon edges.now)) }
+        (option_and_then (λ dues. must_in target site.now.span window dues)
+        (dues_over site.now.graph.now site.now.log.now site.now.span site.now.horizon edges.now)) }
 {
-    if window.first != number {
+    if window.first != site.span {
         return None;
     }
-    latest_due(graph, log, edges, window.hi, number, horizon, &[])?;
+    latest_due(site, edges, window.hi, &[])?;
     Some(2 * edges.len() as u32 + 1)
 }
 
 /// The alternative of this number, counted from 1, of the clause that the node is active once the failure is due by all
 /// these edges, in a window that ends here and has room for all.
 pub(crate) fn must_alternative(
-    graph: &Graph,
-    log: &Log,
+    site: &Site<'_>,
     node: u32,
     edges: &[u32],
     hi: u64,
     latest: u64,
-    number: u32,
-    horizon: u64,
     alternative: u32,
 ) -> Option<Alternative>
     requires node { node < MAX_NODES }
-    requires edges { All (λ edge. edge < length graph.now.edges) edges.now }
+    requires edges { All (λ edge. edge < length site.now.graph.now.edges) edges.now }
     requires few { length edges.now ≤ MAX_INCOMING }
     requires hi { hi ≤ MAX_TIME }
     requires latest { latest ≤ hi }
-    requires dues { latest_within hi (dues_over graph.now log.now number horizon edges.now) ≡ Some latest }
-    ensures { (dues : List Due) → dues_over graph.now log.now number horizon edges.now ≡ Some dues →
+    requires dues { latest_within hi
+        (dues_over site.now.graph.now site.now.log.now site.now.span site.now.horizon edges.now)
+        ≡ Some latest }
+    ensures { (dues : List Due)
+        → dues_over site.now.graph.now site.now.log.now site.now.span site.now.horizon edges.now ≡ Some dues →
         option_map constraints_in result ≡ item_at (must_alternatives node hi dues) alternative }
 {
     let count = edges.len() as u32;
     let index = alternative.checked_sub(1)?;
     if index < count {
-        let due = due_by_number(graph, log, edges[index as usize], number, horizon, None)?;
+        let due = due_by_number(site, edges[index as usize], None)?;
         return Some(starts_late(hi, due));
     }
     if index < 2 * count {
-        let due = due_by_number(
-            graph,
-            log,
-            edges[(index - count) as usize],
-            number,
-            horizon,
-            None,
-        )?;
+        let due = due_by_number(site, edges[(index - count) as usize], None)?;
         return Some(follows_in_time(due));
     }
     if index == 2 * count {
@@ -90,29 +75,20 @@ pub(crate) fn must_alternative(
 /// The latest time at which a failure is due over these edges, where it is due over each of them, in a window that ends here
 /// and has room for all. At the index of an edge its window may be known.
 pub(crate) fn latest_due(
-    graph: &Graph,
-    log: &Log,
+    site: &Site<'_>,
     edges: &[u32],
     hi: u64,
-    number: u32,
-    horizon: u64,
     known: &[Option<Window>],
 ) -> Option<u64>
-    requires edges { All (λ edge. edge < length graph.now.edges) edges.now }
-    requires known { AreKnown graph.now log.now horizon edges.now known.now }
-    ensures value { result ≡ latest_within hi (dues_over graph.now log.now number horizon edges.now) }
+    requires edges { All (λ edge. edge < length site.now.graph.now.edges) edges.now }
+    requires known { AreKnown site.now.graph.now site.now.log.now site.now.horizon edges.now known.now }
+    ensures value { result ≡ latest_within hi
+        (dues_over site.now.graph.now site.now.log.now site.now.span site.now.horizon edges.now) }
     ensures within { IfSome result (λ latest. latest ≤ hi) }
 {
     let mut latest: u64 = 0;
     for index in 0..edges.len() {
-        let due = due_by_number(
-            graph,
-            log,
-            edges[index],
-            number,
-            horizon,
-            known_at(known, index),
-        )?;
+        let due = due_by_number(site, edges[index], known_at(known, index))?;
         if due.by > hi {
             return None;
         }
@@ -122,41 +98,35 @@ pub(crate) fn latest_due(
 }
 
 /// The source becomes active too late for the failure to be due within a window that ends here.
-pub(crate) fn starts_late(hi: u64, due: Due) -> Alternative
+pub(crate) fn starts_late(hi: u64, due: EdgeDue) -> Alternative
     requires due { IsSmallDue due }
     requires hi { hi ≤ MAX_TIME }
-    ensures { constraints_in result ≡ starts_late hi due }
+    ensures { constraints_in result ≡ starts_late hi (due_seen due) }
 {
     Alternative::One(at_least(due.source, hi.saturating_sub(due.tmax) + 1))
 }
 
 /// The target becomes active at most the greatest delay after the source.
-pub(crate) fn follows_in_time(due: Due) -> Alternative
+pub(crate) fn follows_in_time(due: EdgeDue) -> Alternative
     requires { IsSmallDue due }
-    ensures { constraints_in result ≡ follows_in_time due }
+    ensures { constraints_in result ≡ follows_in_time (due_seen due) }
 {
     Alternative::One(at_most_after(due.target, due.source, due.tmax))
 }
 
 /// What is due over the edge, where its greatest delay is finite and it is active in the span. A window of the edge may be
 /// known.
-pub(crate) fn due_by_number(
-    graph: &Graph,
-    log: &Log,
-    edge: u32,
-    number: u32,
-    horizon: u64,
-    known: Option<Window>,
-) -> Option<Due>
-    requires edge { edge < length graph.now.edges }
-    requires known { IfSome known (IsWindowOver graph.now log.now horizon edge) }
-    ensures value { result ≡ due_by_number graph.now log.now number horizon edge }
+pub(crate) fn due_by_number(site: &Site<'_>, edge: u32, known: Option<Window>) -> Option<EdgeDue>
+    requires edge { edge < length site.now.graph.now.edges }
+    requires known { IfSome known (IsWindowOver site.now.graph.now site.now.log.now site.now.horizon edge) }
+    ensures value { option_map due_seen result
+        ≡ due_by_number site.now.graph.now site.now.log.now site.now.span site.now.horizon edge }
     ensures small { IfSome result IsSmallDue }
 {
-    let propagation = edge_of(graph, edge);
+    let propagation = edge_of(site.graph, edge);
     let tmax = propagation.tmax?;
-    let window = window_over(graph, log, edge, number, horizon, known)?;
-    Some(Due {
+    let window = window_over(site, edge, known)?;
+    Some(EdgeDue {
         source: propagation.source,
         target: propagation.target,
         tmax,
@@ -164,35 +134,26 @@ pub(crate) fn due_by_number(
     })
 }
 
-/// The window of the edge round the span of this number, up to a horizon, where there is one.
-pub(crate) fn find_window(
-    graph: &Graph,
-    log: &Log,
-    edge: u32,
-    number: u32,
-    horizon: u64,
-) -> Option<Window>
-    requires { edge < length graph.now.edges }
+/// The window of the edge round the span of the site, where there is one.
+pub(crate) fn find_window(site: &Site<'_>, edge: u32) -> Option<Window>
+    requires { edge < length site.now.graph.now.edges }
     ensures value { result
-        ≡ option_and_then (λ e. window_of log.now e number horizon) (slice_get graph.now.edges edge) }
+        ≡ option_and_then (λ e. window_of site.now.log.now e site.now.span site.now.horizon)
+        (slice_get site.now.graph.now.edges edge) }
     ensures small { IfSome result IsSmallWindow }
 {
-    let _ordered = log.len();
-    log.window_of(graph, edge, number, horizon)
+    let _ordered = site.log.len();
+    site.log
+        .window_of(site.graph, edge, site.span, site.horizon)
 }
 
-/// The joint window of the edges into the node round the span of this number, up to a horizon, where there is one.
-pub(crate) fn find_joint(
-    graph: &Graph,
-    log: &Log,
-    node: u32,
-    number: u32,
-    horizon: u64,
-) -> Option<Window>
-    requires { node < length graph.now.nodes }
-    ensures value { result ≡ joint_of graph.now log.now node number horizon }
+/// The joint window of the edges into the node round the span of the site, where there is one.
+pub(crate) fn find_joint(site: &Site<'_>, node: u32) -> Option<Window>
+    requires { node < length site.now.graph.now.nodes }
+    ensures value { result
+        ≡ joint_of site.now.graph.now site.now.log.now node site.now.span site.now.horizon }
     ensures small { IfSome result IsSmallWindow }
 {
-    let _ordered = log.len();
-    log.joint_of(graph, node, number, horizon)
+    let _ordered = site.log.len();
+    site.log.joint_of(site.graph, node, site.span, site.horizon)
 }

@@ -7,7 +7,7 @@ ghost use Rattle.tfpg_base.specs.declared.limits.TheConstants.{MAX_TIME, NEVER};
 ghost use Rattle.tfpg_log.specs.Log.{now_of};
 ghost use Rattle.tfpg_clause.specs.declared.clause_kind.ClauseKind.TheVariants.{OrMust, AndMust};
 ghost use Rattle.tfpg_clause.specs.Cut.{AreNumbers};
-ghost use Rattle.tfpg_clause.specs.inside.Alternatives.{due_by_number};
+ghost use Rattle.tfpg_clause.specs.inside.Alternatives.{due_by_number, dues_over};
 ghost use Rattle.tfpg_clause.specs.inside.FirstSpan.{FindsFirst, clauses_of, MeetsUpTo, MeetsIfAny, must_over, IsExcused};
 ghost use Rattle.tfpg_clause.specs.inside.KnownWindows.{IsWindowOver, AreKnown};
 ghost use Rattle.tfpg_clause.specs.inside.Musts.{IsMustOf, musts_of, window_by};
@@ -20,6 +20,7 @@ use crate::meets::meets;
 use crate::must::{
     due_by_number, find_joint, find_window, follows_in_time, latest_due, starts_late,
 };
+use crate::site::Site;
 use tfpg_graph::{Graph, MAX_INCOMING};
 use tfpg_log::{Log, Window};
 
@@ -104,10 +105,16 @@ fn must_met_up_to(
     ensures met { MeetsUpTo times.now (musts_of graph.now log.now must.now.node must.now.edge) number result }
     ensures known { AreKnown graph.now log.now (now_of log.now) must.now.edges.now known.new }
 {
-    match take_window(graph, log, must, number, now(log), known) {
+    let site = Site {
+        graph,
+        log,
+        span: number,
+        horizon: now(log),
+    };
+    match take_window(&site, must, known) {
         None => Some(number),
         Some(window) => {
-            if is_must_met(graph, log, times, must, window, number, known) {
+            if is_must_met(&site, times, must, window, known) {
                 log.span_of(window.hi)
             } else {
                 None
@@ -116,65 +123,60 @@ fn must_met_up_to(
     }
 }
 
-/// The window round the span of this number, up to a horizon, where there is one: that of the edge into an OR node, or the
+/// The window round the span of the site, where there is one: that of the edge into an OR node, or the
 /// joint one of all edges. Where there is one, the windows of the edges are taken too, and those are not looked for that are
 /// known from an earlier span.
-fn take_window(
-    graph: &Graph,
-    log: &Log,
-    must: &Must<'_>,
-    number: u32,
-    horizon: u64,
-    known: &mut [Option<Window>],
-) -> Option<Window>
-    requires must { IsMustOf graph.now must.now }
+fn take_window(site: &Site<'_>, must: &Must<'_>, known: &mut [Option<Window>]) -> Option<Window>
+    requires must { IsMustOf site.now.graph.now must.now }
     requires room { length must.now.edges.now ≤ length known.old }
-    requires known { AreKnown graph.now log.now horizon must.now.edges.now known.old }
-    ensures value { result ≡ window_by graph.now log.now must.now.node must.now.edge number horizon }
+    requires known { AreKnown site.now.graph.now site.now.log.now site.now.horizon must.now.edges.now
+        known.old }
+    ensures value { result
+        ≡ window_by site.now.graph.now site.now.log.now must.now.node must.now.edge site.now.span
+        site.now.horizon }
     ensures small { IfSome result IsSmallWindow }
-    ensures known { AreKnown graph.now log.now horizon must.now.edges.now known.new }
+    ensures known { AreKnown site.now.graph.now site.now.log.now site.now.horizon must.now.edges.now
+        known.new }
 {
     match must.edge {
         Some(edge) => {
-            let window = find_window(graph, log, edge, number, horizon)?;
+            let window = find_window(site, edge)?;
             known[0] = Some(window);
             Some(window)
         }
         None => {
-            let window = find_joint(graph, log, must.node, number, horizon)?;
-            take_windows(graph, log, must.edges, number, horizon, known);
+            let window = find_joint(site, must.node)?;
+            take_windows(site, must.edges, known);
             Some(window)
         }
     }
 }
 
 /// Whether the times meet the clause that the node is active once the failure is due by all these edges, in this window,
-/// where the span of this number has that clause. At the index of an edge its window may be known.
+/// where the span has that clause. At the index of an edge its window may be known.
 fn is_must_met(
-    graph: &Graph,
-    log: &Log,
+    site: &Site<'_>,
     times: &[u64],
     must: &Must<'_>,
     window: Window,
-    number: u32,
     known: &[Option<Window>],
 ) -> bool
-    requires must { IsMustOf graph.now must.now }
-    requires numbers { AreNumbers graph.now times.now }
-    requires known { AreKnown graph.now log.now (now_of log.now) must.now.edges.now known.now }
+    requires must { IsMustOf site.now.graph.now must.now }
+    requires numbers { AreNumbers site.now.graph.now times.now }
+    requires known { AreKnown site.now.graph.now site.now.log.now site.now.horizon must.now.edges.now
+        known.now }
     requires small { IsSmallWindow window }
     ensures { IsTrue result ↔ MeetsIfAny times.now
-        (must_over graph.now log.now must.now.node must.now.edges.now window (now_of log.now) number) }
+        (must_over must.now.node site.now.span window
+        (dues_over site.now.graph.now site.now.log.now site.now.span site.now.horizon must.now.edges.now)) }
 {
-    if window.first != number {
+    if window.first != site.span {
         return true;
     }
     let edges = must.edges;
-    let horizon = now(log);
-    match latest_due(graph, log, edges, window.hi, number, horizon, known) {
+    match latest_due(site, edges, window.hi, known) {
         Some(latest) => {
-            times[must.node as usize] <= latest
-                || is_excused(graph, log, times, edges, window.hi, number, horizon, known)
+            times[must.node as usize] <= latest || is_excused(site, times, edges, window.hi, known)
         }
         None => true,
     }
@@ -183,26 +185,24 @@ fn is_must_met(
 /// Whether by one of these edges the failure starts too late to be due in a window that ends here, or the target follows
 /// the source in time. At the index of an edge its window may be known.
 fn is_excused(
-    graph: &Graph,
-    log: &Log,
+    site: &Site<'_>,
     times: &[u64],
     edges: &[u32],
     hi: u64,
-    number: u32,
-    horizon: u64,
     known: &[Option<Window>],
 ) -> bool
-    requires edges { All (λ edge. edge < length graph.now.edges) edges.now }
-    requires known { AreKnown graph.now log.now horizon edges.now known.now }
+    requires edges { All (λ edge. edge < length site.now.graph.now.edges) edges.now }
+    requires known { AreKnown site.now.graph.now site.now.log.now site.now.horizon edges.now known.now }
     requires in_range { All (λ time. time ≤ NEVER) times.now }
     requires hi { hi ≤ MAX_TIME }
     ensures { IsTrue result
         ↔ ((edge : ℕ) × Contains edges.now edge
-        × IsSomeAnd (due_by_number graph.now log.now number horizon edge) (IsExcused times.now hi)) }
+        × IsSomeAnd (due_by_number site.now.graph.now site.now.log.now site.now.span site.now.horizon edge)
+        (IsExcused times.now hi)) }
 {
     for index in 0..edges.len() {
         let own = known_at(known, index);
-        if is_excused_by(graph, log, times, edges[index], hi, number, horizon, own) {
+        if is_excused_by(site, times, edges[index], hi, own) {
             return true;
         }
     }
@@ -211,24 +211,16 @@ fn is_excused(
 
 /// Whether by the edge the failure starts too late to be due in a window that ends here, or the target follows the source
 /// in time. A window of the edge may be known.
-fn is_excused_by(
-    graph: &Graph,
-    log: &Log,
-    times: &[u64],
-    edge: u32,
-    hi: u64,
-    number: u32,
-    horizon: u64,
-    known: Option<Window>,
-) -> bool
-    requires edge { edge < length graph.now.edges }
-    requires known { IfSome known (IsWindowOver graph.now log.now horizon edge) }
+fn is_excused_by(site: &Site<'_>, times: &[u64], edge: u32, hi: u64, known: Option<Window>) -> bool
+    requires edge { edge < length site.now.graph.now.edges }
+    requires known { IfSome known (IsWindowOver site.now.graph.now site.now.log.now site.now.horizon edge) }
     requires in_range { All (λ time. time ≤ NEVER) times.now }
     requires hi { hi ≤ MAX_TIME }
     ensures { IsTrue result
-        ↔ IsSomeAnd (due_by_number graph.now log.now number horizon edge) (IsExcused times.now hi) }
+        ↔ IsSomeAnd (due_by_number site.now.graph.now site.now.log.now site.now.span site.now.horizon edge)
+        (IsExcused times.now hi) }
 {
-    match due_by_number(graph, log, edge, number, horizon, known) {
+    match due_by_number(site, edge, known) {
         Some(due) => meets(times, starts_late(hi, due)) || meets(times, follows_in_time(due)),
         None => false,
     }

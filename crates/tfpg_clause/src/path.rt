@@ -1,11 +1,13 @@
 //! The path to the present leaf of a partial tree, as a program keeps it.
 
-ghost use Rattle.std.specs.Prelude.{◌≡◌, ◌≤◌, ◌<◌, ◌-◌, take, length, vec_len, vec_capacity, option_map, Some, None};
+ghost use Rattle.std.specs.Prelude.{◌≡◌, ◌≤◌, ◌<◌, ◌-◌, take, length, vec_len, vec_capacity, option_map, [], Some, None};
 ghost use Rattle.std.specs.Bool.{MatchBool};
 ghost use Rattle.tfpg_log.specs.Log.{IsLogOf};
 ghost use Rattle.tfpg_clause.specs.Clauses.{count_of};
-ghost use Rattle.tfpg_clause.specs.Paths.{new_frame, path_after, framed, stated_by};
-ghost use Rattle.tfpg_clause.specs.inside.Frames.{HasNext};
+ghost use Rattle.tfpg_clause.specs.Case.{case_of};
+ghost use Rattle.tfpg_clause.specs.Trees.{new_split, picked, stated};
+ghost use Rattle.tfpg_clause.specs.Paths.{next_leaf};
+ghost use Rattle.tfpg_clause.specs.inside.UnfinishedSplits.{HasNext};
 
 use crate::clauses::{constraint, count};
 use crate::facts::fact;
@@ -14,23 +16,23 @@ use tfpg_evidence::{ClauseName, Reason};
 use tfpg_graph::{Graph, NodeSet};
 use tfpg_log::Log;
 
-/// A split on the path, with the number of the alternative in whose subtree the present leaf stands, counted from 1, and
-/// how many alternatives there are.
+/// A split on a path, with the number of the alternative in whose subtree one stands, counted from 1, and how many
+/// alternatives it has.
 #[derive(Clone, Copy, Debug, PartialEq, Eq, Drop)]
-pub struct Frame {
+pub struct PathSplit {
     pub name: ClauseName,
     pub alternative: u32,
     pub alternatives: u32,
 }
 
-impl Frame {
+impl PathSplit {
     /// A new split on a clause, in its first alternative, or None where the name is not allowed. The cost is that of
     /// [`count`].
-    pub fn of_split(graph: &Graph, log: &Log, name: ClauseName) -> Option<Frame>
-        ensures { result ≡ option_map (new_frame name) (count_of graph.now log.now name) }
+    pub fn on_clause(graph: &Graph, log: &Log, name: ClauseName) -> Option<PathSplit>
+        ensures { result ≡ option_map (new_split name) (count_of graph.now log.now name) }
     {
         let alternatives = count(graph, log, name).ok()?;
-        Some(Frame {
+        Some(PathSplit {
             name,
             alternative: 1,
             alternatives,
@@ -39,10 +41,11 @@ impl Frame {
 }
 
 /// Moves the path to the next alternative of the deepest split that has one left, and returns whether there is one. Where
-/// none has, the tree is finished. Takes no memory, and goes through the splits that it drops.
-pub fn advance(path: &mut Vec<Frame>) -> bool
+/// none has, the tree is finished, and the path is empty. Takes no memory, and goes through the splits that it drops.
+pub fn advance(path: &mut Vec<PathSplit>) -> bool
     ensures moved { MatchBool result
-        (path_after path.old.items ≡ Some path.new.items) (path_after path.old.items ≡ None) }
+        (next_leaf path.old.items ≡ Some path.new.items)
+        ((next_leaf path.old.items ≡ None) × (path.new.items ≡ [])) }
     ensures shorter { vec_len path.new ≤ vec_len path.old }
     ensures capacity { vec_capacity path.new ≡ vec_capacity path.old }
 {
@@ -59,9 +62,9 @@ pub fn advance(path: &mut Vec<Frame>) -> bool
 }
 
 /// How many splits there are up to the deepest that has an alternative left.
-fn unfinished(path: &[Frame]) -> usize
+fn unfinished(path: &[PathSplit]) -> usize
     ensures within { result ≤ length path.now }
-    ensures same { path_after path.now ≡ path_after (take result path.now) }
+    ensures same { next_leaf path.now ≡ next_leaf (take result path.now) }
     ensures left { HasNext path.now result }
 {
     let mut kept = path.len();
@@ -73,18 +76,18 @@ fn unfinished(path: &[Frame]) -> usize
 
 /// The constraint that the reason states at the leaf of this path, where it states one: a fact of the log and of a set that
 /// reaches these nodes, or a constraint of an alternative on the path. The cost is that of [`fact`] or [`constraint`].
-pub fn stated_by(
+pub fn stated(
     graph: &Graph,
     log: &Log,
     reach: &NodeSet,
-    path: &[Frame],
+    path: &[PathSplit],
     reason: Reason,
 ) -> Option<Constraint>
     requires of { IsLogOf graph.now log.now }
-    ensures { result ≡ stated_by graph.now log.now reach.now path.now reason }
+    ensures { result ≡ stated (case_of graph.now log.now reach.now) path.now reason }
 {
     match reason {
-        Reason::Pick { split, constraint } => framed(graph, log, path, split, constraint),
+        Reason::Pick { split, constraint } => picked(graph, log, path, split, constraint),
         _ => fact(graph, log, reach, reason).ok(),
     }
 }
@@ -92,20 +95,20 @@ pub fn stated_by(
 /// The constraint with this number in the alternative taken at this split of the path, both numbered from 1, or None where
 /// there is none.
 /// The cost is that of [`constraint`].
-pub fn framed(
+pub fn picked(
     graph: &Graph,
     log: &Log,
-    path: &[Frame],
+    path: &[PathSplit],
     split: u64,
     number: u32,
 ) -> Option<Constraint>
-    ensures { result ≡ framed graph.now log.now path.now split number }
+    ensures { result ≡ picked graph.now log.now path.now split number }
 {
     if split == 0 {
         return None;
     }
-    let frame = path.get((split - 1) as usize).copied()?;
-    match constraint(graph, log, frame.name, frame.alternative, number) {
+    let taken = path.get((split - 1) as usize).copied()?;
+    match constraint(graph, log, taken.name, taken.alternative, number) {
         Ok(found) => found,
         Err(_) => None,
     }

@@ -42,14 +42,14 @@ widest_from first (suc count) (suc v) b at =
 pub IsReady-new : (bounds now : List Bounds) (picks : List Pick) (count : ℕ) (values : List ℕ) (links : List Demand) (backup_values : List ℕ) (backup_links : List Demand)
     (capacity : ℕ) → now ≡ bounds → bounds ≡ unbounded_from 0 count → picks ≡ [] → count < 2 ^ 32 → AreAtCeilings now values links (length now) →
     length backup_values ≡ count + 1 → length backup_links ≡ count + 1 → count + 3 ≤ capacity →
-    IsReady bounds picks values links backup_values backup_links capacity
+    IsReady (demands_of bounds picks) values links backup_values backup_links capacity
 IsReady-new bounds now picks count values links backup_values backup_links capacity same is none few start bv bl room =
     let len : length bounds ≡ count = ap length is ∙ length-unbounded_from 0 count in
     let widths : (v : ℕ) (b : Bounds) → slice_get bounds v ≡ Some b → (b.floor ≡ 0) × (b.ceiling ≡ NEVER) =
     λ v b at. (let same = (widest_from 0 count v b (sym (ap (λ (bs : List Bounds). slice_get bs v) is) ∙ at)).0 in
     (ap (λ (c : Bounds). c.floor) same, ap (λ (c : Bounds). c.ceiling) same)) in
     let begun : AreAtCeilings bounds values links (length bounds) = subst (λ (bs : List Bounds). AreAtCeilings bs values links (length bs)) same start in
-    subst (λ (ps : List Pick). IsReady bounds ps values links backup_values backup_links capacity) (sym none)
+    subst (λ (ps : List Pick). IsReady (demands_of bounds ps) values links backup_values backup_links capacity) (sym none)
     (record {
       sound = record {
         few = omega arith;
@@ -65,7 +65,7 @@ IsReady-new bounds now picks count values links backup_values backup_links capac
     })
 
 module _ (bounds : List Bounds) (picks : List Pick) (values : List ℕ) (links : List Demand) (backup_values : List ℕ) (backup_links : List Demand) (capacity : ℕ)
-    (ready : IsReady bounds picks values links backup_values backup_links capacity) where
+    (ready : IsReady (demands_of bounds picks) values links backup_values backup_links capacity) where
   -- a fresh start with other picks
   pub IsKept-fresh : (others : List Pick) (values' : List ℕ) (links' : List Demand) → AreAtCeilings bounds values' links' (length bounds) →
       IsKept (demands_of bounds others) values' links'

@@ -13,7 +13,7 @@ use Rattle.tfpg_diff.specs.declared.bounds.Bounds.{Bounds}
 use Rattle.tfpg_diff.specs.Demands.{Demands, Demanded, Bounded, floor_of}
 use Rattle.tfpg_diff.specs.Cycle.{NamesNegativeCycle}
 use Rattle.tfpg_diff.specs.Solution.{IsBetween}
-use Rattle.tfpg_diff.specs.inside.Kept.{IsMetBy, Climbs, IsLabelled, IsWalk, Walked, IsLink, IsKept}
+use Rattle.tfpg_diff.specs.inside.Kept.{IsMetBy, Climbs, IsLabelled, Walked, IsLink, IsKept}
 use Rattle.tfpg_diff.proofs.Solutions.{IsMetBy-solution}
 use Rattle.tfpg_base.proofs.lists.Elements.{AllPairs-cons, AllPairs-front}
 use Rattle.tfpg_base.proofs.lists.Written.{slice_get-set_other, slice_get-set_same, slice_index-set_le}
@@ -57,17 +57,16 @@ module _ (demands : Demands) (values : List ℕ) (links : List Demand) (kept : I
       (pos (slice_index values demand.constraint.right) +ℤ demand.constraint.bound) <ℤ pos (slice_index values demand.constraint.left) →
       Walked links demand.constraint.right demand.constraint.left demand.constraint.left (demand.why ∷ []) tags → NamesNegativeCycle new tags
   cycle_from_links new demand tags demanded demands_links inside broken walked =
-      let es : List Demand = walked.0 in
-      let walk : IsWalk links demand.constraint.right demand.constraint.left demand.constraint.left (demand.why ∷ []) tags es = walked.1 in
-      let fall = total_of-Climbs values links IsTight-kept demand.constraint.right es demand.constraint.left walk.climbs in
-      NamesNegativeCycle-chain new tags demand.constraint.left demand es (sym walk.tags)
+      let es : List Demand = walked.chain in
+      let fall = total_of-Climbs values links IsTight-kept demand.constraint.right es demand.constraint.left walked.climbs in
+      NamesNegativeCycle-chain new tags demand.constraint.left demand es (sym walked.tags)
       (All-cons (Demanded new) demand es demanded
       (All-weaker (IsOwnLink links) (Demanded new) (λ (e : Demand) (at : IsOwnLink links e). demands_links e.constraint.left e at.0 at.1) es
-      (Climbs-at links Labelled-kept demand.constraint.right es demand.constraint.left walk.climbs)))
-      (refl, Chains-Climbs links Labelled-kept demand.constraint.right es demand.constraint.left walk.climbs)
+      (Climbs-at links Labelled-kept demand.constraint.right es demand.constraint.left walked.climbs)))
+      (refl, Chains-Climbs links Labelled-kept demand.constraint.right es demand.constraint.left walked.climbs)
       (AllPairs-cons (λ (a b : Demand). a.constraint.left ≢ b.constraint.left) demand es
-      (All-weaker (λ (e : Demand). e.constraint.left ≢ demand.constraint.left) (λ (e : Demand). demand.constraint.left ≢ e.constraint.left) (λ e other same. other (sym same)) es walk.avoids)
-      (AllPairs-Climbs demand.constraint.right es demand.constraint.left walk.climbs inside))
+      (All-weaker (λ (e : Demand). e.constraint.left ≢ demand.constraint.left) (λ (e : Demand). demand.constraint.left ≢ e.constraint.left) (λ e other same. other (sym same)) es walked.avoids)
+      (AllPairs-Climbs demand.constraint.right es demand.constraint.left walked.climbs inside))
       (omega (arith, ints))
 
   -- a walk that meets the left side closes a negative cycle
@@ -83,27 +82,26 @@ module _ (demands : Demands) (values : List ℕ) (links : List Demand) (kept : I
       (pos (slice_index values demand.constraint.right) +ℤ demand.constraint.bound) <ℤ pos bounds.floor →
       NamesNegativeCycle demands (tags ++ bounds.floor_why ∷ [])
   cycle_from_floor demand tags variable bounds broken walked bounded number low =
-      let es : List Demand = walked.0 in
-      let walk : IsWalk links demand.constraint.right demand.constraint.left 0 (demand.why ∷ []) tags es = walked.1 in
-      let fall = total_of-Climbs values links IsTight-kept demand.constraint.right es 0 walk.climbs in
+      let es : List Demand = walked.chain in
+      let fall = total_of-Climbs values links IsTight-kept demand.constraint.right es 0 walked.climbs in
       let last : Demand = floor_of variable bounds in
       let is_last : Demanded demands last = inr (inl (variable, bounds, bounded, refl)) in
       let inside : 0 < length links = let k = kept.links_len in omega arith in
       let up : All (λ (e : Demand). e.constraint.left ≢ 0) es =
       All-weaker (IsOwnLink links) (λ (e : Demand). e.constraint.left ≢ 0) (λ (e : Demand) (at : IsOwnLink links e) same. absurd (omega (arith, at.0))) es
-      (Climbs-at links Labelled-kept demand.constraint.right es 0 walk.climbs) in
+      (Climbs-at links Labelled-kept demand.constraint.right es 0 walked.climbs) in
       let joined = total_of-append es (last ∷ []) in
       NamesNegativeCycle-chain demands (tags ++ bounds.floor_why ∷ []) demand.constraint.left demand (es ++ last ∷ [])
       (ap (λ (rest : List Why). demand.why ∷ rest) (map_push (λ (e : Demand). e.why) es last)
-      ∙ ap (λ (all : List Why). all ++ bounds.floor_why ∷ []) (sym walk.tags))
+      ∙ ap (λ (all : List Why). all ++ bounds.floor_why ∷ []) (sym walked.tags))
       (All-cons (Demanded demands) demand (es ++ last ∷ []) broken.demanded
-      (All-push (Demanded demands) es last (Demanded-Climbs demand.constraint.right es 0 walk.climbs) is_last))
-      (refl, Chains-append demand.constraint.right es 0 (last ∷ []) demand.constraint.left (Chains-Climbs links Labelled-kept demand.constraint.right es 0 walk.climbs) (refl, sym number))
+      (All-push (Demanded demands) es last (Demanded-Climbs demand.constraint.right es 0 walked.climbs) is_last))
+      (refl, Chains-append demand.constraint.right es 0 (last ∷ []) demand.constraint.left (Chains-Climbs links Labelled-kept demand.constraint.right es 0 walked.climbs) (refl, sym number))
       (AllPairs-cons (λ (a b : Demand). a.constraint.left ≢ b.constraint.left) demand (es ++ last ∷ [])
       (All-push (λ (e : Demand). demand.constraint.left ≢ e.constraint.left) es last
-      (All-weaker (λ (e : Demand). e.constraint.left ≢ demand.constraint.left) (λ (e : Demand). demand.constraint.left ≢ e.constraint.left) (λ e other same. other (sym same)) es walk.avoids)
+      (All-weaker (λ (e : Demand). e.constraint.left ≢ demand.constraint.left) (λ (e : Demand). demand.constraint.left ≢ e.constraint.left) (λ e other same. other (sym same)) es walked.avoids)
       (omega arith))
-      (all_pairs_push (λ (a b : Demand). a.constraint.left ≢ b.constraint.left) es last (AllPairs-Climbs demand.constraint.right es 0 walk.climbs inside) up))
+      (all_pairs_push (λ (a b : Demand). a.constraint.left ≢ b.constraint.left) es last (AllPairs-Climbs demand.constraint.right es 0 walked.climbs inside) up))
       (omega (arith, ints))
 
   -- a lowering keeps what is kept
@@ -112,7 +110,6 @@ module _ (demands : Demands) (values : List ℕ) (links : List Demand) (kept : I
       pos value ≡ (pos (slice_index values demand.constraint.right) +ℤ demand.constraint.bound) → bounds.floor ≤ value →
       IsKept demands (set values demand.constraint.left value) (set links demand.constraint.left demand)
   IsKept-lowered demand value variable bounds before after broken walked bounded number is high =
-      let walk : IsWalk links demand.constraint.right demand.constraint.left 0 before after walked.0 = walked.1 in
       let below = broken.broken in
       let low : value ≤ slice_index values demand.constraint.left = omega (arith, ints) in
       let inside : demand.constraint.left < length links = let l = broken.left in let k = kept.links_len in omega arith in
@@ -123,7 +120,7 @@ module _ (demands : Demands) (values : List ℕ) (links : List Demand) (kept : I
         values_len = length-set values demand.constraint.left value ∙ kept.values_len;
         links_len = length-set links demand.constraint.left demand ∙ kept.links_len;
         zero_stays = get_or-set_other values demand.constraint.left 0 value 0 (omega arith) ∙ kept.zero_stays;
-        rooted = IsRooted-set links Labelled-kept demand.constraint.left demand inside up walked.0 walk.climbs walk.avoids kept.rooted;
+        rooted = IsRooted-set links Labelled-kept demand.constraint.left demand inside up walked.chain walked.climbs walked.avoids kept.rooted;
         linked = λ x e above at. ⊎_elim
             (λ (same : x ≡ demand.constraint.left).
             let own : demand ≡ e = same_Some demand e (sym (slice_get-set_same links demand.constraint.left demand inside) ∙ ap (slice_get (set links demand.constraint.left demand)) (sym same) ∙ at) in

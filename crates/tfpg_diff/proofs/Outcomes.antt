@@ -38,7 +38,7 @@ pub IsReady-read : (bounds now_bounds : List Bounds) (picks now_picks : List Pic
     (values : List ℕ) (links : List Demand) (backup_values : List ℕ) (backup_links : List Demand) (capacity : ℕ) →
     IsSound (demands_of bounds picks) → IsKept (demands_of now_bounds now_picks) values links → MeetsPicks values now_picks →
     length backup_values ≡ length now_bounds + 1 → length backup_links ≡ length now_bounds + 1 → length bounds + 3 ≤ capacity →
-    IsReady bounds picks values links backup_values backup_links capacity
+    IsReady (demands_of bounds picks) values links backup_values backup_links capacity
 IsReady-read bounds now_bounds picks now_picks same_bounds same_picks values links backup_values backup_links capacity sound kept met bv bl room =
     let same = ap length same_bounds in
     record {
@@ -51,7 +51,7 @@ IsReady-read bounds now_bounds picks now_picks same_bounds same_picks values lin
     }
 
 module _ (bounds : List Bounds) (picks : List Pick) (values : List ℕ) (links : List Demand) (backup_values : List ℕ) (backup_links : List Demand) (capacity : ℕ)
-    (ready : IsReady bounds picks values links backup_values backup_links capacity)
+    (ready : IsReady (demands_of bounds picks) values links backup_values backup_links capacity)
     (demands : Demands) (seen : demands_of bounds picks ≡ demands) where
   -- a ready system has a solution
   pub HasSolution-ready : HasSolution demands
@@ -99,7 +99,7 @@ module _ (bounds : List Bounds) (picks : List Pick) (values : List ℕ) (links :
 
   -- a system stays ready above a higher floor that the value is not below
   pub IsReady-floor : (v : ℕ) (old : Bounds) (least tag : ℕ) → slice_get bounds v ≡ Some old → old.floor < least → least ≤ slice_index values (v + 1) →
-      IsReady (set bounds v (over old least tag)) picks values links backup_values backup_links capacity
+      IsReady (demands_of (set bounds v (over old least tag)) picks) values links backup_values backup_links capacity
   IsReady-floor v old least tag at tighter high =
       let same : length (set bounds v (over old least tag)) ≡ length bounds = length-set bounds v (over old least tag) in
       let low = ready.sound.ceilings v old at in
@@ -148,7 +148,7 @@ module _ (bounds : List Bounds) (picks : List Pick) (values : List ℕ) (links :
 
   -- a system stays ready under a lower ceiling that the value is not above
   pub IsReady-ceiling : (v : ℕ) (old : Bounds) (ceiling tag : ℕ) → slice_get bounds v ≡ Some old → ceiling < old.ceiling → slice_index values (v + 1) ≤ ceiling →
-      IsReady (set bounds v (under old ceiling tag)) picks values links backup_values backup_links capacity
+      IsReady (demands_of (set bounds v (under old ceiling tag)) picks) values links backup_values backup_links capacity
   IsReady-ceiling v old ceiling tag at tighter high =
       let same : length (set bounds v (under old ceiling tag)) ≡ length bounds = length-set bounds v (under old ceiling tag) in
       let b = ready.backup_values_len in
@@ -206,9 +206,9 @@ module _ (bounds : List Bounds) (picks : List Pick) (values : List ℕ) (links :
   pub IsReady-restored : (bounds' : List Bounds) (picks' : List Pick) (values' : List ℕ) (links' : List Demand) (backup_values' : List ℕ)
       (backup_links' : List Demand) (capacity' : ℕ) → bounds' ≡ bounds → picks' ≡ picks → values' ≡ values → links' ≡ links →
       length backup_values' ≡ length bounds + 1 → length backup_links' ≡ length bounds + 1 → capacity ≤ capacity' →
-      IsReady bounds' picks' values' links' backup_values' backup_links' capacity'
+      IsReady (demands_of bounds' picks') values' links' backup_values' backup_links' capacity'
   IsReady-restored bounds' picks' values' links' backup_values' backup_links' capacity' same_bounds same_picks same_values same_links bv bl room =
-      let back : IsReady bounds picks values links backup_values' backup_links' capacity' = record {
+      let back : IsReady (demands_of bounds picks) values links backup_values' backup_links' capacity' = record {
         sound = ready.sound;
         kept = ready.kept;
         met = ready.met;
@@ -216,10 +216,10 @@ module _ (bounds : List Bounds) (picks : List Pick) (values : List ℕ) (links :
         backup_links_len = bl;
         room = (let r = ready.room in omega arith);
       } in
-      subst (λ (bs : List Bounds). IsReady bs picks' values' links' backup_values' backup_links' capacity') (sym same_bounds)
-      (subst (λ (ps : List Pick). IsReady bounds ps values' links' backup_values' backup_links' capacity') (sym same_picks)
-      (subst (λ (vs : List ℕ). IsReady bounds picks vs links' backup_values' backup_links' capacity') (sym same_values)
-      (subst (λ (es : List Demand). IsReady bounds picks values es backup_values' backup_links' capacity') (sym same_links) back)))
+      subst (λ (bs : List Bounds). IsReady (demands_of bs picks') values' links' backup_values' backup_links' capacity') (sym same_bounds)
+      (subst (λ (ps : List Pick). IsReady (demands_of bounds ps) values' links' backup_values' backup_links' capacity') (sym same_picks)
+      (subst (λ (vs : List ℕ). IsReady (demands_of bounds picks) vs links' backup_values' backup_links' capacity') (sym same_values)
+      (subst (λ (es : List Demand). IsReady (demands_of bounds picks) values es backup_values' backup_links' capacity') (sym same_links) back)))
 
   -- the demands with one more pick
   pub with_pick-seen : (pick : Pick) → demands_of bounds (picks ++ pick ∷ []) ≡ with_pick demands pick.constraint pick.tag
@@ -234,7 +234,7 @@ module _ (bounds : List Bounds) (picks : List Pick) (values : List ℕ) (links :
 
   -- a system stays ready with one more pick that the values meet
   pub IsReady-pick : (pick : Pick) → pick.constraint.left ≤ length demands.bounds → pick.constraint.right ≤ length demands.bounds →
-      IsMetBy values (demand_of_pick pick) → IsReady bounds (picks ++ pick ∷ []) values links backup_values backup_links capacity
+      IsMetBy values (demand_of_pick pick) → IsReady (demands_of bounds (picks ++ pick ∷ [])) values links backup_values backup_links capacity
   IsReady-pick pick left right met = record {
     sound = IsSound-more pick left right;
     kept = IsKept-pick bounds picks pick values links ready.kept;

@@ -12,7 +12,7 @@ use Rattle.tfpg_diff.specs.declared.why.Why.TheVariants.{Floor}
 use Rattle.tfpg_diff.specs.Demands.{Demands, Bounded, demand_of_pick}
 use Rattle.tfpg_base.specs.declared.limits.TheConstants.{NEVER}
 use Rattle.tfpg_diff.specs.Solution.{IsBetween}
-use Rattle.tfpg_diff.specs.inside.Kept.{IsSound, IsKept, Walked, IsWalk}
+use Rattle.tfpg_diff.specs.inside.Kept.{IsSound, IsKept, Walked}
 use Rattle.tfpg_diff.proofs.Lowering.{IsBrokenDemand, Labelled-kept}
 use Rattle.tfpg_diff.proofs.Climb.{length-Climbs}
 
@@ -61,10 +61,9 @@ Bounded-read demands left up inside = (slice_get-get_or demands.bounds (left - 1
 pub length-cycle : (demands : Demands) (values : List ℕ) (links : List Demand) (kept : IsKept demands values links) (from sought : ℕ)
     (first : Why) (tags : List Why) → Walked links from sought 0 (first ∷ []) tags → length tags ≤ length demands.bounds + 2
 length-cycle demands values links kept from sought first tags walked =
-    let walk : IsWalk links from sought 0 (first ∷ []) tags walked.0 = walked.1 in
-    let few = length-Climbs links (Labelled-kept demands values links kept) from walked.0 walk.climbs in
+    let few = length-Climbs links (Labelled-kept demands values links kept) from walked.chain walked.climbs in
     let k = kept.links_len in
-    omega (arith, ap length walk.tags, length-map walked.0 (λ (demand : Demand). demand.why), length-append (first ∷ []) (map (λ (demand : Demand). demand.why) walked.0))
+    omega (arith, ap length walked.tags, length-map walked.chain (λ (demand : Demand). demand.why), length-append (first ∷ []) (map (λ (demand : Demand). demand.why) walked.chain))
 
 -- what the code reads past the end of the picks
 abbrev pub no_pick : Pick

@@ -7,47 +7,44 @@ use Rattle.std.proofs.lemmas.List.Elements.{All-nil, All-push}
 use Rattle.tfpg_diff.specs.declared.demand.Demand.{Demand}
 use Rattle.tfpg_diff.specs.declared.why.Why.{Why}
 use Rattle.tfpg_diff.specs.declared.why.Why.TheVariants.{Floor}
-use Rattle.tfpg_diff.specs.inside.Kept.{Climbs, IsRooted, IsLabelled, IsWalk, Walked}
+use Rattle.tfpg_diff.specs.inside.Kept.{Climbs, IsRooted, IsLabelled, Walked}
 use Rattle.tfpg_diff.proofs.Climb.{Climbs-append, length-Climbs, length-Climbs_up, Climbs_right}
 
 -- a walk that has not begun
 pub Walked-none : (links : List Demand) (from sought : ℕ) (tags : List Why) → Walked links from sought from tags tags
 Walked-none links from sought tags =
-    ([], record { climbs = refl; avoids = All-nil (λ (demand : Demand). demand.constraint.left ≢ sought); tags = sym (append-nil tags) })
+    record { chain = []; climbs = refl; avoids = All-nil (λ (demand : Demand). demand.constraint.left ≢ sought); tags = sym (append-nil tags) }
 
 -- one more link
 pub Walked-more : (links : List Demand) (labelled : IsLabelled links) (from sought stands : ℕ) (before after : List Why) (link : Demand) →
     Walked links from sought stands before after → 0 < stands → stands ≢ sought → slice_get links stands ≡ Some link →
     Walked links from sought link.constraint.right before (after ++ link.why ∷ [])
 Walked-more links labelled from sought stands before after link walked up other at =
-    let walk : IsWalk links from sought stands before after walked.0 = walked.1 in
-    let label : link.constraint.left ≡ stands = labelled stands link up at in (
-      walked.0 ++ link ∷ [],
-      record {
-        climbs = Climbs-append links from walked.0 stands (link ∷ []) link.constraint.right walk.climbs (up, at, refl);
-        avoids = All-push (λ (demand : Demand). demand.constraint.left ≢ sought) walked.0 link walk.avoids (λ same. other (sym label ∙ same));
-        tags = ap (λ (tags : List Why). tags ++ link.why ∷ []) walk.tags
-            ∙ append_assoc before (map (λ (demand : Demand). demand.why) walked.0) (link.why ∷ [])
-            ∙ ap (λ (tags : List Why). before ++ tags) (sym (map_push (λ (demand : Demand). demand.why) walked.0 link));
-      },
-    )
+    let label : link.constraint.left ≡ stands = labelled stands link up at in
+    record {
+      chain = walked.chain ++ link ∷ [];
+      climbs = Climbs-append links from walked.chain stands (link ∷ []) link.constraint.right walked.climbs (up, at, refl);
+      avoids = All-push (λ (demand : Demand). demand.constraint.left ≢ sought) walked.chain link walked.avoids (λ same. other (sym label ∙ same));
+      tags = ap (λ (tags : List Why). tags ++ link.why ∷ []) walked.tags
+          ∙ append_assoc before (map (λ (demand : Demand). demand.why) walked.chain) (link.why ∷ [])
+          ∙ ap (λ (tags : List Why). before ++ tags) (sym (map_push (λ (demand : Demand). demand.why) walked.chain link));
+    }
 
 -- a walk that is not at zero has fewer links than there are numbers
 pub length-walked : (links : List Demand) (labelled : IsLabelled links) (rooted : IsRooted links) (from sought stands : ℕ) (before after : List Why) →
     Walked links from sought stands before after → 0 < stands → stands < length links →
     length after < length before + length links
 length-walked links labelled rooted from sought stands before after walked up inside =
-    let walk : IsWalk links from sought stands before after walked.0 = walked.1 in
     let rest = rooted stands inside in
-    let whole : Climbs links from (walked.0 ++ rest.0) 0 = Climbs-append links from walked.0 stands rest.0 0 walk.climbs rest.1 in
-    let bound : length (walked.0 ++ rest.0) ≤ length links = length-Climbs links labelled from (walked.0 ++ rest.0) whole in
+    let whole : Climbs links from (walked.chain ++ rest.0) 0 = Climbs-append links from walked.chain stands rest.0 0 walked.climbs rest.1 in
+    let bound : length (walked.chain ++ rest.0) ≤ length links = length-Climbs links labelled from (walked.chain ++ rest.0) whole in
     let some : 0 < length rest.0 = length-Climbs_up links stands rest.0 rest.1 up in
     omega (
       arith,
-      length-append walked.0 rest.0,
-      ap length walk.tags,
-      length-append before (map (λ (demand : Demand). demand.why) walked.0),
-      length-map walked.0 (λ (demand : Demand). demand.why),
+      length-append walked.chain rest.0,
+      ap length walked.tags,
+      length-append before (map (λ (demand : Demand). demand.why) walked.chain),
+      length-map walked.chain (λ (demand : Demand). demand.why),
     )
 
 -- the right side of a link is a number

@@ -69,3 +69,8 @@ abbrev pub Adds : SystemState → Demands → Result (Unit {0}) Conflict → Sys
 Adds old lengthened (Ok done) new = (new.demands ≡ lengthened) × HasSolution lengthened
 Adds old lengthened (Err conflict) new =
     (new.demands ≡ old.demands) × HasNoSolution lengthened × NamesNegativeCycle lengthened new.cycle
+
+-- For how many picks there is room after a push. Ok: for one less. Conflict: for as many as before.
+abbrev pub LeavesRoom : ℕ → Result (Unit {0}) Conflict → ℕ → Type 0
+LeavesRoom old (Ok done) new = old ≡ new + 1
+LeavesRoom old (Err conflict) new = new ≡ old

@@ -1,10 +1,10 @@
 //! A system of difference constraints that always knows its latest solution.
 
-ghost use Rattle.std.specs.Prelude.{◌≡◌, ◌+◌, ◌-◌, ◌<◌, ◌≤◌, [], length, All, IfOk, OnOk, IsOk};
+ghost use Rattle.std.specs.Prelude.{◌≡◌, ◌+◌, ◌-◌, ◌<◌, ◌≤◌, [], ◌∷◌, ◌++◌, length, vec_len, vec_capacity, All, IfOk, OnOk, IsOk};
 ghost use Rattle.tfpg_diff.specs.Solution.{IsLatest};
 ghost use Rattle.tfpg_diff.specs.Demands.{Bounded};
 ghost use Rattle.tfpg_base.specs.declared.limits.TheConstants.{NEVER};
-ghost use Rattle.tfpg_diff.specs.SystemState.{unbounded_from, with_floor, with_ceiling, with_pick, popped_to, Adds};
+ghost use Rattle.tfpg_diff.specs.SystemState.{unbounded_from, with_floor, with_ceiling, with_pick, popped_to, Adds, LeavesRoom};
 
 use crate::bounds::{Bounds, unbounded};
 use crate::demand::Demand;
@@ -35,6 +35,7 @@ impl Model for System {
 
     ghost Value = { SystemState };
 
+    ghost use Rattle.tfpg_diff.specs.Demands.{demands_of};
     ghost use Rattle.tfpg_diff.specs.inside.Kept.{IsReady};
 
     ghost view = { λ s. record {
@@ -43,8 +44,9 @@ impl Model for System {
       cycle = s.cycle.items;
     } };
 
-    ghost invariant = { λ s. IsReady s.bounds.items s.picks.items s.labels.values.items s.labels.links.items
-        s.backup.values.items s.backup.links.items (vec_capacity s.cycle) };
+    ghost invariant = { λ s. IsReady (demands_of s.bounds.items s.picks.items)
+        s.labels.values.items s.labels.links.items s.backup.values.items s.backup.links.items
+        (vec_capacity s.cycle) };
 }
 
 impl System {
@@ -136,7 +138,7 @@ impl System {
         requires { variable < length self.old.demands.bounds }
         ensures adds { Adds self.old (with_floor self.old.demands variable least tag) result self.new }
         ensures variables { length self.new.demands.bounds ≡ length self.old.demands.bounds }
-        ensures spare { self.old.spare ≤ self.new.spare }
+        ensures spare { self.new.spare ≡ self.old.spare }
         ensures step { work.new ≡ work.old + 1 }
     {
         work.tick();
@@ -159,7 +161,7 @@ impl System {
         requires { variable < length self.old.demands.bounds }
         ensures adds { Adds self.old (with_ceiling self.old.demands variable ceiling tag) result self.new }
         ensures variables { length self.new.demands.bounds ≡ length self.old.demands.bounds }
-        ensures spare { self.old.spare ≤ self.new.spare }
+        ensures spare { self.new.spare ≡ self.old.spare }
         ensures step { work.new ≡ work.old + 1 }
     {
         work.tick();
@@ -181,7 +183,7 @@ impl System {
         requires left { constraint.left ≤ length self.old.demands.bounds }
         requires right { constraint.right ≤ length self.old.demands.bounds }
         ensures adds { Adds self.old (with_pick self.old.demands constraint tag) result self.new }
-        ensures spare { self.old.spare ≤ self.new.spare + 1 }
+        ensures spare { LeavesRoom self.old.spare result self.new.spare }
         ensures step { work.new ≡ work.old + 1 }
     {
         work.tick();
@@ -193,7 +195,7 @@ impl System {
     pub fn pop_to(&mut self, len: u64)
         requires { len ≤ length self.old.demands.picks }
         ensures demands { self.new.demands ≡ popped_to self.old.demands len }
-        ensures spare { self.old.spare ≤ self.new.spare }
+        ensures spare { self.new.spare ≡ self.old.spare + (length self.old.demands.picks - len) }
     {
         let len = len as usize;
         if len == self.picks.len() {
@@ -288,9 +290,9 @@ impl System {
         requires left { pick.constraint.left ≤ length self.old.demands.bounds }
         requires right { pick.constraint.right ≤ length self.old.demands.bounds }
         ensures adds { Adds self.old (with_pick self.old.demands pick.constraint pick.tag) result self.new }
-        ensures spare { self.old.spare ≤ self.new.spare + 1 }
+        ensures spare { LeavesRoom self.old.spare result self.new.spare }
     {
-        let _ = self.picks.push(pick);
+        push_in_room(&mut self.picks, pick);
         if !is_broken(&self.labels.values, demand_of_pick(&pick)) {
             return Ok(());
         }
@@ -309,4 +311,15 @@ impl System {
             }
         }
     }
+}
+
+/// Pushes a pick where there is room for it. The capacity stays, which `Vec::insert` says and `Vec::push` does not.
+fn push_in_room(picks: &mut Vec<Pick>, pick: Pick)
+    requires { vec_len picks.old < vec_capacity picks.old }
+    ensures items { picks.new.items ≡ picks.old.items ++ pick ∷ [] }
+    ensures capacity { vec_capacity picks.new ≡ vec_capacity picks.old }
+    ensures len { vec_len picks.new ≡ vec_len picks.old + 1 }
+{
+    let end = picks.len();
+    let _ = picks.insert(end, pick);
 }

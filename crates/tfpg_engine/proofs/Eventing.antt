@@ -5,8 +5,10 @@ use Rattle.tfpg_hyp.specs.declared.table.TableFault.{TableFault}
 use Rattle.tfpg_hyp.specs.declared.table.TableFault.TheVariants.{TooMany, NoMemory}
 use Rattle.std.proofs.lemmas.List.{length-replicate}
 use Rattle.std.proofs.lemmas.List.Elements.{All-replicate}
+use Rattle.tfpg_base.specs.declared.terms.Terms.{Terms}
 use Rattle.tfpg_base.proofs.lists.Choices.{same_Err}
 use Rattle.tfpg_base.proofs.lists.Elements.{All-at, All-from_members}
+use Rattle.tfpg_base.specs.Hypothesis.{Hypothesis}
 use Rattle.tfpg_graph.specs.Graph.{Tfpg, AreFailures}
 use Rattle.tfpg_log.specs.declared.event.Event.{Event}
 use Rattle.tfpg_log.specs.declared.event.Offered.{Offered}
@@ -16,8 +18,9 @@ use Rattle.tfpg_log.specs.Log.{Logbook, IsLogOf, IsOrdered, GoesOn, with_event}
 use Rattle.tfpg_log.specs.Accepted.{reply_to}
 use Rattle.tfpg_log.specs.LogOfLines.{new_log}
 use Rattle.tfpg_evidence.specs.declared.round.Round.{Round}
-use Rattle.tfpg_hyp.specs.Hypotheses.{Hypotheses, IsTableOf}
-use Rattle.tfpg_hyp.specs.Rounds.{steps_so_far}
+use Rattle.tfpg_hyp.specs.Hypotheses.{Hypotheses, Row, IsRowOf, IsTableOf}
+use Rattle.tfpg_hyp.specs.Views.{case_for}
+use Rattle.tfpg_hyp.specs.Rounds.{Inquiry, steps_so_far}
 use Rattle.tfpg_engine.specs.declared.slot.Slot.{Slot}
 use Rattle.tfpg_engine.specs.declared.slot.Slot.TheVariants.{Untouched}
 use Rattle.tfpg_engine.specs.EngineState.{EngineState, EngineRepresents, GivesRound, SlotRepresents}
@@ -27,54 +30,61 @@ use Rattle.tfpg_engine.specs.inside.Turns.{IsOfGraph, MakesRound}
 use Rattle.tfpg_engine.proofs.Rounding.{StandBefore, can_go_on, still_go_on, round_is, earned, none_open, represents}
 
 -- the sets of a table are of failure modes
-pub of_graph : (graph : Tfpg) (k : ℕ) (table : Hypotheses) → IsTableOf graph k table → IsOfGraph graph table
-of_graph graph k table is = record {
-  members = All-from_members (AreFailures graph) table.sets (λ set has. ((is.hypotheses.exact set).0 has).of_graph.members);
+pub of_graph : (graph : Tfpg) (terms : Terms) (table : Hypotheses) → IsTableOf graph terms table → IsOfGraph graph table
+of_graph graph terms table is = record {
+  members = All-from_members (λ (hypothesis : Hypothesis). AreFailures graph hypothesis.set) table.hypotheses (λ hypothesis has. ((is.hypotheses.exact hypothesis).0 has).of_graph.members);
   reached = is.reached;
 }
 
 -- ---- an engine without events
 
-module _ (graph : Tfpg) (k : ℕ) (table : Hypotheses) (budget : ℕ) (log : Logbook) (slots : List Slot) (count : ℕ) (is_slots : slots ≡ replicate count Untouched) where
+module _ (graph : Tfpg) (terms : Terms) (table : Hypotheses) (log : Logbook) (slots : List Slot) (count : ℕ) (is_slots : slots ≡ replicate count Untouched) where
   untouched_at : (number : ℕ) (slot : Slot) → slice_get slots number ≡ Some slot → slot ≡ Untouched
   untouched_at number slot at =
       All-at (λ (s : Slot). s ≡ Untouched) slots number slot (subst (All (λ (s : Slot). s ≡ Untouched)) (sym is_slots) (All-replicate (λ (s : Slot). s ≡ Untouched) count Untouched refl)) at
 
-  untouched_represents : (set reach : List ℕ) (slot : Slot) → slot ≡ Untouched → SlotRepresents graph log set reach slot []
-  untouched_represents set reach slot is = subst (λ (s : Slot). SlotRepresents graph log set reach s []) (sym is) refl
+  untouched_represents : (row : Row) (slot : Slot) → slot ≡ Untouched → SlotRepresents (case_for graph log row.hypothesis row.reach) row.hypothesis slot []
+  untouched_represents row slot is = subst (λ (s : Slot). SlotRepresents (case_for graph log row.hypothesis row.reach) row.hypothesis s []) (sym is) refl
 
-  pub new_engine : IsTableOf graph k table → IsLogOf graph log → 1 ≤ budget → count ≡ length table.sets
-      → IsEngine (record { graph = graph; log = log; k = k; table = table; budget = budget; slots = slots; ended = false })
+  pub new_engine : IsTableOf graph terms table → IsLogOf graph log → 1 ≤ terms.budget → count ≡ length table.hypotheses
+      → IsEngine (record { graph = graph; log = log; terms = terms; table = table; slots = slots; ended = false })
   new_engine is_table of some counted = record {
     table = is_table;
     of = of;
     budget = some;
     one_each = ap length is_slots ∙ length-replicate count Untouched ∙ counted;
-    slots = λ running number set reach slot at_set at_reach at. ([], untouched_represents set reach slot (untouched_at number slot at));
+    slots = λ running row slot is at. ([], untouched_represents row slot (untouched_at row.number slot at));
   }
 
-  pub new_represents : log ≡ new_log → EngineRepresents (record { graph = graph; log = log; k = k; table = table; budget = budget; slots = slots; ended = false }) []
+  pub new_represents : log ≡ new_log → EngineRepresents (record { graph = graph; log = log; terms = terms; table = table; slots = slots; ended = false }) []
   new_represents empty = record {
     one_each = sym (ap (λ (l : Logbook). length l.events) empty);
     running = refl;
-    slots = λ number set reach slot at_set at_reach at. untouched_represents set reach slot (untouched_at number slot at);
+    slots = λ row slot is at. untouched_represents row slot (untouched_at row.number slot at);
   }
 
 -- ---- an event that is accepted
 
 module _ (laws : TreeLaws) (view : EngineState) (engine : IsEngine view) (running : view.ended ≡ false) (event : Event) (log : Logbook) (log_is : log ≡ with_event view.log event) (ordered : IsOrdered log)
     (lent : List Slot) (lent_is : lent ≡ view.slots) where
+  abbrev inquiry : Inquiry
+  inquiry = record { graph = view.graph; log = log; terms = view.terms }
+
   goes_on : GoesOn view.log log
-  goes_on = (event ∷ [], ap (λ (l : Logbook). l.events) log_is)
+  goes_on = record {
+    more = event ∷ [];
+    events = ap (λ (l : Logbook). l.events) log_is;
+    ignored = ap (λ (l : Logbook). l.ignored) log_is;
+  }
 
   -- each slot can go on at the log with the event
   pub lent_go_on : AllCanGoOn view.graph log view.table lent
   lent_go_on = subst (AllCanGoOn view.graph log view.table) (sym lent_is) (can_go_on laws view.graph view.log log ordered goes_on view.table view.slots (engine.slots running))
 
-  lent_each : length lent ≡ length view.table.sets
+  lent_each : length lent ≡ length view.table.hypotheses
   lent_each = ap length lent_is ∙ engine.one_each
 
-  module _ (line : ℕ) (round : Round) (new back : List Slot) (made : MakesRound view.graph log view.budget view.table lent new line round) (same_length : length new ≡ length lent) (back_is : back ≡ new) where
+  module _ (line : ℕ) (round : Round) (new back : List Slot) (made : MakesRound inquiry view.table lent new line round) (same_length : length new ≡ length lent) (back_is : back ≡ new) where
     abbrev now : EngineState
     now = record view { log = log; slots = back }
 
@@ -85,23 +95,23 @@ module _ (laws : TreeLaws) (view : EngineState) (engine : IsEngine view) (runnin
       budget = engine.budget;
       one_each = ap length back_is ∙ same_length ∙ lent_each;
       slots = λ still. subst (AllCanGoOn view.graph log view.table) (sym back_is)
-          (still_go_on view.graph log view.budget view.table lent new round.findings made.turns made.complete engine.table.reached.complete lent_each same_length lent_go_on);
+          (still_go_on inquiry view.table lent new round.findings made.turns made.complete engine.table.reached.complete lent_each same_length lent_go_on);
     }
 
     module _ (stand_before : StandBefore) (text : List ℕ) (accepted : reply_to view.graph view.log text ≡ Accepted event) (rounds : List Round) (represented : EngineRepresents view rounds) where
-      lent_represents : (number : ℕ) (set reach : List ℕ) (slot : Slot) → slice_get view.table.sets number ≡ Some set → slice_get view.table.reaches number ≡ Some reach → slice_get lent number ≡ Some slot
-          → SlotRepresents view.graph view.log set reach slot (steps_so_far number rounds)
-      lent_represents number set reach slot at_set at_reach at =
-          represented.slots number set reach slot at_set at_reach (sym (ap (λ (ss : List Slot). slice_get ss number) lent_is) ∙ at)
+      lent_represents : (row : Row) (slot : Slot) → IsRowOf view.table row → slice_get lent row.number ≡ Some slot
+          → SlotRepresents (case_for view.graph view.log row.hypothesis row.reach) row.hypothesis slot (steps_so_far row.number rounds)
+      lent_represents row slot is at =
+          represented.slots row slot is (sym (ap (λ (ss : List Slot). slice_get ss row.number) lent_is) ∙ at)
 
       pub gives_round : GivesRound line text rounds round view now
       gives_round = record {
         event = event;
         accepted = accepted;
         log = log_is;
-        round_is = round_is laws stand_before view.graph view.k view.budget line rounds view.log log view.table lent new round engine.table ordered goes_on made lent_each same_length lent_represents;
-        earned = earned laws stand_before view.graph view.k view.budget line rounds view.log log view.table lent new round engine.table ordered goes_on made lent_each same_length lent_represents;
-        none_open = none_open laws stand_before view.graph view.k view.budget line rounds view.log log view.table lent new round engine.table ordered goes_on made lent_each same_length lent_represents;
+        round_is = round_is laws stand_before inquiry line rounds view.log view.table lent new round engine.table ordered goes_on made lent_each same_length lent_represents;
+        earned = earned laws stand_before inquiry line rounds view.log view.table lent new round engine.table ordered goes_on made lent_each same_length lent_represents;
+        none_open = none_open laws stand_before inquiry line rounds view.log view.table lent new round engine.table ordered goes_on made lent_each same_length lent_represents;
         represents = record {
           one_each = omega (
             arith,
@@ -111,9 +121,9 @@ module _ (laws : TreeLaws) (view : EngineState) (engine : IsEngine view) (runnin
             length-append view.log.events (event ∷ []),
           );
           running = running;
-          slots = λ number set reach slot at_set at_reach at.
-              represents laws stand_before view.graph view.k view.budget line rounds view.log log view.table lent new round engine.table ordered goes_on made lent_each same_length lent_represents number set reach slot at_set at_reach
-              (sym (ap (λ (ss : List Slot). slice_get ss number) back_is) ∙ at);
+          slots = λ row slot is at.
+              represents laws stand_before inquiry line rounds view.log view.table lent new round engine.table ordered goes_on made lent_each same_length lent_represents row slot is
+              (sym (ap (λ (ss : List Slot). slice_get ss row.number) back_is) ∙ at);
         };
       }
 

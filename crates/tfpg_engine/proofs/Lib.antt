@@ -3,3 +3,4 @@ mod Going
 mod Turning
 mod Rounding
 mod Eventing
+mod Parts

@@ -1,13 +1,17 @@
 -- What contracts see of an engine, which rounds it represents, and what an event brings.
 use Rattle.std.specs.Prelude.{◌≡◌, ℕ, List, [], ◌∷◌, ◌++◌, length, Bool, true, false, Some, slice_get, Result, Ok, Err}
+use Rattle.tfpg_base.specs.declared.terms.Terms.{Terms}
+use Rattle.tfpg_base.specs.Hypothesis.{Hypothesis}
 use Rattle.tfpg_graph.specs.Graph.{Tfpg}
 use Rattle.tfpg_log.specs.declared.event.Event.{Event}
 use Rattle.tfpg_log.specs.declared.event.Offered.TheVariants.{Accepted, Refused}
 use Rattle.tfpg_log.specs.Log.{Logbook, first_events, with_event}
 use Rattle.tfpg_log.specs.Accepted.{reply_to}
 use Rattle.tfpg_evidence.specs.declared.round.Round.{Round}
+use Rattle.tfpg_clause.specs.Case.{Case}
 use Rattle.tfpg_clause.specs.Trees.{Judged, IsRefutation}
-use Rattle.tfpg_hyp.specs.Hypotheses.{Hypotheses}
+use Rattle.tfpg_hyp.specs.Hypotheses.{Hypotheses, Row, IsRowOf}
+use Rattle.tfpg_hyp.specs.Views.{case_for}
 use Rattle.tfpg_hyp.specs.Rounds.{IsRound, HasNoneOpen, steps_so_far}
 use Rattle.tfpg_search.specs.Enough.{IsEnough}
 use Rattle.tfpg_search.specs.Live.{HasNoNameTwice}
@@ -20,33 +24,34 @@ use Rattle.tfpg_engine.specs.declared.told.EventFault.{EventFault}
 use Rattle.tfpg_engine.specs.declared.told.EventFault.TheVariants.{NoMemory, Ended}
 use Rattle.tfpg_engine.specs.Earned.{AreEarned}
 
--- An engine: its graph and its log, the table of hypotheses, the budget, what it keeps of each hypothesis, and whether it has ended.
+-- An engine: its graph and its log, its terms, the table of hypotheses, what it keeps of each hypothesis, and whether it has ended.
 pub record EngineState : Type 0 where
   pub graph : Tfpg
   pub log : Logbook
-  pub k : ℕ
+  pub terms : Terms
   pub table : Hypotheses
-  pub budget : ℕ
   pub slots : List Slot
   pub ended : Bool
 
 -- What is kept of a hypothesis represents these steps of all rounds: none where it was never searched, those of its
 -- search, or a refutation. On no path of the refutation does a clause name stand twice.
-abbrev pub SlotRepresents : Tfpg → Logbook → List ℕ → List ℕ → Slot → List Judged → Type 0
-SlotRepresents graph log set reach Untouched steps = steps ≡ []
-SlotRepresents graph log set reach (Searched search) steps =
-    (search.set ≡ set) × (search.reach ≡ reach) × SearchRepresents graph (first_events log search.seen) search steps
-SlotRepresents graph log set reach Rejected steps =
-    IsRefutation graph log reach steps × HasNoNameTwice graph log reach steps
+abbrev pub SlotRepresents : Case → Hypothesis → Slot → List Judged → Type 0
+SlotRepresents case hypothesis Untouched steps = steps ≡ []
+SlotRepresents case hypothesis (Searched search) steps =
+    (search.set ≡ hypothesis.set) × (search.reach ≡ case.reach)
+    × SearchRepresents case.graph (first_events case.log search.seen) search steps
+SlotRepresents case hypothesis Rejected steps =
+    IsRefutation case steps × HasNoNameTwice case steps
 
 -- The engine represents these rounds: there was one for each event, and what it keeps of each hypothesis represents the steps that
 -- the hypothesis has in them.
 pub record EngineRepresents (engine : EngineState) (rounds : List Round) : Type 0 where
   pub one_each : length rounds ≡ length engine.log.events
   pub running : engine.ended ≡ false
-  pub slots : (number : ℕ) (set reach : List ℕ) (slot : Slot) → slice_get engine.table.sets number ≡ Some set
-      → slice_get engine.table.reaches number ≡ Some reach → slice_get engine.slots number ≡ Some slot
-      → SlotRepresents engine.graph engine.log set reach slot (steps_so_far number rounds)
+  pub slots : (row : Row) (slot : Slot) → IsRowOf engine.table row
+      → slice_get engine.slots row.number ≡ Some slot
+      → SlotRepresents (case_for engine.graph engine.log row.hypothesis row.reach) row.hypothesis slot
+      (steps_so_far row.number rounds)
 
 -- An event was accepted, and brought a round for all events and all rounds so far, whose steps are earned. With a
 -- budget that is enough no set of it is open.
@@ -55,9 +60,9 @@ pub record GivesRound (line : ℕ) (text : List ℕ) (rounds : List Round) (roun
   pub event : Event
   pub accepted : reply_to old.graph old.log text ≡ Accepted event
   pub log : new.log ≡ with_event old.log event
-  pub round_is : IsRound old.graph old.k old.budget rounds new.log line round
-  pub earned : AreEarned old.graph new.log old.budget rounds round
-  pub none_open : IsEnough old.graph new.log old.budget → HasNoneOpen round
+  pub round_is : IsRound old.graph old.terms rounds new.log line round
+  pub earned : AreEarned old.graph new.log old.terms rounds round
+  pub none_open : IsEnough old.graph new.log old.terms.budget → HasNoneOpen round
   pub represents : EngineRepresents new (rounds ++ round ∷ [])
 
 -- What an event brings, where the engine represented these rounds: a refusal, and then nothing changed; or a round. Where memory ran

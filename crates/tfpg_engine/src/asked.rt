@@ -1,13 +1,14 @@
 //! What a round is asked with.
 
+use tfpg_base::Terms;
 use tfpg_graph::Graph;
 use tfpg_log::Log;
 
-/// A graph, its log so far, and the budget of a round.
+/// A graph, its log so far, and the terms.
 #[derive(Clone, Copy)]
 pub(crate) struct Asked<'a> {
     pub(crate) graph: &'a Graph,
     pub(crate) log: &'a Log,
-    /// How many splits of each hypothesis a round has at most; at least 1.
-    pub(crate) budget: u64,
+    /// Their budget is at least 1.
+    pub(crate) terms: Terms,
 }

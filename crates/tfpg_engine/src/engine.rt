@@ -18,7 +18,7 @@ use crate::tree_laws::tree_laws;
 use std::alloc::Global;
 use std::marker::Model;
 use std::sync::ledger::Ledger;
-use tfpg_base::{NoMemory, Steps};
+use tfpg_base::{NoMemory, Steps, Terms};
 use tfpg_graph::Graph;
 use tfpg_hyp::laws::subsets_stand_before_their_supersets;
 use tfpg_hyp::{Table, TableFault};
@@ -30,9 +30,8 @@ pub struct Engine {
     alloc: Global,
     graph: Graph,
     log: Log,
-    k: u32,
+    terms: Terms,
     table: Table,
-    budget: u64,
     slots: Vec<Slot>,
     ended: bool,
 }
@@ -54,12 +53,11 @@ impl Engine {
     pub fn new(alloc: Global, graph: Graph, k: u32, budget: u64) -> Result<Engine, TableFault>
         requires { 1 ≤ budget }
         ensures graph { IfOk result (λ engine. engine.graph ≡ graph) }
-        ensures k { IfOk result (λ engine. engine.k ≡ k) }
-        ensures budget { IfOk result (λ engine. engine.budget ≡ budget) }
+        ensures terms { IfOk result (λ engine. engine.terms ≡ record { k = k; budget = budget }) }
         ensures log { IfOk result (λ engine. engine.log ≡ new_log) }
         ensures represents { IfOk result (λ engine. EngineRepresents engine []) }
         ensures too_many { (count : ℕ) → (result ≡ Err (TableFault.TooMany count)) ↔
-            ((MAX_HYPOTHESES < count) × HasHypotheses graph k count) }
+            ((MAX_HYPOTHESES < count) × HasHypotheses graph (record { k = k; budget = budget }) count) }
     {
         let table = Table::new(alloc, &graph, k)?;
         let slots = untouched(alloc, table.len())?;
@@ -67,9 +65,8 @@ impl Engine {
             alloc,
             graph,
             log: Log::new(alloc),
-            k,
+            terms: Terms { k, budget },
             table,
-            budget,
             slots,
             ended: false,
         })
@@ -96,8 +93,7 @@ impl Engine {
         ensures ends { OnErr result (self.new.ended ≡ true) }
         ensures runs { OnOk result (self.new.ended ≡ false) }
         ensures graph { self.new.graph ≡ self.old.graph }
-        ensures k { self.new.k ≡ self.old.k }
-        ensures budget { self.new.budget ≡ self.old.budget }
+        ensures terms { self.new.terms ≡ self.old.terms }
         ensures table { self.new.table ≡ self.old.table }
     {
         if self.ended {
@@ -112,7 +108,7 @@ impl Engine {
                 let asked = Asked {
                     graph: &self.graph,
                     log: &self.log,
-                    budget: self.budget,
+                    terms: self.terms,
                 };
                 match round::make(self.alloc, &asked, &self.table, line, &mut self.slots, work) {
                     Ok(round) => Ok(Told::Round(round)),
@@ -144,18 +140,25 @@ impl Engine {
         &self.log
     }
 
+    /// What it was asked with.
+    pub fn terms(&self) -> Terms
+        ensures { result ≡ self.now.terms }
+    {
+        self.terms
+    }
+
     /// The greatest number of failure modes of a hypothesis.
     pub fn k(&self) -> u32
-        ensures { result ≡ self.now.k }
+        ensures { result ≡ self.now.terms.k }
     {
-        self.k
+        self.terms.k
     }
 
     /// How many splits of a hypothesis a round has at most.
     pub fn budget(&self) -> u64
-        ensures { result ≡ self.now.budget }
+        ensures { result ≡ self.now.terms.budget }
     {
-        self.budget
+        self.terms.budget
     }
 
     /// The table of hypotheses.

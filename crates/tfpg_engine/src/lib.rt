@@ -17,7 +17,7 @@ mod asked;
 mod counts;
 mod covering;
 mod engine;
-mod hypothesis;
+mod listed;
 mod order;
 mod round;
 mod slot;

@@ -1,7 +1,7 @@
 //! The round of an accepted line.
 
 ghost use Rattle.std.specs.Prelude.{◌≡◌, length, IfOk};
-ghost use Rattle.tfpg_engine.specs.inside.Asking.{CanBeAsked};
+ghost use Rattle.tfpg_engine.specs.inside.Asking.{CanBeAsked, inquiry_of};
 ghost use Rattle.tfpg_engine.specs.inside.Slots.{AllCanGoOn};
 ghost use Rattle.tfpg_engine.specs.inside.Turns.{IsOfGraph, MakesRound};
 
@@ -26,12 +26,11 @@ pub(crate) fn make<L: Ledger>(
     slots: &mut [Slot],
     work: &mut Steps<L>,
 ) -> Result<Round, NoMemory>
-    requires asked { CanBeAsked asked.now }
+    requires asked { CanBeAsked (inquiry_of asked.now) }
     requires table { IsOfGraph asked.now.graph.now table.now }
-    requires one_each { length slots.old ≡ length table.now.sets }
+    requires one_each { length slots.old ≡ length table.now.hypotheses }
     requires go_on { AllCanGoOn asked.now.graph.now asked.now.log.now table.now slots.old }
-    ensures round { IfOk result (MakesRound asked.now.graph.now asked.now.log.now asked.now.budget
-        table.now slots.old slots.new line) }
+    ensures round { IfOk result (MakesRound (inquiry_of asked.now) table.now slots.old slots.new line) }
     ensures one_each { length slots.new ≡ length slots.old }
 {
     // So many hypotheses that their numbers fit.

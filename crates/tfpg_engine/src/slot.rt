@@ -2,13 +2,15 @@
 
 ghost use Rattle.std.specs.Prelude.{◌≡◌, List, false, IfOk};
 ghost use Rattle.tfpg_log.specs.Log.{Logbook, first_events};
+ghost use Rattle.tfpg_base.specs.Hypothesis.{believing};
+ghost use Rattle.tfpg_clause.specs.Case.{case_of};
 ghost use Rattle.tfpg_clause.specs.Trees.{Judged};
 ghost use Rattle.tfpg_search.specs.SearchState.{SearchRepresents};
 ghost use Rattle.tfpg_engine.specs.EngineState.{SlotRepresents};
-ghost use Rattle.tfpg_engine.specs.inside.Asking.{IsHypothesisOf};
+ghost use Rattle.tfpg_engine.specs.inside.Asking.{IsRowOfGraph, row_of};
 ghost use Rattle.tfpg_engine.specs.inside.Turns.{is_rejected_slot, kept};
 
-use crate::hypothesis::Hypothesis;
+use crate::listed::Listed;
 use std::alloc::Global;
 use tfpg_base::NoMemory;
 use tfpg_graph::Graph;
@@ -53,19 +55,20 @@ impl Slot {
         self,
         alloc: Global,
         graph: &Graph,
-        hypothesis: &Hypothesis<'_>,
+        listed: &Listed<'_>,
     ) -> Result<Search, NoMemory>
-        requires { IsHypothesisOf graph.now hypothesis.now }
+        requires { IsRowOfGraph graph.now (row_of listed.now) }
         ensures represents { IfOk result (λ search. (log : Logbook) (steps : List Judged) →
             is_rejected_slot self ≡ false →
-            SlotRepresents graph.now log hypothesis.now.set hypothesis.now.reach.now self steps →
-            SlotRepresents graph.now log hypothesis.now.set hypothesis.now.reach.now
+            SlotRepresents (case_of graph.now log listed.now.reach.now) (believing listed.now.set)
+            self steps →
+            SlotRepresents (case_of graph.now log listed.now.reach.now) (believing listed.now.set)
             (Slot.Searched search) steps) }
     {
         match self {
             Slot::Searched(search) => Ok(search),
-            Slot::Untouched => Search::new(alloc, graph, hypothesis.set, *hypothesis.reach),
-            Slot::Rejected => Search::new(alloc, graph, hypothesis.set, *hypothesis.reach),
+            Slot::Untouched => Search::new(alloc, graph, listed.set, *listed.reach),
+            Slot::Rejected => Search::new(alloc, graph, listed.set, *listed.reach),
         }
     }
 }

@@ -6,7 +6,7 @@ use Rattle.tfpg_evidence.specs.declared.clause_name.ClauseName.TheVariants.{OrMa
 use Rattle.tfpg_evidence.specs.declared.reason.Reason.{Reason}
 use Rattle.tfpg_evidence.specs.declared.reason.Reason.TheVariants.{Zero, Top, Unreached, From, Upto, Quiet, Pick}
 use Rattle.tfpg_evidence.specs.declared.step.Step.{Step}
-use Rattle.tfpg_evidence.specs.declared.step.Step.TheVariants.{Split, Cycle}
+use Rattle.tfpg_evidence.specs.declared.step.Step.TheVariants.{Split, Cycle, Again}
 use Rattle.tfpg_evidence.specs.declared.finding.Finding.{Finding}
 use Rattle.tfpg_evidence.specs.declared.finding.Status.{Status}
 use Rattle.tfpg_evidence.specs.declared.finding.Status.TheVariants.{Ranked, Covered, Rejected, Open}
@@ -33,6 +33,7 @@ IsClauseOf sizes (AndMust node span horizon) = node < sizes.nodes
 abbrev pub IsStepOf : Sizes → Step → Type 0
 IsStepOf sizes (Split name) = IsClauseOf sizes name
 IsStepOf sizes (Cycle reasons) = All (IsReasonOf sizes) reasons
+IsStepOf sizes Again = Unit {0}
 
 -- The status names no node but those of the graph: a ranked one has a trace, the others name no node.
 abbrev pub IsStatusOf : Sizes → Status → Type 0
@@ -44,6 +45,7 @@ IsStatusOf sizes Open = Unit {0}
 -- a finding that names only what the graph has
 pub record IsFindingOf (sizes : Sizes) (finding : Finding) : Type 0 where
   pub set : All (λ position. position < sizes.failures) finding.set
+  pub doubts : All (λ node. node < sizes.nodes) finding.doubts
   pub steps : All (IsStepOf sizes) finding.steps
   pub status : IsStatusOf sizes finding.status
 

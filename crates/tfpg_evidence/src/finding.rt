@@ -1,10 +1,12 @@
 //! What a round says of one hypothesis.
 
-ghost use Rattle.std.specs.Prelude.{◌≡◌};
+ghost use Rattle.std.specs.Prelude.{◌≡◌, IfOk};
 ghost use Rattle.tfpg_evidence.specs.RoundOf.{is_ranked};
 
 use crate::StepList;
-use tfpg_base::{Items, Set, Trace};
+use crate::step::copy_steps;
+use std::alloc::Global;
+use tfpg_base::{Doubts, Items, NoMemory, Set, Trace};
 
 /// The status of a hypothesis in a round.
 #[derive(Drop)]
@@ -39,16 +41,76 @@ impl Status {
             Status::Open => false,
         }
     }
+
+    /// An equal status.
+    fn copy(&self, alloc: Global) -> Result<Status, NoMemory>
+        ensures { IfOk result (λ copy. copy ≡ self.now) }
+    {
+        match self {
+            Status::Ranked {
+                trace,
+                cost,
+                alarmed,
+                monitored,
+            } => Ok(Status::Ranked {
+                trace: trace.copy(alloc)?,
+                cost: *cost,
+                alarmed: *alarmed,
+                monitored: *monitored,
+            }),
+            Status::Covered { by } => Ok(Status::Covered { by: *by }),
+            Status::Rejected => Ok(Status::Rejected),
+            Status::Open => Ok(Status::Open),
+        }
+    }
 }
 
 /// A hypothesis with its number, its steps of this round and its status.
 #[derive(Drop)]
 pub struct Finding {
     pub number: u32,
+    /// The failure modes of the hypothesis.
     pub set: Set,
+    /// The monitors that it does not believe: for now none.
+    pub doubts: Doubts,
     pub steps: StepList,
     pub status: Status,
 }
 
 /// Findings in the order of their numbers.
 pub type Findings = Items<Finding>;
+
+impl Finding {
+    /// An equal finding.
+    fn copy(&self, alloc: Global) -> Result<Finding, NoMemory>
+        ensures { IfOk result (λ copy. copy ≡ self.now) }
+    {
+        let steps = copy_steps(alloc, &self.steps)?;
+        let status = self.status.copy(alloc)?;
+        Ok(Finding {
+            number: self.number,
+            set: self.set,
+            doubts: self.doubts,
+            steps,
+            status,
+        })
+    }
+}
+
+/// Equal findings in the same order.
+pub(crate) fn copy_findings(alloc: Global, findings: &Findings) -> Result<Findings, NoMemory>
+    ensures { IfOk result (λ copy. copy ≡ findings.now) }
+{
+    Ok(Findings::from_vec(copies_of(alloc, findings.as_slice())?))
+}
+
+/// A copy of each finding, in order.
+fn copies_of(alloc: Global, findings: &[Finding]) -> Result<Vec<Finding>, NoMemory>
+    ensures { IfOk result (λ copies. copies.items ≡ findings.now) }
+{
+    let mut copies = Vec::with_capacity(alloc, findings.len())?;
+    for finding in findings {
+        copies.push(finding.copy(alloc)?)?;
+    }
+    Ok(copies)
+}

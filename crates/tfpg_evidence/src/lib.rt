@@ -4,6 +4,7 @@
 //!   cycle of [`Reason`]s.
 //! - [`Finding`] is what a round says of one hypothesis: its [`Status`] and its steps of this round.
 //! - [`Round`] is what one accepted line of the log brings: a finding for each hypothesis, their order and [`Counts`].
+//!   [`Round::copy`] makes an equal one.
 //!
 //! An alarm of node 2 at 30, and a set that does not reach the node, close a leaf by these two reasons:
 //!

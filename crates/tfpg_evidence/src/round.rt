@@ -1,7 +1,11 @@
 //! What one accepted line of the log brings.
 
+ghost use Rattle.std.specs.Prelude.{◌≡◌, IfOk};
+
 use crate::Findings;
-use tfpg_base::NumberList;
+use crate::finding::copy_findings;
+use std::alloc::Global;
+use tfpg_base::{NoMemory, NumberList};
 
 /// How many hypotheses have each status. A hypothesis is open where its budget was spent.
 #[derive(Clone, Copy, Debug, PartialEq, Eq)]
@@ -26,4 +30,22 @@ pub struct Round {
     /// The numbers of the ranked hypotheses, best first.
     pub order: NumberList,
     pub counts: Counts,
+}
+
+impl Round {
+    /// An equal round, for whoever keeps rounds. Takes time and memory linear in the round.
+    pub fn copy(&self, alloc: Global) -> Result<Round, NoMemory>
+        ensures { IfOk result (λ copy. copy ≡ self.entry.now) }
+    {
+        let findings = copy_findings(alloc, &self.findings)?;
+        let order = self.order.copy(alloc)?;
+        Ok(Round {
+            number: self.number,
+            line: self.line,
+            now: self.now,
+            findings,
+            order,
+            counts: self.counts,
+        })
+    }
 }

@@ -3,16 +3,17 @@ use Rattle.std.specs.Prelude.{ℕ, List, [], ◌||◌, if◌then◌else◌, Opti
 use Rattle.tfpg_base.specs.SetBits.{bits_of}
 use Rattle.tfpg_base.specs.Words.{comma_parts, number_of}
 use Rattle.tfpg_graph.specs.declared.kind.Kind.{Kind}
+use Rattle.tfpg_graph.specs.declared.kind.Lag.{Lag}
 use Rattle.tfpg_graph.specs.declared.kind.Kind.TheVariants.{Failure, Or, And}
 use Rattle.tfpg_graph.specs.declared.edge.Edge.{Edge}
-use Rattle.tfpg_graph.specs.Graph.{Tfpg, Node, node_named, mode_named}
+use Rattle.tfpg_graph.specs.Graph.{Tfpg, Node, lag_up_to, node_named, mode_named}
 use Rattle.tfpg_graph.specs.Text.{all_modes}
 use Rattle.tfpg_graph.specs.Statements.{NodeWords, FailureWords, OrWords, AndWords, Statement, DeclaresMode, DeclaresNode, DeclaresEdge, Ends, statements_of}
 
--- a lag: none where there is no word for it
-abbrev pub lag_of_word : Option (List ℕ) → Option (Option ℕ)
+-- a lag from 0 up to what the word says: none where there is no word for it
+abbrev pub lag_of_word : Option (List ℕ) → Option (Option Lag)
 lag_of_word None = Some None
-lag_of_word (Some word) = option_map Some (number_of word)
+lag_of_word (Some word) = option_map (λ most. Some (lag_up_to most)) (number_of word)
 
 -- what the words say that a node is
 abbrev pub kind_of_words : NodeWords → Option Kind

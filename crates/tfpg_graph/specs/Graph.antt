@@ -5,6 +5,7 @@ use Rattle.std.specs.Option.{option_map_or}
 use Rattle.tfpg_base.specs.Choice.{numbers_from}
 use Rattle.tfpg_base.specs.Set.{Rises}
 use Rattle.tfpg_graph.specs.declared.kind.Kind.{Kind}
+use Rattle.tfpg_graph.specs.declared.kind.Lag.{Lag}
 use Rattle.tfpg_graph.specs.declared.kind.Kind.TheVariants.{Failure, Or, And}
 use Rattle.tfpg_graph.specs.declared.edge.Edge.{Edge}
 
@@ -38,8 +39,12 @@ is_and (Failure rarity) = false
 is_and (Or lag) = false
 is_and (And lag) = true
 
+-- a lag from 0 up to this
+abbrev pub lag_up_to : ℕ → Lag
+lag_up_to most = record { least = 0; most = most }
+
 -- the lag of a monitored discrepancy
-abbrev pub lag_of : Kind → Option ℕ
+abbrev pub lag_of : Kind → Option Lag
 lag_of (Failure rarity) = None
 lag_of (Or lag) = lag
 lag_of (And lag) = lag
@@ -57,8 +62,16 @@ abbrev pub is_discrepancy : Tfpg → ℕ → Bool
 is_discrepancy graph node = not (is_kind_at is_failure graph node)
 
 -- the lag of the node of this number, where it is monitored
-abbrev pub lag_at : Tfpg → ℕ → Option ℕ
+abbrev pub lag_at : Tfpg → ℕ → Option Lag
 lag_at graph node = option_and_then lag_of (kind_at graph node)
+
+-- the greatest lag, and 0 where there is none
+abbrev pub greatest_lag : Option Lag → ℕ
+greatest_lag lag = option_map_or (λ l. l.most) lag 0
+
+-- the greatest lag of the node of this number, and 0 where it is not monitored
+abbrev pub lag_or_zero : Tfpg → ℕ → ℕ
+lag_or_zero graph node = greatest_lag (lag_at graph node)
 
 -- the node of this number is a discrepancy with a monitor
 abbrev pub is_monitored : Tfpg → ℕ → Bool
@@ -122,6 +135,10 @@ name_at graph node = option_map (λ n. n.name) (slice_get graph.nodes node)
 -- a node's name
 abbrev pub name_word : Tfpg → ℕ → List ℕ
 name_word graph node = unwrap_or (name_at graph node) []
+
+-- the name of the failure mode at a position
+abbrev pub failure_word : Tfpg → ℕ → List ℕ
+failure_word graph position = unwrap_or (option_and_then (name_at graph) (failure_at graph position)) []
 
 -- the number of the edge from the one node to the other
 abbrev pub edge_from_to : Tfpg → ℕ → ℕ → Option ℕ

@@ -1,12 +1,12 @@
 pub use Rattle.tfpg_base.specs.Words
 pub use Rattle.tfpg_base.specs.Lines
 pub use Rattle.tfpg_base.specs.Set
+pub use Rattle.tfpg_base.specs.NodeSet
 -- What the public contracts say.
 pub mod Graph
 pub mod Valid
 pub mod ZeroCycle
 pub mod Reach
-pub mod NodeSet
 pub mod Text
 pub mod Statements
 pub mod Declares

@@ -6,6 +6,7 @@ use Rattle.tfpg_base.specs.Words.{joined_by_commas, line_of}
 use Rattle.tfpg_base.specs.Lines.{lines_of, with_line_end}
 use Rattle.tfpg_base.specs.declared.limits.TheConstants.{LONGEST_LINE}
 use Rattle.tfpg_graph.specs.declared.kind.Kind.{Kind}
+use Rattle.tfpg_graph.specs.declared.kind.Lag.{Lag}
 use Rattle.tfpg_graph.specs.declared.kind.Kind.TheVariants.{Failure, Or, And}
 use Rattle.tfpg_graph.specs.declared.edge.Edge.{Edge}
 use Rattle.tfpg_graph.specs.Graph.{Tfpg, Node, name_word, has_mode_bit}
@@ -19,11 +20,15 @@ header = codes "tfpg 1"
 abbrev pub mode_line : List ℕ → List ℕ
 mode_line name = line_of (words_of_statement (DeclaresMode name))
 
+-- the word for a lag, which says the greatest
+abbrev pub lag_word : Lag → List ℕ
+lag_word lag = decimal lag.most
+
 -- the words that say what a node is
 abbrev pub words_of_kind : Kind → NodeWords
 words_of_kind (Failure rarity) = FailureWords (decimal rarity)
-words_of_kind (Or lag) = OrWords (option_map decimal lag)
-words_of_kind (And lag) = AndWords (option_map decimal lag)
+words_of_kind (Or lag) = OrWords (option_map lag_word lag)
+words_of_kind (And lag) = AndWords (option_map lag_word lag)
 
 -- the words of a node's line
 abbrev pub node_words : List ℕ → Kind → List (List ℕ)

@@ -3,16 +3,22 @@ use Rattle.std.specs.Prelude.{◌≡◌, ◌≢◌, ℕ, zero, suc, ◌≤◌, �
 use Rattle.tfpg_base.specs.declared.limits.TheConstants.{MAX_TIME}
 use Rattle.tfpg_base.specs.Words.{is_name}
 use Rattle.tfpg_graph.specs.declared.kind.Kind.{Kind}
+use Rattle.tfpg_graph.specs.declared.kind.Lag.{Lag}
 use Rattle.tfpg_graph.specs.declared.kind.Kind.TheVariants.{Failure, Or, And}
 use Rattle.tfpg_graph.specs.declared.edge.Edge.{Edge}
 use Rattle.tfpg_graph.specs.declared.limits.TheConstants.{MAX_NODES, MAX_FAILURES, MAX_EDGES, MAX_INCOMING, MAX_MODES, MAX_RARITY}
 use Rattle.tfpg_graph.specs.Graph.{Tfpg, is_discrepancy, failures, incoming}
 
+-- the lag begins at 0, and is within its limit
+pub record IsValidLag (lag : Lag) : Type 0 where
+  pub least : lag.least ≡ 0
+  pub most : lag.most ≤ MAX_TIME
+
 -- its number is within its limit
 abbrev pub HasValidNumber : Kind → Type 0
 HasValidNumber (Failure rarity) = rarity ≤ MAX_RARITY
-HasValidNumber (Or lag) = IfSome lag (λ l. l ≤ MAX_TIME)
-HasValidNumber (And lag) = IfSome lag (λ l. l ≤ MAX_TIME)
+HasValidNumber (Or lag) = IfSome lag IsValidLag
+HasValidNumber (And lag) = IfSome lag IsValidLag
 
 -- The edge goes from a node to another one that is a discrepancy, its delays are in order and within the limit, and it
 -- is active in some of the graph's modes and in no other.

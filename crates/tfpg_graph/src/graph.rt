@@ -1,7 +1,7 @@
 //! A valid graph with its look-ups.
 
 ghost use Rattle.std.specs.Prelude.{◌≡◌, ◌<◌, ◌≤◌, length, slice_get, Some, unwrap_or, IfOk, IsTrue, All};
-ghost use Rattle.tfpg_graph.specs.Graph.{kind_at, is_kind_at, is_or, is_and, is_monitored, lag_at, name_at, name_word, node_named, mode_named, edge_from_to, incoming, failures, failure_at, position_of_failure};
+ghost use Rattle.tfpg_graph.specs.Graph.{kind_at, is_kind_at, is_or, is_and, is_monitored, lag_or_zero, name_at, name_word, node_named, mode_named, edge_from_to, incoming, failures, failure_at, position_of_failure};
 ghost use Rattle.tfpg_graph.specs.Valid.{IsValid};
 ghost use Rattle.tfpg_graph.specs.ZeroCycle.{HasZeroOrder};
 
@@ -112,12 +112,15 @@ impl Graph {
         node < self.node_count() && self.kind(node).is_monitored()
     }
 
-    /// The lag of the node's alarm in milliseconds, and 0 where it is not monitored.
+    /// The greatest lag of the node's alarm in milliseconds, and 0 where it is not monitored.
     pub fn lag_or_zero(&self, node: u32) -> u64
         requires { node < length self.now.nodes }
-        ensures { result ≡ unwrap_or (lag_at self.now node) 0 }
+        ensures { result ≡ lag_or_zero self.now node }
     {
-        self.kind(node).lag().unwrap_or(0)
+        match self.kind(node).lag() {
+            Some(lag) => lag.most,
+            None => 0,
+        }
     }
 
     /// The edge of this number.

@@ -2,17 +2,24 @@
 
 ghost use Rattle.std.specs.Prelude.{◌≡◌, is_some};
 
-/// What a node is. A discrepancy with a lag is monitored: an alarm logged at `t` says that it became active at
-/// most `lag` milliseconds before. One without is hidden.
+/// How late the alarm of a monitored node comes: at least and at most so many milliseconds after the node became
+/// active. The greatest goes up to [`MAX_TIME`](tfpg_base::MAX_TIME). The least is 0 at each node of a valid graph.
+#[derive(Clone, Copy, Debug, PartialEq, Eq)]
+pub struct Lag {
+    pub least: u64,
+    pub most: u64,
+}
+
+/// What a node is. A discrepancy with a lag is monitored: an alarm logged at `t` says that it became active within the
+/// lag before. One without is hidden.
 #[derive(Clone, Copy, Debug, PartialEq, Eq)]
 pub enum Kind {
     /// A failure mode, with its rarity from 0 to [`MAX_RARITY`](crate::MAX_RARITY): the rarer, the greater.
     Failure { rarity: u64 },
-    /// A discrepancy that is activated when the failure reaches it from any source. Lags go from 0 to
-    /// [`MAX_TIME`](tfpg_base::MAX_TIME), in milliseconds.
-    Or { lag: Option<u64> },
+    /// A discrepancy that is activated when the failure reaches it from any source.
+    Or { lag: Option<Lag> },
     /// A discrepancy that is activated when the failure reaches it from all its sources.
-    And { lag: Option<u64> },
+    And { lag: Option<Lag> },
 }
 
 impl Kind {
@@ -39,8 +46,8 @@ impl Kind {
         matches!(self, Kind::And { lag: _ })
     }
 
-    /// The lag of its alarm in milliseconds, where it is monitored.
-    pub fn lag(&self) -> Option<u64>
+    /// The lag of its alarm, where it is monitored.
+    pub fn lag(&self) -> Option<Lag>
         ensures { result ≡ lag_of self.now }
     {
         match self {

@@ -1,6 +1,6 @@
 //! The laws of the crate's definitions, as functions that do nothing: each says its law in its clauses.
 
-ghost use Rattle.std.specs.Prelude.{◌≡◌, ◌↔◌, ◌<◌, ℕ, List, length, Bool, IsTrue, All, Contains, Some};
+ghost use Rattle.std.specs.Prelude.{◌≡◌, ◌↔◌, ◌⊎◌, ◌<◌, ℕ, List, length, Bool, IsTrue, All, Contains, Some};
 ghost use Rattle.tfpg_base.specs.Words.{is_name};
 ghost use Rattle.tfpg_graph.specs.declared.cause.GraphFault.{GraphFault};
 ghost use Rattle.tfpg_graph.specs.Graph.{Tfpg, incoming, failure_at, name_at, node_named};
@@ -61,4 +61,10 @@ pub fn a_text_has_at_most_one_first_fault()
         IsFirstFault text fault → IsFirstFault text other → fault ≡ other }
     ensures none { (text : List ℕ) (graph : Tfpg) → Spells text graph → IsValid graph →
         (fault : GraphFault) → IsFirstFault text fault → ⊥ }
+{}
+
+/// Every text spells a valid graph, or has a first fault.
+pub fn a_text_spells_a_valid_graph_or_has_a_first_fault()
+    ensures { (text : List ℕ) → ((graph : Tfpg) × Spells text graph × IsValid graph) ⊎
+        ((fault : GraphFault) × IsFirstFault text fault) }
 {}

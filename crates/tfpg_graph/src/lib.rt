@@ -3,7 +3,7 @@
 //!
 //! - [`read`] reads the text of a graph, and [`write`] writes it. [`append_node`] writes the line of one node,
 //!   and [`append_edge_start`] that of one edge up to its greatest delay.
-//! - [`Graph`] is a valid graph with its look-ups. [`Kind`] and [`Edge`] are its parts.
+//! - [`Graph`] is a valid graph with its look-ups. [`Kind`], with [`Lag`], and [`Edge`] are its parts.
 //! - [`NodeSet`] is a set of its nodes. [`Graph::reach`] returns the nodes that a set of failure modes reaches.
 //! - [`GraphCause`] says what is wrong with a text that spells no valid graph, and [`GraphFault`] in which line.
 //!   [`GraphRefusal`] is that fault, or out of memory.
@@ -35,7 +35,7 @@ mod zero_cycle;
 pub use cause::{GraphCause, GraphFault, GraphRefusal};
 pub use edge::Edge;
 pub use graph::Graph;
-pub use kind::Kind;
+pub use kind::{Kind, Lag};
 pub use limits::{MAX_EDGES, MAX_FAILURES, MAX_INCOMING, MAX_MODES, MAX_NODES, MAX_RARITY};
 pub use reach::NodeSet;
 pub use reading::read;

@@ -1,9 +1,9 @@
 //! How much a graph may have of each thing.
 
-use tfpg_base::MAX_MEMBERS;
+use tfpg_base::{MAX_MEMBERS, MAX_NODE_NUMBERS};
 
-/// How many nodes a graph has at most.
-pub const MAX_NODES: u32 = 512;
+/// How many nodes a graph has at most: a set of nodes may have them all.
+pub const MAX_NODES: u32 = MAX_NODE_NUMBERS;
 
 /// How many of its nodes are failure modes at most: a set may have them all.
 pub const MAX_FAILURES: u32 = MAX_MEMBERS;

@@ -3,7 +3,9 @@ use Rattle.std.proofs.Common.{◌≡◌, ℕ, List, [], ◌∷◌, ◌++◌, map
 use Rattle.std.specs.Prelude.{slice_get, option_map, unwrap_or}
 use Rattle.std.proofs.lemmas.List.{append-nil}
 use Rattle.std.proofs.lemmas.Grind.{flat_map-append}
+use Rattle.tfpg_base.specs.declared.terms.Terms.{Terms}
 use Rattle.tfpg_base.proofs.lists.Elements.{slice_get-same_length}
+use Rattle.tfpg_base.specs.Hypothesis.{Hypothesis}
 use Rattle.tfpg_graph.specs.Graph.{Tfpg}
 use Rattle.tfpg_log.specs.Log.{Logbook}
 use Rattle.tfpg_evidence.specs.declared.finding.Finding.{Finding}
@@ -17,11 +19,11 @@ abbrev pub HasFindingAt : Round → ℕ → Finding → Type 0
 HasFindingAt round number finding = slice_get round.findings number ≡ Some finding
 
 -- each finding is on a hypothesis of the table
-pub evidence : {graph : Tfpg} {k budget line : ℕ} {rounds : List Round} {log : Logbook} {round : Round} (is_round : IsRound graph k budget rounds log line round) (number : ℕ) (finding : Finding)
+pub evidence : {graph : Tfpg} {terms : Terms} {line : ℕ} {rounds : List Round} {log : Logbook} {round : Round} (is_round : IsRound graph terms rounds log line round) (number : ℕ) (finding : Finding)
     → HasFindingAt round number finding
-    → (set : List ℕ) × (slice_get is_round.sets number ≡ Some set) × IsFinding graph log budget (rounds ++ round ∷ []) round.findings number set finding
+    → (hypothesis : Hypothesis) × (slice_get is_round.hypotheses number ≡ Some hypothesis) × IsFinding (record { graph = graph; log = log; terms = terms }) (rounds ++ round ∷ []) round.findings number hypothesis finding
 evidence is_round number finding at =
-    let own = slice_get-same_length is_round.sets _ number finding is_round.complete at in
+    let own = slice_get-same_length is_round.hypotheses _ number finding is_round.complete at in
     (own.0, own.1, is_round.findings number own.0 finding own.1 at)
 
 -- the steps of all rounds end with those of the last round, judged by the log of so many events that the round has as its number

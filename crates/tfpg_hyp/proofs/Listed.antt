@@ -4,14 +4,16 @@ use Rattle.std.specs.List.{All, AllPairs, Contains}
 use Rattle.std.proofs.lemmas.Bool.{cases_lt}
 use Rattle.std.proofs.lemmas.List.{append-nil, map-append, map-id}
 use Rattle.std.proofs.lemmas.List.Elements.{Contains-get_or, Contains-append_left, Contains-append_right, Contains-append_cases}
+use Rattle.tfpg_base.specs.declared.terms.Terms.{Terms}
 use Rattle.tfpg_base.specs.Set.{with_member}
+use Rattle.tfpg_base.specs.Hypothesis.{Hypothesis, believing}
 use Rattle.tfpg_base.proofs.Sets.{with_member-last}
-use Rattle.tfpg_base.proofs.lists.Images.{map-map}
+use Rattle.tfpg_base.proofs.lists.Images.{map-map, AllPairs-map, Contains-map, Contains-map_only}
 use Rattle.tfpg_base.proofs.lists.Sequences.{min-cases}
 use Rattle.tfpg_base.proofs.lists.Elements.{Contains-nil}
 use Rattle.tfpg_base.proofs.lists.Ordered.{AllPairs-nil, AllPairs-append}
 use Rattle.tfpg_graph.specs.Graph.{Tfpg, failures}
-use Rattle.tfpg_hyp.specs.Table.{IsHypothesis, ComesFirst, IsListedBefore, IsTable}
+use Rattle.tfpg_hyp.specs.Table.{IsHypothesis, ComesFirst, IsListedBefore, StandsBefore, IsTable}
 use Rattle.tfpg_hyp.specs.inside.Choices.{chosen, chosen_below, choices_below}
 use Rattle.tfpg_hyp.proofs.Chosen.{IsChoice, IsChoice-chosen, Contains-chosen, in_order-chosen}
 use Rattle.tfpg_hyp.proofs.Counted.{choices-past, chosen-past}
@@ -57,29 +59,42 @@ in_order-listed count (suc size) =
 
 -- ---- the table
 
-pub IsTable-listed : (graph : Tfpg) (k count : ℕ) → count ≡ length (failures graph) → IsTable graph k (chosen_below count (k + 1))
-IsTable-listed graph k count counted = record {
-  exact = λ set. (to set, from set);
-  in_order = in_order-listed count (k + 1);
+-- a hypothesis without doubts is that of its set
+pub believes_all : (hypothesis : Hypothesis) → hypothesis.doubts ≡ [] → believing hypothesis.set ≡ hypothesis
+believes_all hypothesis none = λ i. record { set = hypothesis.set; doubts = sym none i }
+
+-- what is listed are the hypotheses
+pub IsTable-listed : (graph : Tfpg) (terms : Terms) (count : ℕ) → count ≡ length (failures graph) → IsTable graph terms (map believing (chosen_below count (terms.k + 1)))
+IsTable-listed graph terms count counted = record {
+  exact = λ hypothesis. (to hypothesis, from hypothesis);
+  in_order = AllPairs-map StandsBefore believing (chosen_below count (terms.k + 1)) (in_order-listed count (terms.k + 1));
 }
   where
-    to : (set : List ℕ) → Contains (chosen_below count (k + 1)) set → IsHypothesis graph k set
-    to set member =
-        let found = IsChoice-listed count (k + 1) set member in
+    listed : (set : List ℕ) → Contains (chosen_below count (terms.k + 1)) set → IsHypothesis graph terms (believing set)
+    listed set member =
+        let found = IsChoice-listed count (terms.k + 1) set member in
         record {
           of_graph = record { rising = found.1.rising; members = λ i d within. omega (arith, counted, found.1.high i d within) };
           size = omega (arith, found.0);
+          believes = refl;
         }
 
-    from : (set : List ℕ) → IsHypothesis graph k set → Contains (chosen_below count (k + 1)) set
-    from set is =
-        Contains-listed count (k + 1) set (omega (arith, is.size))
+    to : (hypothesis : Hypothesis) → Contains (map believing (chosen_below count (terms.k + 1))) hypothesis → IsHypothesis graph terms hypothesis
+    to hypothesis member =
+        let own = Contains-map_only believing (chosen_below count (terms.k + 1)) hypothesis member in
+        subst (IsHypothesis graph terms) own.2 (listed own.0 own.1)
+
+    from : (hypothesis : Hypothesis) → IsHypothesis graph terms hypothesis → Contains (map believing (chosen_below count (terms.k + 1))) hypothesis
+    from hypothesis is =
+        subst (Contains (map believing (chosen_below count (terms.k + 1)))) (believes_all hypothesis is.believes)
+        (Contains-map believing (chosen_below count (terms.k + 1)) hypothesis.set
+        (Contains-listed count (terms.k + 1) hypothesis.set (omega (arith, is.size))
         (record {
           rising = is.of_graph.rising;
           low = λ i d within. omega arith;
           high = λ i d within. omega (arith, counted, is.of_graph.members i d within);
           size_is = refl;
-        })
+        })))
 
 -- ---- no set is larger than all failure modes together
 

@@ -18,11 +18,13 @@ use Rattle.tfpg_evidence.specs.declared.clause_name.ClauseName.TheVariants.{OrMa
 use Rattle.tfpg_evidence.specs.declared.reason.Reason.{Reason}
 use Rattle.tfpg_evidence.specs.declared.reason.Reason.TheVariants.{Zero, Top, Unreached, From, Upto, Quiet, Pick}
 use Rattle.tfpg_evidence.specs.declared.step.Step.{Step}
-use Rattle.tfpg_evidence.specs.declared.step.Step.TheVariants.{Split, Cycle}
+use Rattle.tfpg_evidence.specs.declared.step.Step.TheVariants.{Split, Cycle, Again}
 use Rattle.tfpg_evidence.specs.RoundOf.{IsReasonOf, IsClauseOf, IsStepOf}
 use Rattle.tfpg_clause.specs.Clauses.{alternatives, and_may, or_must}
 use Rattle.tfpg_clause.proofs.RulesMet.{may_holds, must_holds}
-use Rattle.tfpg_clause.specs.Trees.{PathSplit, stated, IsRightStep}
+use Rattle.tfpg_clause.specs.Case.{Case}
+use Rattle.tfpg_clause.specs.Trees.{stated, IsRightStep}
+use Rattle.tfpg_clause.specs.declared.path.PathSplit.{PathSplit}
 
 -- ---- clauses
 
@@ -40,32 +42,34 @@ allowed_named graph log (AndMust node number horizon) clause is =
 
 -- ---- silences
 
-first_events_of : (graph : Tfpg) (log : Logbook) (seen : ℕ) → IsLogOf graph log → IsLogOf graph (first_events log seen)
+pub first_events_of : (graph : Tfpg) (log : Logbook) (seen : ℕ) → IsLogOf graph log → IsLogOf graph (first_events log seen)
 first_events_of graph log seen of = record { own = All-take (IsEventOf graph) seen log.events of.own }
 
 -- ---- steps
 
 -- a reason that states a constraint names no node but those of the graph
-stated_named : (graph : Tfpg) (log : Logbook) (reach : List ℕ) (path : List PathSplit) (seen : ℕ) → IsLogOf graph log → (reason : Reason) (constraint : Constraint)
-    → stated graph log reach path seen reason ≡ Some constraint → IsReasonOf (sizes_of graph) reason
-stated_named graph log reach path seen of (Zero node) constraint is = ltb-true node (length graph.nodes) (then_some-true (ltb node (length graph.nodes)) _ constraint is).0
-stated_named graph log reach path seen of (Top node) constraint is = ltb-true node (length graph.nodes) (then_some-true (ltb node (length graph.nodes)) _ constraint is).0
-stated_named graph log reach path seen of (Unreached node horizon) constraint is = ltb-true node (length graph.nodes) (and_parts (ltb node (length graph.nodes)) _ (then_some-true _ _ constraint is).0).0
-stated_named graph log reach path seen of (From event) constraint is = tt
-stated_named graph log reach path seen of (Upto event) constraint is = tt
-stated_named graph log reach path seen of (Quiet event node) constraint is =
-    let silence = option_map-some _ (quiet_at graph (first_events log seen) event node) constraint is in
-    quiet_within graph (first_events log seen) event node silence.0 (first_events_of graph log seen of) silence.1
-stated_named graph log reach path seen of (Pick split index) constraint is = tt
+stated_named : (case : Case) (path : List PathSplit) → IsLogOf case.graph case.log → (reason : Reason) (constraint : Constraint)
+    → stated case path reason ≡ Some constraint → IsReasonOf (sizes_of case.graph) reason
+stated_named case path of (Zero node) constraint is = ltb-true node (length case.graph.nodes) (then_some-true (ltb node (length case.graph.nodes)) _ constraint is).0
+stated_named case path of (Top node) constraint is = ltb-true node (length case.graph.nodes) (then_some-true (ltb node (length case.graph.nodes)) _ constraint is).0
+stated_named case path of (Unreached node horizon) constraint is =
+    ltb-true node (length case.graph.nodes) (and_parts (ltb node (length case.graph.nodes)) _ (then_some-true _ _ constraint is).0).0
+stated_named case path of (From event) constraint is = tt
+stated_named case path of (Upto event) constraint is = tt
+stated_named case path of (Quiet event node) constraint is =
+    let silence = option_map-some _ (quiet_at case.graph case.log event node) constraint is in
+    quiet_within case.graph case.log event node silence.0 of silence.1
+stated_named case path of (Pick split index) constraint is = tt
 
 -- a right step names only what the graph has
-pub right_named : (graph : Tfpg) (log : Logbook) (reach : List ℕ) (path : List PathSplit) (seen subtrees : ℕ) → IsLogOf graph log → (step : Step) → IsRightStep graph log reach path seen subtrees step
-    → IsStepOf (sizes_of graph) step
-right_named graph log reach path seen subtrees of (Split name) right =
-    let clause = option_map-some length (alternatives graph (first_events log seen) name) subtrees right in
-    allowed_named graph (first_events log seen) name clause.0 clause.1
-right_named graph log reach path seen subtrees of (Cycle reasons) right =
-    All-from_members (IsReasonOf (sizes_of graph)) reasons
+pub right_named : (case : Case) (path : List PathSplit) (subtrees : ℕ) → IsLogOf case.graph case.log → (step : Step) → IsRightStep case path subtrees step
+    → IsStepOf (sizes_of case.graph) step
+right_named case path subtrees of (Split name) right =
+    let clause = option_map-some length (alternatives case.graph case.log name) subtrees right in
+    allowed_named case.graph case.log name clause.0 clause.1
+right_named case path subtrees of (Cycle reasons) right =
+    All-from_members (IsReasonOf (sizes_of case.graph)) reasons
     (λ reason has.
-    let states = Contains-each_of (stated graph log reach path seen) reasons right.constraints reason right.hold has in
-    stated_named graph log reach path seen of reason states.0 states.2)
+    let states = Contains-each_of (stated case path) reasons right.constraints reason right.hold has in
+    stated_named case path of reason states.0 states.2)
+right_named case path subtrees of Again right = absurd right

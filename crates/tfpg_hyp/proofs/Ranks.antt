@@ -1,6 +1,6 @@
 -- What the loops over failure modes and nodes have counted so far.
 use Rattle.std.proofs.Common.{◌≡◌, ℕ, ◌+◌, ◌<◌, ◌≤◌, true, false, cond, eqb, ltb, List, [], ◌∷◌, ◌++◌, length, Option, Some, None, refl, arith, sym, ◌∙◌, ap, subst}
-use Rattle.std.specs.List.{All, Contains, count_by, filter, slice_get}
+use Rattle.std.specs.List.{All, Contains, count_by, filter, slice_get, sum_by}
 use Rattle.tfpg_base.specs.Set.{Rises, IsSet}
 use Rattle.std.specs.Option.{option_map, option_and_then, is_some}
 use Rattle.std.proofs.lemmas.Bool.{cond-true, cond-false, cond_both, ltb-false, ne_eqb, eq-eqb}
@@ -14,7 +14,7 @@ use Rattle.tfpg_graph.specs.Valid.{IsValid, HasValidNumber}
 use Rattle.tfpg_base.proofs.lists.Elements.{All-at}
 use Rattle.tfpg_log.specs.Log.{Logbook, alarm_of}
 use Rattle.tfpg_hyp.specs.declared.ranking_key.Fraction.{Fraction}
-use Rattle.tfpg_hyp.specs.Ranking.{rarity_at, cost_of, robustness_of, monitored_in, alarmed_in}
+use Rattle.tfpg_hyp.specs.Ranking.{rarity_at, robustness_of, monitored_in, alarmed_in}
 use Rattle.tfpg_base.proofs.lists.Filtered.{filter-push_yes, filter-push_no, count_by-push}
 use Rattle.tfpg_base.proofs.lists.Below.{below, below-zero, below-member, below-absent, below-all}
 
@@ -31,22 +31,22 @@ rarity_small graph node rarity valid is = by (slice_get graph.nodes node) refl i
 
 module _ (graph : Tfpg) (set : List ℕ) where
   -- nothing is summed at first
-  pub cost-none : 0 ≡ cost_of graph (below 0 set)
-  cost-none = sym (ap (cost_of graph) (below-zero set))
+  pub cost-none : 0 ≡ sum_by (rarity_at graph) (below 0 set)
+  cost-none = sym (ap (sum_by (rarity_at graph)) (below-zero set))
 
   -- a member adds its rarity
-  pub cost-with : (position cost rarity : ℕ) → IsSet set → Contains set position → cost ≡ cost_of graph (below position set) → rarity ≡ rarity_at graph position
-      → cost + rarity ≡ cost_of graph (below (position + 1) set)
+  pub cost-with : (position cost rarity : ℕ) → IsSet set → Contains set position → cost ≡ sum_by (rarity_at graph) (below position set) → rarity ≡ rarity_at graph position
+      → cost + rarity ≡ sum_by (rarity_at graph) (below (position + 1) set)
   cost-with position cost rarity is_set member so_far worth =
-      (λ i. so_far i + worth i) ∙ sym (ap (cost_of graph) (below-member position set is_set.rising member) ∙ sum_by_push (rarity_at graph) (below position set) position)
+      (λ i. so_far i + worth i) ∙ sym (ap (sum_by (rarity_at graph)) (below-member position set is_set.rising member) ∙ sum_by_push (rarity_at graph) (below position set) position)
 
   -- another position adds nothing
-  pub cost-without : (position cost : ℕ) → (Contains set position → ⊥) → cost ≡ cost_of graph (below position set) → cost ≡ cost_of graph (below (position + 1) set)
-  cost-without position cost absent so_far = so_far ∙ sym (ap (cost_of graph) (below-absent position set absent))
+  pub cost-without : (position cost : ℕ) → (Contains set position → ⊥) → cost ≡ sum_by (rarity_at graph) (below position set) → cost ≡ sum_by (rarity_at graph) (below (position + 1) set)
+  cost-without position cost absent so_far = so_far ∙ sym (ap (sum_by (rarity_at graph)) (below-absent position set absent))
 
   -- past the last member all are summed
-  pub cost-all : (end cost : ℕ) → All (λ position. position < end) set → cost ≡ cost_of graph (below end set) → cost ≡ cost_of graph set
-  cost-all end cost within so_far = so_far ∙ ap (cost_of graph) (below-all end set (λ position member. All-contains (λ p. p < end) set position within member))
+  pub cost-all : (end cost : ℕ) → All (λ position. position < end) set → cost ≡ sum_by (rarity_at graph) (below end set) → cost ≡ sum_by (rarity_at graph) set
+  cost-all end cost within so_far = so_far ∙ ap (sum_by (rarity_at graph)) (below-all end set (λ position member. All-contains (λ p. p < end) set position within member))
 
 -- ---- nodes
 

@@ -2,7 +2,8 @@
 use Rattle.std.proofs.Common.{◌≡◌, ℕ, ◌<◌, List, [], ◌∷◌, ◌++◌, length, get_or, map, Option, Some, refl, ap, subst, ◌∙◌, arith}
 use Rattle.std.specs.Prelude.{All, IsTrue, slice_get}
 use Rattle.std.proofs.lemmas.Option.{slice_get-get_or, option_and_then_some}
-use Rattle.std.proofs.lemmas.List.Elements.{All-same}
+use Rattle.std.proofs.lemmas.List.Elements.{All-same, All-nil}
+use Rattle.tfpg_base.specs.declared.terms.Terms.{Terms}
 use Rattle.tfpg_graph.specs.Graph.{Tfpg, failures, AreFailures, sizes_of}
 use Rattle.tfpg_log.specs.Log.{Logbook, IsLogOf}
 use Rattle.tfpg_evidence.specs.declared.step.Step.{Step}
@@ -11,12 +12,15 @@ use Rattle.tfpg_evidence.specs.declared.finding.Status.{Status}
 use Rattle.tfpg_evidence.specs.declared.finding.Status.TheVariants.{Ranked, Covered, Rejected, Open}
 use Rattle.tfpg_evidence.specs.declared.round.Round.{Round}
 use Rattle.tfpg_evidence.specs.RoundOf.{IsStepOf, IsStatusOf, IsFindingOf, IsRankedIn, IsRoundOf, is_ranked, finding_numbered}
+use Rattle.tfpg_base.specs.Hypothesis.{Hypothesis}
 use Rattle.tfpg_base.specs.Choice.{each_of}
+use Rattle.tfpg_clause.specs.Case.{Case}
 use Rattle.tfpg_clause.specs.Trees.{Judged}
 use Rattle.tfpg_base.proofs.lists.Choices.{Contains-each_of, each_of-some}
 use Rattle.tfpg_evidence.proofs.FindingsByNumber.{finding_numbered-first}
 use Rattle.tfpg_base.proofs.lists.Images.{All-unmap}
 use Rattle.tfpg_base.proofs.lists.Elements.{All-back, All-from_members, Contains-at}
+use Rattle.tfpg_hyp.specs.Views.{case_for}
 use Rattle.tfpg_hyp.specs.Rounds.{IsRound, HasEvidence, key_at, key_of_status, steps_so_far}
 use Rattle.tfpg_hyp.specs.declared.ranking_key.RankingKey.{RankingKey}
 use Rattle.tfpg_hyp.proofs.FindingsOfRound.{HasFindingAt, evidence, steps_so_far-push}
@@ -33,12 +37,12 @@ last_named graph number rounds round finding at named =
 
 -- ---- statuses
 
-status_named : (graph : Tfpg) (log : Logbook) (budget : ℕ) (findings : List Finding) (reach : List ℕ) (steps : List Judged) (finding : Finding) (status : Status)
-    → HasEvidence graph log budget findings reach steps finding status → IsStatusOf (sizes_of graph) status
-status_named graph log budget findings reach steps finding (Ranked trace cost alarmed monitored) own = own.1.trace_of.1
-status_named graph log budget findings reach steps finding (Covered by) own = tt
-status_named graph log budget findings reach steps finding Rejected own = tt
-status_named graph log budget findings reach steps finding Open own = tt
+status_named : (case : Case) (budget : ℕ) (findings : List Finding) (steps : List Judged) (finding : Finding) (status : Status)
+    → HasEvidence case budget findings steps finding status → IsStatusOf (sizes_of case.graph) status
+status_named case budget findings steps finding (Ranked trace cost alarmed monitored) own = own.1.trace_of.1
+status_named case budget findings steps finding (Covered by) own = tt
+status_named case budget findings steps finding Rejected own = tt
+status_named case budget findings steps finding Open own = tt
 
 key_ranked : (number : ℕ) (status : Status) (key : RankingKey) → key_of_status number status ≡ Some key → IsTrue (is_ranked status)
 key_ranked number (Ranked trace cost alarmed monitored) key at = refl
@@ -48,22 +52,26 @@ key_ranked number Open key at = absurd cc
 
 -- ---- the round
 
-module _ (graph : Tfpg) (k budget line : ℕ) (rounds : List Round) (log : Logbook) (round : Round) (of : IsLogOf graph log) (is_round : IsRound graph k budget rounds log line round) where
+module _ (graph : Tfpg) (terms : Terms) (line : ℕ) (rounds : List Round) (log : Logbook) (round : Round) (of : IsLogOf graph log) (is_round : IsRound graph terms rounds log line round) where
   -- the number of a finding is its index
   number_at : (number : ℕ) (finding : Finding) → HasFindingAt round number finding → finding.number ≡ number
   number_at number finding at = (evidence is_round number finding at).2.number_is
 
-  members_at : (number : ℕ) (set : List ℕ) → slice_get is_round.sets number ≡ Some set → AreFailures graph set
-  members_at number set at = ((is_round.table.exact set).0 (Contains-at is_round.sets number set at)).of_graph.members
+  members_at : (number : ℕ) (hypothesis : Hypothesis) → slice_get is_round.hypotheses number ≡ Some hypothesis → AreFailures graph hypothesis.set
+  members_at number hypothesis at = ((is_round.table.exact hypothesis).0 (Contains-at is_round.hypotheses number hypothesis at)).of_graph.members
+
+  believes_at : (number : ℕ) (hypothesis : Hypothesis) → slice_get is_round.hypotheses number ≡ Some hypothesis → hypothesis.doubts ≡ []
+  believes_at number hypothesis at = ((is_round.table.exact hypothesis).0 (Contains-at is_round.hypotheses number hypothesis at)).believes
 
   finding_named : (number : ℕ) (finding : Finding) → HasFindingAt round number finding → IsFindingOf (sizes_of graph) finding
   finding_named number finding at =
       let own = evidence is_round number finding at in
       record {
-        set = All-same (λ (position : ℕ). position < length (failures graph)) finding.set own.0 own.2.set_is (members_at number own.0 own.1);
+        set = All-same (λ (position : ℕ). position < length (failures graph)) finding.set own.0.set (ap (λ (h : Hypothesis). h.set) own.2.hypothesis_is) (members_at number own.0 own.1);
+        doubts = All-same (λ (node : ℕ). node < length graph.nodes) finding.doubts [] (ap (λ (h : Hypothesis). h.doubts) own.2.hypothesis_is ∙ believes_at number own.0 own.1) (All-nil _);
         steps = last_named graph number rounds round finding at
-            (evidence_named graph log own.2.reach of budget round.findings (steps_so_far number (rounds ++ round ∷ [])) finding finding.status own.2.evidence);
-        status = status_named graph log budget round.findings own.2.reach (steps_so_far number (rounds ++ round ∷ [])) finding finding.status own.2.evidence;
+            (evidence_named (case_for graph log own.0 own.2.reach) of terms.budget round.findings (steps_so_far number (rounds ++ round ∷ [])) finding finding.status own.2.evidence);
+        status = status_named (case_for graph log own.0 own.2.reach) terms.budget round.findings (steps_so_far number (rounds ++ round ∷ [])) finding finding.status own.2.evidence;
       }
 
   -- the finding of a number is found by it

@@ -1,18 +1,22 @@
 -- What a table keeps, and that it is the only one.
-use Rattle.std.proofs.Common.{◌≡◌, ℕ, ◌+◌, ◌<◌, ◌≤◌, List, [], ◌∷◌, ◌++◌, length, get_or, Some, slice_get, Result, Err, ◌↔◌, ⊎_elim, arith, sym, ◌∙◌, ap, subst}
+use Rattle.std.proofs.Common.{◌≡◌, ℕ, ◌+◌, ◌<◌, ◌≤◌, List, [], ◌∷◌, ◌++◌, length, map, get_or, Some, slice_get, Result, Err, ◌↔◌, ⊎_elim, arith, sym, ◌∙◌, ap, subst}
 use Rattle.std.specs.List.{All}
 use Rattle.std.proofs.lemmas.Bool.{cases_lt}
-use Rattle.std.proofs.lemmas.List.{length-append}
+use Rattle.std.proofs.lemmas.List.{length-append, length-map}
 use Rattle.std.proofs.lemmas.Option.{slice_get_within, get_or_from_slice_get, same_Some}
+use Rattle.tfpg_base.specs.declared.terms.Terms.{Terms}
+use Rattle.tfpg_base.specs.Hypothesis.{Hypothesis, believing}
 use Rattle.tfpg_graph.specs.Graph.{Tfpg, failures}
 use Rattle.tfpg_graph.specs.Reach.{IsReach}
 use Rattle.tfpg_base.proofs.lists.Written.{slice_get-push_before, slice_get-push_at}
-use Rattle.tfpg_hyp.specs.Table.{ComesFirst, IsListedBefore, IsTable}
+use Rattle.tfpg_hyp.specs.Table.{ComesFirst, IsListedBefore, StandsBefore, member_numbers, IsTable}
+use Rattle.tfpg_hyp.specs.Views.{IsReachOf}
 use Rattle.tfpg_hyp.specs.declared.limits.TheConstants.{MAX_HYPOTHESES}
 use Rattle.tfpg_base.proofs.lists.Elements.{All-from_members}
+use Rattle.tfpg_base.proofs.lists.Images.{Contains-map, slice_get-map_only}
 use Rattle.tfpg_hyp.specs.declared.table.TableFault.{TableFault}
 use Rattle.tfpg_hyp.specs.declared.table.TableFault.TheVariants.{TooMany}
-use Rattle.tfpg_hyp.specs.Hypotheses.{HasHypotheses}
+use Rattle.tfpg_hyp.specs.Hypotheses.{HasHypotheses, AreReaches}
 use Rattle.tfpg_hyp.specs.inside.Choices.{chosen_below, choices_below}
 use Rattle.tfpg_base.proofs.lists.Ordered.{same_in_order}
 use Rattle.tfpg_hyp.proofs.Counted.{length-chosen_below}
@@ -35,6 +39,15 @@ ReachedSoFar-push graph sets reaches number set reach here within is reached bef
     subst (IsReach graph own) same_reach (subst (λ (s : List ℕ). IsReach graph s reach) same_set reached))
     (cases_lt other (length reaches))
 
+-- what the sets reach is what their hypotheses reach
+pub AreReaches-believing : (graph : Tfpg) (sets reaches : List (List ℕ)) → length reaches ≡ length sets → ReachedSoFar graph sets reaches → AreReaches graph (map believing sets) reaches
+AreReaches-believing graph sets reaches complete reached = record {
+  complete = complete ∙ sym (length-map sets believing);
+  exact = λ number hypothesis reach at at_reach.
+      let own = slice_get-map_only believing sets number hypothesis at in
+      subst (λ (h : Hypothesis). IsReachOf graph h reach) own.2 (reached number own.0 reach own.1 at_reach);
+}
+
 -- ---- one table
 
 -- of two lists only one comes first
@@ -55,39 +68,39 @@ IsListedBefore-asymmetric a b before after =
     (λ same. ⊎_elim (λ greater. omega (arith, greater, same.0)) (λ also. ComesFirst-asymmetric a b same.1 also.1) after)
     before
 
--- The table of a graph and k is one.
-pub one_table : (graph : Tfpg) (k : ℕ) (sets others : List (List ℕ)) → IsTable graph k sets → IsTable graph k others → sets ≡ others
-one_table graph k sets others first second =
-    same_in_order IsListedBefore IsListedBefore-asymmetric sets others first.in_order second.in_order
-    (λ set member. (second.exact set).1 ((first.exact set).0 member))
-    (λ set member. (first.exact set).1 ((second.exact set).0 member))
+-- The table of a graph and of terms is one.
+pub one_table : (graph : Tfpg) (terms : Terms) (hypotheses others : List Hypothesis) → IsTable graph terms hypotheses → IsTable graph terms others → hypotheses ≡ others
+one_table graph terms hypotheses others first second =
+    same_in_order StandsBefore (λ a b. IsListedBefore-asymmetric (member_numbers a) (member_numbers b)) hypotheses others first.in_order second.in_order
+    (λ hypothesis member. (second.exact hypothesis).1 ((first.exact hypothesis).0 member))
+    (λ hypothesis member. (first.exact hypothesis).1 ((second.exact hypothesis).0 member))
 
 -- and so is the number of hypotheses
-pub one_count : (graph : Tfpg) (k count other : ℕ) → HasHypotheses graph k count → HasHypotheses graph k other → count ≡ other
-one_count graph k count other first second = sym first.counted ∙ ap length (one_table graph k first.sets second.sets first.table second.table) ∙ second.counted
+pub one_count : (graph : Tfpg) (terms : Terms) (count other : ℕ) → HasHypotheses graph terms count → HasHypotheses graph terms other → count ≡ other
+one_count graph terms count other first second = sym first.counted ∙ ap length (one_table graph terms first.hypotheses second.hypotheses first.table second.table) ∙ second.counted
 
 -- ---- what is listed and counted
 
 -- so many hypotheses were counted
-pub HasHypotheses-counted : (graph : Tfpg) (k count total : ℕ) → count ≡ length (failures graph) → total ≡ choices_below count (k + 1) → HasHypotheses graph k total
-HasHypotheses-counted graph k count total failing counted = record {
-  sets = chosen_below count (k + 1);
-  table = IsTable-listed graph k count failing;
-  counted = length-chosen_below count (k + 1) ∙ sym counted;
+pub HasHypotheses-counted : (graph : Tfpg) (terms : Terms) (k : ℕ) → terms.k ≡ k → (count total : ℕ) → count ≡ length (failures graph) → total ≡ choices_below count (k + 1) → HasHypotheses graph terms total
+HasHypotheses-counted graph terms k same count total failing counted = record {
+  hypotheses = map believing (chosen_below count (terms.k + 1));
+  table = IsTable-listed graph terms count failing;
+  counted = length-map (chosen_below count (terms.k + 1)) believing ∙ length-chosen_below count (terms.k + 1) ∙ ap (λ n. choices_below count (n + 1)) same ∙ sym counted;
 }
 
-module _ (graph : Tfpg) (k count : ℕ) (sets : List (List ℕ)) (failing : count ≡ length (failures graph)) (listed : sets ≡ chosen_below count (k + 1)) where
+module _ (graph : Tfpg) (terms : Terms) (count : ℕ) (sets : List (List ℕ)) (failing : count ≡ length (failures graph)) (listed : sets ≡ chosen_below count (terms.k + 1)) where
   -- what was listed is the table
-  pub IsTable-sets : IsTable graph k sets
-  IsTable-sets = subst (IsTable graph k) (sym listed) (IsTable-listed graph k count failing)
+  pub IsTable-sets : IsTable graph terms (map believing sets)
+  IsTable-sets = subst (λ (listed : List (List ℕ)). IsTable graph terms (map believing listed)) (sym listed) (IsTable-listed graph terms count failing)
 
   -- its members are failure modes of the graph
   pub members_failing : All (λ set. All (λ index. index < length (failures graph)) set) sets
-  members_failing = All-from_members (λ set. All (λ index. index < length (failures graph)) set) sets (λ set member. ((IsTable-sets.exact set).0 member).of_graph.members)
+  members_failing = All-from_members (λ set. All (λ index. index < length (failures graph)) set) sets (λ set member. ((IsTable-sets.exact (believing set)).0 (Contains-map believing sets set member)).of_graph.members)
 
   -- and it is no longer than was counted
-  pub few_sets : choices_below (length (failures graph)) (k + 1) ≤ MAX_HYPOTHESES → length sets ≤ MAX_HYPOTHESES
-  few_sets few = omega (arith, few, ap length listed, length-chosen_below count (k + 1), ap (λ n. choices_below n (k + 1)) failing)
+  pub few_sets : choices_below (length (failures graph)) (terms.k + 1) ≤ MAX_HYPOTHESES → length sets ≤ MAX_HYPOTHESES
+  few_sets few = omega (arith, few, ap length listed, length-chosen_below count (terms.k + 1), ap (λ n. choices_below n (terms.k + 1)) failing)
 
 -- ---- too many
 
@@ -95,19 +108,19 @@ module _ (graph : Tfpg) (k count : ℕ) (sets : List (List ℕ)) (failing : coun
 abbrev pub too_many_of : (X : Type 0) → ℕ → Result X TableFault
 too_many_of X count = Err (TooMany count)
 
-module _ (graph : Tfpg) (k total : ℕ) (has : HasHypotheses graph k total) where
+module _ (graph : Tfpg) (terms : Terms) (total : ℕ) (has : HasHypotheses graph terms total) where
   -- where there are more than 4,096, the fault has exactly their number
-  pub too_many-exactly : {X : Type 0} → MAX_HYPOTHESES < total → (count : ℕ) → (too_many_of X total ≡ too_many_of X count) ↔ ((MAX_HYPOTHESES < count) × HasHypotheses graph k count)
+  pub too_many-exactly : {X : Type 0} → MAX_HYPOTHESES < total → (count : ℕ) → (too_many_of X total ≡ too_many_of X count) ↔ ((MAX_HYPOTHESES < count) × HasHypotheses graph terms count)
   too_many-exactly {X} many count = (to, from)
     where
-      to : too_many_of X total ≡ too_many_of X count → (MAX_HYPOTHESES < count) × HasHypotheses graph k count
-      to same = let equal : total ≡ count = cc in subst (λ n. (MAX_HYPOTHESES < n) × HasHypotheses graph k n) equal (many, has)
+      to : too_many_of X total ≡ too_many_of X count → (MAX_HYPOTHESES < count) × HasHypotheses graph terms count
+      to same = let equal : total ≡ count = cc in subst (λ n. (MAX_HYPOTHESES < n) × HasHypotheses graph terms n) equal (many, has)
 
-      from : (MAX_HYPOTHESES < count) × HasHypotheses graph k count → too_many_of X total ≡ too_many_of X count
-      from other = ap (too_many_of X) (one_count graph k total count has other.1)
+      from : (MAX_HYPOTHESES < count) × HasHypotheses graph terms count → too_many_of X total ≡ too_many_of X count
+      from other = ap (too_many_of X) (one_count graph terms total count has other.1)
 
   -- else there is no number of them above 4,096, and no such fault
   pub not_too_many : {X : Type 0} (result : Result X TableFault) → total ≤ MAX_HYPOTHESES → ((count : ℕ) → result ≡ Err (TooMany count) → ⊥) → (count : ℕ)
-      → (result ≡ Err (TooMany count)) ↔ ((MAX_HYPOTHESES < count) × HasHypotheses graph k count)
+      → (result ≡ Err (TooMany count)) ↔ ((MAX_HYPOTHESES < count) × HasHypotheses graph terms count)
   not_too_many result few none count =
-      (λ same. absurd (none count same), λ other. absurd (omega (arith, few, other.0, one_count graph k total count has other.1)))
+      (λ same. absurd (none count same), λ other. absurd (omega (arith, few, other.0, one_count graph terms total count has other.1)))

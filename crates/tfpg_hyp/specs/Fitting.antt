@@ -1,45 +1,56 @@
 -- Which hypotheses fit a log, and how a round stands to them.
 use Rattle.std.specs.Prelude.{◌≡◌, ◌↔◌, ℕ, List, false, IsTrue, Some, slice_get}
-use Rattle.tfpg_base.specs.Set.{IsProperSubset}
+use Rattle.tfpg_base.specs.declared.terms.Terms.{Terms}
+use Rattle.tfpg_base.specs.Hypothesis.{Hypothesis, IsProperPart}
 use Rattle.tfpg_graph.specs.Graph.{Tfpg}
 use Rattle.tfpg_log.specs.Log.{Logbook}
-use Rattle.tfpg_log.specs.Explains.{Fits}
 use Rattle.tfpg_evidence.specs.declared.finding.Finding.{Finding}
 use Rattle.tfpg_evidence.specs.RoundOf.{is_ranked, is_covered, is_rejected, is_open}
+use Rattle.tfpg_evidence.specs.Findings.{hypothesis_of}
 use Rattle.tfpg_hyp.specs.Table.{IsHypothesis}
+use Rattle.tfpg_hyp.specs.Views.{HypothesisFits}
 
--- Some hypothesis fits the log that is a proper subset of the set.
-pub record HasFittingSubset (graph : Tfpg) (log : Logbook) (k : ℕ) (set : List ℕ) : Type 0 where
-  pub subset : List ℕ
-  pub hypothesis : IsHypothesis graph k subset
-  pub proper : IsProperSubset subset set
-  pub fits : Fits graph log subset
+-- Some hypothesis fits the log that is a proper part of the hypothesis.
+pub record HasFittingPart (graph : Tfpg) (log : Logbook) (terms : Terms)
+    (hypothesis : Hypothesis) : Type 0 where
+  pub part : Hypothesis
+  pub is_one : IsHypothesis graph terms part
+  pub proper : IsProperPart part hypothesis
+  pub fits : HypothesisFits graph log part
 
--- No finding on a proper subset of the set is open.
-abbrev pub AreNoneOpenBelow : List Finding → List ℕ → Type 0
-AreNoneOpenBelow findings set =
-    (number : ℕ) (finding : Finding) → slice_get findings number ≡ Some finding → IsProperSubset finding.set set
+-- No finding on a proper part of the hypothesis is open.
+abbrev pub AreNoneOpenBelow : List Finding → Hypothesis → Type 0
+AreNoneOpenBelow findings hypothesis =
+    (number : ℕ) (finding : Finding) → slice_get findings number ≡ Some finding
+    → IsProperPart (hypothesis_of finding) hypothesis
     → is_open finding.status ≡ false
 
--- What the statuses of a round say of the sets, whatever became of the others: a set that is not open is rejected exactly where
--- it does not fit the log; a set that fits is never rejected; and a ranked set of whose proper subsets none is open has no
--- proper subset that fits.
-pub record SayWhichSetsFit (graph : Tfpg) (log : Logbook) (k : ℕ) (findings : List Finding) : Type 0 where
+-- What the statuses of a round say of the hypotheses, whatever became of the others: one that is not open is rejected exactly
+-- where it does not fit the log; one that fits is never rejected; and a ranked one of whose proper parts none is open has no
+-- proper part that fits.
+pub record SayWhichSetsFit (graph : Tfpg) (log : Logbook) (terms : Terms)
+    (findings : List Finding) : Type 0 where
   pub rejected : (number : ℕ) (finding : Finding) → slice_get findings number ≡ Some finding
       → is_open finding.status ≡ false
-      → IsTrue (is_rejected finding.status) ↔ (Fits graph log finding.set → ⊥)
+      → IsTrue (is_rejected finding.status) ↔ (HypothesisFits graph log (hypothesis_of finding) → ⊥)
   pub not_rejected : (number : ℕ) (finding : Finding) → slice_get findings number ≡ Some finding
-      → Fits graph log finding.set → IsTrue (is_rejected finding.status) → ⊥
+      → HypothesisFits graph log (hypothesis_of finding) → IsTrue (is_rejected finding.status) → ⊥
   pub minimal : (number : ℕ) (finding : Finding) → slice_get findings number ≡ Some finding
       → IsTrue (is_ranked finding.status)
-      → AreNoneOpenBelow findings finding.set → HasFittingSubset graph log k finding.set → ⊥
+      → AreNoneOpenBelow findings (hypothesis_of finding)
+      → HasFittingPart graph log terms (hypothesis_of finding) → ⊥
 
--- The statuses are those of the minimal sets that fit: ranked are exactly the sets that fit while no proper subset does, covered
+-- The statuses are those of the minimal hypotheses that fit: ranked are exactly those that fit while no proper part does, covered
 -- exactly the others that fit, and rejected exactly those that do not.
-pub record AreStatusesOfMinimalSets (graph : Tfpg) (log : Logbook) (k : ℕ) (findings : List Finding) : Type 0 where
+pub record AreStatusesOfMinimalSets (graph : Tfpg) (log : Logbook) (terms : Terms)
+    (findings : List Finding) : Type 0 where
   pub ranked : (number : ℕ) (finding : Finding) → slice_get findings number ≡ Some finding
-      → IsTrue (is_ranked finding.status) ↔ (Fits graph log finding.set × (HasFittingSubset graph log k finding.set → ⊥))
+      → IsTrue (is_ranked finding.status)
+      ↔ (HypothesisFits graph log (hypothesis_of finding)
+      × (HasFittingPart graph log terms (hypothesis_of finding) → ⊥))
   pub covered : (number : ℕ) (finding : Finding) → slice_get findings number ≡ Some finding
-      → IsTrue (is_covered finding.status) ↔ (Fits graph log finding.set × HasFittingSubset graph log k finding.set)
+      → IsTrue (is_covered finding.status)
+      ↔ (HypothesisFits graph log (hypothesis_of finding)
+      × HasFittingPart graph log terms (hypothesis_of finding))
   pub rejected : (number : ℕ) (finding : Finding) → slice_get findings number ≡ Some finding
-      → IsTrue (is_rejected finding.status) ↔ (Fits graph log finding.set → ⊥)
+      → IsTrue (is_rejected finding.status) ↔ (HypothesisFits graph log (hypothesis_of finding) → ⊥)

@@ -5,6 +5,7 @@ pub use Rattle.tfpg_graph.specs.Graph
 pub use Rattle.tfpg_graph.specs.Reach
 -- What the public contracts say.
 pub mod Table
+pub mod Views
 pub mod Hypotheses
 pub mod Ranking
 pub mod Rounds

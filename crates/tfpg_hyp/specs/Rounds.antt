@@ -1,9 +1,9 @@
 -- What a round is: a finding for each hypothesis, each with its evidence, in order and counted.
 use Rattle.std.specs.Prelude.{◌≡◌, ℕ, ◌≤◌, List, [], ◌∷◌, ◌++◌, length, map, count_by, flat_map, AllPairs, Contains, false, IsTrue, Option, Some, None, slice_get, option_map, option_and_then, unwrap_or}
 use Rattle.std.specs.List.{list_any}
-use Rattle.tfpg_base.specs.Set.{IsProperSubset}
+use Rattle.tfpg_base.specs.declared.terms.Terms.{Terms}
+use Rattle.tfpg_base.specs.Hypothesis.{Hypothesis, IsProperPart}
 use Rattle.tfpg_graph.specs.Graph.{Tfpg}
-use Rattle.tfpg_graph.specs.Reach.{IsReach}
 use Rattle.tfpg_log.specs.Log.{Logbook, now_of}
 use Rattle.tfpg_log.specs.Explains.{Explains}
 use Rattle.tfpg_evidence.specs.declared.finding.Finding.{Finding}
@@ -12,8 +12,11 @@ use Rattle.tfpg_evidence.specs.declared.finding.Status.TheVariants.{Ranked, Cove
 use Rattle.tfpg_evidence.specs.declared.round.Round.{Round}
 use Rattle.tfpg_evidence.specs.declared.round.Counts.{Counts}
 use Rattle.tfpg_evidence.specs.RoundOf.{is_ranked, is_covered, is_rejected, is_open}
+use Rattle.tfpg_evidence.specs.Findings.{hypothesis_of}
+use Rattle.tfpg_clause.specs.Case.{Case}
 use Rattle.tfpg_clause.specs.Trees.{Judged, IsRefutation, IsPartial, split_count}
 use Rattle.tfpg_hyp.specs.Table.{IsTable}
+use Rattle.tfpg_hyp.specs.Views.{IsReachOf, case_for}
 use Rattle.tfpg_hyp.specs.declared.ranking_key.RankingKey.{RankingKey}
 use Rattle.tfpg_hyp.specs.Ranking.{cost_of, robustness_of, IsRankedBefore}
 
@@ -28,45 +31,54 @@ steps_in number round =
 abbrev pub steps_so_far : ℕ → List Round → List Judged
 steps_so_far number rounds = flat_map (steps_in number) rounds
 
--- the hypothesis of this number is ranked, and its set is a proper subset of the set
-pub record IsRankedSubset (findings : List Finding) (set : List ℕ) (number : ℕ) : Type 0 where
+-- the hypothesis of this number is ranked, and is a proper part of the hypothesis
+pub record IsRankedPart (findings : List Finding) (hypothesis : Hypothesis) (number : ℕ) : Type 0 where
   pub finding : Finding
   pub numbered : slice_get findings number ≡ Some finding
   pub ranked : IsTrue (is_ranked finding.status)
-  pub subset : IsProperSubset finding.set set
+  pub part : IsProperPart (hypothesis_of finding) hypothesis
 
--- Some hypothesis is ranked whose set is a proper subset of the set.
-abbrev pub HasRankedSubset : List Finding → List ℕ → Type 0
-HasRankedSubset findings set = (number : ℕ) × IsRankedSubset findings set number
+-- Some hypothesis is ranked that is a proper part of the hypothesis.
+abbrev pub HasRankedPart : List Finding → Hypothesis → Type 0
+HasRankedPart findings hypothesis = (number : ℕ) × IsRankedPart findings hypothesis number
 
--- The number is the least of those of ranked hypotheses on a proper subset of the set.
-pub record IsLeastSubset (findings : List Finding) (set : List ℕ) (by : ℕ) : Type 0 where
-  pub subset : IsRankedSubset findings set by
-  pub least : (other : ℕ) → IsRankedSubset findings set other → by ≤ other
+-- The number is the least of those of ranked hypotheses that are proper parts of the hypothesis.
+pub record IsLeastPart (findings : List Finding) (hypothesis : Hypothesis) (by : ℕ) : Type 0 where
+  pub part : IsRankedPart findings hypothesis by
+  pub least : (other : ℕ) → IsRankedPart findings hypothesis other → by ≤ other
 
--- What each status says of a set with this reach, whose steps of all rounds so far are these.
-abbrev pub HasEvidence : Tfpg → Logbook → ℕ → List Finding → List ℕ → List Judged → Finding → Status → Type 0
+-- What each status says of a hypothesis, whose steps of all rounds so far are these.
+abbrev pub HasEvidence : Case → ℕ → List Finding → List Judged → Finding → Status → Type 0
 -- The steps of all rounds are a refutation.
-HasEvidence graph log budget findings reach steps finding Rejected = IsRefutation graph log reach steps
--- A proper subset is ranked, and the least number of one is named. There is no step in this round.
-HasEvidence graph log budget findings reach steps finding (Covered by) =
-    IsPartial graph log reach steps × (finding.steps ≡ []) × IsLeastSubset findings finding.set by
--- A trace explains the log from the set, and no proper subset is ranked.
-HasEvidence graph log budget findings reach steps finding (Ranked trace c alarmed monitored) =
-    IsPartial graph log reach steps × Explains graph log finding.set trace × (HasRankedSubset findings finding.set → ⊥)
-    × (c ≡ cost_of graph finding.set) × (robustness_of graph log reach ≡ record { alarmed = alarmed; monitored = monitored })
--- This round spent its whole budget on splits, the tree is not closed, and no proper subset is ranked.
-HasEvidence graph log budget findings reach steps finding Open =
-    IsPartial graph log reach steps × (HasRankedSubset findings finding.set → ⊥) × (split_count finding.steps ≡ budget)
+HasEvidence case budget findings steps finding Rejected = IsRefutation case steps
+-- A proper part is ranked, this one was not searched in this round, and the steps go on to be a partial tree.
+HasEvidence case budget findings steps finding (Covered by) =
+    IsPartial case steps × (finding.steps ≡ []) × IsLeastPart findings (hypothesis_of finding) by
+-- The trace explains what the hypothesis sees of the log from its set, and no proper part is ranked.
+HasEvidence case budget findings steps finding (Ranked trace c alarmed monitored) =
+    IsPartial case steps × Explains case.graph case.log finding.set trace
+    × (HasRankedPart findings (hypothesis_of finding) → ⊥) × (c ≡ cost_of case.graph (hypothesis_of finding))
+    × (robustness_of case.graph case.log case.reach ≡ record { alarmed = alarmed; monitored = monitored })
+-- This round spent its whole budget on splits, the tree is not closed, and no proper part is ranked.
+HasEvidence case budget findings steps finding Open =
+    IsPartial case steps × (HasRankedPart findings (hypothesis_of finding) → ⊥)
+    × (split_count finding.steps ≡ budget)
+
+-- what a round is asked: a graph, its log so far, and the terms
+pub record Inquiry : Type 0 where
+  pub graph : Tfpg
+  pub log : Logbook
+  pub terms : Terms
 
 -- The finding on the hypothesis of this number.
-pub record IsFinding (graph : Tfpg) (log : Logbook) (budget : ℕ) (rounds : List Round)
-    (findings : List Finding) (number : ℕ) (set : List ℕ) (finding : Finding) : Type 0 where
+pub record IsFinding (inquiry : Inquiry) (rounds : List Round) (findings : List Finding) (number : ℕ)
+    (hypothesis : Hypothesis) (finding : Finding) : Type 0 where
   pub number_is : finding.number ≡ number
-  pub set_is : finding.set ≡ set
+  pub hypothesis_is : hypothesis_of finding ≡ hypothesis
   pub reach : List ℕ
-  pub reach_is : IsReach graph set reach
-  pub evidence : HasEvidence graph log budget findings reach (steps_so_far number rounds) finding finding.status
+  pub reach_is : IsReachOf inquiry.graph hypothesis reach
+  pub evidence : HasEvidence (case_for inquiry.graph inquiry.log hypothesis reach)
+      inquiry.terms.budget findings (steps_so_far number rounds) finding finding.status
 
 -- the key of a ranked finding
 abbrev pub key_of_status : ℕ → Status → Option RankingKey
@@ -103,16 +115,17 @@ counts_of findings =
     }
 
 -- The round of an accepted line after these rounds: a finding for each hypothesis of the table.
-pub record IsRound (graph : Tfpg) (k budget : ℕ) (rounds : List Round) (log : Logbook)
+pub record IsRound (graph : Tfpg) (terms : Terms) (rounds : List Round) (log : Logbook)
     (line : ℕ) (round : Round) : Type 0 where
   pub number : round.number ≡ length log.events
   pub line_is : round.line ≡ line
   pub now_is : round.now ≡ now_of log
-  pub sets : List (List ℕ)
-  pub table : IsTable graph k sets
-  pub complete : length round.findings ≡ length sets
-  pub findings : (number : ℕ) (set : List ℕ) (finding : Finding) → slice_get sets number ≡ Some set
-      → slice_get round.findings number ≡ Some finding
-      → IsFinding graph log budget (rounds ++ round ∷ []) round.findings number set finding
+  pub hypotheses : List Hypothesis
+  pub table : IsTable graph terms hypotheses
+  pub complete : length round.findings ≡ length hypotheses
+  pub findings : (number : ℕ) (hypothesis : Hypothesis) (finding : Finding)
+      → slice_get hypotheses number ≡ Some hypothesis → slice_get round.findings number ≡ Some finding
+      → IsFinding (record { graph = graph; log = log; terms = terms }) (rounds ++ round ∷ [])
+      round.findings number hypothesis finding
   pub order : IsOrder round.findings round.order
   pub counts : round.counts ≡ counts_of round.findings

@@ -1,7 +1,9 @@
 //! What the definitions of this crate come to, as functions that do nothing: each says its law in its clauses.
 
 ghost use Rattle.std.specs.Prelude.{◌≡◌, ◌≢◌, ◌<◌, ◌≤◌, ◌⊎◌, ℕ, List, Some, slice_get};
-ghost use Rattle.tfpg_base.specs.Set.{IsSubset, IsProperSubset, IsSet};
+ghost use Rattle.tfpg_base.specs.declared.terms.Terms.{Terms};
+ghost use Rattle.tfpg_base.specs.Hypothesis.{Hypothesis, IsProperPart};
+ghost use Rattle.tfpg_base.specs.Set.{IsSubset, IsSet};
 ghost use Rattle.tfpg_graph.specs.Graph.{Tfpg};
 ghost use Rattle.tfpg_hyp.specs.Hypotheses.{HasHypotheses};
 ghost use Rattle.tfpg_hyp.specs.Ranking.{IsRankedBefore};
@@ -16,22 +18,25 @@ pub use round_laws::{rounds_say_which_sets_fit, statuses_are_those_of_minimal_se
 
 /// A graph has one table for each greatest size of its hypotheses, and one number of them.
 pub fn the_table_is_one()
-    ensures sets { (graph : Tfpg) (k : ℕ) (sets others : List (List ℕ)) →
-        IsTable graph k sets → IsTable graph k others → sets ≡ others }
-    ensures count { (graph : Tfpg) (k count other : ℕ) →
-        HasHypotheses graph k count → HasHypotheses graph k other → count ≡ other }
-    ensures once { (graph : Tfpg) (k : ℕ) (sets : List (List ℕ)) → IsTable graph k sets →
-        (number other : ℕ) (set : List ℕ) →
-        slice_get sets number ≡ Some set → slice_get sets other ≡ Some set → number ≡ other }
+    ensures hypotheses { (graph : Tfpg) (terms : Terms) (hypotheses others : List Hypothesis) →
+        IsTable graph terms hypotheses → IsTable graph terms others → hypotheses ≡ others }
+    ensures count { (graph : Tfpg) (terms : Terms) (count other : ℕ) →
+        HasHypotheses graph terms count → HasHypotheses graph terms other → count ≡ other }
+    ensures once { (graph : Tfpg) (terms : Terms) (hypotheses : List Hypothesis) →
+        IsTable graph terms hypotheses → (number other : ℕ) (hypothesis : Hypothesis) →
+        slice_get hypotheses number ≡ Some hypothesis → slice_get hypotheses other ≡ Some hypothesis →
+        number ≡ other }
 {}
 
-/// Each subset of a hypothesis is a hypothesis, and a proper one has the lesser number.
+/// Each part of a hypothesis is a hypothesis, and a proper one has the lesser number.
 pub fn subsets_stand_before_their_supersets()
-    ensures hypothesis { (graph : Tfpg) (k : ℕ) (subset whole : List ℕ) →
-        IsSet subset → IsSubset subset whole → IsHypothesis graph k whole → IsHypothesis graph k subset }
-    ensures before { (graph : Tfpg) (k : ℕ) (sets : List (List ℕ)) → IsTable graph k sets →
-        (number other : ℕ) (subset whole : List ℕ) → slice_get sets number ≡ Some subset →
-        slice_get sets other ≡ Some whole → IsProperSubset subset whole → number < other }
+    ensures hypothesis { (graph : Tfpg) (terms : Terms) (part whole : Hypothesis) →
+        IsSet part.set → IsSubset part.set whole.set → IsSubset part.doubts whole.doubts →
+        IsHypothesis graph terms whole → IsHypothesis graph terms part }
+    ensures before { (graph : Tfpg) (terms : Terms) (hypotheses : List Hypothesis) →
+        IsTable graph terms hypotheses → (number other : ℕ) (part whole : Hypothesis) →
+        slice_get hypotheses number ≡ Some part → slice_get hypotheses other ≡ Some whole →
+        IsProperPart part whole → number < other }
 {}
 
 /// The ranking order is a strict total order of keys with different numbers whose robustness is a fraction.

@@ -1,6 +1,7 @@
 //! By what ranked hypotheses are ordered: their cost, then their robustness, then their number.
 
 ghost use Rattle.std.specs.Prelude.{◌≡◌, ◌↔◌, ◌<◌, ◌≤◌, length, IsTrue};
+ghost use Rattle.tfpg_base.specs.Hypothesis.{believing};
 ghost use Rattle.tfpg_graph.specs.Graph.{failures, AreFailures};
 ghost use Rattle.tfpg_graph.specs.declared.limits.TheConstants.{MAX_RARITY};
 ghost use Rattle.tfpg_hyp.specs.Ranking.{rarity_at, cost_of, robustness_of, IsRankedBefore};
@@ -14,7 +15,7 @@ use tfpg_log::Log;
 /// Goes once over the failure modes of the graph.
 pub fn cost(graph: &Graph, set: Set) -> u64
     requires { AreFailures graph.now set }
-    ensures { result ≡ cost_of graph.now set }
+    ensures { result ≡ cost_of graph.now (believing set) }
 {
     let mut cost = 0;
     for position in 0..graph.failure_count() {

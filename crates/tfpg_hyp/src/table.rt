@@ -1,8 +1,11 @@
 //! The table of hypotheses.
 
-ghost use Rattle.std.specs.Prelude.{◌≡◌, ◌<◌, ◌≤◌, ◌↔◌, ◌+◌, ℕ, length, slice_get, Some, All, IfOk};
+ghost use Rattle.std.specs.Prelude.{◌≡◌, ◌<◌, ◌≤◌, ◌↔◌, ◌+◌, ℕ, List, length, slice_get, Some, All, IfOk};
+ghost use Rattle.tfpg_base.specs.declared.terms.Terms.{Terms};
+ghost use Rattle.tfpg_base.specs.Hypothesis.{believing};
 ghost use Rattle.tfpg_graph.specs.Graph.{failures, AreFailures};
-ghost use Rattle.tfpg_hyp.specs.Hypotheses.{HasHypotheses, IsTableOf, AreReaches};
+ghost use Rattle.tfpg_graph.specs.Reach.{IsReach};
+ghost use Rattle.tfpg_hyp.specs.Hypotheses.{HasHypotheses, IsTableOf};
 ghost use Rattle.tfpg_hyp.specs.declared.limits.TheConstants.{MAX_HYPOTHESES};
 ghost use Rattle.tfpg_hyp.specs.inside.Choices.{choices_below};
 
@@ -35,7 +38,7 @@ impl From<NoMemory> for TableFault {
 /// All sets of at most `k` failure modes of a graph, with what each reaches. They have numbers from 0: smaller sets
 /// come first, and sets of one size stand by their rising lists of positions.
 ///
-/// Contracts see the list of the sets and that of their reaches. No look-up allocates; each takes constant time.
+/// Contracts see the list of the hypotheses and that of their reaches. No look-up allocates; each takes constant time.
 #[derive(Drop)]
 pub struct Table {
     sets: Vec<Set>,
@@ -43,13 +46,17 @@ pub struct Table {
 }
 
 impl Model for Table {
-    ghost use Rattle.std.specs.Prelude.{◌≡◌, ◌≤◌, length};
+    ghost use Rattle.std.specs.Prelude.{◌≡◌, ◌≤◌, length, map};
+    ghost use Rattle.tfpg_base.specs.Hypothesis.{believing};
     ghost use Rattle.tfpg_hyp.specs.Hypotheses.{Hypotheses};
     ghost use Rattle.tfpg_hyp.specs.declared.limits.TheConstants.{MAX_HYPOTHESES};
 
     ghost Value = { Hypotheses };
 
-    ghost view = { λ table. record { sets = table.sets.items; reaches = table.reaches.items } };
+    ghost view = { λ table. record {
+      hypotheses = map believing table.sets.items;
+      reaches = table.reaches.items;
+    } };
 
     ghost invariant = { λ table.
         (length table.reaches.items ≡ length table.sets.items) × (length table.sets.items ≤ MAX_HYPOTHESES) };
@@ -59,9 +66,11 @@ impl Table {
     /// The table of all sets of at most `k` failure modes of the graph. Where there are more than
     /// [`MAX_HYPOTHESES`](crate::MAX_HYPOTHESES) of them, the fault says how many, and none is listed.
     pub fn new(alloc: Global, graph: &Graph, k: u32) -> Result<Table, TableFault>
-        ensures table { IfOk result (λ table. IsTableOf graph.now k table) }
-        ensures too_many { (count : ℕ) → (result ≡ Err (TableFault.TooMany count)) ↔
-            ((MAX_HYPOTHESES < count) × HasHypotheses graph.now k count) }
+        ensures table { IfOk result (λ table. (terms : Terms) → terms.k ≡ k →
+            IsTableOf graph.now terms table) }
+        ensures too_many { (terms : Terms) → terms.k ≡ k →
+            (count : ℕ) → (result ≡ Err (TableFault.TooMany count)) ↔
+            ((MAX_HYPOTHESES < count) × HasHypotheses graph.now terms count) }
     {
         let _nodes = graph.node_count();
         let count = count_sets(graph.failure_count(), k);
@@ -74,7 +83,7 @@ impl Table {
 
     /// How many hypotheses it has: at most [`MAX_HYPOTHESES`](crate::MAX_HYPOTHESES).
     pub fn len(&self) -> u32
-        ensures count { result ≡ length self.now.sets }
+        ensures count { result ≡ length self.now.hypotheses }
         ensures reaches { result ≡ length self.now.reaches }
         ensures few { result ≤ MAX_HYPOTHESES }
     {
@@ -83,15 +92,15 @@ impl Table {
 
     /// The set of this number.
     pub fn set(&self, number: u32) -> Set
-        requires { number < length self.now.sets }
-        ensures { slice_get self.now.sets number ≡ Some result }
+        requires { number < length self.now.hypotheses }
+        ensures { slice_get self.now.hypotheses number ≡ Some (believing result) }
     {
         self.sets[number as usize]
     }
 
     /// What the set of this number reaches.
     pub fn reach(&self, number: u32) -> &NodeSet
-        requires { number < length self.now.sets }
+        requires { number < length self.now.hypotheses }
         ensures { slice_get self.now.reaches number ≡ Some result.now }
     {
         &self.reaches[number as usize]
@@ -100,7 +109,7 @@ impl Table {
     /// The table, where it is known to be small enough.
     fn list(alloc: Global, graph: &Graph, k: u32) -> Result<Table, NoMemory>
         requires { choices_below (length (failures graph.now)) (k + 1) ≤ MAX_HYPOTHESES }
-        ensures { IfOk result (λ table. IsTableOf graph.now k table) }
+        ensures { IfOk result (λ table. (terms : Terms) → terms.k ≡ k → IsTableOf graph.now terms table) }
     {
         let _nodes = graph.node_count();
         let sets = list_sets(alloc, graph.failure_count(), k)?;
@@ -112,7 +121,10 @@ impl Table {
 /// What each of the sets reaches.
 fn reaches_of(alloc: Global, graph: &Graph, sets: &[Set]) -> Result<Vec<NodeSet>, NoMemory>
     requires { All (AreFailures graph.now) sets.now }
-    ensures { IfOk result (λ reaches. AreReaches graph.now sets.now reaches.items) }
+    ensures complete { IfOk result (λ reaches. length reaches.items ≡ length sets.now) }
+    ensures exact { IfOk result (λ reaches. (number : ℕ) (set reach : List ℕ) →
+        slice_get sets.now number ≡ Some set → slice_get reaches.items number ≡ Some reach →
+        IsReach graph.now set reach) }
 {
     let mut reaches = Vec::new(alloc);
     for set in sets {

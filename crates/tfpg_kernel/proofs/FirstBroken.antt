@@ -6,12 +6,12 @@ use Rattle.std.proofs.lemmas.Int.{ints}
 use Rattle.tfpg_base.specs.Choice.{first_of, each_of}
 use Rattle.tfpg_base.specs.declared.constraint.Constraint.{Constraint}
 use Rattle.tfpg_base.specs.ConstraintCycle.{IsNegativeCycle}
-use Rattle.tfpg_graph.specs.Graph.{Tfpg}
-use Rattle.tfpg_log.specs.Log.{Logbook}
 use Rattle.tfpg_evidence.specs.declared.reason.Reason.{Reason}
 use Rattle.tfpg_evidence.specs.declared.step.Step.{Step}
-use Rattle.tfpg_evidence.specs.declared.step.Step.TheVariants.{Split, Cycle}
-use Rattle.tfpg_clause.specs.Trees.{PathSplit, stated, IsRightStep}
+use Rattle.tfpg_evidence.specs.declared.step.Step.TheVariants.{Split, Cycle, Again}
+use Rattle.tfpg_clause.specs.Case.{Case}
+use Rattle.tfpg_clause.specs.Trees.{stated, IsRightStep}
+use Rattle.tfpg_clause.specs.declared.path.PathSplit.{PathSplit}
 use Rattle.tfpg_kernel.specs.declared.taken.BadStep.{BadStep}
 use Rattle.tfpg_kernel.specs.Breaks.{fault_of, reasons_fault, ClosingBreaks, CycleBreaks, BreaksAt}
 
@@ -55,11 +55,13 @@ cycle_wrong states reasons bad (inr a) constraints hold cycle =
     let same : a.0 ≡ constraints = cc in
     closing_wrong constraints bad (subst (λ (cs : List Constraint). ClosingBreaks cs bad) same a.2) cycle
 
-module _ (graph : Tfpg) (log : Logbook) (reach : List ℕ) where
-  pub breaks_unique : (path : List PathSplit) (seen : ℕ) (step : Step) (one other : BadStep) → BreaksAt graph log reach path seen step one → BreaksAt graph log reach path seen step other → one ≡ other
-  breaks_unique path seen (Split name) one other a b = a.0 ∙ sym b.0
-  breaks_unique path seen (Cycle reasons) one other a b = cycle_unique (stated graph log reach path seen) reasons one other a b
+module _ (case : Case) where
+  pub breaks_unique : (path : List PathSplit) (step : Step) (one other : BadStep) → BreaksAt case path step one → BreaksAt case path step other → one ≡ other
+  breaks_unique path (Split name) one other a b = a.0 ∙ sym b.0
+  breaks_unique path (Cycle reasons) one other a b = cycle_unique (stated case path) reasons one other a b
+  breaks_unique path Again one other a b = a ∙ sym b
 
-  pub breaks_wrong : (path : List PathSplit) (seen subtrees : ℕ) (step : Step) (bad : BadStep) → BreaksAt graph log reach path seen step bad → IsRightStep graph log reach path seen subtrees step → ⊥
-  breaks_wrong path seen subtrees (Split name) bad breaks right = let both : None ≡ Some subtrees = sym breaks.1 ∙ right in cc
-  breaks_wrong path seen subtrees (Cycle reasons) bad breaks right = cycle_wrong (stated graph log reach path seen) reasons bad breaks right.constraints right.hold right.negative_cycle
+  pub breaks_wrong : (path : List PathSplit) (subtrees : ℕ) (step : Step) (bad : BadStep) → BreaksAt case path step bad → IsRightStep case path subtrees step → ⊥
+  breaks_wrong path subtrees (Split name) bad breaks right = let both : None ≡ Some subtrees = sym breaks.1 ∙ right in cc
+  breaks_wrong path subtrees (Cycle reasons) bad breaks right = cycle_wrong (stated case path) reasons bad breaks right.constraints right.hold right.negative_cycle
+  breaks_wrong path subtrees Again bad breaks right = right

@@ -1,19 +1,19 @@
--- The six conditions of a step, and the first that it breaks.
-use Rattle.std.specs.Prelude.{◌≡◌, ◌⊎◌, ℕ, pos, ◌≤ℤ◌, List, map, Option, Some, None, is_none}
+-- The seven conditions of a step, and the first that it breaks.
+use Rattle.std.specs.Prelude.{◌≡◌, ◌⊎◌, pos, ◌≤ℤ◌, List, map, Option, Some, None, is_none}
 use Rattle.std.specs.Bool.{then_some}
 use Rattle.tfpg_base.specs.Choice.{first_of, each_of}
 use Rattle.tfpg_base.specs.declared.constraint.Constraint.{Constraint}
-use Rattle.tfpg_graph.specs.Graph.{Tfpg}
-use Rattle.tfpg_log.specs.Log.{Logbook, first_events}
 use Rattle.tfpg_evidence.specs.declared.reason.Reason.{Reason}
 use Rattle.tfpg_evidence.specs.declared.reason.Reason.TheVariants.{Zero, Top, Unreached, From, Upto, Quiet, Pick}
 use Rattle.tfpg_evidence.specs.declared.step.Step.{Step}
-use Rattle.tfpg_evidence.specs.declared.step.Step.TheVariants.{Split, Cycle}
+use Rattle.tfpg_evidence.specs.declared.step.Step.TheVariants.{Split, Cycle, Again}
+use Rattle.tfpg_clause.specs.Case.{Case, case_at}
 use Rattle.tfpg_clause.specs.Clauses.{count_of}
-use Rattle.tfpg_clause.specs.Trees.{Judged, PathSplit, stated, IsRefutation, IsPresentLeaf}
+use Rattle.tfpg_clause.specs.Trees.{Judged, stated, IsRefutation, IsPresentLeaf}
+use Rattle.tfpg_clause.specs.declared.path.PathSplit.{PathSplit}
 use Rattle.tfpg_base.specs.ConstraintCycle.{IsCycle, sum_of}
 use Rattle.tfpg_kernel.specs.declared.taken.BadStep.{BadStep}
-use Rattle.tfpg_kernel.specs.declared.taken.BadStep.TheVariants.{AfterClosed, NotAClause, NotAFact, NotOnPath, Unchained, NotNegative}
+use Rattle.tfpg_kernel.specs.declared.taken.BadStep.TheVariants.{AfterClosed, NotReusable, NotAClause, NotAFact, NotOnPath, Unchained, NotNegative}
 
 -- what is wrong with a reason that states no constraint
 abbrev pub fault_of : Reason → BadStep
@@ -43,16 +43,16 @@ CycleBreaks stated reasons bad =
     (reasons_fault stated reasons ≡ Some bad)
     ⊎ ((constraints : List Constraint) × (each_of (map stated reasons) ≡ Some constraints) × ClosingBreaks constraints bad)
 
--- At a leaf of this path the step breaks this condition, and none before it, judged by the log of so many events.
-abbrev pub BreaksAt : Tfpg → Logbook → List ℕ → List PathSplit → ℕ → Step → BadStep → Type 0
-BreaksAt graph log reach path seen (Split name) bad =
-    (bad ≡ NotAClause) × (count_of graph (first_events log seen) name ≡ None)
-BreaksAt graph log reach path seen (Cycle reasons) bad = CycleBreaks (stated graph log reach path seen) reasons bad
+-- The step breaks this condition at a leaf of this path, and none before it. No subtree is reused yet.
+abbrev pub BreaksAt : Case → List PathSplit → Step → BadStep → Type 0
+BreaksAt case path (Split name) bad = (bad ≡ NotAClause) × (count_of case.graph case.log name ≡ None)
+BreaksAt case path (Cycle reasons) bad = CycleBreaks (stated case path) reasons bad
+BreaksAt case path Again bad = bad ≡ NotReusable
 
 -- The step that comes next after these steps breaks this condition, and none before it: they are a refutation already; or it
 -- breaks it at the present leaf.
-abbrev pub IsFirstBroken : Tfpg → Logbook → List ℕ → List Judged → Judged → BadStep → Type 0
-IsFirstBroken graph log reach steps next bad =
-    ((bad ≡ AfterClosed) × IsRefutation graph log reach steps)
-    ⊎ ((path : List PathSplit) × IsPresentLeaf graph log reach steps path
-    × BreaksAt graph log reach path next.seen next.step bad)
+abbrev pub IsFirstBroken : Case → List Judged → Judged → BadStep → Type 0
+IsFirstBroken case steps next bad =
+    ((bad ≡ AfterClosed) × IsRefutation case steps)
+    ⊎ ((path : List PathSplit) × IsPresentLeaf case steps path
+    × BreaksAt (case_at case next.seen) path next.step bad)

@@ -6,6 +6,7 @@ ghost use Rattle.tfpg_graph.specs.Reach.{IsReach};
 ghost use Rattle.tfpg_log.specs.Log.{Logbook, GoesOn, IsLogOf, IsOrdered};
 ghost use Rattle.tfpg_log.specs.Explains.{Fits};
 ghost use Rattle.tfpg_evidence.specs.declared.step.Step.TheVariants.{Split, Cycle};
+ghost use Rattle.tfpg_clause.specs.Case.{case_of};
 ghost use Rattle.tfpg_clause.specs.Trees.{Judged, IsRefutation, IsPartial};
 ghost use Rattle.tfpg_kernel.specs.declared.taken.Taken.TheVariants.{Partial, Closed, Bad};
 ghost use Rattle.tfpg_kernel.specs.declared.taken.BadStep.{BadStep};
@@ -21,8 +22,8 @@ use crate::taken::{BadStep, Taken};
 use std::alloc::Global;
 use std::marker::Model;
 use tfpg_base::NoMemory;
-use tfpg_clause::laws::{a_refutation_leaves_no_trace, frames_are_at_the_present_leaf};
-use tfpg_clause::{Frame, advance};
+use tfpg_clause::laws::{a_partial_tree_grows, a_refutation_leaves_no_trace};
+use tfpg_clause::{PathSplit, advance};
 use tfpg_evidence::{ClauseName, Reason, Step};
 use tfpg_graph::{Graph, NodeSet};
 use tfpg_log::Log;
@@ -32,7 +33,7 @@ use tfpg_log::Log;
 #[derive(Drop)]
 pub struct Checker {
     reach: NodeSet,
-    path: Vec<Frame>,
+    path: Vec<PathSplit>,
     closed: bool,
 }
 
@@ -56,8 +57,8 @@ impl Checker {
         ensures represents { (graph : Tfpg) (log : Logbook) → CheckerRepresents graph log result [] }
         ensures reach { result.reach ≡ reach }
     {
-        // A law: no frame is at the present leaf where there is no step.
-        frames_are_at_the_present_leaf();
+        // A law: without a step the present leaf is the root.
+        a_partial_tree_grows();
         Checker {
             reach,
             path: Vec::new(alloc),
@@ -88,15 +89,16 @@ impl Checker {
         ensures closed { (earlier : Logbook) (steps : List Judged) → GoesOn earlier log.now →
             CheckerRepresents graph.now earlier self.old steps →
             (result ≡ Closed)
-            ↔ IsRefutation graph.now log.now self.old.reach (with_step steps log.now step.now) }
+            ↔ IsRefutation (case_of graph.now log.now self.old.reach) (with_step steps log.now step.now) }
         ensures partial { (earlier : Logbook) (steps : List Judged) → GoesOn earlier log.now →
             CheckerRepresents graph.now earlier self.old steps →
             (result ≡ Partial)
-            ↔ IsPartial graph.now log.now self.old.reach (with_step steps log.now step.now) }
+            ↔ IsPartial (case_of graph.now log.now self.old.reach) (with_step steps log.now step.now) }
         ensures bad { (earlier : Logbook) (steps : List Judged) → GoesOn earlier log.now →
             CheckerRepresents graph.now earlier self.old steps → (bad : BadStep) →
             (result ≡ Bad bad)
-            ↔ IsFirstBroken graph.now log.now self.old.reach steps (judged_by log.now step.now) bad }
+            ↔ IsFirstBroken (case_of graph.now log.now self.old.reach) steps
+            (judged_by log.now step.now) bad }
         ensures represents { (earlier : Logbook) (steps : List Judged) → GoesOn earlier log.now →
             CheckerRepresents graph.now earlier self.old steps →
             CheckerRepresents graph.now log.now self.new (steps_after result steps log.now step.now) }
@@ -120,7 +122,7 @@ impl Checker {
         requires spare { 1 ≤ self.old.spare }
         ensures result { (earlier : Logbook) (steps : List Judged) → GoesOn earlier log.now →
             CheckerRepresents graph.now earlier self.old steps →
-            IsStepResult graph.now log.now self.old.reach steps step.now result self.new }
+            IsStepResult (case_of graph.now log.now self.old.reach) steps step.now result self.new }
         ensures unchanged { (bad : BadStep) → result ≡ Bad bad → self.new ≡ self.old }
         ensures reach { self.new.reach ≡ self.old.reach }
         ensures spare { self.old.spare ≤ self.new.spare + 1 }
@@ -133,6 +135,7 @@ impl Checker {
         match step {
             Step::Split(name) => self.split(graph, log, *name),
             Step::Cycle(reasons) => self.close(graph, log, reasons.as_slice()),
+            Step::Again => Taken::Bad(BadStep::NotReusable),
         }
     }
 
@@ -144,9 +147,9 @@ impl Checker {
         ensures reach { self.new.reach ≡ self.old.reach }
         ensures spare { self.old.spare ≤ self.new.spare + 1 }
     {
-        match Frame::of_split(graph, log, name) {
-            Some(frame) => {
-                self.enter(frame);
+        match PathSplit::on_clause(graph, log, name) {
+            Some(split) => {
+                self.enter(split);
                 Taken::Partial
             }
             None => Taken::Bad(BadStep::NotAClause),
@@ -154,14 +157,14 @@ impl Checker {
     }
 
     /// Appends a split to the path, which has room for it.
-    fn enter(&mut self, frame: Frame)
+    fn enter(&mut self, split: PathSplit)
         requires { 1 ≤ self.old.spare }
-        ensures path { self.new.path ≡ self.old.path ++ frame ∷ [] }
+        ensures path { self.new.path ≡ self.old.path ++ split ∷ [] }
         ensures closed { self.new.closed ≡ self.old.closed }
         ensures reach { self.new.reach ≡ self.old.reach }
         ensures spare { self.old.spare ≤ self.new.spare + 1 }
     {
-        let _pushed = self.path.push(frame);
+        let _pushed = self.path.push(split);
     }
 
     /// Closes the present leaf, where the reasons do: the next alternative of the deepest split that has one left is the

@@ -4,13 +4,13 @@ ghost use Rattle.std.specs.Prelude.{◌≡◌, MatchResult};
 ghost use Rattle.std.specs.Option.{ok_or};
 ghost use Rattle.tfpg_log.specs.Log.{IsLogOf};
 ghost use Rattle.tfpg_kernel.specs.Breaks.{fault_of, CycleBreaks};
-ghost use Rattle.tfpg_clause.specs.Paths.{stated_by};
-ghost use Rattle.tfpg_clause.specs.Trees.{IsClosedBy};
+ghost use Rattle.tfpg_clause.specs.Case.{case_of};
+ghost use Rattle.tfpg_clause.specs.Trees.{stated, IsClosedBy};
 
 use crate::chain::Chain;
 use crate::taken::BadStep;
 use tfpg_base::Constraint;
-use tfpg_clause::{Frame, stated_by};
+use tfpg_clause::{PathSplit, stated};
 use tfpg_evidence::Reason;
 use tfpg_graph::{Graph, NodeSet};
 use tfpg_log::Log;
@@ -20,13 +20,13 @@ pub(crate) fn check_cycle(
     graph: &Graph,
     log: &Log,
     reach: &NodeSet,
-    path: &[Frame],
+    path: &[PathSplit],
     reasons: &[Reason],
 ) -> Result<(), BadStep>
     requires of { IsLogOf graph.now log.now }
     ensures { MatchResult result
-        (λ _. IsClosedBy (stated_by graph.now log.now reach.now path.now) reasons.now)
-        (CycleBreaks (stated_by graph.now log.now reach.now path.now) reasons.now) }
+        (λ _. IsClosedBy (stated (case_of graph.now log.now reach.now) path.now) reasons.now)
+        (CycleBreaks (stated (case_of graph.now log.now reach.now) path.now) reasons.now) }
 {
     let mut chain = Chain::EMPTY;
     for reason in reasons {
@@ -44,13 +44,14 @@ fn stated_or_fault(
     graph: &Graph,
     log: &Log,
     reach: &NodeSet,
-    path: &[Frame],
+    path: &[PathSplit],
     reason: Reason,
 ) -> Result<Constraint, BadStep>
     requires of { IsLogOf graph.now log.now }
-    ensures { result ≡ ok_or (stated_by graph.now log.now reach.now path.now reason) (fault_of reason) }
+    ensures { result
+        ≡ ok_or (stated (case_of graph.now log.now reach.now) path.now reason) (fault_of reason) }
 {
-    stated_by(graph, log, reach, path, reason).ok_or(fault_of(reason))
+    stated(graph, log, reach, path, reason).ok_or(fault_of(reason))
 }
 
 /// What is wrong with a reason that states no constraint.

@@ -1,13 +1,13 @@
 //! The checker of refutations.
 //!
 //! It stands apart from all that finds evidence, and is small, so that a reviewer can read it whole: what it calls of other
-//! crates is `Frame::of_split`, `stated_by`, `advance`, `Items::as_slice`, two look-ups whose clauses its proof needs
+//! crates is `PathSplit::on_clause`, `stated`, `advance`, `Items::as_slice`, two look-ups whose clauses its proof needs
 //! (`Graph::node_count` and `Log::len`), and laws, which do nothing.
 //!
 //! - [`Checker`] takes the steps of a refutation one by one. It keeps the path to the present leaf and no step.
 //! - [`Taken`] is what it returns: the tree is partial, the tree is closed, or the step is bad, with the first cause,
 //!   [`BadStep`].
-//! - [`Frame`] is what contracts see of a split on the path.
+//! - [`PathSplit`] is what contracts see of a split on the path.
 //!
 //! What a closed tree is worth is a clause of [`Checker::take`]: no trace explains the log, nor one that goes on from it.
 //!
@@ -32,4 +32,4 @@ mod taken;
 
 pub use checker::Checker;
 pub use taken::{BadStep, Taken};
-pub use tfpg_clause::Frame;
+pub use tfpg_clause::PathSplit;

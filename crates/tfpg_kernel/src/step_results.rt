@@ -4,6 +4,7 @@ ghost use Rattle.std.specs.Prelude.{◌≡◌, List, true, false};
 ghost use Rattle.tfpg_graph.specs.Graph.{Tfpg};
 ghost use Rattle.tfpg_log.specs.Log.{Logbook, GoesOn, IsOrdered};
 ghost use Rattle.tfpg_evidence.specs.declared.step.Step.{Step};
+ghost use Rattle.tfpg_clause.specs.Case.{case_of};
 ghost use Rattle.tfpg_clause.specs.Trees.{Judged};
 ghost use Rattle.tfpg_kernel.specs.declared.taken.Taken.{Taken};
 ghost use Rattle.tfpg_kernel.specs.declared.taken.Taken.TheVariants.{Bad};
@@ -14,8 +15,8 @@ ghost use Rattle.tfpg_kernel.specs.inside.StepResults.{IsStepResult};
 ghost use Rattle.tfpg_kernel.specs.inside.Paths.{Moves};
 
 use tfpg_clause::laws::{
-    a_partial_tree_has_one_present_leaf, a_refutation_is_finished, a_tree_stays,
-    frames_are_at_the_present_leaf, frames_follow_the_path, the_last_step_of_a_tree_is_right,
+    a_partial_tree_grows, a_partial_tree_has_one_present_leaf, a_refutation_is_finished,
+    a_tree_stays, the_last_step_of_a_tree_is_right,
 };
 
 /// Each move of a checker is the result for its step: `refused` says it of a checker that is closed, and `moved` of one that
@@ -24,17 +25,16 @@ pub(crate) fn moves_are_results()
     ensures refused { (graph : Tfpg) (earlier log : Logbook) (old : CheckerState) (steps : List Judged)
         (step : Step) → IsOrdered log → GoesOn earlier log → CheckerRepresents graph earlier old steps →
         old.closed ≡ true →
-        IsStepResult graph log old.reach steps step (Bad AfterClosed) old }
+        IsStepResult (case_of graph log old.reach) steps step (Bad AfterClosed) old }
     ensures moved { (graph : Tfpg) (earlier log : Logbook) (old new : CheckerState) (steps : List Judged)
         (step : Step) (result : Taken) → IsOrdered log → GoesOn earlier log →
         CheckerRepresents graph earlier old steps →
         old.closed ≡ false → new.reach ≡ old.reach → Moves graph log old step result new →
-        IsStepResult graph log old.reach steps step result new }
+        IsStepResult (case_of graph log old.reach) steps step result new }
 {
+    a_partial_tree_grows();
     a_partial_tree_has_one_present_leaf();
     a_refutation_is_finished();
     a_tree_stays();
-    frames_are_at_the_present_leaf();
-    frames_follow_the_path();
     the_last_step_of_a_tree_is_right();
 }

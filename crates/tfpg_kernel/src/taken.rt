@@ -11,11 +11,13 @@ pub enum Taken {
     Bad(BadStep),
 }
 
-/// The first condition that a step breaks, in this order. The third and the fourth are tested together, reason by reason.
+/// The first condition that a step breaks, in this order. The fourth and the fifth are tested together, reason by reason.
 #[derive(Clone, Copy, Debug, PartialEq, Eq)]
 pub enum BadStep {
     /// The tree was closed before.
     AfterClosed,
+    /// No subtree can be reused at the present leaf.
+    NotReusable,
     /// The name of the split is not allowed.
     NotAClause,
     /// A reason is neither a pick nor a fact of the log.

@@ -8,7 +8,7 @@ use Rattle.tfpg_log.specs.Log.{Logbook, now_of, event_at, first_events, with_eve
 
 -- the first events of a log, as many as it has, are the whole log
 pub whole_log : (log : Logbook) → first_events log (length log.events) ≡ log
-whole_log log = ap (λ (events : List Event). record { events = events }) (take_all (length log.events) log.events (omega arith))
+whole_log log = ap (λ (events : List Event). record log { events = events }) (take_all (length log.events) log.events (omega arith))
 
 -- the log with one more event ends at that event's time
 pub now-with_event : (log : Logbook) (event : Event) → now_of (with_event log event) ≡ time_of_event event

@@ -15,7 +15,7 @@ pub first_alarms_kept : (log : Logbook) (event : Event) → AreFirstAlarms log �
 first_alarms_kept log event firsts first zero time node at = absurd cc
 first_alarms_kept log event firsts first (suc index) time node at = ⊎_elim
     (λ (old : slice_get log.events index ≡ Some (Alarm time node)).
-    alarm_events_kept log (with_event log event) (event ∷ [], refl) node (suc index) (firsts (suc index) time node old))
+    alarm_events_kept log (with_event log event) (record { more = event ∷ []; events = refl; ignored = refl }) node (suc index) (firsts (suc index) time node old))
     (λ (new : (index ≡ length log.events) × (event ≡ Alarm time node)).
     ap (λ (e : Event). alarm_event (with_event log e) node) new.1
     ∙ ap (option_map suc) (alarm_index_new log.events time node (first time node new.1))

@@ -10,7 +10,7 @@ use Rattle.tfpg_graph.specs.Graph.{Tfpg, edges_into}
 use Rattle.tfpg_log.specs.declared.span.Window.{Window}
 use Rattle.tfpg_log.specs.Log.{Logbook, is_active_at}
 use Rattle.tfpg_log.specs.Rules.{IsActive, HasAge}
-use Rattle.tfpg_log.specs.Spans.{are_active_at, joint_of}
+use Rattle.tfpg_log.specs.Spans.{are_active_at, joint_of, window_of}
 use Rattle.tfpg_log.specs.AgeInWindow.{HasAgeInWindow}
 use Rattle.tfpg_log.proofs.MaximalRuns.{holds_since}
 use Rattle.tfpg_log.proofs.WindowAges.{by_window}
@@ -19,7 +19,7 @@ use Rattle.tfpg_log.proofs.JointWindows.{is_joint, active_throughout, of_each}
 module _ (graph : Tfpg) (log : Logbook) (trace : List Activation) (node number horizon instant age : ℕ) (joint : Window) (e : joint_of graph log node number horizon ≡ Some joint) (from : joint.lo ≤ instant) (upto : instant ≤ joint.hi) where
   -- In it an edge has an age exactly where its own window and the activation of its source have it.
   pub each_its_own : (edge : Edge) → Contains (edges_into graph node) edge
-      → HasAge log trace edge instant age ↔ HasAgeInWindow log trace edge number horizon instant age
+      → HasAge log trace edge instant age ↔ HasAgeInWindow (window_of log edge number horizon) trace edge instant age
   each_its_own edge member =
       let window = of_each graph log node number horizon joint e edge member in
       by_window log trace edge number horizon instant age window.0 window.1 (omega (arith, window.2, from)) (omega (arith, window.3, upto))

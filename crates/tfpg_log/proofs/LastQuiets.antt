@@ -7,7 +7,7 @@ use Rattle.tfpg_base.proofs.lists.Choices.{none-from_never}
 use Rattle.tfpg_graph.specs.Graph.{Tfpg, is_monitored}
 use Rattle.tfpg_log.specs.declared.event.Event.{Event}
 use Rattle.tfpg_log.specs.declared.event.Event.TheVariants.{Alarm, Silent, Sweep, Tick, Mode}
-use Rattle.tfpg_log.specs.Log.{Logbook, event_at, alarm_among, alarm_event, quiet_time, quiet_at}
+use Rattle.tfpg_log.specs.Log.{Logbook, event_at, first_events, alarm_among, alarm_event, quiet_time, quiet_at}
 use Rattle.tfpg_log.specs.Quiet.{IsLastQuiet}
 use Rattle.tfpg_log.specs.inside.NodeEvents.{IsLast, IsOwnSilence, IsSweep, IsSweepBefore, IsSwept, later_of}
 use Rattle.tfpg_log.proofs.AlarmEvents.{alarm_event_is, none_before_alarm, none_before_none}
@@ -98,19 +98,19 @@ module _ (graph : Tfpg) (log : Logbook) (node : ℕ) where
   own_silences : (number : ℕ) → IsOwnSilence log node number → Silences graph log node number
   own_silences number silence = (
     silence.0,
-    ap (option_and_then (λ event. quiet_time graph (take (number - 1) log.events) event node)) silence.1
+    ap (option_and_then (λ event. quiet_time graph (first_events log (number - 1)) event node)) silence.1
         ∙ ap (λ b. cond b (Some silence.0) None) (eq-eqb node node refl),
   )
 
   swept_silences : (number : ℕ) → IsSwept graph log node number → Silences graph log node number
   swept_silences number swept = (
     swept.0.0,
-    ap (option_and_then (λ event. quiet_time graph (take (number - 1) log.events) event node)) swept.0.1
+    ap (option_and_then (λ event. quiet_time graph (first_events log (number - 1)) event node)) swept.0.1
         ∙ ap (λ b. cond b (Some swept.0.0) None) swept.1,
   )
 
   by_event : (number time : ℕ) (event : Option Event) → event_at log number ≡ event
-      → option_and_then (λ event. quiet_time graph (take (number - 1) log.events) event node) event ≡ Some time → IsOwnSilence log node number ⊎ IsSwept graph log node number
+      → option_and_then (λ event. quiet_time graph (first_events log (number - 1)) event node) event ≡ Some time → IsOwnSilence log node number ⊎ IsSwept graph log node number
   by_event number time None at e = absurd cc
   by_event number time (Some (Alarm own alarmed)) at e = absurd cc
   by_event number time (Some (Silent own silent)) at e =

@@ -34,3 +34,6 @@ pub mod WindowStarts
 pub mod ModesInto
 pub mod WrittenLines
 pub mod LogsOfLines
+pub mod AcceptedEvents
+pub mod AcceptedLines
+mod LargerSets

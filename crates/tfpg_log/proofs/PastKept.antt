@@ -61,21 +61,21 @@ age_carried log other trace edge instant age alike has = record {
 }
 
 module _ (earlier later : Logbook) (is : IsOrdered later) (goes_on : GoesOn earlier later) where
-  order : AreEventsInOrder (earlier.events ++ goes_on.0)
-  order = subst AreEventsInOrder goes_on.1 is.in_order
+  order : AreEventsInOrder (earlier.events ++ goes_on.more)
+  order = subst AreEventsInOrder goes_on.events is.in_order
 
-  from_zero : AreFrom 0 (earlier.events ++ goes_on.0)
+  from_zero : AreFrom 0 (earlier.events ++ goes_on.more)
   from_zero k d within = omega arith
 
   -- Now does not fall.
   pub now_kept : now_of earlier ≤ now_of later
-  now_kept = omega (arith, now_rises 0 earlier.events goes_on.0 order from_zero, ap (last_time 0) goes_on.1)
+  now_kept = omega (arith, now_rises 0 earlier.events goes_on.more order from_zero, ap (last_time 0) goes_on.events)
 
   -- Each instant up to the old now keeps its mode.
   pub modes_kept : (instant : ℕ) → instant ≤ now_of earlier → mode_at later instant ≡ mode_at earlier instant
   modes_kept instant upto =
-      ap (λ events. mode_after 0 events instant) goes_on.1
-      ∙ mode_kept 0 instant earlier.events goes_on.0 (λ k d within. omega (arith, upto, added_later 0 earlier.events goes_on.0 order from_zero k d within))
+      ap (λ events. mode_after 0 events instant) goes_on.events
+      ∙ mode_kept 0 instant earlier.events goes_on.more (λ k d within. omega (arith, upto, added_later 0 earlier.events goes_on.more order from_zero k d within))
 
   -- So it keeps the number of its span.
   pub numbers_kept : (instant : ℕ) → instant ≤ now_of earlier → span_number later instant ≡ span_number earlier instant
@@ -102,32 +102,37 @@ module _ (earlier later : Logbook) (is : IsOrdered later) (goes_on : GoesOn earl
 -- ---- events, alarms and silences
 
 -- The first events stay, where there are so many.
+first_kept : (earlier later : Logbook) → GoesOn earlier later → (seen : ℕ) → seen ≤ length earlier.events → first_events earlier seen ≡ first_events later seen
+first_kept earlier later goes_on seen few = λ i. record {
+  events = sym (ap (take seen) goes_on.events ∙ take-append-le seen earlier.events goes_on.more few) i;
+  ignored = sym goes_on.ignored i;
+}
+
 pub first_events_kept : (earlier later : Logbook) → GoesOn earlier later → (seen : ℕ) → seen ≡ length (take seen earlier.events) → first_events earlier seen ≡ first_events later seen
 first_events_kept earlier later goes_on seen is =
-    let few : seen ≤ length earlier.events = omega (arith, is, length-take seen earlier.events) in
-    λ i. record { events = sym (ap (take seen) goes_on.1 ∙ take-append-le seen earlier.events goes_on.0 few) i }
+    first_kept earlier later goes_on seen (omega (arith, is, length-take seen earlier.events))
 
 -- An event keeps its number.
 pub events_kept : (earlier later : Logbook) → GoesOn earlier later → (number : ℕ) (event : Event) → event_at earlier number ≡ Some event → event_at later number ≡ Some event
 events_kept earlier later goes_on zero event e = absurd cc
 events_kept earlier later goes_on (suc before) event e =
-    ap (λ events. slice_get events before) goes_on.1 ∙ slice_get-append_some earlier.events goes_on.0 before event e
+    ap (λ events. slice_get events before) goes_on.events ∙ slice_get-append_some earlier.events goes_on.more before event e
 
 -- An alarm keeps its time.
 pub alarms_kept : (earlier later : Logbook) → GoesOn earlier later → (node time : ℕ) → alarm_of earlier node ≡ Some time → alarm_of later node ≡ Some time
 alarms_kept earlier later goes_on node time e =
     let found = option_map-some time_of_event (find (is_alarm_of node) earlier.events) time e in
-    ap (λ events. alarm_among events node) goes_on.1
+    ap (λ events. alarm_among events node) goes_on.events
     ∙ ap (option_map time_of_event)
-    (find-append (is_alarm_of node) earlier.events goes_on.0 ∙ ap (λ first. option_or first (find (is_alarm_of node) goes_on.0)) found.1)
+    (find-append (is_alarm_of node) earlier.events goes_on.more ∙ ap (λ first. option_or first (find (is_alarm_of node) goes_on.more)) found.1)
     ∙ ap Some found.2
 
 -- An alarm keeps its number.
 pub alarm_events_kept : (earlier later : Logbook) → GoesOn earlier later → (node number : ℕ) → alarm_event earlier node ≡ Some number → alarm_event later node ≡ Some number
 alarm_events_kept earlier later goes_on node number e =
     let at = option_map-some suc (alarm_index earlier.events node) number e in
-    ap (λ events. option_map suc (alarm_index events node)) goes_on.1
-    ∙ ap (option_map suc) (position-append (is_alarm_of node) earlier.events goes_on.0 at.0 at.1)
+    ap (λ events. option_map suc (alarm_index events node)) goes_on.events
+    ∙ ap (option_map suc) (position-append (is_alarm_of node) earlier.events goes_on.more at.0 at.1)
     ∙ ap Some at.2
 
 -- An event that was there is a silence of the same nodes.
@@ -135,7 +140,6 @@ pub silences_kept : (graph : Tfpg) (earlier later : Logbook) → GoesOn earlier 
     → quiet_at graph later number node ≡ quiet_at graph earlier number node
 silences_kept graph earlier later goes_on zero node within = refl
 silences_kept graph earlier later goes_on (suc before) node within =
-    ap (λ events. option_and_then (λ event. quiet_time graph (take (suc before - 1) events) event node) (slice_get events before)) goes_on.1
-    ∙ ap (λ first. option_and_then (λ event. quiet_time graph first event node) (slice_get (earlier.events ++ goes_on.0) before))
-    (take-append-le (suc before - 1) earlier.events goes_on.0 (omega arith))
-    ∙ ap (option_and_then (λ event. quiet_time graph (take (suc before - 1) earlier.events) event node)) (slice_get-append_left earlier.events goes_on.0 before (omega arith))
+    ap (λ first. option_and_then (λ event. quiet_time graph first event node) (slice_get later.events before)) (sym (first_kept earlier later goes_on (suc before - 1) (omega arith)))
+    ∙ ap (λ events. option_and_then (λ event. quiet_time graph (first_events earlier (suc before - 1)) event node) (slice_get events before)) goes_on.events
+    ∙ ap (option_and_then (λ event. quiet_time graph (first_events earlier (suc before - 1)) event node)) (slice_get-append_left earlier.events goes_on.more before (omega arith))

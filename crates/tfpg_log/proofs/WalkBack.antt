@@ -14,8 +14,8 @@ use Rattle.tfpg_graph.specs.ZeroCycle.{HasZeroOrder}
 use Rattle.tfpg_log.specs.Log.{Logbook}
 use Rattle.tfpg_log.specs.Rules.{HasAge}
 
--- an edge into a node that may take no time rises to it
-rises_into : (graph : Tfpg) (order : HasZeroOrder graph) (node : ℕ) (edge : Edge) → Contains (edges_into graph node) edge → edge.tmin ≡ 0
+-- An edge into a node that may take no time rises to it.
+pub rises_into : (graph : Tfpg) (order : HasZeroOrder graph) (node : ℕ) (edge : Edge) → Contains (edges_into graph node) edge → edge.tmin ≡ 0
     → order.rank edge.source < order.rank node
 rises_into graph order node edge into no_time =
     let ends : eqb edge.target node ≡ true =

@@ -33,7 +33,7 @@ module _ (log : Logbook) (trace : List Activation) (edge : Edge) where
 
   -- So it has the age exactly where it has it by the window.
   pub by_window : (number horizon instant age : ℕ) (window : Window) → window_of log edge number horizon ≡ Some window → window.lo ≤ instant → instant ≤ window.hi
-      → HasAge log trace edge instant age ↔ HasAgeInWindow log trace edge number horizon instant age
+      → HasAge log trace edge instant age ↔ HasAgeInWindow (window_of log edge number horizon) trace edge instant age
   by_window number horizon instant age window e from upto = (
     λ has.
         let both = (at_least number horizon instant age has.start window e from upto has.source).0 has in
@@ -46,7 +46,7 @@ module _ (log : Logbook) (trace : List Activation) (edge : Edge) where
 
   -- So it is with the window round the instant's span.
   pub exactly : (instant horizon age : ℕ) → instant ≤ horizon → horizon ≤ now_of log
-      → HasAge log trace edge instant age ↔ HasAgeInWindow log trace edge (span_number log instant) horizon instant age
+      → HasAge log trace edge instant age ↔ HasAgeInWindow (window_of log edge (span_number log instant) horizon) trace edge instant age
   exactly instant horizon age within by_now = (
     λ has.
         let window = window_there log edge instant horizon within by_now (has.active_since instant (omega arith) (omega arith)) in

@@ -1,37 +1,45 @@
 -- When a trace shows an event and explains a log, and which sets of failure modes fit it.
-use Rattle.std.specs.Prelude.{◌≡◌, ℕ, ◌+◌, ◌≤◌, List, take, All, Contains, IsTrue, Some, IsNone, slice_get}
+use Rattle.std.specs.Prelude.{◌≡◌, ℕ, ◌≤◌, List, All, Contains, IsTrue, Some, IsNone, slice_get}
 use Rattle.tfpg_base.specs.declared.activation.Activation.{Activation}
 use Rattle.tfpg_base.specs.Trace.{time_of}
-use Rattle.tfpg_graph.specs.Graph.{Tfpg, lag_at, is_monitored, is_kind_at, is_failure, failure_at}
+use Rattle.tfpg_graph.specs.Graph.{Tfpg, is_monitored, is_kind_at, is_failure, failure_at}
 use Rattle.tfpg_log.specs.declared.event.Event.{Event}
 use Rattle.tfpg_log.specs.declared.event.Event.TheVariants.{Alarm, Silent, Sweep, Tick, Mode}
-use Rattle.tfpg_log.specs.Log.{Logbook, now_of, alarm_among}
+use Rattle.tfpg_log.specs.declared.interval.Interval.{Interval}
+use Rattle.tfpg_log.specs.Log.{Logbook, now_of, first_events, alarm_of, alarm_interval, inactive_until}
 use Rattle.tfpg_log.specs.Rules.{IsActive, KeepsRules, IsTraceOf}
 
--- The node became active at most its lag before the alarm, and not after it.
-abbrev pub ShowsAlarm : Tfpg → List Activation → ℕ → ℕ → Type 0
-ShowsAlarm graph trace node time =
-    (lag active : ℕ) × (lag_at graph node ≡ Some lag) × (time_of trace node ≡ Some active)
-    × (time ≤ active + lag) × (active ≤ time)
+-- the node became active at one of the instants
+abbrev pub IsActivatedIn : List Activation → ℕ → Interval → Type 0
+IsActivatedIn trace node interval =
+    (active : ℕ) × (time_of trace node ≡ Some active) × (interval.earliest ≤ active) × (active ≤ interval.latest)
 
--- The node is not active.
-abbrev pub ShowsSilence : List Activation → ℕ → ℕ → Type 0
-ShowsSilence trace node time = IsActive trace node time → ⊥
+-- The node is monitored, and became active at one of the instants that its alarm at this time leaves.
+abbrev pub ShowsAlarm : Tfpg → Logbook → List Activation → ℕ → ℕ → Type 0
+ShowsAlarm graph log trace node time =
+    IsTrue (is_monitored graph node)
+    × ((interval : Interval) → alarm_interval graph log node time ≡ Some interval → IsActivatedIn trace node interval)
 
--- The trace shows an event, where these came before it. A sweep is a silence of each monitored node without an alarm so
--- far.
-abbrev pub Shows : Tfpg → List Activation → List Event → Event → Type 0
-Shows graph trace before (Alarm time node) = ShowsAlarm graph trace node time
-Shows graph trace before (Silent time node) = ShowsSilence trace node time
-Shows graph trace before (Sweep time) =
-    (node : ℕ) → IsTrue (is_monitored graph node) → IsNone (alarm_among before node) → ShowsSilence trace node time
-Shows graph trace before (Tick time) = Unit {0}
-Shows graph trace before (Mode time mode) = Unit {0}
+-- The node is not active by the instant up to which a silence of it at this time says so.
+abbrev pub ShowsSilence : Tfpg → Logbook → List Activation → ℕ → ℕ → Type 0
+ShowsSilence graph log trace node time =
+    (until : ℕ) → inactive_until graph log node time ≡ Some until → IsActive trace node until → ⊥
 
--- The trace shows each event, by its index.
-abbrev pub ShowsAll : Tfpg → List Activation → List Event → Type 0
-ShowsAll graph trace events =
-    (index : ℕ) (event : Event) → slice_get events index ≡ Some event → Shows graph trace (take index events) event
+-- The trace shows an event after this log. A sweep is a silence of each monitored node without an alarm so far.
+abbrev pub Shows : Tfpg → Logbook → List Activation → Event → Type 0
+Shows graph before trace (Alarm time node) = ShowsAlarm graph before trace node time
+Shows graph before trace (Silent time node) = ShowsSilence graph before trace node time
+Shows graph before trace (Sweep time) =
+    (node : ℕ) → IsTrue (is_monitored graph node) → IsNone (alarm_of before node)
+    → ShowsSilence graph before trace node time
+Shows graph before trace (Tick time) = Unit {0}
+Shows graph before trace (Mode time mode) = Unit {0}
+
+-- The trace shows each event of the log, by its index.
+abbrev pub ShowsAll : Tfpg → Logbook → List Activation → Type 0
+ShowsAll graph log trace =
+    (index : ℕ) (event : Event) → slice_get log.events index ≡ Some event
+    → Shows graph (first_events log index) trace event
 
 -- the failure mode is a member of the set, a list of positions
 abbrev pub IsMember : Tfpg → List ℕ → ℕ → Type 0
@@ -45,7 +53,7 @@ pub record Explains (graph : Tfpg) (log : Logbook) (set : List ℕ) (trace : Lis
   pub from_set : All
       (λ activation. IsTrue (is_kind_at is_failure graph activation.node) → IsMember graph set activation.node) trace
   pub rules : KeepsRules graph log trace
-  pub shows : ShowsAll graph trace log.events
+  pub shows : ShowsAll graph log trace
 
 -- Some trace explains the log from the set.
 abbrev pub Fits : Tfpg → Logbook → List ℕ → Type 0

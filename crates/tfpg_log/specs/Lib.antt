@@ -13,6 +13,8 @@ pub mod AgeInWindow
 pub mod LogStatements
 pub mod Accepted
 pub mod LogOfLines
+pub mod AcceptedLog
+pub mod EventLines
 pub mod Quiet
 -- What the code and its proofs need besides. No public clause reaches it.
 pub mod inside

@@ -3,13 +3,15 @@ use Rattle.std.specs.Prelude.{◌≤◌, AllPairs, ◌≡◌, ℕ, suc, ◌-◌,
 use Rattle.tfpg_log.specs.declared.event.Event.{Event}
 use Rattle.tfpg_log.specs.declared.event.Event.TheVariants.{Alarm, Silent, Sweep, Tick, Mode}
 use Rattle.tfpg_graph.specs.declared.edge.Edge.{Edge}
-use Rattle.tfpg_graph.specs.Graph.{Tfpg, is_monitored, is_active_in}
+use Rattle.tfpg_graph.specs.Graph.{Tfpg, lag_or_zero, is_monitored, is_active_in}
+use Rattle.tfpg_log.specs.declared.interval.Interval.{Interval}
 use Rattle.tfpg_base.specs.Choice.{item_at}
 use Rattle.tfpg_base.specs.declared.limits.TheConstants.{MAX_TIME}
 
--- a log: its events in order, numbered from 1
+-- A log: its events in order, numbered from 1, and the nodes whose monitors are ignored, in rising order.
 pub record Logbook : Type 0 where
   pub events : List Event
+  pub ignored : List ℕ
 
 -- the time of an event
 abbrev pub time_of_event : Event → ℕ
@@ -29,15 +31,17 @@ event_at log number = item_at log.events number
 
 -- the log of the first events alone
 abbrev pub first_events : Logbook → ℕ → Logbook
-first_events log count = record { events = take count log.events }
+first_events log count = record log { events = take count log.events }
 
 -- the log with one more event
 abbrev pub with_event : Logbook → Event → Logbook
-with_event log event = record { events = log.events ++ event ∷ [] }
+with_event log event = record log { events = log.events ++ event ∷ [] }
 
--- One log goes on from another: it begins with the other's events.
-abbrev pub GoesOn : Logbook → Logbook → Type 0
-GoesOn earlier later = (more : List Event) × (later.events ≡ earlier.events ++ more)
+-- One log goes on from another: it begins with the other's events, and ignores the same monitors.
+pub record GoesOn (earlier later : Logbook) : Type 0 where
+  pub more : List Event
+  pub events : later.events ≡ earlier.events ++ more
+  pub ignored : later.ignored ≡ earlier.ignored
 
 -- whether an event is an alarm of the node
 abbrev pub is_alarm_of : ℕ → Event → Bool
@@ -89,20 +93,43 @@ mode_at log instant = mode_after 0 log.events instant
 abbrev pub is_active_at : Logbook → Edge → ℕ → Bool
 is_active_at log edge instant = is_active_in edge (mode_at log instant)
 
--- The time of the event, where it is a silence of the node and these came before it. A sweep is a silence of each
--- monitored node without an alarm so far.
-abbrev pub quiet_time : Tfpg → List Event → Event → ℕ → Option ℕ
-quiet_time graph before (Alarm time alarmed) node = None
-quiet_time graph before (Silent time silent) node = if silent == node then Some time else None
-quiet_time graph before (Sweep time) node =
-    if is_monitored graph node && is_none (alarm_among before node) then Some time else None
-quiet_time graph before (Tick time) node = None
-quiet_time graph before (Mode time mode) node = None
+-- The instants at which a node became active, as an alarm of it at this time says: at most its lag before, and not after.
+abbrev pub alarm_interval : Tfpg → Logbook → ℕ → ℕ → Option Interval
+alarm_interval graph log node time =
+    Some (record { earliest = time - lag_or_zero graph node; latest = time })
+
+-- The instant up to which a node is not active, as a silence of it at this time says: that time.
+abbrev pub inactive_until : Tfpg → Logbook → ℕ → ℕ → Option ℕ
+inactive_until graph log node time = Some time
+
+-- Whether the event, after this log, is a silence of the node. A sweep is one of each monitored node without an alarm so
+-- far.
+abbrev pub is_silence_of : Tfpg → Logbook → ℕ → Event → Bool
+is_silence_of graph before node (Alarm time alarmed) = false
+is_silence_of graph before node (Silent time silent) = silent == node
+is_silence_of graph before node (Sweep time) = is_monitored graph node && is_none (alarm_of before node)
+is_silence_of graph before node (Tick time) = false
+is_silence_of graph before node (Mode time mode) = false
+
+-- the time of the event, where it is a silence of the node after this log
+abbrev pub silence_time : Tfpg → Logbook → Event → ℕ → Option ℕ
+silence_time graph before event node =
+    if is_silence_of graph before node event then Some (time_of_event event) else None
+
+-- the instant up to which the event, after this log, says that the node is not active
+abbrev pub quiet_time : Tfpg → Logbook → Event → ℕ → Option ℕ
+quiet_time graph before event node =
+    if is_silence_of graph before node event then inactive_until graph before node (time_of_event event) else None
 
 -- the time of the event of a number, where it is a silence of the node
+abbrev pub silence_at : Tfpg → Logbook → ℕ → ℕ → Option ℕ
+silence_at graph log number node =
+    option_and_then (λ event. silence_time graph (first_events log (number - 1)) event node) (event_at log number)
+
+-- the instant up to which the event of a number says that the node is not active
 abbrev pub quiet_at : Tfpg → Logbook → ℕ → ℕ → Option ℕ
 quiet_at graph log number node =
-    option_and_then (λ event. quiet_time graph (take (number - 1) log.events) event node) (event_at log number)
+    option_and_then (λ event. quiet_time graph (first_events log (number - 1)) event node) (event_at log number)
 
 -- the event names only monitored nodes and modes of the graph
 abbrev pub IsEventOf : Tfpg → Event → Type 0

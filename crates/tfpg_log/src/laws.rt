@@ -1,13 +1,17 @@
 //! What the definitions of this crate come to, as functions that do nothing: each says its law in its clause.
 
-ghost use Rattle.std.specs.Prelude.{◌≡◌, ℕ, ◌+◌, ◌≤◌, ◌↔◌, List, [], ◌∷◌, ◌++◌, length, All, IsTrue, Option, Some};
+ghost use Rattle.std.specs.Prelude.{◌≡◌, ℕ, ◌+◌, ◌≤◌, ◌↔◌, List, [], ◌∷◌, ◌++◌, length, All, IsTrue, false, Option, Some};
+ghost use Rattle.std.specs.List.{flat_map};
 ghost use Rattle.tfpg_base.specs.declared.activation.Activation.{Activation};
+ghost use Rattle.tfpg_base.specs.Lines.{lines_of, HasNoLineEnd, is_too_long};
 ghost use Rattle.tfpg_base.specs.Trace.{time_of};
+ghost use Rattle.tfpg_base.specs.Words.{line_of};
 ghost use Rattle.tfpg_graph.specs.declared.edge.Edge.{Edge};
 ghost use Rattle.tfpg_graph.specs.Graph.{Tfpg, is_active_in, edges_into};
 ghost use Rattle.tfpg_graph.specs.Reach.{Reaches};
 ghost use Rattle.tfpg_graph.specs.Valid.{IsValid};
 ghost use Rattle.tfpg_log.specs.declared.event.Event.{Event};
+ghost use Rattle.tfpg_log.specs.declared.event.Offered.TheVariants.{Accepted};
 ghost use Rattle.tfpg_log.specs.declared.span.Span.{Span};
 ghost use Rattle.tfpg_log.specs.declared.span.Window.{Window};
 ghost use Rattle.tfpg_log.specs.Log.{Logbook, GoesOn, IsLogOf, IsOrdered, now_of, event_at, alarm_of, alarm_event, mode_at, quiet_at, is_active_at};
@@ -16,11 +20,16 @@ ghost use Rattle.tfpg_log.specs.Rules.{IsActive, HasAge, IsAge};
 ghost use Rattle.tfpg_log.specs.Spans.{span_number, span_at, are_active_at, window_of, joint_of};
 ghost use Rattle.tfpg_log.specs.Runs.{IsSpanOf, IsWindowRound};
 ghost use Rattle.tfpg_log.specs.Explains.{Explains, Fits};
-ghost use Rattle.tfpg_log.specs.LogOfLines.{log_after, log_of_lines};
+ghost use Rattle.tfpg_log.specs.Accepted.{reply_to};
+ghost use Rattle.tfpg_log.specs.AcceptedLog.{AreAccepted};
+ghost use Rattle.tfpg_log.specs.EventLines.{IsNextEvent, AreNextEvents, event_words, event_line};
+ghost use Rattle.tfpg_log.specs.LogOfLines.{log_of_events, log_after, log_of_lines};
 ghost use Rattle.tfpg_log.specs.LogStatements.{LogStatement, SaysLogStatement, log_statement_of};
 
+mod larger_sets;
 mod window_laws;
 
+pub use larger_sets::a_larger_set_explains_as_well;
 pub use window_laws::{
     age_is_first_reached_in_each_window, age_is_the_time_in_the_window,
     ages_at_once_are_the_time_in_the_joint_window, an_active_edge_has_one_window,
@@ -31,6 +40,27 @@ pub use window_laws::{
 pub fn a_line_is_read_as_it_is_written()
     ensures { (line time : List ℕ) (statement : LogStatement) →
         (log_statement_of line ≡ Some (time, statement)) ↔ SaysLogStatement line time statement }
+{}
+
+/// The line of an event that may come next in a log is accepted as this event. It is not too long, and no byte of it ends a
+/// line.
+pub fn the_line_of_an_event_is_accepted()
+    ensures accepted { (graph : Tfpg) (log : Logbook) (event : Event) →
+        IsValid graph → IsNextEvent graph log event →
+        reply_to graph log (line_of (event_words graph event)) ≡ Accepted event }
+    ensures short { (graph : Tfpg) (log : Logbook) (event : Event) →
+        IsValid graph → IsNextEvent graph log event → is_too_long (line_of (event_words graph event)) ≡ false }
+    ensures clean { (graph : Tfpg) (log : Logbook) (event : Event) →
+        IsValid graph → IsNextEvent graph log event → HasNoLineEnd (line_of (event_words graph event)) }
+{}
+
+/// The lines of events that may each come next after those before are accepted, one by one, and make the log of these
+/// events.
+pub fn the_lines_of_events_make_their_log()
+    ensures log { (graph : Tfpg) (events : List Event) → IsValid graph → AreNextEvents graph events →
+        log_of_lines graph (lines_of (flat_map (event_line graph) events)) ≡ log_of_events events }
+    ensures each { (graph : Tfpg) (events : List Event) → IsValid graph → AreNextEvents graph events →
+        AreAccepted graph (lines_of (flat_map (event_line graph) events)) }
 {}
 
 /// The log of a list of lines grows by one line at a time. It is of its graph, and its times never fall.

@@ -2,12 +2,14 @@
 //!
 //! - [`Log`] is the log of accepted lines, with its look-ups.
 //! - [`Event`] is what a line of the log says, once it is accepted, and [`Offered`] what becomes of a line.
+//! - [`append_event`] writes the line of an event.
+//! - [`Interval`] has the instants that an alarm leaves for the activation of its node.
 //! - [`Refusal`] says why a line is refused.
 //! - [`MAX_EVENTS`] and [`MAX_MODE_CHANGES`] say how much a log may have.
 //! - [`Span`] is a run of instants of one mode, and [`Window`] a run of spans in which an edge is active.
 //! - [`laws`] has what the definitions come to: what ages, spans and windows are in other words, how ages follow from
-//!   windows, which events a node's alarm and its last silence are, that nothing becomes active outside a set's reach, and
-//!   that a log keeps its past.
+//!   windows, which events a node's alarm and its last silence are, that nothing becomes active outside a set's reach, that
+//!   a larger set explains what a smaller one does, and that a log keeps its past.
 //!
 //! Its definitions, in `specs/`, are those that every crate above stands on: the mode of an instant, the age of an
 //! edge, the propagation rules, and which sets of failure modes fit the log.
@@ -22,6 +24,8 @@
 
 mod active_modes;
 mod event;
+mod event_line;
+mod interval;
 pub mod laws;
 mod limits;
 mod log;
@@ -35,6 +39,8 @@ mod spans;
 mod windows;
 
 pub use event::{Event, Offered};
+pub use event_line::append_event;
+pub use interval::Interval;
 pub use limits::{MAX_EVENTS, MAX_MODE_CHANGES};
 pub use log::Log;
 pub use refusal::Refusal;

@@ -1,7 +1,7 @@
 //! The log of accepted lines, with its look-ups.
 
 ghost use Rattle.std.specs.Prelude.{◌≡◌, ◌≤◌, ◌<◌, ◌-◌, ℕ, length, take, true, ◌&&◌, if◌then◌else◌, nat_le, Some, None, is_none, IfOk, count_by, option_and_then, slice_get};
-ghost use Rattle.tfpg_log.specs.Log.{IsLogOf, IsOrdered, now_of, event_at, alarm_of, alarm_event, alarm_among, mode_at, quiet_at, is_mode_change};
+ghost use Rattle.tfpg_log.specs.Log.{IsLogOf, IsOrdered, now_of, event_at, alarm_of, alarm_event, alarm_among, mode_at, alarm_interval, inactive_until, silence_at, quiet_at, is_mode_change};
 ghost use Rattle.tfpg_log.specs.Spans.{span_number, span_at, window_round, window_of, joint_of};
 ghost use Rattle.tfpg_log.specs.inside.ActiveModes.{has_mode};
 ghost use Rattle.tfpg_log.specs.declared.limits.TheConstants.{MAX_EVENTS, MAX_MODE_CHANGES};
@@ -14,6 +14,7 @@ mod accepting;
 
 use crate::active_modes::{ActiveModes, modes_into};
 use crate::event::Event;
+use crate::interval::Interval;
 use crate::limits::{MAX_EVENTS, MAX_MODE_CHANGES};
 use crate::mode_change::ModeChange;
 use crate::node_events::NodeEvents;
@@ -22,7 +23,7 @@ use crate::spans::{mode_of_span, span_in, span_number};
 use crate::windows::window_round;
 use std::alloc::Global;
 use std::marker::Model;
-use tfpg_base::NoMemory;
+use tfpg_base::{Doubts, NoMemory};
 use tfpg_graph::Graph;
 
 /// The events that were accepted so far, numbered from 1, and with them the time. A new log is of every graph.
@@ -41,6 +42,8 @@ pub struct Log {
     changes: Vec<ModeChange>,
     /// How many events are changes of mode.
     change_count: u32,
+    /// The nodes whose monitors are ignored.
+    ignored: Doubts,
 }
 
 impl Model for Log {
@@ -50,14 +53,14 @@ impl Model for Log {
 
     ghost use Rattle.tfpg_log.specs.inside.LogIndex.{IsLogIndex};
 
-    ghost view = { λ log. record { events = log.events.items } };
+    ghost view = { λ log. record { events = log.events.items; ignored = log.ignored } };
 
     ghost invariant = { λ log. IsLogIndex
-        log.events.items log.nodes.items log.last_sweep log.changes.items log.change_count };
+        (record { events = log.events.items; ignored = log.ignored }) log.nodes.items log.last_sweep log.changes.items log.change_count };
 }
 
 impl Log {
-    /// The log without events. Takes no memory.
+    /// The log without events. It ignores no monitor. Takes no memory.
     pub fn new(alloc: Global) -> Log
         ensures empty { result ≡ new_log }
         ensures of { (graph : Tfpg) → IsLogOf graph result }
@@ -68,6 +71,7 @@ impl Log {
             last_sweep: None,
             changes: Vec::new(alloc),
             change_count: 0,
+            ignored: Doubts::empty(),
         }
     }
 
@@ -182,11 +186,40 @@ impl Log {
         self.window_round(&modes, number, horizon)
     }
 
+    /// The instants at which a node became active, as an alarm of it at this time says: at most its lag before, and not
+    /// after. Times are in milliseconds.
+    pub fn alarm_interval(&self, graph: &Graph, node: u32, time: u64) -> Option<Interval>
+        requires { node < length graph.now.nodes }
+        ensures { result ≡ alarm_interval graph.now self.now node time }
+    {
+        Some(Interval {
+            earliest: time.saturating_sub(graph.lag_or_zero(node)),
+            latest: time,
+        })
+    }
+
+    /// The instant up to which a node is not active, as a silence of it at this time says: that time. Times are in
+    /// milliseconds, and the node may be any number.
+    pub fn inactive_until(&self, graph: &Graph, node: u32, time: u64) -> Option<u64>
+        ensures { result ≡ inactive_until graph.now self.now node time }
+    {
+        Some(time)
+    }
+
+    /// The instant, in milliseconds, up to which the event of this number says that the node is not active. There is none
+    /// where the event is no silence of the node. Numbers begin with 1. Number and node may be any.
+    pub fn quiet_at(&self, graph: &Graph, number: u32, node: u32) -> Option<u64>
+        ensures { result ≡ quiet_at graph.now self.now number node }
+    {
+        let time = self.silence_at(graph, number, node)?;
+        self.inactive_until(graph, node, time)
+    }
+
     /// The time of the event of this number, in milliseconds, where it is a silence of the node: its own silence, or a
     /// sweep, where the node is monitored and no event before is an alarm of it. Numbers begin with 1. Number and node may
     /// be any: there is no event of another number, and another node is not monitored.
-    pub fn quiet_at(&self, graph: &Graph, number: u32, node: u32) -> Option<u64>
-        ensures { result ≡ quiet_at graph.now self.now number node }
+    pub fn silence_at(&self, graph: &Graph, number: u32, node: u32) -> Option<u64>
+        ensures { result ≡ silence_at graph.now self.now number node }
     {
         match self.find_event(number)? {
             Event::Silent { time, node: silent } => (silent == node).then_some(time),
@@ -195,9 +228,9 @@ impl Log {
         }
     }
 
-    /// The number of the last event that is a silence of the node, where there is one: its own silence, or a sweep, where
-    /// the node is monitored and no event before is an alarm of it. Times never fall, so no other silence of the node has a
-    /// later time. The node may be any number.
+    /// The number of the last event that says that the node is not active, where there is one: its own silence, or a sweep,
+    /// where the node is monitored and no event before is an alarm of it. Times never fall, so no other such event speaks
+    /// of a later instant. The node may be any number.
     pub fn last_quiet(&self, graph: &Graph, node: u32) -> Option<u32>
         ensures { IsLastQuiet graph.now self.now node result }
     {
@@ -218,6 +251,7 @@ impl Log {
             last_sweep: self.last_sweep,
             changes,
             change_count: self.change_count,
+            ignored: self.ignored,
         })
     }
 

@@ -74,6 +74,20 @@ fn a_memory_sink_keeps_what_it_takes(rt: HostRuntime) {
     assert_eq!(rt; put(&mut Discard, b"abc"), Ok(3));
 }
 
+#[test]
+fn a_memory_sink_with_room_fails_where_it_is_to(rt: HostRuntime) -> Result<(), Fail> {
+    let mut sink = MemorySink::with_room(rt.alloc(), 3, 2, &[2])?;
+    for (row, piece, count) in [
+        ("as much as fits a call", b"abc".as_slice(), Ok(2)),
+        ("a call that is to fail", b"c", Err(Failed)),
+        ("the rest", b"c", Ok(1)),
+    ] {
+        assert_eq!(rt; put(&mut sink, piece), count, "{row}");
+    }
+    assert_eq!(rt; sink.bytes(), b"abc".as_slice());
+    Ok(())
+}
+
 /// What one call of a shelf returns, through the bound.
 fn fetch<F: Shelf>(
     alloc: Global,
@@ -440,6 +454,27 @@ fn a_set_holds_its_members(rt: HostRuntime) {
 }
 
 #[test]
+fn doubts_hold_their_nodes(rt: HostRuntime) {
+    let doubts = Doubts::empty().with(511).with(0).with(64).with(511);
+    assert_eq!(rt; doubts.len(), 3);
+    for (row, node, is_member) in [
+        ("the least node", 0, true),
+        ("between the nodes", 1, false),
+        ("the first of a later word", 64, true),
+        ("the first of another word", 128, false),
+        ("the greatest node", 511, true),
+        ("past all nodes", 512, false),
+        ("the greatest number", u32::MAX, false),
+    ] {
+        assert_eq!(rt; doubts.has(node), is_member, "{row}");
+    }
+    assert_eq!(rt; Doubts::empty().len(), 0);
+    assert!(rt; Doubts::empty().with(511).is_subset(doubts));
+    assert!(rt; doubts.is_subset(doubts));
+    assert!(rt; !doubts.is_subset(Doubts::empty().with(511)));
+}
+
+#[test]
 fn a_trace_keeps_the_last_time_by_rising_nodes(rt: HostRuntime) -> Result<(), Fail> {
     let mut trace = Trace::new(rt.alloc());
     for (node, time) in [(7, 10), (4, 20), (9, 0), (7, 30)] {
@@ -454,6 +489,7 @@ fn a_trace_keeps_the_last_time_by_rising_nodes(rt: HostRuntime) -> Result<(), Fa
     assert_eq!(rt; trace.at(7), Some(30));
     assert_eq!(rt; trace.at(8), None);
     assert_eq!(rt; trace.clone()?.as_slice(), trace.as_slice());
+    assert_eq!(rt; trace.copy(rt.alloc())?.as_slice(), expected.as_slice());
     Ok(())
 }
 

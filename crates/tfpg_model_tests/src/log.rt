@@ -8,7 +8,9 @@ use std::alloc::Global;
 use std::process::Abort;
 use std::test::Fail;
 use tfpg_graph::{Graph, read};
-use tfpg_log::{Event, Log, MAX_EVENTS, MAX_MODE_CHANGES, Offered, Refusal, Span, Window};
+use tfpg_log::{
+    Event, Log, MAX_EVENTS, MAX_MODE_CHANGES, Offered, Refusal, Span, Window, append_event,
+};
 
 /// A failure mode, two monitored discrepancies and a hidden one, in two modes.
 const GRAPH: &[u8] =
@@ -431,6 +433,35 @@ fn assert_looks_up(rt: &impl Abort, graph: &Graph, log: &Log) {
     assert_eq!(rt; log.last_quiet(graph, 1), Some(4));
     assert_eq!(rt; log.last_quiet(graph, 2), None);
     assert_eq!(rt; log.last_quiet(graph, 3), Some(1));
+    assert_eq!(rt; log.silence_at(graph, 1, 3), Some(5));
+    assert_eq!(rt; log.inactive_until(graph, 1, 12), Some(12));
+}
+
+/// The ends of the interval that an alarm of the node at this time leaves, where there is the node.
+fn interval_at(graph: &Graph, log: &Log, node: u32, time: u64) -> Option<(u64, u64)> {
+    if node >= graph.node_count() {
+        return None;
+    }
+    let interval = log.alarm_interval(graph, node, time)?;
+    Some((interval.earliest, interval.latest))
+}
+
+#[test]
+fn an_alarm_leaves_an_interval(rt: HostRuntime) -> Result<(), Fail> {
+    let graph = read(rt.alloc(), GRAPH)?;
+    let log = Log::new(rt.alloc());
+    assert_eq!(rt; interval_at(&graph, &log, 3, 100), Some((93, 100)));
+    Ok(())
+}
+
+#[test]
+fn writes_the_line_of_an_event(rt: HostRuntime) -> Result<(), Fail> {
+    let graph = read(rt.alloc(), GRAPH)?;
+    let mut text = Vec::new(rt.alloc());
+    append_event(&graph, Event::Sweep { time: 5 }, &mut text)?;
+    append_event(&graph, Event::Tick { time: 7 }, &mut text)?;
+    assert_eq!(rt; text.as_slice(), b"5 sweep\n7 tick\n".as_slice());
+    Ok(())
 }
 
 #[test]

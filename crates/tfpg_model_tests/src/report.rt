@@ -2,15 +2,16 @@
 
 ghost use Rattle.std.specs.Prelude.{◌≡◌, All, IfOk, IsTrue};
 ghost use Rattle.tfpg_evidence.specs.RoundOf.{IsFindingOf, IsReasonOf, IsRoundOf, IsStepOf, is_ranked};
+ghost use Rattle.tfpg_graph.specs.Graph.{sizes_of};
 ghost use Rattle.tfpg_model_tests.specs.inside.Sizes.{small};
 
 use std::alloc::Global;
 use std::test::Fail;
-use tfpg_base::{NoMemory, NumberList, Set, Trace};
+use tfpg_base::{Doubts, NoMemory, NumberList, Set, Trace};
 use tfpg_evidence::{
     ClauseName, Counts, Finding, Findings, Reason, Reasons, Round, Status, Step, StepList,
 };
-use tfpg_graph::read;
+use tfpg_graph::{Graph, read};
 use tfpg_log::Refusal;
 use tfpg_report::{RefusedLine, head, lost, refused, render};
 
@@ -120,6 +121,7 @@ fn rejected(alloc: Global) -> Result<Finding, NoMemory>
     Ok(Finding {
         number: 0,
         set: Set::empty(),
+        doubts: Doubts::empty(),
         steps: StepList::from_vec(steps),
         status: Status::Rejected,
     })
@@ -152,6 +154,7 @@ fn ranked(alloc: Global) -> Result<Finding, NoMemory>
     Ok(Finding {
         number: 1,
         set: Set::empty().with(0),
+        doubts: Doubts::empty(),
         steps: StepList::from_vec(steps),
         status: Status::Ranked {
             trace,
@@ -210,6 +213,7 @@ fn each_step(alloc: Global) -> Result<StepList, NoMemory>
             horizon: 33
         }),
         Step::Cycle(each_reason(alloc)?),
+        Step::Again,
     ]?;
     Ok(StepList::from_vec(steps))
 }
@@ -221,6 +225,7 @@ fn left_open(alloc: Global) -> Result<Finding, NoMemory>
     Ok(Finding {
         number: 3,
         set: Set::empty().with(1).with(0),
+        doubts: Doubts::empty(),
         steps: each_step(alloc)?,
         status: Status::Open,
     })
@@ -245,6 +250,16 @@ fn round_of_alarm(alloc: Global) -> Result<Round, NoMemory>
             left_open: 4,
         },
     })
+}
+
+/// The block of a copy of the round.
+fn text_of_copy(alloc: Global, graph: &Graph, round: &Round) -> Result<Vec<u8>, NoMemory>
+    requires { IsRoundOf (sizes_of graph.now) round.now }
+{
+    let copy = round.copy(alloc)?;
+    let mut text = Vec::new(alloc);
+    render(graph, &copy, &mut text)?;
+    Ok(text)
 }
 
 #[test]
@@ -288,6 +303,7 @@ fn a_round_with_each_kind_of_line(rt: HostRuntime) -> Result<(), Fail> {
         why upto 2\n\
         why quiet 3 A\n\
         why pick 4 5\n\
+        again\n\
         ranked 1 cost 3 robust 1/2 set F1\n\
         at F1 20\n\
         at A 30\n\
@@ -295,5 +311,10 @@ fn a_round_with_each_kind_of_line(rt: HostRuntime) -> Result<(), Fail> {
         rejected 0 set -\n\
         counts ranked 1 covered 2 rejected 3 open 4\n";
     assert_eq!(rt; text.as_slice(), wanted.as_slice());
+    assert_eq!(rt;
+        text_of_copy(rt.alloc(), &graph, &round)?.as_slice(),
+        wanted.as_slice(),
+        "of the copy"
+    );
     Ok(())
 }

@@ -5,9 +5,8 @@ use Rattle.std.proofs.lemmas.Bool.Decides.{nat_tests}
 use Rattle.std.proofs.lemmas.List.{append-nil, map-append, length-map, length-append}
 use Rattle.std.proofs.lemmas.List.Elements.{All-contains}
 use Rattle.tfpg_base.proofs.lists.Below.{below, below-absent, below-all, below-member, below-zero}
-use Rattle.tfpg_graph.specs.Graph.{Tfpg}
+use Rattle.tfpg_graph.specs.Graph.{Tfpg, failure_word}
 use Rattle.tfpg_base.specs.TextLine.{separated}
-use Rattle.tfpg_report.specs.Blocks.{failure_word}
 use Rattle.tfpg_base.proofs.lists.Joined.{join-push}
 
 -- The names of the members below a position stand after the old bytes, and whether there is none.

@@ -1,10 +1,11 @@
 -- The text of each block of a report.
-use Rattle.std.specs.Prelude.{ℕ, List, [], ◌∷◌, ◌++◌, length, map, filter_map, flat_map, Bool, if◌then◌else◌, ◌==◌, Option, Some, None, option_map, option_and_then, unwrap_or, slice_get, codes, decimal}
+use Rattle.std.specs.Prelude.{ℕ, List, [], ◌∷◌, ◌++◌, length, map, filter_map, flat_map, Bool, if◌then◌else◌, ◌==◌, Option, Some, None, option_map, unwrap_or, slice_get, codes, decimal}
+use Rattle.tfpg_base.specs.declared.terms.Terms.{Terms}
 use Rattle.tfpg_base.specs.TextLine.{text_line}
 use Rattle.tfpg_base.specs.Lines.{with_line_end}
 use Rattle.tfpg_base.specs.Words.{joined_by_commas, line_of}
 use Rattle.tfpg_base.specs.declared.activation.Activation.{Activation}
-use Rattle.tfpg_graph.specs.Graph.{Tfpg, name_at, name_word, failure_at}
+use Rattle.tfpg_graph.specs.Graph.{Tfpg, name_word, failure_word}
 use Rattle.tfpg_log.specs.declared.refusal.Refusal.{Refusal}
 use Rattle.tfpg_log.specs.declared.refusal.Refusal.TheVariants.{BadLine, BadNumber, TimeTooLarge, TimeBack, UnknownName, NotMonitored, NotAMode, SecondAlarm, SilentAfterAlarm, LogFull, ModesFull}
 use Rattle.tfpg_evidence.specs.declared.clause_name.ClauseName.{ClauseName}
@@ -12,20 +13,21 @@ use Rattle.tfpg_evidence.specs.declared.clause_name.ClauseName.TheVariants.{OrMa
 use Rattle.tfpg_evidence.specs.declared.reason.Reason.{Reason}
 use Rattle.tfpg_evidence.specs.declared.reason.Reason.TheVariants.{Zero, Top, Unreached, From, Upto, Quiet, Pick}
 use Rattle.tfpg_evidence.specs.declared.step.Step.{Step}
-use Rattle.tfpg_evidence.specs.declared.step.Step.TheVariants.{Split, Cycle}
+use Rattle.tfpg_evidence.specs.declared.step.Step.TheVariants.{Split, Cycle, Again}
 use Rattle.tfpg_evidence.specs.declared.finding.Status.{Status}
 use Rattle.tfpg_evidence.specs.declared.finding.Status.TheVariants.{Ranked, Covered, Rejected, Open}
 use Rattle.tfpg_evidence.specs.declared.finding.Finding.{Finding}
 use Rattle.tfpg_evidence.specs.declared.round.Counts.{Counts}
 use Rattle.tfpg_evidence.specs.declared.round.Round.{Round}
-use Rattle.tfpg_evidence.specs.RoundOf.{finding_numbered}
+use Rattle.tfpg_evidence.specs.Findings.{ranked_in_order, open_in, newly_rejected}
 use Rattle.tfpg_report.specs.declared.refused_line.RefusedLine.{RefusedLine}
 use Rattle.tfpg_report.specs.declared.refused_line.RefusedLine.TheVariants.{TooLong, Offer}
 
 -- the first line of a report
-abbrev pub head_text : ℕ → ℕ → List ℕ
-head_text k budget =
-    text_line (codes "report" ∷ codes "1" ∷ codes "k" ∷ decimal k ∷ codes "budget" ∷ decimal budget ∷ [])
+abbrev pub head_text : Terms → List ℕ
+head_text terms =
+    text_line (codes "report" ∷ codes "1" ∷ codes "k" ∷ decimal terms.k
+    ∷ codes "budget" ∷ decimal terms.budget ∷ [])
 
 -- the name of a refusal
 abbrev pub refusal_name : Refusal → List ℕ
@@ -74,10 +76,6 @@ abbrev pub edge_words : Tfpg → ℕ → List (List ℕ)
 edge_words graph edge =
     unwrap_or (option_map (λ e. name_word graph e.source ∷ name_word graph e.target ∷ []) (slice_get graph.edges edge)) []
 
--- the name of the failure mode at a position
-abbrev pub failure_word : Tfpg → ℕ → List ℕ
-failure_word graph position = unwrap_or (option_and_then (name_at graph) (failure_at graph position)) []
-
 -- a set: a hyphen for the empty set, else the names of its members with commas between
 abbrev pub set_word : Tfpg → List ℕ → List ℕ
 set_word graph [] = codes "-"
@@ -113,6 +111,7 @@ abbrev pub step_text : Tfpg → Step → List ℕ
 step_text graph (Split name) = text_line (codes "split" ∷ clause_words graph name)
 step_text graph (Cycle reasons) =
     text_line (codes "cycle" ∷ decimal (length reasons) ∷ []) ++ flat_map (reason_text graph) reasons
+step_text graph Again = text_line (codes "again" ∷ [])
 
 -- a hypothesis with its steps, where it has any in this round
 abbrev pub steps_text : Tfpg → Finding → List ℕ
@@ -151,19 +150,12 @@ ranked_text graph finding Rejected = []
 ranked_text graph finding Open = []
 
 -- an open hypothesis
-abbrev pub open_text : Tfpg → Finding → Status → List ℕ
-open_text graph finding (Ranked trace cost alarmed monitored) = []
-open_text graph finding (Covered by) = []
-open_text graph finding Rejected = []
-open_text graph finding Open = text_line (codes "open" ∷ hypothesis_words graph finding)
+abbrev pub open_text : Tfpg → Finding → List ℕ
+open_text graph finding = text_line (codes "open" ∷ hypothesis_words graph finding)
 
--- a hypothesis that this round rejected, by a step at least
-abbrev pub rejected_text : Tfpg → Finding → Status → List ℕ
-rejected_text graph finding (Ranked trace cost alarmed monitored) = []
-rejected_text graph finding (Covered by) = []
-rejected_text graph finding Rejected =
-    if length finding.steps == 0 then [] else text_line (codes "rejected" ∷ hypothesis_words graph finding)
-rejected_text graph finding Open = []
+-- a hypothesis that this round rejected
+abbrev pub rejected_text : Tfpg → Finding → List ℕ
+rejected_text graph finding = text_line (codes "rejected" ∷ hypothesis_words graph finding)
 
 -- the words that say how many hypotheses have each status
 abbrev pub counts_words : Counts → List (List ℕ)
@@ -175,19 +167,15 @@ counts_words counts =
 abbrev pub counts_text : Counts → List ℕ
 counts_text counts = text_line (codes "counts" ∷ counts_words counts)
 
--- the findings of these numbers
-abbrev pub findings_at : List Finding → List ℕ → List Finding
-findings_at findings numbers = filter_map (finding_numbered findings) numbers
-
 -- The block of a round: its first line; the steps by rising numbers; the ranked hypotheses in ranking order; the open
 -- ones and those that this round rejected by rising numbers; the counts.
 abbrev pub round_text : Tfpg → Round → List ℕ
 round_text graph round =
     text_line (codes "round" ∷ decimal round.number ∷ decimal round.line ∷ decimal round.now ∷ [])
     ++ flat_map (steps_text graph) round.findings
-    ++ flat_map (λ finding. ranked_text graph finding finding.status) (findings_at round.findings round.order)
-    ++ flat_map (λ finding. open_text graph finding finding.status) round.findings
-    ++ flat_map (λ finding. rejected_text graph finding finding.status) round.findings
+    ++ flat_map (λ finding. ranked_text graph finding finding.status) (ranked_in_order round)
+    ++ flat_map (open_text graph) (open_in round)
+    ++ flat_map (rejected_text graph) (newly_rejected round)
     ++ counts_text round.counts
 
 -- a panel that was lost, or for which memory ran out, at the round before

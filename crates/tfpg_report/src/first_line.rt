@@ -9,7 +9,7 @@ use tfpg_base::{NoMemory, append_line};
 /// Appends the first line of a report on sets of at most `k` failure modes, with this budget.
 /// Where memory runs out, a part of the line may stand after the old bytes.
 pub fn head(k: u32, budget: u64, into: &mut Vec<u8>) -> Result<(), NoMemory>
-    ensures { Appends result into.old.items into.new.items (head_text k budget) }
+    ensures { Appends result into.old.items into.new.items (head_text (record { k = k; budget = budget })) }
 {
     let mut k_digits = Buffer::new();
     let mut budget_digits = Buffer::new();

@@ -5,7 +5,8 @@ ghost use Rattle.tfpg_base.specs.Append.{Appends};
 ghost use Rattle.tfpg_evidence.specs.RoundOf.{IsFindingOf};
 ghost use Rattle.tfpg_base.specs.TextLine.{text_line};
 ghost use Rattle.tfpg_graph.specs.Graph.{sizes_of};
-ghost use Rattle.tfpg_report.specs.Blocks.{hypothesis_words, open_text, rejected_text};
+ghost use Rattle.tfpg_report.specs.Blocks.{hypothesis_words};
+ghost use Rattle.tfpg_report.specs.inside.Sections.{text_where_open, text_where_rejected};
 
 use crate::set_line::append_set_line;
 use itoa::Buffer;
@@ -21,7 +22,7 @@ pub(crate) fn append_open(
 ) -> Result<(), NoMemory>
     requires { IsFindingOf (sizes_of graph.now) finding.now }
     ensures { Appends result into.old.items into.new.items
-        (open_text graph.now finding.now finding.now.status) }
+        (text_where_open graph.now finding.now finding.now.status) }
 {
     match &finding.status {
         Status::Open => append_hypothesis(graph, b"open ", finding, into),
@@ -37,7 +38,7 @@ pub(crate) fn append_rejected(
 ) -> Result<(), NoMemory>
     requires { IsFindingOf (sizes_of graph.now) finding.now }
     ensures { Appends result into.old.items into.new.items
-        (rejected_text graph.now finding.now finding.now.status) }
+        (text_where_rejected graph.now finding.now finding.now.status) }
 {
     match &finding.status {
         Status::Rejected if !finding.steps.as_slice().is_empty() => {

@@ -1,8 +1,8 @@
 //! The names that a graph gives its parts, as words of a line.
 
 ghost use Rattle.std.specs.Prelude.{◌≡◌, ◌<◌, ◌∷◌, [], length};
-ghost use Rattle.tfpg_graph.specs.Graph.{failures};
-ghost use Rattle.tfpg_report.specs.Blocks.{edge_words, failure_word};
+ghost use Rattle.tfpg_graph.specs.Graph.{failures, failure_word};
+ghost use Rattle.tfpg_report.specs.Blocks.{edge_words};
 
 use tfpg_graph::Graph;
 

@@ -3,8 +3,8 @@
 ghost use Rattle.std.specs.Prelude.{◌≡◌, ◌++◌, ◌∷◌, [], flat_map, map};
 ghost use Rattle.std.specs.List.{join_with_byte};
 ghost use Rattle.tfpg_base.specs.Append.{Appends};
-ghost use Rattle.tfpg_graph.specs.Graph.{AreFailures};
-ghost use Rattle.tfpg_report.specs.Blocks.{failure_word, set_word};
+ghost use Rattle.tfpg_graph.specs.Graph.{AreFailures, failure_word};
+ghost use Rattle.tfpg_report.specs.Blocks.{set_word};
 
 use crate::names::failure_word;
 use tfpg_base::{NoMemory, Set, append_part};

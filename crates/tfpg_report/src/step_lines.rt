@@ -22,6 +22,7 @@ pub(crate) fn append_step(graph: &Graph, step: &Step, into: &mut Vec<u8>) -> Res
     match step {
         Step::Split(clause) => append_split(graph, *clause, into),
         Step::Cycle(reasons) => append_cycle(graph, reasons.as_slice(), into),
+        Step::Again => append_line(into, &[b"again"]),
     }
 }
 

@@ -18,7 +18,7 @@ use Rattle.tfpg_log.specs.Spans.{span_number, span_between, span_at, window_roun
 use Rattle.tfpg_evidence.specs.declared.clause_name.ClauseName.{ClauseName}
 use Rattle.tfpg_evidence.specs.declared.clause_name.ClauseName.TheVariants.{OrMay, AndMay, OrMust, AndMust}
 use Rattle.tfpg_base.specs.Choice.{each_of}
-use Rattle.tfpg_clause.specs.Clauses.{alternatives, outside_span, arrival, due_over, may_by, must_by}
+use Rattle.tfpg_clause.specs.Clauses.{alternatives, outside_span, arrival, due_over, may_by, must_by, dues_of}
 use Rattle.tfpg_clause.specs.Order.{horizon_of}
 use Rattle.tfpg_search.specs.Enough.{IsNameAt, AreNamesAt}
 use Rattle.tfpg_base.proofs.lists.Elements.{slice_get-contains, list_any-found, list_any-passes}
@@ -155,11 +155,11 @@ module _ (log : Logbook) where
           (then_some-true holds alternatives found.0 found.1).0
 
   -- a must clause has a window, and its test holds
-  must_there : (holds : Bool) (target : ℕ) (edges : List Edge) (window : Option Window) (number horizon : ℕ) → is_some (must_by log holds target edges window number horizon) ≡ true
+  must_there : (holds : Bool) (target : ℕ) (edges : List Edge) (window : Option Window) (number horizon : ℕ) → is_some (must_by holds target number window (dues_of log number horizon edges)) ≡ true
       → (is_some window ≡ true) × (holds ≡ true)
   must_there false target edges window number horizon some = absurd cc
   must_there true target edges None number horizon some =
-      let made = is_some-there (must_by log true target edges None number horizon) some in
+      let made = is_some-there (must_by true target number None (dues_of log number horizon edges)) some in
       absurd (none-some made.0 (option_and_then-some _ (each_of (map (due_over log number horizon) edges)) made.0 made.1).2)
   must_there true target edges (Some w) number horizon some = (refl, refl)
 
@@ -195,7 +195,7 @@ module _ (graph : Tfpg) (log : Logbook) where
       let there = may_there log (is_kind_at is_and graph own.1.target) own.1.target (own.1 ∷ []) number horizon own.2 in
       small horizon number edge (AndMay edge number horizon) (1, omega arith, refl) there.0 (omega (arith, own.0))
   listed (OrMust edge number horizon) some =
-      let own = of_edge (λ (e : Edge). must_by log (is_kind_at is_or graph e.target) e.target (e ∷ []) (window_of log e number horizon) number horizon) edge (slice_get graph.edges edge) refl some in
+      let own = of_edge (λ (e : Edge). must_by (is_kind_at is_or graph e.target) e.target number (window_of log e number horizon) (dues_of log number horizon (e ∷ []))) edge (slice_get graph.edges edge) refl some in
       let there = must_there log (is_kind_at is_or graph own.1.target) own.1.target (own.1 ∷ []) (window_of log own.1 number horizon) number horizon own.2 in
       small horizon number edge (OrMust edge number horizon) (2, omega arith, refl)
       (of_window (λ span. window_round log (is_active_at log own.1) span horizon) number horizon there.0) (omega (arith, own.0))

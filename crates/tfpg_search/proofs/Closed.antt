@@ -9,8 +9,8 @@ use Rattle.tfpg_log.specs.Log.{Logbook}
 use Rattle.tfpg_evidence.specs.declared.reason.Reason.{Reason}
 use Rattle.tfpg_evidence.specs.declared.reason.Reason.TheVariants.{Pick}
 use Rattle.tfpg_clause.specs.Facts.{fact}
-use Rattle.tfpg_clause.specs.Paths.{framed, stated_by, path_after, next_alternative}
-use Rattle.tfpg_clause.specs.declared.path.Frame.{Frame}
+use Rattle.tfpg_clause.specs.Paths.{next_leaf}
+use Rattle.tfpg_clause.specs.declared.path.PathSplit.{PathSplit}
 use Rattle.tfpg_search.specs.Leaf.{Leaf, pick_reasons}
 use Rattle.tfpg_search.specs.Picks.{IsAllowed, picks_of}
 use Rattle.tfpg_search.specs.SearchState.{SearchState, IsAtItsLeaf}
@@ -23,11 +23,13 @@ use Rattle.tfpg_base.proofs.lists.Cuts.{slice_get-taken}
 use Rattle.tfpg_base.proofs.lists.Elements.{slice_get-none}
 use Rattle.tfpg_base.proofs.lists.Written.{slice_get-append_left, slice_get-after}
 use Rattle.tfpg_search.proofs.PathAfter.{After, after_is, all_after}
+use Rattle.tfpg_clause.specs.Trees.{picked, stated, next_alternative}
+use Rattle.tfpg_clause.specs.Case.{case_of}
 
--- a frame in its next alternative, the last of its path, has fewer that are not taken
-next_untaken : (front : List Frame) (frame : Frame) (deeper : List Frame) → frame.alternative < frame.alternatives → untaken (front ++ next_alternative frame ∷ []) < untaken (front ++ frame ∷ deeper)
-next_untaken [] frame deeper more = omega (arith, more)
-next_untaken (first ∷ front) frame deeper more = omega (arith, next_untaken front frame deeper more)
+-- a split in its next alternative, the last of its path, has fewer that are not taken
+next_untaken : (front : List PathSplit) (taken : PathSplit) (deeper : List PathSplit) → taken.alternative < taken.alternatives → untaken (front ++ next_alternative taken ∷ []) < untaken (front ++ taken ∷ deeper)
+next_untaken [] taken deeper more = omega (arith, more)
+next_untaken (first ∷ front) taken deeper more = omega (arith, next_untaken front taken deeper more)
 
 keeps_of : (o : Option ℕ) (old new : Leaf) → Leaves o old new → KeepsBounds old new
 keeps_of None old new same = subst (KeepsBounds old) (sym same) (record { variables = refl; stated = λ fact stated is. is })
@@ -43,37 +45,37 @@ module _ (graph : Tfpg) (log : Logbook) (old : SearchState) (at : IsAtItsLeaf gr
       let all : length (pick_reasons old.leaf) ≡ length (picks_of graph log (take (length old.entered) old.path)) = ap (λ (rs : List Reason). length rs) at.picks.reasons in
       omega arith
 
-  module _ (next : List Frame) (is : path_after old.path ≡ Some next) where
+  module _ (next : List PathSplit) (is : next_leaf old.path ≡ Some next) where
     abbrev after : After old.path next
     after = after_is old.path next is
 
-    abbrev front : List Frame
+    abbrev front : List PathSplit
     front = after.front
 
-    -- how many frames stay
+    -- how many splits stay
     abbrev stay : ℕ
     stay = length front
 
-    there_in_path : slice_get old.path stay ≡ Some after.frame
-    there_in_path = ap (λ (fs : List Frame). slice_get fs stay) after.frames_are ∙ slice_get-after front after.frame after.deeper
+    there_in_path : slice_get old.path stay ≡ Some after.taken
+    there_in_path = ap (λ (fs : List PathSplit). slice_get fs stay) after.path_is ∙ slice_get-after front after.taken after.deeper
 
     within : stay < length old.path
-    within = slice_get_within old.path stay after.frame there_in_path
+    within = slice_get_within old.path stay after.taken there_in_path
 
     front_is : take stay old.path ≡ front
-    front_is = ap (λ (fs : List Frame). take stay fs) after.frames_are ∙ take_at front (after.frame ∷ after.deeper) stay refl
+    front_is = ap (λ (fs : List PathSplit). take stay fs) after.path_is ∙ take_at front (after.taken ∷ after.deeper) stay refl
 
     long : length next ≡ stay + 1
-    long = ap (λ (fs : List Frame). length fs) after.next_is ∙ length-append front (next_alternative after.frame ∷ [])
+    long = ap (λ (fs : List PathSplit). length fs) after.next_is ∙ length-append front (next_alternative after.taken ∷ [])
 
     bound : stay ≤ length old.entered
     bound = let w = within in let many = at.picks.many in omega arith
 
     same_front : (split : ℕ) → split ≤ stay → take split next ≡ take split old.path
     same_front split less =
-        ap (λ (fs : List Frame). take split fs) after.next_is
-        ∙ take-append-le split front (next_alternative after.frame ∷ []) less
-        ∙ sym (ap (λ (fs : List Frame). take split fs) after.frames_are ∙ take-append-le split front (after.frame ∷ after.deeper) less)
+        ap (λ (fs : List PathSplit). take split fs) after.next_is
+        ∙ take-append-le split front (next_alternative after.taken ∷ []) less
+        ∙ sym (ap (λ (fs : List PathSplit). take split fs) after.path_is ∙ take-append-le split front (after.taken ∷ after.deeper) less)
 
     still_long : length (take stay old.entered) ≡ stay
     still_long = length-take-le stay old.entered bound
@@ -89,20 +91,20 @@ module _ (graph : Tfpg) (log : Logbook) (old : SearchState) (at : IsAtItsLeaf gr
         ∙ ap (λ (rs : List Reason). take (length (picks_of graph log (take stay old.path))) rs) at.picks.reasons
         ∙ picks_take graph log 1 old.path stay (length old.entered) bound
 
-    states_next : (r : Reason) (c : Constraint) (k number : ℕ) → k < stay → r ≡ Pick (1 + k) number → stated_by graph log old.reach old.path r ≡ Some c
-        → stated_by graph log old.reach next r ≡ Some c
+    states_next : (r : Reason) (c : Constraint) (k number : ℕ) → k < stay → r ≡ Pick (1 + k) number → stated (case_of graph log old.reach) old.path r ≡ Some c
+        → stated (case_of graph log old.reach) next r ≡ Some c
     states_next r c k number less pick states =
         let same_split : 1 + k ≡ suc k = omega arith in
         let pick_is : r ≡ Pick (suc k) number = pick ∙ ap (λ (n : ℕ). Pick n number) same_split in
-        let before : framed graph log old.path (suc k) number ≡ Some c = ap (λ (x : Reason). stated_by graph log old.reach old.path x) (sym pick_is) ∙ states in
-        let there : (f : Frame) → slice_get old.path k ≡ Some f → slice_get next k ≡ Some f =
+        let before : picked graph log old.path (suc k) number ≡ Some c = ap (λ (x : Reason). stated (case_of graph log old.reach) old.path x) (sym pick_is) ∙ states in
+        let there : (f : PathSplit) → slice_get old.path k ≡ Some f → slice_get next k ≡ Some f =
         λ f found.
-        ap (λ (fs : List Frame). slice_get fs k) after.next_is
-        ∙ slice_get-append_left front (next_alternative after.frame ∷ []) k less
-        ∙ sym (ap (λ (fs : List Frame). slice_get fs k) after.frames_are ∙ slice_get-append_left front (after.frame ∷ after.deeper) k less)
+        ap (λ (fs : List PathSplit). slice_get fs k) after.next_is
+        ∙ slice_get-append_left front (next_alternative after.taken ∷ []) k less
+        ∙ sym (ap (λ (fs : List PathSplit). slice_get fs k) after.path_is ∙ slice_get-append_left front (after.taken ∷ after.deeper) k less)
         ∙ found in
-        let now : framed graph log next (suc k) number ≡ Some c = of_same graph log (slice_get old.path k) (slice_get next k) number c there before in
-        ap (λ (x : Reason). stated_by graph log old.reach next x) pick_is ∙ now
+        let now : picked graph log next (suc k) number ≡ Some c = of_same graph log (slice_get old.path k) (slice_get next k) number c there before in
+        ap (λ (x : Reason). stated (case_of graph log old.reach) next x) pick_is ∙ now
 
     stands_there : (left : Leaf) → Leaves (slice_get old.entered stay) old.leaf left
         → IsAtItsLeaf graph log (record old { path = next; entered = take stay old.entered; leaf = left })
@@ -112,14 +114,14 @@ module _ (graph : Tfpg) (log : Logbook) (old : SearchState) (at : IsAtItsLeaf gr
         record {
           reach_is = at.reach_is;
           variables = keeps.variables ∙ at.variables;
-          allowed = all_after (IsAllowed graph log) (λ frame more allowed. allowed) old.path next is at.allowed;
+          allowed = all_after (IsAllowed graph log) (λ taken more allowed. allowed) old.path next is at.allowed;
           range = range_after old.path next at.range is;
           stated =
-              restated (fact graph log old.reach) (stated_by graph log old.reach old.path) (stated_by graph log old.reach next) left
-              (keeps.stated (fact graph log old.reach) (stated_by graph log old.reach old.path) at.stated)
+              restated (fact (case_of graph log old.reach)) (stated (case_of graph log old.reach) old.path) (stated (case_of graph log old.reach) next) left
+              (keeps.stated (fact (case_of graph log old.reach)) (stated (case_of graph log old.reach) old.path) at.stated)
               (λ r c states. fact_stated graph log old.reach next r c states)
               (λ index r c there states.
-              let pick = picks_are graph log 1 front index r (ap (λ (fs : List Frame). slice_get (picks_of graph log fs) index) (sym front_is) ∙ ap (λ (rs : List Reason). slice_get rs index) (sym reasons) ∙ there) in
+              let pick = picks_are graph log 1 front index r (ap (λ (fs : List PathSplit). slice_get (picks_of graph log fs) index) (sym front_is) ∙ ap (λ (rs : List Reason). slice_get rs index) (sym reasons) ∙ there) in
               states_next r c pick.k pick.number pick.within pick.is states);
           picks = record {
             few = (let l = long in let s = still_long in omega arith);
@@ -127,10 +129,10 @@ module _ (graph : Tfpg) (log : Logbook) (old : SearchState) (at : IsAtItsLeaf gr
             counts = λ split before there.
                 let earlier = slice_get-taken stay old.entered split before there in
                 let less = earlier.0 in
-                at.picks.counts split before earlier.1 ∙ ap (λ (fs : List Frame). length (picks_of graph log fs)) (sym (same_front split (omega arith)));
+                at.picks.counts split before earlier.1 ∙ ap (λ (fs : List PathSplit). length (picks_of graph log fs)) (sym (same_front split (omega arith)));
             reasons =
                 reasons
-                ∙ ap (λ (fs : List Frame). picks_of graph log fs) (sym (same_front stay (omega arith)))
+                ∙ ap (λ (fs : List PathSplit). picks_of graph log fs) (sym (same_front stay (omega arith)))
                 ∙ ap (λ (n : ℕ). picks_of graph log (take n next)) (sym still_long);
           };
         }
@@ -148,5 +150,5 @@ module _ (graph : Tfpg) (log : Logbook) (old : SearchState) (at : IsAtItsLeaf gr
 
     pub next_fewer : untaken next < untaken old.path
     next_fewer =
-        subst (λ (fs : List Frame). untaken next < untaken fs) (sym after.frames_are)
-        (subst (λ (fs : List Frame). untaken fs < untaken (front ++ after.frame ∷ after.deeper)) (sym after.next_is) (next_untaken front after.frame after.deeper after.more))
+        subst (λ (fs : List PathSplit). untaken next < untaken fs) (sym after.path_is)
+        (subst (λ (fs : List PathSplit). untaken fs < untaken (front ++ after.taken ∷ after.deeper)) (sym after.next_is) (next_untaken front after.taken after.deeper after.more))

@@ -6,7 +6,7 @@ use Rattle.std.proofs.lemmas.Option.{same_Some, none-some, slice_get-get_or}
 use Rattle.tfpg_base.specs.declared.limits.TheConstants.{NEVER}
 use Rattle.tfpg_base.specs.Constraint.{Meets}
 use Rattle.tfpg_base.specs.declared.constraint.Constraint.{Constraint}
-use Rattle.tfpg_graph.specs.Graph.{Tfpg, lag_at}
+use Rattle.tfpg_graph.specs.Graph.{Tfpg, lag_or_zero}
 use Rattle.tfpg_graph.specs.Reach.{is_among}
 use Rattle.tfpg_log.specs.declared.event.Event.{Event}
 use Rattle.tfpg_log.specs.declared.event.Event.TheVariants.{Alarm, Silent, Sweep, Tick, Mode}
@@ -25,6 +25,7 @@ use Rattle.tfpg_diff.specs.Solution.{IsSolution}
 use Rattle.tfpg_diff.specs.SystemState.{widest, raised, lowered, changed_at, with_floor, with_ceiling}
 use Rattle.tfpg_search.specs.inside.ClauseLaws.{ClauseLaws}
 use Rattle.tfpg_search.specs.inside.Facts.{AreFactsIn}
+use Rattle.tfpg_clause.specs.Case.{case_of}
 
 -- ---- what facts say
 
@@ -51,16 +52,16 @@ module _ (graph : Tfpg) (log : Logbook) (of : IsLogOf graph log) where
   alarm_within number time node at = monitored_within graph node (event_own graph log number (Alarm time node) of at)
 
   module _ (reach : List ℕ) (constraint : Constraint) where
-    from_bound : (number : ℕ) (event : Option Event) → event_at log number ≡ event → option_and_then (from_alarm graph) event ≡ Some constraint → IsBound graph constraint
+    from_bound : (number : ℕ) (event : Option Event) → event_at log number ≡ event → option_and_then (from_alarm graph log) event ≡ Some constraint → IsBound graph constraint
     from_bound number None at is = absurd cc
     from_bound number (Some (Alarm time node)) at is =
-        inl (record { node = node; bound = time - unwrap_or (lag_at graph node) 0; within = alarm_within number time node at; is = sym (same_Some (at_least node (time - unwrap_or (lag_at graph node) 0)) constraint is) })
+        inl (record { node = node; bound = time - lag_or_zero graph node; within = alarm_within number time node at; is = sym (same_Some (at_least node (time - lag_or_zero graph node)) constraint is) })
     from_bound number (Some (Silent time node)) at is = absurd cc
     from_bound number (Some (Sweep time)) at is = absurd cc
     from_bound number (Some (Tick time)) at is = absurd cc
     from_bound number (Some (Mode time mode)) at is = absurd cc
 
-    upto_bound : (number : ℕ) (event : Option Event) → event_at log number ≡ event → option_and_then upto_alarm event ≡ Some constraint → IsBound graph constraint
+    upto_bound : (number : ℕ) (event : Option Event) → event_at log number ≡ event → option_and_then (upto_alarm graph log) event ≡ Some constraint → IsBound graph constraint
     upto_bound number None at is = absurd cc
     upto_bound number (Some (Alarm time node)) at is =
         inr (record { node = node; bound = time; within = alarm_within number time node at; is = sym (same_Some (at_most node (pos time)) constraint is) })
@@ -75,7 +76,7 @@ module _ (graph : Tfpg) (log : Logbook) (of : IsLogOf graph log) where
         inl (record { node = node; bound = time + 1; within = quiet_within graph log number node time of at; is = sym (same_Some (at_least node (time + 1)) constraint is) })
 
     -- a fact bounds the time of a node of the graph
-    pub fact_bounds : (reason : Reason) → fact graph log reach reason ≡ Some constraint → IsBound graph constraint
+    pub fact_bounds : (reason : Reason) → fact (case_of graph log reach) reason ≡ Some constraint → IsBound graph constraint
     fact_bounds (Zero node) is =
         let parts = then_some-true (ltb node (length graph.nodes)) (at_least node 0) constraint is in
         inl (record { node = node; bound = 0; within = ltb-true node (length graph.nodes) parts.0; is = sym parts.1 })
@@ -93,8 +94,8 @@ module _ (graph : Tfpg) (log : Logbook) (of : IsLogOf graph log) where
 
   -- where bounds say all facts, each solution meets them
   pub facts_met : ClauseLaws → (reach : List ℕ) (demands : Demands) → length demands.bounds ≡ length graph.nodes →
-      ((node : ℕ) → node < length graph.nodes → AreFactsIn (fact graph log reach) demands node) →
-      (reason : Reason) (constraint : Constraint) → fact graph log reach reason ≡ Some constraint →
+      ((node : ℕ) → node < length graph.nodes → AreFactsIn (fact (case_of graph log reach)) demands node) →
+      (reason : Reason) (constraint : Constraint) → fact (case_of graph log reach) reason ≡ Some constraint →
       (times : List ℕ) → IsSolution demands times → Meets times constraint
   facts_met laws reach demands as_many all reason constraint is times solution = ⊎_elim
       (λ (low : BoundsBelow graph constraint).

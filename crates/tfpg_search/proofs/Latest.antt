@@ -12,8 +12,7 @@ use Rattle.tfpg_evidence.specs.declared.reason.Reason.{Reason}
 use Rattle.tfpg_evidence.specs.declared.reason.Reason.TheVariants.{Zero, Top, Unreached, From, Upto, Quiet, Pick}
 use Rattle.tfpg_base.specs.Bounds.{at_most, at_least}
 use Rattle.tfpg_clause.specs.Facts.{fact}
-use Rattle.tfpg_clause.specs.Paths.{framed, stated_by}
-use Rattle.tfpg_clause.specs.declared.path.Frame.{Frame}
+use Rattle.tfpg_clause.specs.declared.path.PathSplit.{PathSplit}
 use Rattle.tfpg_diff.specs.declared.why.Why.{Why}
 use Rattle.tfpg_diff.specs.declared.why.Why.TheVariants.{Floor, Ceiling, Given}
 use Rattle.tfpg_diff.specs.declared.pick.Pick.{Pick as PickOf}
@@ -22,10 +21,13 @@ use Rattle.tfpg_search.specs.inside.ClauseLaws.{ClauseLaws}
 use Rattle.tfpg_search.specs.Leaf.{tagged_by, pick_reasons}
 use Rattle.tfpg_search.specs.Picks.{picks_of}
 use Rattle.tfpg_search.specs.SearchState.{SearchState, IsAtItsLeaf}
-use Rattle.tfpg_search.specs.inside.Moves.{SolvesFramed, IsLatestFramed, IsLoaded}
+use Rattle.tfpg_search.specs.inside.Moves.{IsLoaded}
 use Rattle.tfpg_base.proofs.lists.Choices.{option_and_then-some}
 use Rattle.tfpg_base.proofs.lists.Elements.{All-from_indexes}
 use Rattle.tfpg_search.proofs.Picking.{picks_have}
+use Rattle.tfpg_clause.specs.Trees.{picked, stated}
+use Rattle.tfpg_clause.specs.Case.{case_of}
+use Rattle.tfpg_search.specs.Solutions.{SolvesAt, IsLatestAt}
 
 -- the reason by which something is named
 named_fact : (facts : Reason → Option Constraint) (reasons : List Reason) (why : Why) (c : Constraint) → tagged_by facts reasons why ≡ Some c → (r : Reason) × (facts r ≡ Some c)
@@ -36,15 +38,15 @@ named_fact facts reasons (Given tag) c is = let found = option_and_then-some fac
 module _ (laws : ClauseLaws) (graph : Tfpg) (log : Logbook) (search : SearchState) (at : IsAtItsLeaf graph log search) (loaded : IsLoaded graph log search)
     (as_many : length search.leaf.demands.picks ≡ length (pick_reasons search.leaf)) where
   abbrev states : Reason → Option Constraint
-  states = stated_by graph log search.reach search.path
+  states = stated (case_of graph log search.reach) search.path
 
   all_picks : pick_reasons search.leaf ≡ picks_of graph log search.path
   all_picks =
-      at.picks.reasons ∙ ap (λ (fs : List Frame). picks_of graph log fs) (take_all (length search.entered) search.path (let all = loaded.all_entered in omega arith))
+      at.picks.reasons ∙ ap (λ (fs : List PathSplit). picks_of graph log fs) (take_all (length search.entered) search.path (let all = loaded.all_entered in omega arith))
 
   module _ (times : List ℕ) (solution : IsSolution search.leaf.demands times) where
     -- the constraint of each pick on the path is met
-    pick_met : (i split number : ℕ) (c : Constraint) → slice_get (pick_reasons search.leaf) i ≡ Some (Pick split number) → framed graph log search.path split number ≡ Some c → Meets times c
+    pick_met : (i split number : ℕ) (c : Constraint) → slice_get (pick_reasons search.leaf) i ≡ Some (Pick split number) → picked graph log search.path split number ≡ Some c → Meets times c
     pick_met i split number c there is =
         let within : i < length search.leaf.demands.picks = let w = slice_get_within (pick_reasons search.leaf) i (Pick split number) there in omega arith in
         let unread : PickOf = record { constraint = c; tag = 0 } in
@@ -55,7 +57,7 @@ module _ (laws : ClauseLaws) (graph : Tfpg) (log : Logbook) (search : SearchStat
         let same : c ≡ pick.constraint = cc in
         subst (Meets times) (sym same) (All-get_or (λ (p : PickOf). Meets times p.constraint) search.leaf.demands.picks i unread within solution.met)
 
-    picks_met : (split number : ℕ) (c : Constraint) → framed graph log search.path split number ≡ Some c → Meets times c
+    picks_met : (split number : ℕ) (c : Constraint) → picked graph log search.path split number ≡ Some c → Meets times c
     picks_met zero number c is = absurd cc
     picks_met (suc k) number c is =
         let same_split : 1 + k ≡ suc k = omega arith in
@@ -64,10 +66,10 @@ module _ (laws : ClauseLaws) (graph : Tfpg) (log : Logbook) (search : SearchStat
         ap (λ (rs : List Reason). slice_get rs have.0) all_picks ∙ have.1 ∙ ap (λ (n : ℕ). Some (Pick n number)) same_split in
         pick_met have.0 (suc k) number c there is
 
-    solves : SolvesFramed graph log search.reach search.path times
+    solves : SolvesAt (case_of graph log search.reach) search.path times
     solves = record { one_each = solution.complete ∙ at.variables; facts = loaded.facts times solution; picks = picks_met }
 
-  module _ (times : List ℕ) (solves : SolvesFramed graph log search.reach search.path times) where
+  module _ (times : List ℕ) (solves : SolvesAt (case_of graph log search.reach) search.path times) where
     met_by_reason : (r : Reason) (c : Constraint) → states r ≡ Some c → Meets times c
     met_by_reason (Pick split number) c is = solves.picks split number c is
     met_by_reason (Zero node) c is = solves.facts (Zero node) c is
@@ -81,8 +83,8 @@ module _ (laws : ClauseLaws) (graph : Tfpg) (log : Logbook) (search : SearchStat
     is_solution = record {
       complete = solves.one_each ∙ sym at.variables;
       between = λ node bounds there.
-          let low = named_fact (fact graph log search.reach) search.leaf.reasons bounds.floor_why (at_least node bounds.floor) (at.stated.bounds.floors node bounds there) in
-          let high = named_fact (fact graph log search.reach) search.leaf.reasons bounds.ceiling_why (at_most node (pos bounds.ceiling)) (at.stated.bounds.ceilings node bounds there) in
+          let low = named_fact (fact (case_of graph log search.reach)) search.leaf.reasons bounds.floor_why (at_least node bounds.floor) (at.stated.bounds.floors node bounds there) in
+          let high = named_fact (fact (case_of graph log search.reach)) search.leaf.reasons bounds.ceiling_why (at_most node (pos bounds.ceiling)) (at.stated.bounds.ceilings node bounds there) in
           record {
             above = (laws.lower times node bounds.floor).0 (solves.facts low.0 (at_least node bounds.floor) low.1);
             below = (laws.upper times node bounds.ceiling).0 (solves.facts high.0 (at_most node (pos bounds.ceiling)) high.1);
@@ -94,7 +96,7 @@ module _ (laws : ClauseLaws) (graph : Tfpg) (log : Logbook) (search : SearchStat
     }
 
   -- The latest solution of the system is the latest at the leaf.
-  pub latest_here : (times : List ℕ) → IsLatest search.leaf.demands times → IsLatestFramed graph log search.reach search.path times
+  pub latest_here : (times : List ℕ) → IsLatest search.leaf.demands times → IsLatestAt (case_of graph log search.reach) search.path times
   latest_here times latest = record {
     solves = solves times latest.solution;
     latest = λ other also node within.

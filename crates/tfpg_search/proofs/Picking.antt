@@ -10,7 +10,7 @@ use Rattle.tfpg_evidence.specs.declared.reason.Reason.{Reason}
 use Rattle.tfpg_evidence.specs.declared.reason.Reason.TheVariants.{Pick}
 use Rattle.tfpg_clause.specs.Clauses.{alternatives, constraint_at}
 use Rattle.tfpg_base.specs.Choice.{item_at}
-use Rattle.tfpg_clause.specs.declared.path.Frame.{Frame}
+use Rattle.tfpg_clause.specs.declared.path.PathSplit.{PathSplit}
 use Rattle.tfpg_search.specs.Picks.{constraint_count, picks_from, picks_of_from}
 use Rattle.tfpg_base.proofs.lists.Choices.{number_in}
 use Rattle.tfpg_base.proofs.lists.Written.{slice_get-append_cases, slice_get-append_some, slice_get-append_right}
@@ -50,27 +50,27 @@ constraint_in_is (Some clause) alternative number = refl
 -- ---- the picks of a path
 
 module _ (graph : Tfpg) (log : Logbook) where
-  -- the constraint with this number in the alternative of a frame
-  abbrev pub of_frame : Option Frame → ℕ → Option Constraint
-  of_frame frame number = option_and_then (λ (f : Frame). option_and_then (λ clause. constraint_at clause f.alternative number) (alternatives graph log f.name)) frame
+  -- the constraint with this number in the alternative of a split
+  abbrev pub of_split : Option PathSplit → ℕ → Option Constraint
+  of_split taken number = option_and_then (λ (f : PathSplit). option_and_then (λ clause. constraint_at clause f.alternative number) (alternatives graph log f.name)) taken
 
-  -- the alternative of a frame
-  abbrev pub alternative_of : Frame → Option (List Constraint)
-  alternative_of frame = option_and_then (λ clause. item_at clause frame.alternative) (alternatives graph log frame.name)
+  -- the alternative of a split
+  abbrev pub alternative_of : PathSplit → Option (List Constraint)
+  alternative_of taken = option_and_then (λ clause. item_at clause taken.alternative) (alternatives graph log taken.name)
 
-  -- The reason is a pick at one of the splits of these frames.
-  pub record IsPickOf (start : ℕ) (frames : List Frame) (r : Reason) : Type 0 where
+  -- The reason is a pick at one of these splits.
+  pub record IsPickOf (start : ℕ) (path : List PathSplit) (r : Reason) : Type 0 where
     pub k : ℕ
     pub number : ℕ
-    pub within : k < length frames
+    pub within : k < length path
     pub is : r ≡ Pick (start + k) number
 
-  pub picks_are : (start : ℕ) (frames : List Frame) (i : ℕ) (r : Reason) → slice_get (picks_of_from graph log start frames) i ≡ Some r → IsPickOf start frames r
+  pub picks_are : (start : ℕ) (path : List PathSplit) (i : ℕ) (r : Reason) → slice_get (picks_of_from graph log start path) i ≡ Some r → IsPickOf start path r
   picks_are start [] i r is = cc
-  picks_are start (frame ∷ deeper) i r is =
-      elim (slice_get-append_cases (picks_from start 1 (constraint_count graph log frame)) (picks_of_from graph log (start + 1) deeper) i r is) [
+  picks_are start (taken ∷ deeper) i r is =
+      elim (slice_get-append_cases (picks_from start 1 (constraint_count graph log taken)) (picks_of_from graph log (start + 1) deeper) i r is) [
         | inl first ↦
-            let pick = pick_of start 1 (constraint_count graph log frame) i r first in
+            let pick = pick_of start 1 (constraint_count graph log taken) i r first in
             let same : start ≡ start + 0 = omega arith in
             record { k = 0; number = pick.0; within = omega arith; is = pick.1 ∙ ap (λ (n : ℕ). Pick n pick.0) same }
         | inr others ↦
@@ -80,58 +80,58 @@ module _ (graph : Tfpg) (log : Logbook) where
       ]
 
   -- each constraint of an alternative on the path is picked
-  pub picks_have : (start : ℕ) (frames : List Frame) (k number : ℕ) (c : Constraint) → of_frame (slice_get frames k) number ≡ Some c
-      → (i : ℕ) × (slice_get (picks_of_from graph log start frames) i ≡ Some (Pick (start + k) number))
+  pub picks_have : (start : ℕ) (path : List PathSplit) (k number : ℕ) (c : Constraint) → of_split (slice_get path k) number ≡ Some c
+      → (i : ℕ) × (slice_get (picks_of_from graph log start path) i ≡ Some (Pick (start + k) number))
   picks_have start [] k number c is = cc
-  picks_have start (frame ∷ deeper) zero number c is =
-      let range = number_in (alternative_of frame) number c (sym (constraint_in_is (alternatives graph log frame.name) frame.alternative number) ∙ is) in
+  picks_have start (taken ∷ deeper) zero number c is =
+      let range = number_in (alternative_of taken) number c (sym (constraint_in_is (alternatives graph log taken.name) taken.alternative number) ∙ is) in
       first number range.0 range.1
     where
-      first : (p : ℕ) → 1 ≤ p → p ≤ constraint_count graph log frame → (i : ℕ) × (slice_get (picks_of_from graph log start (frame ∷ deeper)) i ≡ Some (Pick (start + 0) p))
+      first : (p : ℕ) → 1 ≤ p → p ≤ constraint_count graph log taken → (i : ℕ) × (slice_get (picks_of_from graph log start (taken ∷ deeper)) i ≡ Some (Pick (start + 0) p))
       first zero low high = absurd (omega arith)
       first (suc before) low high =
           let same_number : 1 + before ≡ suc before = omega arith in
           let same_split : start ≡ start + 0 = omega arith in (
             before,
-            slice_get-append_some (picks_from start 1 (constraint_count graph log frame)) (picks_of_from graph log (start + 1) deeper) before (Pick (start + 0) (suc before))
-                (pick_at start 1 (constraint_count graph log frame) before (omega arith)
+            slice_get-append_some (picks_from start 1 (constraint_count graph log taken)) (picks_of_from graph log (start + 1) deeper) before (Pick (start + 0) (suc before))
+                (pick_at start 1 (constraint_count graph log taken) before (omega arith)
                 ∙ ap (λ (n : ℕ). Some (Pick start n)) same_number
                 ∙ ap (λ (n : ℕ). Some (Pick n (suc before))) same_split),
           )
-  picks_have start (frame ∷ deeper) (suc k) number c is =
+  picks_have start (taken ∷ deeper) (suc k) number c is =
       let there = picks_have (start + 1) deeper k number c is in
       let same : start + 1 + k ≡ start + suc k = omega arith in
-      let front = picks_from start 1 (constraint_count graph log frame) in
+      let front = picks_from start 1 (constraint_count graph log taken) in
       (length front + there.0, slice_get-append_right front (picks_of_from graph log (start + 1) deeper) there.0 ∙ there.1 ∙ ap (λ (n : ℕ). Some (Pick n number)) same)
 
-  pub picks_last : (start : ℕ) (frames : List Frame) (frame : Frame)
-      → picks_of_from graph log start (frames ++ frame ∷ []) ≡ picks_of_from graph log start frames ++ picks_from (start + length frames) 1 (constraint_count graph log frame)
-  picks_last start [] frame =
+  pub picks_last : (start : ℕ) (path : List PathSplit) (taken : PathSplit)
+      → picks_of_from graph log start (path ++ taken ∷ []) ≡ picks_of_from graph log start path ++ picks_from (start + length path) 1 (constraint_count graph log taken)
+  picks_last start [] taken =
       let same : start ≡ start + 0 = omega arith in
-      append-nil (picks_from start 1 (constraint_count graph log frame)) ∙ ap (λ (n : ℕ). picks_from n 1 (constraint_count graph log frame)) same
-  picks_last start (first ∷ frames) frame =
-      let same : start + 1 + length frames ≡ start + suc (length frames) = omega arith in
-      ap (λ (rs : List Reason). picks_from start 1 (constraint_count graph log first) ++ rs) (picks_last (start + 1) frames frame)
-      ∙ sym (append_assoc (picks_from start 1 (constraint_count graph log first)) (picks_of_from graph log (start + 1) frames) (picks_from (start + 1 + length frames) 1 (constraint_count graph log frame)))
-      ∙ ap (λ (n : ℕ). (picks_from start 1 (constraint_count graph log first) ++ picks_of_from graph log (start + 1) frames) ++ picks_from n 1 (constraint_count graph log frame)) same
+      append-nil (picks_from start 1 (constraint_count graph log taken)) ∙ ap (λ (n : ℕ). picks_from n 1 (constraint_count graph log taken)) same
+  picks_last start (first ∷ path) taken =
+      let same : start + 1 + length path ≡ start + suc (length path) = omega arith in
+      ap (λ (rs : List Reason). picks_from start 1 (constraint_count graph log first) ++ rs) (picks_last (start + 1) path taken)
+      ∙ sym (append_assoc (picks_from start 1 (constraint_count graph log first)) (picks_of_from graph log (start + 1) path) (picks_from (start + 1 + length path) 1 (constraint_count graph log taken)))
+      ∙ ap (λ (n : ℕ). (picks_from start 1 (constraint_count graph log first) ++ picks_of_from graph log (start + 1) path) ++ picks_from n 1 (constraint_count graph log taken)) same
 
-  -- the picks of the first frames are the first picks
-  pub picks_take : (start : ℕ) (frames : List Frame) (n m : ℕ) → n ≤ m
-      → take (length (picks_of_from graph log start (take n frames))) (picks_of_from graph log start (take m frames)) ≡ picks_of_from graph log start (take n frames)
-  picks_take start frames zero m less = refl
-  picks_take start frames (suc n) zero less = absurd (omega arith)
+  -- the picks of the first splits are the first picks
+  pub picks_take : (start : ℕ) (path : List PathSplit) (n m : ℕ) → n ≤ m
+      → take (length (picks_of_from graph log start (take n path))) (picks_of_from graph log start (take m path)) ≡ picks_of_from graph log start (take n path)
+  picks_take start path zero m less = refl
+  picks_take start path (suc n) zero less = absurd (omega arith)
   picks_take start [] (suc n) (suc m) less = refl
-  picks_take start (frame ∷ deeper) (suc n) (suc m) less =
-      let front = picks_from start 1 (constraint_count graph log frame) in
+  picks_take start (taken ∷ deeper) (suc n) (suc m) less =
+      let front = picks_from start 1 (constraint_count graph log taken) in
       let few = picks_of_from graph log (start + 1) (take n deeper) in
       let many = picks_of_from graph log (start + 1) (take m deeper) in
       ap (λ (count : ℕ). take count (front ++ many)) (length-append front few) ∙ take-append-add front many (length few) ∙ ap (λ (rs : List Reason). front ++ rs) (picks_take (start + 1) deeper n m (omega arith))
 
-  pub picks_fewer : (start : ℕ) (frames : List Frame) (n m : ℕ) → n ≤ m
-      → length (picks_of_from graph log start (take n frames)) ≤ length (picks_of_from graph log start (take m frames))
-  picks_fewer start frames n m less =
-      let front = picks_of_from graph log start (take n frames) in
-      let whole = picks_of_from graph log start (take m frames) in
-      let cut : length (take (length front) whole) ≡ length front = ap (λ (rs : List Reason). length rs) (picks_take start frames n m less) in
+  pub picks_fewer : (start : ℕ) (path : List PathSplit) (n m : ℕ) → n ≤ m
+      → length (picks_of_from graph log start (take n path)) ≤ length (picks_of_from graph log start (take m path))
+  picks_fewer start path n m less =
+      let front = picks_of_from graph log start (take n path) in
+      let whole = picks_of_from graph log start (take m path) in
+      let cut : length (take (length front) whole) ≡ length front = ap (λ (rs : List Reason). length rs) (picks_take start path n m less) in
       let long : length (take (length front) whole) ≡ min (length front) (length whole) = length-take (length front) whole in
       omega arith

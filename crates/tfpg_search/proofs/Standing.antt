@@ -15,16 +15,17 @@ use Rattle.tfpg_evidence.specs.declared.reason.Reason.TheVariants.{Zero, Top, Un
 use Rattle.tfpg_clause.specs.Facts.{fact}
 use Rattle.tfpg_clause.specs.Clauses.{count_of}
 use Rattle.tfpg_base.specs.Choice.{item_at}
-use Rattle.tfpg_clause.specs.Paths.{framed, stated_by, new_frame}
-use Rattle.tfpg_clause.specs.declared.path.Frame.{Frame}
+use Rattle.tfpg_clause.specs.declared.path.PathSplit.{PathSplit}
 use Rattle.tfpg_search.specs.Leaf.{Leaf, pick_reasons, IsStated}
 use Rattle.tfpg_search.specs.Picks.{IsAllowed, constraint_count, picks_from, picks_of}
 use Rattle.tfpg_search.specs.inside.Leaving.{constraint_count_at, KeepsBounds, Leaves, Pushing}
 use Rattle.tfpg_search.specs.SearchState.{SearchState, IsAtItsLeaf, HasEnteredAll}
 use Rattle.tfpg_search.proofs.Names.{range_push}
-use Rattle.tfpg_search.proofs.Picking.{of_frame, picks_last}
+use Rattle.tfpg_search.proofs.Picking.{of_split, picks_last}
 use Rattle.tfpg_base.proofs.lists.Choices.{option_and_then-some}
 use Rattle.tfpg_base.proofs.lists.Written.{slice_get-push_cases, slice_get-push_last, slice_get-append_some}
+use Rattle.tfpg_clause.specs.Trees.{picked, stated, new_split}
+use Rattle.tfpg_clause.specs.Case.{case_of}
 
 -- ---- what is stated
 
@@ -41,78 +42,78 @@ module _ (facts stated other : Reason → Option Constraint) (leaf : Leaf) where
   }
 
 -- what is read past the end
-abbrev no_frame : Frame
-no_frame = record { name = OrMay 0 0 0; alternative = 0; alternatives = 0 }
+abbrev no_split : PathSplit
+no_split = record { name = OrMay 0 0 0; alternative = 0; alternatives = 0 }
 
 module _ (graph : Tfpg) (log : Logbook) where
-  pub of_same : (one other : Option Frame) (number : ℕ) (c : Constraint) → ((f : Frame) → one ≡ Some f → other ≡ Some f) → of_frame graph log one number ≡ Some c → of_frame graph log other number ≡ Some c
+  pub of_same : (one other : Option PathSplit) (number : ℕ) (c : Constraint) → ((f : PathSplit) → one ≡ Some f → other ≡ Some f) → of_split graph log one number ≡ Some c → of_split graph log other number ≡ Some c
   of_same None other number c same is = cc
-  of_same (Some f) other number c same is = ap (λ (o : Option Frame). of_frame graph log o number) (same f refl) ∙ is
+  of_same (Some f) other number c same is = ap (λ (o : Option PathSplit). of_split graph log o number) (same f refl) ∙ is
 
-  framed_push : (frames : List Frame) (last : Frame) (split number : ℕ) (c : Constraint) → framed graph log frames split number ≡ Some c → framed graph log (frames ++ last ∷ []) split number ≡ Some c
-  framed_push frames last zero number c is = cc
-  framed_push frames last (suc k) number c is = of_same (slice_get frames k) (slice_get (frames ++ last ∷ []) k) number c (λ f at. slice_get-append_some frames (last ∷ []) k f at) is
+  picked_push : (path : List PathSplit) (last : PathSplit) (split number : ℕ) (c : Constraint) → picked graph log path split number ≡ Some c → picked graph log (path ++ last ∷ []) split number ≡ Some c
+  picked_push path last zero number c is = cc
+  picked_push path last (suc k) number c is = of_same (slice_get path k) (slice_get (path ++ last ∷ []) k) number c (λ f at. slice_get-append_some path (last ∷ []) k f at) is
 
   module _ (reach : List ℕ) where
-    pub states_more : (frames others : List Frame) → ((split number : ℕ) (c : Constraint) → framed graph log frames split number ≡ Some c → framed graph log others split number ≡ Some c)
-        → (r : Reason) (c : Constraint) → stated_by graph log reach frames r ≡ Some c → stated_by graph log reach others r ≡ Some c
-    states_more frames others more (Pick split number) c is = more split number c is
-    states_more frames others more (Zero node) c is = is
-    states_more frames others more (Top node) c is = is
-    states_more frames others more (Unreached node horizon) c is = is
-    states_more frames others more (From event) c is = is
-    states_more frames others more (Upto event) c is = is
-    states_more frames others more (Quiet event node) c is = is
+    pub states_more : (path others : List PathSplit) → ((split number : ℕ) (c : Constraint) → picked graph log path split number ≡ Some c → picked graph log others split number ≡ Some c)
+        → (r : Reason) (c : Constraint) → stated (case_of graph log reach) path r ≡ Some c → stated (case_of graph log reach) others r ≡ Some c
+    states_more path others more (Pick split number) c is = more split number c is
+    states_more path others more (Zero node) c is = is
+    states_more path others more (Top node) c is = is
+    states_more path others more (Unreached node horizon) c is = is
+    states_more path others more (From event) c is = is
+    states_more path others more (Upto event) c is = is
+    states_more path others more (Quiet event node) c is = is
 
     -- a fact is stated on any path
-    pub fact_stated : (frames : List Frame) (r : Reason) (c : Constraint) → fact graph log reach r ≡ Some c → stated_by graph log reach frames r ≡ Some c
-    fact_stated frames (Pick split number) c is = cc
-    fact_stated frames (Zero node) c is = is
-    fact_stated frames (Top node) c is = is
-    fact_stated frames (Unreached node horizon) c is = is
-    fact_stated frames (From event) c is = is
-    fact_stated frames (Upto event) c is = is
-    fact_stated frames (Quiet event node) c is = is
+    pub fact_stated : (path : List PathSplit) (r : Reason) (c : Constraint) → fact (case_of graph log reach) r ≡ Some c → stated (case_of graph log reach) path r ≡ Some c
+    fact_stated path (Pick split number) c is = cc
+    fact_stated path (Zero node) c is = is
+    fact_stated path (Top node) c is = is
+    fact_stated path (Unreached node horizon) c is = is
+    fact_stated path (From event) c is = is
+    fact_stated path (Upto event) c is = is
+    fact_stated path (Quiet event node) c is = is
 
   module _ (old : SearchState) (at : IsAtItsLeaf graph log old) where
     -- ---- the system changes, and its picks stay
 
-    pub leaf_stands : (leaf : Leaf) → length leaf.demands.bounds ≡ length old.leaf.demands.bounds → IsStated (fact graph log old.reach) (stated_by graph log old.reach old.path) leaf
+    pub leaf_stands : (leaf : Leaf) → length leaf.demands.bounds ≡ length old.leaf.demands.bounds → IsStated (fact (case_of graph log old.reach)) (stated (case_of graph log old.reach) old.path) leaf
         → pick_reasons leaf ≡ pick_reasons old.leaf → IsAtItsLeaf graph log (record old { leaf = leaf })
-    leaf_stands leaf variables stated reasons = record {
+    leaf_stands leaf variables is_stated reasons = record {
       reach_is = at.reach_is;
       variables = variables ∙ at.variables;
       allowed = at.allowed;
       range = at.range;
-      stated = stated;
+      stated = is_stated;
       picks = record { few = at.picks.few; many = at.picks.many; counts = at.picks.counts; reasons = reasons ∙ at.picks.reasons };
     }
 
     -- ---- a split is appended to the path
 
     pub split_stands : (name : ClauseName) (count : ℕ) → HasEnteredAll old → count_of graph log name ≡ Some count → 0 < count
-        → IsAtItsLeaf graph log (record old { path = old.path ++ new_frame name count ∷ [] })
+        → IsAtItsLeaf graph log (record old { path = old.path ++ new_split name count ∷ [] })
     split_stands name count all counted some =
-        let frame : Frame = new_frame name count in
-        let long : length (old.path ++ frame ∷ []) ≡ length old.path + 1 = length-append old.path (frame ∷ []) in
+        let taken : PathSplit = new_split name count in
+        let long : length (old.path ++ taken ∷ []) ≡ length old.path + 1 = length-append old.path (taken ∷ []) in
         record {
           reach_is = at.reach_is;
           variables = at.variables;
-          allowed = All-push (IsAllowed graph log) old.path frame at.allowed counted;
+          allowed = All-push (IsAllowed graph log) old.path taken at.allowed counted;
           range = range_push graph log old.path name count at.range some;
           stated =
-              restated (fact graph log old.reach) (stated_by graph log old.reach old.path) (stated_by graph log old.reach (old.path ++ frame ∷ [])) old.leaf at.stated
-              (λ r c is. fact_stated old.reach (old.path ++ frame ∷ []) r c is)
-              (λ index r c there is. states_more old.reach old.path (old.path ++ frame ∷ []) (framed_push old.path frame) r c is);
+              restated (fact (case_of graph log old.reach)) (stated (case_of graph log old.reach) old.path) (stated (case_of graph log old.reach) (old.path ++ taken ∷ [])) old.leaf at.stated
+              (λ r c is. fact_stated old.reach (old.path ++ taken ∷ []) r c is)
+              (λ index r c there is. states_more old.reach old.path (old.path ++ taken ∷ []) (picked_push old.path taken) r c is);
           picks = record {
             few = omega arith;
             many = omega arith;
             counts = λ split before there.
                 let within = slice_get_within old.entered split before there in
                 at.picks.counts split before there
-                ∙ ap (λ (fs : List Frame). length (picks_of graph log fs)) (sym (take-append-le split old.path (frame ∷ []) (omega arith)));
+                ∙ ap (λ (fs : List PathSplit). length (picks_of graph log fs)) (sym (take-append-le split old.path (taken ∷ []) (omega arith)));
             reasons =
-                at.picks.reasons ∙ ap (λ (fs : List Frame). picks_of graph log fs) (sym (take-append-le (length old.entered) old.path (frame ∷ []) (omega arith)));
+                at.picks.reasons ∙ ap (λ (fs : List PathSplit). picks_of graph log fs) (sym (take-append-le (length old.entered) old.path (taken ∷ []) (omega arith)));
           };
         }
 
@@ -122,33 +123,33 @@ module _ (graph : Tfpg) (log : Logbook) where
       one_left : length old.path ≡ length old.entered + 1
       one_left = let few = at.picks.few in let many = at.picks.many in grind arith
 
-      abbrev last_frame : Frame
-      last_frame = get_or old.path (length old.entered) no_frame
+      abbrev last_split : PathSplit
+      last_split = get_or old.path (length old.entered) no_split
 
-      last_at : slice_get old.path (length old.entered) ≡ Some last_frame
-      last_at = slice_get-get_or old.path (length old.entered) no_frame (let one = one_left in omega arith)
+      last_at : slice_get old.path (length old.entered) ≡ Some last_split
+      last_at = slice_get-get_or old.path (length old.entered) no_split (let one = one_left in omega arith)
 
-      whole_path : take (length old.entered + 1) old.path ≡ take (length old.entered) old.path ++ last_frame ∷ []
-      whole_path = take_more old.path (length old.entered) no_frame (let one = one_left in omega arith)
+      whole_path : take (length old.entered + 1) old.path ≡ take (length old.entered) old.path ++ last_split ∷ []
+      whole_path = take_more old.path (length old.entered) no_split (let one = one_left in omega arith)
 
-      last_count : constraint_count_at graph log old.path (length old.entered + 1) ≡ constraint_count graph log last_frame
+      last_count : constraint_count_at graph log old.path (length old.entered + 1) ≡ constraint_count graph log last_split
       last_count =
           let number : length old.entered + 1 ≡ suc (length old.entered) = omega arith in
           ap (λ (n : ℕ). option_map_or (constraint_count graph log) (item_at old.path n) 0) number
-          ∙ ap (λ (o : Option Frame). option_map_or (constraint_count graph log) o 0) last_at
+          ∙ ap (λ (o : Option PathSplit). option_map_or (constraint_count graph log) o 0) last_at
 
       all_picks : (leaf : Leaf) → pick_reasons leaf ≡ pick_reasons old.leaf ++ picks_from (length old.entered + 1) 1 (constraint_count_at graph log old.path (length old.entered + 1))
           → pick_reasons leaf ≡ picks_of graph log (take (length old.entered + 1) old.path)
       all_picks leaf pushed =
-          let front : List Frame = take (length old.entered) old.path in
+          let front : List PathSplit = take (length old.entered) old.path in
           let short : length front ≡ length old.entered = length-take-le (length old.entered) old.path (let one = one_left in omega arith) in
           let number : 1 + length front ≡ length old.entered + 1 = omega arith in
           pushed
           ∙ ap (λ (rs : List Reason). rs ++ picks_from (length old.entered + 1) 1 (constraint_count_at graph log old.path (length old.entered + 1))) at.picks.reasons
           ∙ ap (λ (n : ℕ). picks_of graph log front ++ picks_from (length old.entered + 1) 1 n) last_count
-          ∙ ap (λ (n : ℕ). picks_of graph log front ++ picks_from n 1 (constraint_count graph log last_frame)) (sym number)
-          ∙ sym (picks_last graph log 1 front last_frame)
-          ∙ ap (λ (fs : List Frame). picks_of graph log fs) (sym whole_path)
+          ∙ ap (λ (n : ℕ). picks_of graph log front ++ picks_from n 1 (constraint_count graph log last_split)) (sym number)
+          ∙ sym (picks_last graph log 1 front last_split)
+          ∙ ap (λ (fs : List PathSplit). picks_of graph log fs) (sym whole_path)
 
       abbrev marked : List ℕ
       marked = old.entered ++ length (pick_reasons old.leaf) ∷ []
@@ -163,7 +164,7 @@ module _ (graph : Tfpg) (log : Logbook) where
             sym last.1 ∙ ap (λ (rs : List Reason). length rs) at.picks.reasons ∙ ap (λ (n : ℕ). length (picks_of graph log (take n old.path))) (sym last.0)
       ]
 
-      pub enter_stands : (leaf : Leaf) → Pushing graph log old.reach old.path old.leaf leaf
+      pub enter_stands : (leaf : Leaf) → Pushing (case_of graph log old.reach) old.path old.leaf leaf
           → pick_reasons leaf ≡ pick_reasons old.leaf ++ picks_from (length old.entered + 1) 1 (constraint_count_at graph log old.path (length old.entered + 1))
           → IsAtItsLeaf graph log (record old { entered = old.entered ++ length (pick_reasons old.leaf) ∷ []; leaf = leaf })
       enter_stands leaf pushing pushed = record {
@@ -182,7 +183,7 @@ module _ (graph : Tfpg) (log : Logbook) where
 
     -- ---- it is left again
 
-    pub left_again : (pushed left : Leaf) → Pushing graph log old.reach old.path old.leaf pushed
+    pub left_again : (pushed left : Leaf) → Pushing (case_of graph log old.reach) old.path old.leaf pushed
         → Leaves (slice_get (old.entered ++ length (pick_reasons old.leaf) ∷ []) (length old.entered)) pushed left
         → IsAtItsLeaf graph log (record old { entered = take (length old.entered) (old.entered ++ length (pick_reasons old.leaf) ∷ []); leaf = left })
     left_again pushed left pushing leaves =
@@ -192,4 +193,4 @@ module _ (graph : Tfpg) (log : Logbook) where
         let back : pick_reasons left ≡ pick_reasons old.leaf =
         gone.1 ∙ ap (λ (rs : List Reason). take count rs) pushing.more.1 ∙ take_at (pick_reasons old.leaf) pushing.more.0 count refl in
         subst (λ (es : List ℕ). IsAtItsLeaf graph log (record old { entered = es; leaf = left })) (sym (take_at old.entered (count ∷ []) (length old.entered) refl))
-        (leaf_stands left (gone.0.variables ∙ pushing.variables) (gone.0.stated (fact graph log old.reach) (stated_by graph log old.reach old.path) pushing.stated) back)
+        (leaf_stands left (gone.0.variables ∙ pushing.variables) (gone.0.stated (fact (case_of graph log old.reach)) (stated (case_of graph log old.reach) old.path) pushing.stated) back)

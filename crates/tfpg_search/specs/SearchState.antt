@@ -4,9 +4,9 @@ use Rattle.tfpg_graph.specs.Graph.{Tfpg}
 use Rattle.tfpg_graph.specs.Reach.{IsReach}
 use Rattle.tfpg_log.specs.Log.{Logbook, first_events}
 use Rattle.tfpg_clause.specs.Facts.{fact}
-use Rattle.tfpg_clause.specs.Trees.{Judged}
-use Rattle.tfpg_clause.specs.Paths.{IsAtLeaf, stated_by}
-use Rattle.tfpg_clause.specs.declared.path.Frame.{Frame}
+use Rattle.tfpg_clause.specs.Case.{Case, case_of}
+use Rattle.tfpg_clause.specs.Trees.{Judged, stated, IsPresentLeaf}
+use Rattle.tfpg_clause.specs.declared.path.PathSplit.{PathSplit}
 use Rattle.tfpg_clause.specs.Order.{horizon_of}
 use Rattle.tfpg_search.specs.Enough.{IsEventTime}
 use Rattle.tfpg_search.specs.Leaf.{Leaf, IsStated}
@@ -19,9 +19,13 @@ pub record SearchState : Type 0 where
   pub set : List ℕ
   pub reach : List ℕ
   pub seen : ℕ
-  pub path : List Frame
+  pub path : List PathSplit
   pub entered : List ℕ
   pub leaf : Leaf
+
+-- the case that a search is about
+abbrev pub case_of_search : Tfpg → Logbook → SearchState → Case
+case_of_search graph log search = case_of graph log search.reach
 
 -- Each alternative on the path was entered.
 abbrev pub HasEnteredAll : SearchState → Type 0
@@ -33,16 +37,17 @@ pub record IsAtItsLeaf (graph : Tfpg) (log : Logbook) (search : SearchState) : T
   pub variables : length search.leaf.demands.bounds ≡ length graph.nodes
   pub allowed : All (IsAllowed graph log) search.path
   pub range : AreInRange search.path
-  pub stated : IsStated (fact graph log search.reach) (stated_by graph log search.reach search.path) search.leaf
+  pub stated : IsStated (fact (case_of_search graph log search)) (stated (case_of_search graph log search) search.path)
+      search.leaf
   pub picks : HasEntered graph log search.path search.entered search.leaf
 
 -- The search represents these steps at this log: it has seen all its events, its path is that of their present leaf, all
 -- alternatives on it were entered, no clause name stands twice on a path, and each horizon is the time of an event.
 pub record SearchRepresents (graph : Tfpg) (log : Logbook) (search : SearchState) (steps : List Judged) : Type 0 where
   pub seen : search.seen ≡ length log.events
-  pub leaf : IsAtLeaf graph log search.reach search.path steps
-  pub names : HasNoNameTwice graph log search.reach steps
-  pub horizons : All (λ (frame : Frame). IsEventTime log (horizon_of frame.name)) search.path
+  pub leaf : IsPresentLeaf (case_of_search graph log search) steps search.path
+  pub names : HasNoNameTwice (case_of_search graph log search) steps
+  pub horizons : All (λ (split : PathSplit). IsEventTime log (horizon_of split.name)) search.path
   pub system : IsAtItsLeaf graph log search
   pub all_entered : HasEnteredAll search
 

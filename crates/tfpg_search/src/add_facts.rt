@@ -6,6 +6,7 @@ ghost use Rattle.tfpg_base.specs.Constraint.{Meets};
 ghost use Rattle.tfpg_evidence.specs.declared.reason.Reason.{Reason};
 ghost use Rattle.tfpg_log.specs.Log.{IsLogOf};
 ghost use Rattle.tfpg_base.specs.Bounds.{at_most, at_least};
+ghost use Rattle.tfpg_clause.specs.Case.{case_of};
 ghost use Rattle.tfpg_clause.specs.Facts.{fact};
 ghost use Rattle.tfpg_diff.specs.Solution.{IsSolution};
 ghost use Rattle.tfpg_diff.specs.SystemState.{with_floor, with_ceiling};
@@ -34,16 +35,17 @@ impl LeafSystem {
         requires of { IsLogOf graph.now log.now }
         requires nodes { length self.old.demands.bounds ≡ length graph.now.nodes }
         ensures facts { OnOk result ((reason : Reason) (constraint : Constraint) →
-            fact graph.now log.now reach.now reason ≡ Some constraint →
+            fact (case_of graph.now log.now reach.now) reason ≡ Some constraint →
             (times : List ℕ) → IsSolution self.new.demands times → Meets times constraint) }
         ensures picks { self.new.demands.picks ≡ self.old.demands.picks }
         ensures reasons { pick_reasons self.new ≡ pick_reasons self.old }
         ensures nodes { length self.new.demands.bounds ≡ length self.old.demands.bounds }
         ensures stated { (stated : Reason → Option Constraint) →
-            IsStated (fact graph.now log.now reach.now) stated self.old →
-            IsStated (fact graph.now log.now reach.now) stated self.new }
+            IsStated (fact (case_of graph.now log.now reach.now)) stated self.old →
+            IsStated (fact (case_of graph.now log.now reach.now)) stated self.new }
         ensures closes { (stated : Reason → Option Constraint) →
-            IsStated (fact graph.now log.now reach.now) stated self.old → IfErr result (Closes stated) }
+            IsStated (fact (case_of graph.now log.now reach.now)) stated self.old →
+            IfErr result (Closes stated) }
         ensures steps { work.new ≤ work.old + 2 * length graph.now.nodes }
     {
         clause_laws();

@@ -3,10 +3,11 @@
 ghost use Rattle.std.specs.Prelude.{◌≡◌, ℕ, ◌<◌, ◌≤◌, ◌+◌, ◌-◌, List, pos, length, Some, unwrap_or, if◌then◌else◌, nat_lt};
 ghost use Rattle.tfpg_base.specs.declared.limits.TheConstants.{NEVER};
 ghost use Rattle.tfpg_evidence.specs.declared.reason.Reason.{Reason};
-ghost use Rattle.tfpg_graph.specs.Graph.{Tfpg, lag_at};
+ghost use Rattle.tfpg_graph.specs.Graph.{Tfpg, lag_or_zero};
 ghost use Rattle.tfpg_log.specs.declared.event.Event.TheVariants.{Alarm};
 ghost use Rattle.tfpg_log.specs.Log.{now_of, event_at, quiet_at};
 ghost use Rattle.tfpg_base.specs.Bounds.{at_most, at_least};
+ghost use Rattle.tfpg_clause.specs.Case.{case_of};
 ghost use Rattle.tfpg_clause.specs.Facts.{fact};
 
 use tfpg_base::NEVER;
@@ -25,9 +26,10 @@ pub(crate) struct Bound {
 /// constant time.
 pub(crate) fn low(graph: &Graph, log: &Log, reach: &NodeSet, node: u32) -> Bound
     requires { node < length graph.now.nodes }
-    ensures stated { fact graph.now log.now reach.now result.reason ≡ Some (at_least node result.time) }
+    ensures stated { fact (case_of graph.now log.now reach.now) result.reason
+        ≡ Some (at_least node result.time) }
     ensures greatest { (other : Reason) (bound : ℕ) →
-        fact graph.now log.now reach.now other ≡ Some (at_least node bound) → bound ≤ result.time }
+        fact (case_of graph.now log.now reach.now) other ≡ Some (at_least node bound) → bound ≤ result.time }
     ensures in_range { result.time ≤ NEVER }
 {
     if !reach.has(node) {
@@ -43,9 +45,9 @@ pub(crate) fn low(graph: &Graph, log: &Log, reach: &NodeSet, node: u32) -> Bound
 pub(crate) fn high(graph: &Graph, log: &Log, node: u32) -> Bound
     requires { node < length graph.now.nodes }
     ensures stated { (reach : List ℕ) →
-        fact graph.now log.now reach result.reason ≡ Some (at_most node (pos result.time)) }
+        fact (case_of graph.now log.now reach) result.reason ≡ Some (at_most node (pos result.time)) }
     ensures least { (reach : List ℕ) (other : Reason) (bound : ℕ) →
-        fact graph.now log.now reach other ≡ Some (at_most node (pos bound)) → result.time ≤ bound }
+        fact (case_of graph.now log.now reach) other ≡ Some (at_most node (pos bound)) → result.time ≤ bound }
     ensures in_range { result.time ≤ NEVER }
 {
     let _ordered = log.len();
@@ -66,7 +68,7 @@ fn after_now(log: &Log, node: u32) -> Bound
     ensures time { result.time ≡ now_of log.now + 1 }
     ensures reason { result.reason ≡ Reason.Unreached node (now_of log.now) }
     ensures greatest { (graph : Tfpg) (reach : List ℕ) (other : Reason) (bound : ℕ) →
-        fact graph log.now reach other ≡ Some (at_least node bound) → bound ≤ result.time }
+        fact (case_of graph log.now reach) other ≡ Some (at_least node bound) → bound ≤ result.time }
     ensures in_range { result.time ≤ NEVER }
 {
     let _ordered = log.len();
@@ -81,9 +83,9 @@ fn after_now(log: &Log, node: u32) -> Bound
 fn after_alarm(graph: &Graph, log: &Log, node: u32) -> Bound
     requires { node < length graph.now.nodes }
     ensures stated { (reach : List ℕ) →
-        fact graph.now log.now reach result.reason ≡ Some (at_least node result.time) }
+        fact (case_of graph.now log.now reach) result.reason ≡ Some (at_least node result.time) }
     ensures greatest { (number time : ℕ) → event_at log.now number ≡ Some (Alarm time node) →
-        time - unwrap_or (lag_at graph.now node) 0 ≤ result.time }
+        time - lag_or_zero graph.now node ≤ result.time }
     ensures in_range { result.time ≤ NEVER }
 {
     let _ordered = log.len();
@@ -103,7 +105,7 @@ fn after_alarm(graph: &Graph, log: &Log, node: u32) -> Bound
 fn after_silence(graph: &Graph, log: &Log, node: u32) -> Bound
     requires { node < length graph.now.nodes }
     ensures stated { (reach : List ℕ) →
-        fact graph.now log.now reach result.reason ≡ Some (at_least node result.time) }
+        fact (case_of graph.now log.now reach) result.reason ≡ Some (at_least node result.time) }
     ensures greatest { (number time : ℕ) → quiet_at graph.now log.now number node ≡ Some time →
         time + 1 ≤ result.time }
     ensures in_range { result.time ≤ NEVER }

@@ -3,11 +3,10 @@
 ghost use Rattle.std.specs.Prelude.{◌≡◌, ◌≤◌, ◌<◌, [], All, IfOk, Ok, length};
 ghost use Rattle.tfpg_graph.specs.Graph.{failures};
 ghost use Rattle.tfpg_graph.specs.Reach.{IsReach};
-ghost use Rattle.tfpg_log.specs.Log.{IsLogOf, IsOrdered};
-ghost use Rattle.tfpg_log.specs.LogOfLines.{new_log};
+ghost use Rattle.tfpg_log.specs.Log.{Logbook, IsLogOf, IsOrdered, first_events};
 ghost use Rattle.tfpg_search.specs.SearchState.{SearchRepresents, RepresentsSome, IsAtItsLeaf};
 ghost use Rattle.tfpg_search.specs.Enough.{IsEnough};
-ghost use Rattle.tfpg_search.specs.Searched.{IsSearched};
+ghost use Rattle.tfpg_search.specs.Searched.{IsSearched, call_of};
 ghost use Rattle.tfpg_search.specs.inside.Moves.{KeepsSet, SearchesOn};
 
 mod entering;
@@ -20,7 +19,7 @@ use std::alloc::Global;
 use std::marker::Model;
 use std::sync::ledger::Ledger;
 use tfpg_base::{NoMemory, Set, Steps, Trace};
-use tfpg_clause::Frame;
+use tfpg_clause::PathSplit;
 use tfpg_evidence::{ClauseName, StepList};
 use tfpg_graph::{Graph, NodeSet};
 use tfpg_log::Log;
@@ -32,7 +31,7 @@ pub struct Search {
     set: Set,
     reach: NodeSet,
     seen: u32,
-    path: Vec<Frame>,
+    path: Vec<PathSplit>,
     entered: Vec<usize>,
     leaf: LeafSystem,
 }
@@ -70,7 +69,8 @@ impl Search {
         ensures set { IfOk result (λ search. search.set ≡ set) }
         ensures reach { IfOk result (λ search. search.reach ≡ reach) }
         ensures seen { IfOk result (λ search. search.seen ≡ 0) }
-        ensures represents { IfOk result (λ search. SearchRepresents graph.now new_log search []) }
+        ensures represents { (log : Logbook) →
+            IfOk result (λ search. SearchRepresents graph.now (first_events log 0) search []) }
     {
         clause_laws();
         let leaf = LeafSystem::new(alloc, graph.node_count())?;
@@ -106,7 +106,8 @@ impl Search {
         requires event { 1 ≤ length log.now.events }
         requires budget { 1 ≤ budget }
         requires represents { RepresentsSome graph.now log.now self.old }
-        ensures searched { IsSearched graph.now log.now budget self.old self.new steps.old steps.new result }
+        ensures searched { IsSearched graph.now log.now budget
+            (call_of self.old self.new steps.old steps.new) result }
         ensures enough { IsEnough graph.now log.now budget → result ≡ Ok Found.Spent → ⊥ }
         ensures set { self.new.set ≡ self.old.set }
         ensures reach { self.new.reach ≡ self.old.reach }
@@ -129,7 +130,8 @@ impl Search {
         requires of { IsLogOf graph.now log.now }
         requires stands { IsAtItsLeaf graph.now log.now self.old }
         ensures keeps { KeepsSet self.old self.new }
-        ensures searches { SearchesOn graph.now log.now budget self.old self.new steps.old steps.new result }
+        ensures searches { SearchesOn graph.now log.now budget
+            (call_of self.old self.new steps.old steps.new) result }
     {
         let mut spent = 0;
         loop {

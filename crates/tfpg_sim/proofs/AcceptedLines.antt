@@ -20,24 +20,20 @@ use Rattle.tfpg_log.specs.declared.event.Event.TheVariants as event
 use Rattle.tfpg_log.specs.Accepted.{reply_to}
 use Rattle.tfpg_log.specs.Log.{Logbook, is_alarm_of, alarm_among, is_mode_change, time_of_event, IsEventOf}
 use Rattle.tfpg_base.proofs.lists.FirstFound.{find-All_fail}
-use Rattle.tfpg_log.specs.LogOfLines.{log_after_reply, log_after, log_of_lines}
+use Rattle.tfpg_log.specs.EventLines.{IsUnalarmed, IsNextEvent, AreNextEvents}
+use Rattle.tfpg_log.specs.LogOfLines.{log_of_events, log_of_lines}
+use Rattle.tfpg_log.proofs.AcceptedLines.{log_there as log_of_its_lines, lines_accepted as its_lines_accepted}
 use Rattle.tfpg_log.proofs.Order.{last_upto}
 use Rattle.tfpg_sim.specs.declared.entry.Entry.{Entry}
-use Rattle.tfpg_sim.specs.AcceptedLog.{AreAccepted}
+use Rattle.tfpg_log.specs.AcceptedLog.{AreAccepted}
 use Rattle.tfpg_sim.specs.Draws.{latenesses}
 use Rattle.tfpg_sim.specs.Script.{time_so_far}
-use Rattle.tfpg_sim.specs.SimulatedLog.{event_line, log_text}
+use Rattle.tfpg_sim.specs.SimulatedLog.{log_text}
 use Rattle.tfpg_sim.specs.inside.Entries.{IsScript}
-use Rattle.tfpg_sim.proofs.AcceptedEvents.{IsUnalarmed, IsNextEvent, line_said, event_line-said, is_accepted, is_short, is_clean}
 use Rattle.tfpg_sim.proofs.AlarmTimes.{length-latenesses, lateness_within, alarmed_at}
 use Rattle.tfpg_sim.proofs.LoggedEvents.{IsLogged, AreLogged}
 use Rattle.tfpg_sim.proofs.PutAlarms.{IsOther, Precedes, MayStandInOrder, before_each, Precedes-times}
 use Rattle.tfpg_sim.proofs.ScriptOrder.{small}
-
--- lines with their line ends are these lines
-pub lines_again : (lines : List (List ℕ)) → All HasNoLineEnd lines → lines_of (flat_map with_line_end lines) ≡ lines
-lines_again lines clean_lines =
-    ap lines_of (sym (append-nil (flat_map with_line_end lines))) ∙ lines_of-after lines [] clean_lines ∙ append-nil lines
 
 -- ---- what comes before an event
 
@@ -80,7 +76,7 @@ module _ (graph : Tfpg) (valid : IsValid graph) (entries : List Entry) (script :
     earlier : All (λ x. Precedes x e) front
     earlier = before_each front back e (subst MayStandInOrder are logged.order)
 
-    none_before : (x : Event) → IsLoggedHere x → All (λ y. Precedes y x) front → IsUnalarmed (record { events = front }) x
+    none_before : (x : Event) → IsLoggedHere x → All (λ y. Precedes y x) front → IsUnalarmed (log_of_events front) x
     none_before (event.Alarm time node) is all = no_alarm front node (λ k d within. (all k d within).1)
     none_before (event.Silent time node) is all = absurd is
     none_before (event.Sweep time) is all = tt
@@ -88,7 +84,7 @@ module _ (graph : Tfpg) (valid : IsValid graph) (entries : List Entry) (script :
     none_before (event.Mode time mode) is all = tt
 
     -- The event may come next.
-    pub comes_next : IsNextEvent graph (record { events = front }) e
+    pub comes_next : IsNextEvent graph (log_of_events front) e
     comes_next = record {
       own = own_event e its;
       not_back = last_upto front 0 (time_of_event e) (omega arith) (λ k d within. Precedes-times _ e (earlier k d within));
@@ -108,53 +104,13 @@ module _ (graph : Tfpg) (valid : IsValid graph) (entries : List Entry) (script :
           );
     }
 
-    -- Its line makes it the next event.
-    one_step : log_after graph (record { events = front }) (line_said graph e) ≡ record { events = front ++ e ∷ [] }
-    one_step =
-        cond-false (is_too_long (line_said graph e)) (record { events = front }) _ (is_short graph valid (record { events = front }) e comes_next)
-        ∙ ap (log_after_reply (record { events = front })) (is_accepted graph valid (record { events = front }) e comes_next)
-
-  -- the lines of further events make these events
-  steps : (front more back : List Event) → events ≡ front ++ (more ++ back) → fold (log_after graph) (record { events = front }) (map (line_said graph) more) ≡ record { events = front ++ more }
-  steps front [] back are = ap (λ es. let log : Logbook = record { events = es } in log) (sym (append-nil front))
-  steps front (e ∷ more) back are =
-      ap (λ log. fold (log_after graph) log (map (line_said graph) more)) (one_step front (more ++ back) e are)
-      ∙ steps (front ++ e ∷ []) more back (are ∙ sym (append_assoc front (e ∷ []) (more ++ back)))
-      ∙ ap (λ es. let log : Logbook = record { events = es } in log) (append_assoc front (e ∷ []) more)
-
-  -- the lines of the first events make these
-  pub first_lines : (front back : List Event) → events ≡ front ++ back → log_of_lines graph (map (line_said graph) front) ≡ record { events = front }
-  first_lines front back are = steps [] front back are
-
-  -- no line has a line end in it
-  clean_lines : (front more : List Event) → events ≡ front ++ more → All HasNoLineEnd (map (line_said graph) more)
-  clean_lines front [] are = All-nil HasNoLineEnd
-  clean_lines front (e ∷ more) are =
-      All-cons HasNoLineEnd (line_said graph e) (map (line_said graph) more) (is_clean graph valid (record { events = front }) e (comes_next front more e are))
-      (clean_lines (front ++ e ∷ []) more (are ∙ sym (append_assoc front (e ∷ []) more)))
-
-  -- the text's lines are those of the events
-  pub lines_there : lines_of (log_text graph events) ≡ map (line_said graph) events
-  lines_there =
-      ap lines_of (flat_map-same (event_line graph) (λ e. with_line_end (line_said graph e)) events (λ k d within. event_line-said graph (get_or events k d))
-      ∙ sym (flat_map-map with_line_end (line_said graph) events))
-      ∙ lines_again (map (line_said graph) events) (clean_lines [] events refl)
+  abbrev next : AreNextEvents graph events
+  next front back e are = comes_next front back e are
 
   -- The log of the lines has these events.
-  pub log_there : log_of_lines graph (lines_of (log_text graph events)) ≡ record { events = events }
-  log_there = ap (log_of_lines graph) lines_there ∙ first_lines events [] (sym (append-nil events))
+  pub log_there : log_of_lines graph (lines_of (log_text graph events)) ≡ log_of_events events
+  log_there = log_of_its_lines graph valid events next
 
   -- Each line is accepted.
   pub lines_accepted : AreAccepted graph (lines_of (log_text graph events))
-  lines_accepted = subst (AreAccepted graph) (sym lines_there) (λ index line at.
-      let item = slice_get-map_only (line_said graph) events index line at in
-      let are = cut_at events index item.0 item.1 in
-      let front = take index events in
-      let back = drop (suc index) events in
-      let next = comes_next front back item.0 are in
-      let log : log_of_lines graph (take index (map (line_said graph) events)) ≡ record { events = front } =
-      ap (log_of_lines graph) (take-map (line_said graph) index events) ∙ first_lines front (item.0 ∷ back) are in (
-        item.0,
-        ap is_too_long (sym item.2) ∙ is_short graph valid (record { events = front }) item.0 next,
-        (λ i. reply_to graph (log i) (sym item.2 i)) ∙ is_accepted graph valid (record { events = front }) item.0 next,
-      ))
+  lines_accepted = its_lines_accepted graph valid events next

@@ -11,6 +11,7 @@ use Rattle.tfpg_base.specs.Trace.{time_of}
 use Rattle.tfpg_base.proofs.lists.Choices.{option_and_then-some, option_map-some, is_some-there, then_some-true}
 use Rattle.tfpg_base.proofs.lists.Scans.{scan_at, length-scan}
 use Rattle.tfpg_base.proofs.lists.FirstFound.{find-passes}
+use Rattle.tfpg_graph.specs.declared.kind.Lag.{Lag}
 use Rattle.tfpg_graph.specs.Graph.{Tfpg, Node, lag_of, lag_at, is_monitored}
 use Rattle.tfpg_graph.proofs.NodeAt.{monitored_within}
 use Rattle.rand_pcg.specs.Lcg.{Lcg}
@@ -38,11 +39,11 @@ module _ (graph : Tfpg) (number : ℕ) where
 
   -- the lateness of a node is within its lag
   pub lateness_within : (node late : ℕ) → node < length graph.nodes → get_or (latenesses graph number) node None ≡ Some late
-      → (lag : ℕ) × (lag_at graph node ≡ Some lag) × (late ≤ lag)
+      → (lag : Lag) × (lag_at graph node ≡ Some lag) × (late ≤ lag.most)
   lateness_within node late within is =
       let at = lateness_at (after_edges (generator number DELAY_STREAM) graph.edges) graph.nodes node within in
-      let found = option_map-some (λ lag. drawn at.0 % (lag + 1)) (lag_of at.1.kind) late (sym at.3 ∙ is) in
-      let below : drawn at.0 % (found.0 + 1) < found.0 + 1 = omega arith in
+      let found = option_map-some (λ lag. drawn at.0 % (lag.most + 1)) (lag_of at.1.kind) late (sym at.3 ∙ is) in
+      let below : drawn at.0 % (found.0.most + 1) < found.0.most + 1 = omega arith in
       (found.0, ap (λ (o : Option Node). option_and_then lag_of (option_map (λ n. n.kind) o)) at.2 ∙ found.1, omega (arith, below, found.2))
 
   -- and a node that is monitored has one
@@ -51,7 +52,7 @@ module _ (graph : Tfpg) (number : ℕ) where
       let at = lateness_at (after_edges (generator number DELAY_STREAM) graph.edges) graph.nodes node (monitored_within graph node monitored) in
       let lag : lag_at graph node ≡ lag_of at.1.kind = ap (λ (o : Option Node). option_and_then lag_of (option_map (λ n. n.kind) o)) at.2 in
       let found = is_some-there (lag_of at.1.kind) (sym (ap is_some lag) ∙ monitored) in
-      (drawn at.0 % (found.0 + 1), at.3 ∙ ap (option_map (λ l. drawn at.0 % (l + 1))) found.1)
+      (drawn at.0 % (found.0.most + 1), at.3 ∙ ap (option_map (λ l. drawn at.0 % (l.most + 1))) found.1)
 
 -- ---- the first sweep
 

@@ -10,6 +10,7 @@ use Rattle.tfpg_base.proofs.lists.Choices.{option_and_then-some, option_map-some
 use Rattle.tfpg_base.proofs.lists.Passing.{slice_get-filter_map, slice_get-filter_map_only, each_from_length-filter_map, not_each_from_length-filter_map}
 use Rattle.tfpg_graph.specs.declared.edge.Edge.{Edge}
 use Rattle.tfpg_graph.specs.declared.kind.Kind.TheVariants.{Or, And}
+use Rattle.tfpg_graph.specs.declared.kind.Lag.{Lag}
 use Rattle.tfpg_graph.specs.Graph.{Tfpg, kind_at, is_or, is_and, incoming}
 use Rattle.tfpg_graph.proofs.NodeAt.{not_so, kind_test}
 use Rattle.tfpg_log.specs.Log.{Logbook}
@@ -77,7 +78,7 @@ module _ (graph : Tfpg) (log : Logbook) (delays : List ℕ) (trace : List Activa
     abbrev pub flights : List Flight
     flights = filter_map (flight_over graph delays trace) (incoming graph node)
 
-    pub or_arrival : (lag : Option ℕ) (limit : ℕ) (first : Option ℕ) → kind_at graph node ≡ Some (Or lag)
+    pub or_arrival : (lag : Option Lag) (limit : ℕ) (first : Option ℕ) → kind_at graph node ≡ Some (Or lag)
         → IsFirst (LandsBy false log flights) limit first → IsFirst (Arrives graph log delays trace node) limit first
     or_arrival lag limit first kind = IsFirst-same (LandsBy false log flights) (Arrives graph log delays trace node) limit first
         (λ x some. record {
@@ -90,7 +91,7 @@ module _ (graph : Tfpg) (log : Logbook) (delays : List ℕ) (trace : List Activa
         let index = slice_get-filter_map (flight_over graph delays trace) (incoming graph node) some.0 flight.0 some.1 flight.1 in
         (index.0, flight.0, index.1, flight.2))
 
-    pub and_arrival : (lag : Option ℕ) (limit : ℕ) (first : Option ℕ) → kind_at graph node ≡ Some (And lag)
+    pub and_arrival : (lag : Option Lag) (limit : ℕ) (first : Option ℕ) → kind_at graph node ≡ Some (And lag)
         → length (incoming graph node) ≤ length flights
         → IsFirst (LandsBy true log flights) limit first → IsFirst (Arrives graph log delays trace node) limit first
     and_arrival lag limit first kind many = IsFirst-same (LandsBy true log flights) (Arrives graph log delays trace node) limit first
@@ -106,7 +107,7 @@ module _ (graph : Tfpg) (log : Logbook) (delays : List ℕ) (trace : List Activa
         subst (Lands log x) (let same : own.0 ≡ flight = (let somes : Some own.0 ≡ Some flight = sym own.1 ∙ item.2 in cc) in same) own.2)
 
     -- an AND node one of whose sources is not active
-    pub no_arrival : (lag : Option ℕ) (limit : ℕ) → kind_at graph node ≡ Some (And lag) → length flights < length (incoming graph node)
+    pub no_arrival : (lag : Option Lag) (limit : ℕ) → kind_at graph node ≡ Some (And lag) → length flights < length (incoming graph node)
         → IsFirst (Arrives graph log delays trace node) limit None
     no_arrival lag limit kind few = λ x upto arrives.
         not_each_from_length-filter_map (flight_over graph delays trace) (incoming graph node) few (λ number member.

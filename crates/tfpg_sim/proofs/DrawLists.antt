@@ -29,12 +29,12 @@ module _ (state : Lcg) (nodes : List Node) (n : ℕ) (kind : Kind) where
   at_node = fold (λ before node. after_lag before (lag_of node.kind)) state (take n nodes)
 
   pub latenesses_from-more : option_map (λ node. node.kind) (slice_get nodes n) ≡ Some kind
-      → latenesses_from state (take (n + 1) nodes) ≡ latenesses_from state (take n nodes) ++ option_map (λ lag. drawn at_node % (lag + 1)) (lag_of kind) ∷ []
+      → latenesses_from state (take (n + 1) nodes) ≡ latenesses_from state (take n nodes) ++ option_map (λ lag. drawn at_node % (lag.most + 1)) (lag_of kind) ∷ []
   latenesses_from-more is =
       let found = option_map-some (λ (node : Node). node.kind) (slice_get nodes n) kind is in
       ap (latenesses_from state) (take-next nodes n found.0 found.1)
       ∙ scan-push (λ before node. after_lag before (lag_of node.kind)) lateness_of state (take n nodes) found.0
-      ∙ ap (λ k. latenesses_from state (take n nodes) ++ option_map (λ lag. drawn at_node % (lag + 1)) (lag_of k) ∷ []) found.2
+      ∙ ap (λ k. latenesses_from state (take n nodes) ++ option_map (λ lag. drawn at_node % (lag.most + 1)) (lag_of k) ∷ []) found.2
 
   pub after_nodes-more : option_map (λ node. node.kind) (slice_get nodes n) ≡ Some kind
       → fold (λ before node. after_lag before (lag_of node.kind)) state (take (n + 1) nodes) ≡ after_lag at_node (lag_of kind)

@@ -18,14 +18,14 @@ use Rattle.tfpg_log.specs.declared.event.Event.{Event}
 use Rattle.tfpg_log.specs.declared.event.Event.TheVariants as event
 use Rattle.tfpg_log.specs.Explains.{Explains, IsMember}
 use Rattle.tfpg_log.specs.Log.{Logbook, now_of, mode_at, time_of_event}
-use Rattle.tfpg_log.specs.LogOfLines.{log_of_lines}
+use Rattle.tfpg_log.specs.LogOfLines.{log_of_events, log_of_lines}
 use Rattle.tfpg_log.specs.Rules.{HasAge, IsDue, KeepsMay, KeepsMust}
 use Rattle.tfpg_log.proofs.Order.{AreEventsInOrder, last_upto, before_last}
 use Rattle.tfpg_trace.proofs.FailureModes.{stands_there, no_failure}
 use Rattle.tfpg_sim.specs.declared.entry.Entry.{Entry}
 use Rattle.tfpg_sim.specs.declared.entry.Entry.TheVariants.{Start, Mode, Sweep, Tick, Stop}
 use Rattle.tfpg_sim.specs.declared.simulated.Simulated.{Simulated}
-use Rattle.tfpg_sim.specs.AcceptedLog.{AreAccepted}
+use Rattle.tfpg_log.specs.AcceptedLog.{AreAccepted}
 use Rattle.tfpg_sim.specs.Draws.{delays, latenesses}
 use Rattle.tfpg_sim.specs.Script.{time_so_far, time_of_entry}
 use Rattle.tfpg_sim.specs.Simulated.{IsSimulationOf}
@@ -36,7 +36,7 @@ use Rattle.tfpg_sim.proofs.AcceptedLines.{by_stop, its, log_there, lines_accepte
 use Rattle.tfpg_sim.proofs.KeptRules.{keeps}
 use Rattle.tfpg_sim.proofs.LoggedEvents.{AreLogged, logged}
 use Rattle.tfpg_sim.proofs.PutAlarms.{MayStandInOrder, Precedes-times}
-use Rattle.tfpg_sim.proofs.ReadScripts.{script_read}
+use Rattle.tfpg_sim.proofs.SpelledScripts.{IsScript-spelled}
 use Rattle.tfpg_sim.proofs.ScriptOrder.{all_by_last}
 use Rattle.tfpg_sim.proofs.ShownEvents.{shown}
 
@@ -134,13 +134,13 @@ module _ (graph : Tfpg) (script : List ℕ) (number : ℕ) (simulated : Simulate
   events = log_events entries trace (latenesses graph number) (time_so_far entries)
 
   abbrev log : Logbook
-  log = record { events = events }
+  log = log_of_events events
 
   is_script : IsScript graph entries
-  is_script = (script_read graph script entries is.right).0
+  is_script = IsScript-spelled graph (lines_of script) entries is.right.begun
 
   logs : AreLogged graph entries trace (latenesses graph number) (length (latenesses graph number)) events
-  logs = logged graph entries trace (latenesses graph number) is_script (script_read graph script entries is.right).1 (length (latenesses graph number))
+  logs = logged graph entries trace (latenesses graph number) is_script is.right.stops (length (latenesses graph number))
 
   -- each line of the log is accepted
   pub accepted : AreAccepted graph (lines_of simulated.log)

@@ -19,8 +19,8 @@ use Rattle.tfpg_base.specs.Words.{is_name, is_letter, is_name_byte}
 use Rattle.tfpg_graph.specs.declared.edge.Edge.{Edge}
 use Rattle.tfpg_graph.specs.declared.kind.Kind.{Kind}
 use Rattle.tfpg_graph.specs.declared.kind.Kind.TheVariants.{Failure, Or, And}
-use Rattle.tfpg_graph.specs.Graph.{Tfpg, Node, is_failure, is_kind_at, failures, incoming}
-use Rattle.tfpg_graph.specs.Valid.{HasValidNumber, IsValidEdge, IsSamePair, WalksInNoTime, IsValidSoFar, IsValid, HasIncomingBefore}
+use Rattle.tfpg_graph.specs.Graph.{Tfpg, Node, lag_up_to, is_failure, is_kind_at, failures, incoming}
+use Rattle.tfpg_graph.specs.Valid.{HasValidNumber, IsValidLag, IsValidEdge, IsSamePair, WalksInNoTime, IsValidSoFar, IsValid, HasIncomingBefore}
 use Rattle.rand_pcg.specs.Lcg.{Lcg}
 use Rattle.tfpg_sim.specs.Draws.{generator}
 use Rattle.tfpg_sim.specs.inside.GraphText.{HasDrawnModes}
@@ -81,8 +81,8 @@ name_once one other small too same = ⊎_elim
 -- the kind is that of a discrepancy, and its lag is not too large
 abbrev IsDiscrepancy : Kind → Type 0
 IsDiscrepancy (Failure rarity) = ⊥
-IsDiscrepancy (Or lag) = IfSome lag (λ l. l ≤ MAX_TIME)
-IsDiscrepancy (And lag) = IfSome lag (λ l. l ≤ MAX_TIME)
+IsDiscrepancy (Or lag) = IfSome lag IsValidLag
+IsDiscrepancy (And lag) = IfSome lag IsValidLag
 
 discrepancy_number : (kind : Kind) → IsDiscrepancy kind → HasValidNumber kind
 discrepancy_number (Failure rarity) is = absurd is
@@ -213,9 +213,9 @@ IsDiscrepancy-kind_drawn : (node : ℕ) (state : Lcg) → IsDiscrepancy (kind_dr
 IsDiscrepancy-kind_drawn node state =
     cond_both (is_and_drawn node state) (And (lag_drawn state)) (Or (lag_drawn state)) IsDiscrepancy (λ _. small) (λ _. small)
   where
-    small : IfSome (lag_drawn state) (λ l. l ≤ MAX_TIME)
-    small = cond_both (eqb (draw 4 3 state) 0) None (Some (draw 20 4 state)) (λ o. IfSome o (λ l. l ≤ MAX_TIME)) (λ _. tt)
-        (λ _. let below : draw 20 4 state < 20 = omega arith in omega arith)
+    small : IfSome (lag_drawn state) IsValidLag
+    small = cond_both (eqb (draw 4 3 state) 0) None (Some (lag_up_to (draw 20 4 state))) (λ o. IfSome o IsValidLag) (λ _. tt)
+        (λ _. let below : draw 20 4 state < 20 = omega arith in record { least = refl; most = omega arith })
 
 module _ (index : ℕ) (edges : List Edge) (drawn : AreDrawnEdges (FAILURE_COUNT + index) edges) where
   -- an edge into the next discrepancy is none of those so far

@@ -35,9 +35,11 @@ use Rattle.tfpg_sim.specs.Generated.{draw, drawn_name, failure_kinds, draft_of, 
 use Rattle.tfpg_sim.specs.declared.limits.TheConstants.{FAILURE_COUNT}
 use Rattle.tfpg_sim.specs.Simulation.{event_of_entry}
 use Rattle.tfpg_sim.specs.SimulatedLog.{with_started, set_of, alarm_time, with_alarm, with_alarms, log_events}
-use Rattle.tfpg_sim.specs.Script.{entry_in, entry_of, entry_with_name, failure_named, may_follow, with_script_line, with_next, read_lines, stopped, script_of, time_so_far}
-use Rattle.tfpg_sim.proofs.AcceptedEvents.{named_clean}
-use Rattle.tfpg_sim.proofs.AcceptedLines.{lines_again}
+use Rattle.tfpg_sim.specs.Script.{IsScriptFault, time_so_far}
+use Rattle.tfpg_sim.specs.inside.ScriptReading.{entry_in, entry_of, entry_with_name, failure_named, may_follow, with_script_line, with_next, read_lines, stopped, script_of}
+use Rattle.tfpg_log.proofs.AcceptedEvents.{named_clean}
+use Rattle.tfpg_log.proofs.AcceptedLines.{lines_again}
+use Rattle.tfpg_sim.proofs.SpelledScripts.{SpellsScript-read, never_faulty, one_script}
 use Rattle.tfpg_sim.proofs.ExplainedLogs.{events_are}
 use Rattle.tfpg_sim.proofs.PutAlarms.{put_there, one_more}
 use Rattle.tfpg_sim.proofs.GeneratedGraphs.{generated_valid, generated_failures, length-failure_kinds, failure_kind, length-named_nodes, get_or-named_nodes, drawn_node, is_name-drawn_name}
@@ -166,11 +168,13 @@ script_right number size some few =
     (text_right number size some few x y (omega arith) (omega arith) (eqb x y) refl)
 
 -- and never at fault
-pub never_at_fault : (number size line : ℕ) → 1 ≤ size → size ≤ MAX_CASE_SIZE → script_of (generated_graph number size) (generated_script number size) ≡ Err line → ⊥
+pub never_at_fault : (number size line : ℕ) → 1 ≤ size → size ≤ MAX_CASE_SIZE
+    → IsScriptFault (generated_graph number size) (lines_of (generated_script number size)) line → ⊥
 never_at_fault number size line some few fault =
+    let graph = generated_graph number size in
+    let text = generated_script number size in
     let script = script_right number size some few in
-    let both : Ok script.0 ≡ Err line = sym script.1 ∙ fault in
-    absurd cc
+    never_faulty graph (generated_valid number size some few) (lines_of text) script.0 line (SpellsScript-read graph text script.0 script.1) fault
 
 -- ---- the set and the log
 
@@ -233,8 +237,11 @@ module _ (number size draw : ℕ) (simulated : Simulated) (some : 1 ≤ size) (f
   -- what was simulated is the drawn script
   same_entries : IsDrawnScript is.entries
   same_entries =
+      let graph = generated_graph number size in
+      let text = generated_script number size in
       let script = script_right number size some few in
-      subst IsDrawnScript (let same : script.0 ≡ is.entries = (let both : Ok script.0 ≡ Ok is.entries = sym script.1 ∙ is.right in cc) in same) script.2
+      subst IsDrawnScript (one_script graph (generated_valid number size some few) (lines_of text) script.0 is.entries
+      (SpellsScript-read graph text script.0 script.1) is.right) script.2
 
   pub generated_set : IsSet simulated.set × (length simulated.set ≤ 2)
   generated_set =

@@ -30,7 +30,8 @@ delay_upto tmin value m tmax is order = subst (λ t. tmin + value % delay_count 
     upto_greatest : (count : ℕ) → 0 < count → tmin + count ≡ m + 1 → tmin + value % count ≤ m
     upto_greatest count some same = let below : value % count < count = omega arith in omega arith
 
-delay_at : (graph : Tfpg) (number n : ℕ) (edge : Edge) → IsValid graph → slice_get graph.edges n ≡ Some edge
+-- The delay of an edge is drawn between its least and its greatest one.
+pub delay_at : (graph : Tfpg) (number n : ℕ) (edge : Edge) → IsValid graph → slice_get graph.edges n ≡ Some edge
     → (delay : ℕ) × (slice_get (delays graph number) n ≡ Some delay) × (edge.tmin ≤ delay) × ((m : ℕ) → edge.tmax ≡ Some m → delay ≤ m)
 delay_at graph number n edge valid at =
     let found = scan_at (λ (before : Lcg) (e : Edge). after_draw before) (λ before e. delay_of e (drawn before)) (generator number DELAY_STREAM) graph.edges n edge at in

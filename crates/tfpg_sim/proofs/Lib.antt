@@ -11,7 +11,8 @@ pub mod ScriptLines
 pub mod NamedEvents
 pub mod KeptRules
 pub mod ReadScripts
-pub mod AcceptedEvents
+pub mod EntryLines
+pub mod SpelledScripts
 pub mod PutAlarms
 pub mod LoggedEvents
 pub mod AlarmTimes
@@ -22,3 +23,4 @@ pub mod GeneratedGraphs
 pub mod GraphTexts
 pub mod GeneratedScripts
 pub mod SimulatedSets
+pub mod OneSimulation

@@ -20,7 +20,8 @@ use Rattle.tfpg_sim.specs.declared.limits.TheConstants.{MAX_ENTRIES}
 use Rattle.tfpg_log.specs.declared.limits.TheConstants.{MAX_MODE_CHANGES}
 use Rattle.tfpg_sim.specs.Simulation.{event_of_entry}
 use Rattle.tfpg_sim.specs.SimulatedLog.{alarm_time, with_alarm, with_alarms}
-use Rattle.tfpg_sim.specs.inside.Entries.{IsEntryOf, IsScript}
+use Rattle.tfpg_sim.specs.inside.Entries.{IsScript}
+use Rattle.tfpg_sim.specs.Script.{IsEntryOf}
 use Rattle.tfpg_sim.proofs.PutAlarms.{put, put_there, All-put, alarm_there, still_there, one_more, changes_same, modes_same, IsOther, Precedes, MayStandInOrder, order_put}
 use Rattle.tfpg_sim.proofs.ReadScripts.{few_entries, few_changes}
 use Rattle.tfpg_sim.proofs.ScriptOrder.{all_by_last, in_order}

@@ -1,10 +1,11 @@
 -- What the lines of a script say, line by line.
-use Rattle.std.proofs.Common.{◌≡◌, ℕ, ◌+◌, List, [], ◌∷◌, ◌++◌, length, fold, cond, None, Ok, Err, true, false, refl, sym, ap, ◌∙◌}
+use Rattle.std.proofs.Common.{◌≡◌, ℕ, ◌+◌, List, [], ◌∷◌, ◌++◌, length, fold, cond, None, Ok, Err, true, false, refl, sym, ap, ◌∙◌, arith}
 use Rattle.std.proofs.lemmas.List.Sums.{fold-append, fold_push}
 use Rattle.tfpg_base.specs.Lines.{lines_of, parts_of}
 use Rattle.tfpg_graph.specs.Graph.{Tfpg}
 use Rattle.tfpg_sim.specs.declared.entry.Entry.{Entry}
-use Rattle.tfpg_sim.specs.Script.{has_stopped, next_entry, with_next, with_script_line, read_lines, stopped, script_of}
+use Rattle.tfpg_sim.specs.Script.{has_stopped}
+use Rattle.tfpg_sim.specs.inside.ScriptReading.{next_entry, with_next, with_script_line, read_lines, stopped, script_of}
 
 -- a fault stays
 pub fault_stays : (graph : Tfpg) (number : ℕ) (lines : List (List ℕ)) → fold (with_script_line graph) (Err number) lines ≡ Err number
@@ -43,3 +44,8 @@ pub script_of-missing : (graph : Tfpg) (text body : List ℕ) (lines : List (Lis
 script_of-missing graph text body lines entries are same read stop =
     ap (λ all. stopped (read_lines graph all)) (are ∙ sym same) ∙ ap stopped read
     ∙ ap (λ b. cond b (Ok entries) (Err (length entries + 1))) stop
+
+-- no text has no stop
+pub script_of-empty : (graph : Tfpg) (text : List ℕ) → length text ≡ 0 → script_of graph text ≡ Err 1
+script_of-empty graph [] none = refl
+script_of-empty graph (byte ∷ bytes) none = absurd (omega (arith, none))

@@ -10,7 +10,8 @@ use Rattle.tfpg_base.proofs.lists.Cuts.{take-item}
 use Rattle.tfpg_graph.specs.Graph.{Tfpg}
 use Rattle.tfpg_sim.specs.declared.entry.Entry.{Entry}
 use Rattle.tfpg_sim.specs.declared.entry.Entry.TheVariants.{Start, Mode, Sweep, Tick, Stop}
-use Rattle.tfpg_sim.specs.Script.{next_entry, with_next, with_script_line, read_lines, stopped, script_of, has_stopped, is_new, changes_mode}
+use Rattle.tfpg_sim.specs.Script.{has_stopped, changes_mode}
+use Rattle.tfpg_sim.specs.inside.ScriptReading.{next_entry, with_next, with_script_line, read_lines, stopped, script_of, is_new}
 use Rattle.tfpg_sim.specs.declared.limits.TheConstants.{MAX_ENTRIES}
 use Rattle.tfpg_log.specs.declared.limits.TheConstants.{MAX_MODE_CHANGES}
 use Rattle.tfpg_sim.specs.inside.Entries.{IsScript}
@@ -20,7 +21,7 @@ use Rattle.tfpg_sim.proofs.ScriptOrder.{new_there}
 
 module _ (graph : Tfpg) where
   -- lines that are read after a script's make one
-  reads_script : (lines : List (List ℕ)) (before entries : List Entry) → IsScript graph before → fold (with_script_line graph) (Ok before) lines ≡ Ok entries → IsScript graph entries
+  pub reads_script : (lines : List (List ℕ)) (before entries : List Entry) → IsScript graph before → fold (with_script_line graph) (Ok before) lines ≡ Ok entries → IsScript graph entries
   reads_script [] before entries script read = subst (IsScript graph) (let same : before ≡ entries = cc in same) script
   reads_script (line ∷ lines) before entries script read =
       by (next_entry graph before line) refl read

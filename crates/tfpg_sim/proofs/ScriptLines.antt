@@ -15,8 +15,9 @@ use Rattle.tfpg_base.proofs.lists.Choices.{option_and_then-some, option_map-some
 use Rattle.tfpg_base.proofs.lists.Sequences.{below_or_last}
 use Rattle.tfpg_sim.specs.declared.entry.Entry.{Entry}
 use Rattle.tfpg_sim.specs.declared.entry.Entry.TheVariants.{Start, Mode, Sweep, Tick, Stop}
-use Rattle.tfpg_sim.specs.Script.{time_in, failure_named, entry_alone, entry_with_name, entry_in, entry_of, may_follow, next_entry}
-use Rattle.tfpg_sim.specs.inside.Entries.{IsEntryOf, IsScript}
+use Rattle.tfpg_sim.specs.inside.ScriptReading.{time_in, failure_named, entry_alone, entry_with_name, entry_in, entry_of, may_follow, next_entry}
+use Rattle.tfpg_sim.specs.inside.Entries.{IsScript}
+use Rattle.tfpg_sim.specs.Script.{IsEntryOf}
 
 -- a time that is read is not too large
 time_small : (word : List ℕ) (time : ℕ) → time_in word ≡ Some time → time ≤ MAX_TIME

@@ -15,9 +15,11 @@ use Rattle.tfpg_graph.specs.Graph.{Tfpg}
 use Rattle.tfpg_sim.specs.declared.entry.Entry.{Entry}
 use Rattle.tfpg_sim.specs.declared.entry.Entry.TheVariants.{Start, Mode, Sweep, Tick, Stop}
 use Rattle.tfpg_base.specs.Choice.{last_of}
-use Rattle.tfpg_sim.specs.Script.{time_of_entry, time_so_far, may_follow, is_new, starts, has_stopped}
+use Rattle.tfpg_sim.specs.Script.{time_of_entry, time_so_far, starts, has_stopped}
+use Rattle.tfpg_sim.specs.inside.ScriptReading.{may_follow, is_new}
 use Rattle.tfpg_sim.specs.declared.limits.TheConstants.{MAX_ENTRIES}
-use Rattle.tfpg_sim.specs.inside.Entries.{IsEntryOf, IsScript}
+use Rattle.tfpg_sim.specs.inside.Entries.{IsScript}
+use Rattle.tfpg_sim.specs.Script.{IsEntryOf}
 use Rattle.tfpg_sim.specs.Simulation.{start_of}
 use Rattle.tfpg_sim.specs.inside.Settling.{IsFailureStart, with_start}
 use Rattle.tfpg_base.proofs.lists.Elements.{All-at}
@@ -30,7 +32,7 @@ time-push entries entry =
     ap (λ o. option_map_or time_of_entry o 0) (slice_get-push_at entries entry (length (entries ++ entry ∷ []) - 1) (omega (arith, length_push entries entry)))
 
 -- what a line that may follow says of those before it
-not_back : (before : List Entry) (entry : Entry) → may_follow before entry ≡ true → time_so_far before ≤ time_of_entry entry
+pub not_back : (before : List Entry) (entry : Entry) → may_follow before entry ≡ true → time_so_far before ≤ time_of_entry entry
 not_back before entry follows =
     let rest = (and_parts (nat_lt (length before) MAX_ENTRIES) _ follows).1 in
     let later = (and_parts (not (has_stopped before)) _ rest).1 in
@@ -44,7 +46,7 @@ new_there before entry follows =
 
 module _ (graph : Tfpg) (entries : List Entry) (script : IsScript graph entries) where
   -- no line is after the last of the first so many
-  up_to : (n : ℕ) → n ≤ length entries → All (λ entry. time_of_entry entry ≤ time_so_far (take n entries)) (take n entries)
+  pub up_to : (n : ℕ) → n ≤ length entries → All (λ entry. time_of_entry entry ≤ time_so_far (take n entries)) (take n entries)
   up_to zero within = All-nil (λ entry. time_of_entry entry ≤ time_so_far (take 0 entries))
   up_to (suc n) within =
       let item = slice_get-get_or entries n (Start 0 0) (omega arith) in

@@ -17,7 +17,7 @@ use Rattle.tfpg_base.proofs.lists.Numbered.{item_among}
 use Rattle.tfpg_log.specs.Log.{Logbook}
 use Rattle.tfpg_sim.specs.Simulation.{Carries, Arrives, IsFirst}
 use Rattle.tfpg_sim.proofs.ArrivingFlights.{IsFirst-same}
-use Rattle.tfpg_sim.specs.inside.Settling.{candidate_at, IsCandidate, AreCandidates, IsEarliest, IsEarliestBelow, IsUnderWay}
+use Rattle.tfpg_sim.specs.inside.Settling.{candidate_at, simulation_case, IsCandidate, AreCandidates, IsEarliest, IsEarliestBelow, IsUnderWay}
 
 -- no edge goes from the one node to the other
 no_edge : (graph : Tfpg) (settled node : ℕ) → edge_from_to graph settled node ≡ None
@@ -97,7 +97,7 @@ candidate_in candidates node time is = ⊎_elim (λ within. within)
 
 -- what has a candidate is a discrepancy that is not active yet, and its time is its first arrival
 of_candidate : (graph : Tfpg) (log : Logbook) (delays : List ℕ) (limit : ℕ) (trace : List Activation) (node : ℕ) (candidate : Option ℕ) (time : ℕ)
-    → IsCandidate graph log delays limit trace node candidate → candidate ≡ Some time
+    → IsCandidate (simulation_case graph log delays limit) trace node candidate → candidate ≡ Some time
     → (is_kind_at is_failure graph node ≡ false) × (time_of trace node ≡ None) × IsFirst (Arrives graph log delays trace node) limit (Some time)
 of_candidate graph log delays limit trace node candidate time own is =
     let unlike = not_failure (is_kind_at is_failure graph node) refl in
@@ -113,11 +113,11 @@ of_candidate graph log delays limit trace node candidate time own is =
     absent (Some start) at = absurd (none-some time (sym (own.active start at) ∙ is))
 
 module _ (graph : Tfpg) (log : Logbook) (delays : List ℕ) (limit : ℕ) (starts : ℕ → Option ℕ) (trace : List Activation) (candidates : List (Option ℕ))
-    (under_way : IsUnderWay graph log delays limit starts trace candidates) (node time : ℕ) (earliest : IsEarliest candidates node time) where
+    (under_way : IsUnderWay (simulation_case graph log delays limit) starts trace candidates) (node time : ℕ) (earliest : IsEarliest candidates node time) where
   inside : node < length graph.nodes
   inside = let within = earliest.within in let count = under_way.known.count in omega arith
 
-  own : IsCandidate graph log delays limit trace node (candidate_at candidates node)
+  own : IsCandidate (simulation_case graph log delays limit) trace node (candidate_at candidates node)
   own = under_way.known.each node inside
 
   facts : (is_kind_at is_failure graph node ≡ false) × (time_of trace node ≡ None) × IsFirst (Arrives graph log delays trace node) limit (Some time)
@@ -136,10 +136,10 @@ module _ (graph : Tfpg) (log : Logbook) (delays : List ℕ) (limit : ℕ) (start
   its_first = facts.2
 
   -- the simulation goes on
-  pub settle : (later : List (Option ℕ)) → AreCandidates graph log delays limit (with_time node time trace) later
+  pub settle : (later : List (Option ℕ)) → AreCandidates (simulation_case graph log delays limit) (with_time node time trace) later
       → All (λ activation. activation.node < length graph.nodes) (with_time node time trace)
       → All (λ activation. activation.time ≤ limit) (with_time node time trace)
-      → IsUnderWay graph log delays limit starts (with_time node time trace) later
+      → IsUnderWay (simulation_case graph log delays limit) starts (with_time node time trace) later
   settle later are within times = record {
     within = within;
     times = times;
@@ -197,7 +197,7 @@ module _ (graph : Tfpg) (log : Logbook) (delays : List ℕ) (limit : ℕ) (start
 -- what is known of a node to which no edge comes from the one that is active now
 pub keeps_candidate : (graph : Tfpg) (log : Logbook) (delays : List ℕ) (limit : ℕ) (trace : List Activation) (settled time : ℕ) → time_of trace settled ≡ None
     → (node : ℕ) (candidate : Option ℕ) → settled ≢ node → edge_from_to graph settled node ≡ None
-    → IsCandidate graph log delays limit trace node candidate → IsCandidate graph log delays limit (with_time settled time trace) node candidate
+    → IsCandidate (simulation_case graph log delays limit) trace node candidate → IsCandidate (simulation_case graph log delays limit) (with_time settled time trace) node candidate
 keeps_candidate graph log delays limit trace settled time absent node candidate unlike none own =
     let other = time_of-with_time_other trace settled time node unlike in
     record {

@@ -1,17 +1,20 @@
 -- The simulated trace shows each event of the simulated log.
-use Rattle.std.proofs.Common.{◌≡◌, ℕ, ◌≤◌, ⊎_elim, List, [], ◌∷◌, ◌++◌, length, get_or, All, Contains, IsTrue, Option, None, is_some, refl, sym, ◌∙◌, subst, arith}
+use Rattle.std.proofs.Common.{◌≡◌, ℕ, ◌≤◌, ⊎_elim, ◌-◌, List, [], ◌∷◌, ◌++◌, length, get_or, All, Contains, IsTrue, Option, None, is_some, refl, sym, ap, ◌∙◌, subst, arith}
 use Rattle.std.specs.Prelude.{find}
 use Rattle.std.proofs.lemmas.Bool.{eq-eqb, leb-false, false≢true}
 use Rattle.std.proofs.lemmas.List.Elements.{All-contains, Contains-append_cases}
 use Rattle.tfpg_base.proofs.lists.Elements.{Contains-cons_cases}
 use Rattle.tfpg_base.proofs.lists.Choices.{is_some-option_map}
 use Rattle.tfpg_base.specs.declared.activation.Activation.{Activation}
-use Rattle.tfpg_graph.specs.Graph.{Tfpg}
+use Rattle.std.proofs.lemmas.Option.{same_Some}
+use Rattle.tfpg_graph.specs.Graph.{Tfpg, greatest_lag, lag_or_zero, is_monitored}
 use Rattle.tfpg_log.specs.declared.event.Event.{Event}
 use Rattle.tfpg_log.specs.declared.event.Event.TheVariants as event
 use Rattle.tfpg_log.specs.Log.{is_alarm_of, alarm_among, time_of_event}
 use Rattle.tfpg_base.proofs.lists.FirstFound.{find-Contains}
-use Rattle.tfpg_log.specs.Explains.{Shows}
+use Rattle.tfpg_log.specs.Explains.{IsActivatedIn, Shows}
+use Rattle.tfpg_log.specs.LogOfLines.{log_of_events}
+use Rattle.tfpg_log.specs.Rules.{IsActive}
 use Rattle.tfpg_graph.proofs.NodeAt.{monitored_within}
 use Rattle.tfpg_sim.specs.declared.entry.Entry.{Entry}
 use Rattle.tfpg_sim.specs.Draws.{latenesses}
@@ -39,14 +42,23 @@ module _ (graph : Tfpg) (entries : List Entry) (script : IsScript graph entries)
   lates = latenesses graph number
 
   -- The trace shows an event of the log, after those before it.
-  pub shown : (front back : List Event) (e : Event) → events ≡ front ++ e ∷ back → IsLogged graph entries trace lates (length lates) e → Shows graph trace front e
+  pub shown : (front back : List Event) (e : Event) → events ≡ front ++ e ∷ back → IsLogged graph entries trace lates (length lates) e → Shows graph (log_of_events front) trace e
   shown front back (event.Alarm time node) are is =
       let alarm = alarmed_at entries trace (get_or lates node None) node (time_so_far entries) time is.1 in
       let lag = lateness_within graph number node alarm.late (omega (arith, is.0, length-latenesses graph number)) alarm.lateness_is in
       let between = due_between entries alarm.active alarm.late in
-      (lag.0, alarm.active, lag.1, alarm.active_is, omega (arith, between.1, alarm.due, lag.2), omega (arith, between.0, alarm.due))
+      let monitored : IsTrue (is_monitored graph node) = ap is_some lag.1 in
+      let lag_is : lag_or_zero graph node ≡ lag.0.most = ap greatest_lag lag.1 in
+      let earliest : time - lag_or_zero graph node ≤ alarm.active = omega (arith, lag_is, between.1, alarm.due, lag.2) in
+      let latest : alarm.active ≤ time = omega (arith, between.0, alarm.due) in (
+        monitored,
+        λ interval said.
+            subst (IsActivatedIn trace node) (same_Some _ interval said)
+            (alarm.active, alarm.active_is, earliest, latest),
+      )
   shown front back (event.Silent time node) are is = absurd is
-  shown front back (event.Sweep time) are is = λ node monitored unalarmed active.
+  shown front back (event.Sweep time) are is = λ node monitored unalarmed until said active_then.
+      let active : IsActive trace node time = subst (IsActive trace node) (sym (same_Some time until said)) active_then in
       let late = monitored_lateness graph number node monitored in
       let due : ℕ = due_time entries active.0 late.0 in
       let early : due ≤ time = due_by_sweep entries active.0 late.0 time (sweep_early active.0 time entries (in_order graph entries script) is.0 active.2) in

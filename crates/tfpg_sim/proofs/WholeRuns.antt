@@ -8,7 +8,7 @@ use Rattle.tfpg_graph.proofs.NodeAt.{kind_within}
 use Rattle.tfpg_sim.specs.declared.entry.Entry.{Entry}
 use Rattle.tfpg_sim.specs.Script.{time_so_far}
 use Rattle.tfpg_sim.specs.Simulation.{Arrives, IsFirst, IsSimulated, script_log, start_of}
-use Rattle.tfpg_sim.specs.inside.Settling.{candidate_at, AreCandidates, IsEarliest, IsUnderWay, IsFailureStart, waiting_count}
+use Rattle.tfpg_sim.specs.inside.Settling.{candidate_at, simulation_case, AreCandidates, IsEarliest, IsUnderWay, IsFailureStart, waiting_count}
 use Rattle.tfpg_base.proofs.TraceTimes.{time_holds}
 use Rattle.tfpg_sim.proofs.ScriptOrder.{All-with_time}
 use Rattle.tfpg_sim.proofs.SettledNodes.{settle, its_first}
@@ -17,8 +17,8 @@ use Rattle.std.proofs.lemmas.Bool.{cases_eq, not-true}
 module _ (graph : Tfpg) (entries : List Entry) (delays : List ℕ) (stop : ℕ) where
   -- it begins with the failure modes that the script starts
   pub begins : (trace : List Activation) (candidates : List (Option ℕ)) → ((node : ℕ) → time_of trace node ≡ start_of entries node)
-      → All (IsFailureStart graph stop) trace → AreCandidates graph (script_log entries) delays stop trace candidates
-      → IsUnderWay graph (script_log entries) delays stop (start_of entries) trace candidates
+      → All (IsFailureStart graph stop) trace → AreCandidates (simulation_case graph (script_log entries) delays stop) trace candidates
+      → IsUnderWay (simulation_case graph (script_log entries) delays stop) (start_of entries) trace candidates
   begins trace candidates times own known = record {
     within = λ k d below. kind_within graph is_failure (get_or trace k d).node (own k d below).0;
     times = λ k d below. (own k d below).1;
@@ -33,7 +33,7 @@ module _ (graph : Tfpg) (entries : List Entry) (delays : List ℕ) (stop : ℕ) 
 
   -- the times so far are small
   pub times_after : (trace : List Activation) (candidates : List (Option ℕ)) (node time : ℕ)
-      → IsUnderWay graph (script_log entries) delays stop (start_of entries) trace candidates → IsEarliest candidates node time
+      → IsUnderWay (simulation_case graph (script_log entries) delays stop) (start_of entries) trace candidates → IsEarliest candidates node time
       → All (λ activation. activation.time ≤ stop) (with_time node time trace)
   times_after trace candidates node time way earliest =
       All-with_time (λ activation. activation.time ≤ stop) trace node time way.times
@@ -41,9 +41,9 @@ module _ (graph : Tfpg) (entries : List Entry) (delays : List ℕ) (stop : ℕ) 
 
   -- it goes on by the earliest candidate
   pub goes_on : (trace : List Activation) (candidates later : List (Option ℕ)) (node time : ℕ)
-      → IsUnderWay graph (script_log entries) delays stop (start_of entries) trace candidates → IsEarliest candidates node time
-      → AreCandidates graph (script_log entries) delays stop (with_time node time trace) later
-      → IsUnderWay graph (script_log entries) delays stop (start_of entries) (with_time node time trace) later
+      → IsUnderWay (simulation_case graph (script_log entries) delays stop) (start_of entries) trace candidates → IsEarliest candidates node time
+      → AreCandidates (simulation_case graph (script_log entries) delays stop) (with_time node time trace) later
+      → IsUnderWay (simulation_case graph (script_log entries) delays stop) (start_of entries) (with_time node time trace) later
   goes_on trace candidates later node time way earliest known =
       settle graph (script_log entries) delays stop (start_of entries) trace candidates way node time earliest later known
       (All-with_time (λ activation. activation.node < length graph.nodes) trace node time way.within
@@ -51,7 +51,7 @@ module _ (graph : Tfpg) (entries : List Entry) (delays : List ℕ) (stop : ℕ) 
       (times_after trace candidates node time way earliest)
 
   -- it ends where there is no candidate
-  pub ends : (trace : List Activation) (candidates : List (Option ℕ)) → IsUnderWay graph (script_log entries) delays stop (start_of entries) trace candidates
+  pub ends : (trace : List Activation) (candidates : List (Option ℕ)) → IsUnderWay (simulation_case graph (script_log entries) delays stop) (start_of entries) trace candidates
       → ((node : ℕ) → candidate_at candidates node ≡ None) → IsRisingByNode trace → stop ≡ time_so_far entries → IsSimulated graph entries delays trace
   ends trace candidates way none rising is = record {
     trace_of = (rising, way.within);

@@ -4,6 +4,7 @@ use Rattle.std.specs.List.{scan}
 use Rattle.rand_pcg.specs.Lcg.{Lcg, started, increment_of}
 use Rattle.rand_pcg.specs.Pcg.{multiplier_64, pcg32}
 use Rattle.tfpg_graph.specs.declared.edge.Edge.{Edge}
+use Rattle.tfpg_graph.specs.declared.kind.Lag.{Lag}
 use Rattle.tfpg_graph.specs.Graph.{Tfpg, Node, lag_of}
 use Rattle.tfpg_sim.specs.declared.limits.TheConstants.{DELAY_STREAM, OPEN_DELAYS}
 
@@ -38,13 +39,13 @@ delays_from state edges =
     scan (λ before edge. after_draw before) (λ before edge. delay_of edge (drawn before)) state edges
 
 -- a monitored node takes a draw
-abbrev pub after_lag : Lcg → Option ℕ → Lcg
+abbrev pub after_lag : Lcg → Option Lag → Lcg
 after_lag state None = state
 after_lag state (Some lag) = after_draw state
 
 -- how late the alarm of a monitored node comes
 abbrev pub lateness_of : Lcg → Node → Option ℕ
-lateness_of state node = option_map (λ lag. drawn state % (lag + 1)) (lag_of node.kind)
+lateness_of state node = option_map (λ lag. drawn state % (lag.most + 1)) (lag_of node.kind)
 
 -- the latenesses of these nodes, from this generator on
 abbrev pub latenesses_from : Lcg → List Node → List (Option ℕ)

@@ -6,7 +6,8 @@ use Rattle.tfpg_base.specs.TextLine.{text_line}
 use Rattle.tfpg_graph.specs.declared.edge.Edge.{Edge}
 use Rattle.tfpg_graph.specs.declared.kind.Kind.{Kind}
 use Rattle.tfpg_graph.specs.declared.kind.Kind.TheVariants.{Failure, Or, And}
-use Rattle.tfpg_graph.specs.Graph.{Tfpg, Node}
+use Rattle.tfpg_graph.specs.declared.kind.Lag.{Lag}
+use Rattle.tfpg_graph.specs.Graph.{Tfpg, Node, lag_up_to}
 use Rattle.tfpg_sim.specs.Draws.{generator}
 use Rattle.tfpg_sim.specs.declared.limits.TheConstants.{FAILURE_COUNT, GENERATED_DELAYS, GRAPH_STREAM}
 
@@ -58,8 +59,8 @@ abbrev pub is_and_drawn : ℕ → Lcg → Bool
 is_and_drawn node state = has_two node state && draw 8 2 state == 0
 
 -- its lag, where it is monitored
-abbrev pub lag_drawn : Lcg → Option ℕ
-lag_drawn state = if draw 4 3 state == 0 then None else Some (draw 20 4 state)
+abbrev pub lag_drawn : Lcg → Option Lag
+lag_drawn state = if draw 4 3 state == 0 then None else Some (lag_up_to (draw 20 4 state))
 
 -- its kind
 abbrev pub kind_drawn : ℕ → Lcg → Kind

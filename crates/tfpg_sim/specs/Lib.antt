@@ -1,10 +1,10 @@
 -- What the public contracts say.
+pub mod FaultyLine
 pub mod Script
 pub mod ScriptFaults
 pub mod Draws
 pub mod Simulation
 pub mod SimulatedLog
-pub mod AcceptedLog
 pub mod Simulated
 pub mod Generated
 -- What the code and its proofs need besides. No public clause reaches it.

@@ -1,51 +1,36 @@
--- Scripts: what each line says, which line may come after which, and the first line at fault.
-use Rattle.std.specs.Prelude.{ℕ, ◌+◌, ◌-◌, List, [], ◌∷◌, ◌++◌, length, fold, count_by, Bool, true, false, not, ◌&&◌, nat_lt, nat_le, ◌==◌, if◌then◌else◌, Option, Some, None, option_map, option_and_then, Result, Ok, Err, slice_get, codes, bytes_eq}
-use Rattle.std.specs.List.{list_any}
-use Rattle.std.specs.Bool.{then_some}
+-- Scripts: which lines spell one, and the first faulty line of lines that do not.
+use Rattle.std.specs.Prelude.{◌≡◌, ◌⊎◌, ℕ, ◌+◌, ◌<◌, ◌≤◌, List, [], ◌∷◌, length, map, All, AllPairs, count_by, Bool, true, false, ◌==◌, IsTrue, codes, decimal}
 use Rattle.std.specs.Option.{option_map_or}
 use Rattle.tfpg_base.specs.Choice.{last_of}
-use Rattle.tfpg_base.specs.Words.{words_of, number_of}
-use Rattle.tfpg_base.specs.Lines.{lines_of}
+use Rattle.tfpg_sim.specs.FaultyLine.{IsFaultyLine}
+use Rattle.tfpg_base.specs.Words.{line_of}
 use Rattle.tfpg_base.specs.declared.limits.TheConstants.{MAX_TIME}
-use Rattle.tfpg_graph.specs.Graph.{Tfpg, is_kind_at, is_failure, node_named, mode_named}
+use Rattle.tfpg_graph.specs.Graph.{Tfpg, is_kind_at, is_failure, name_word}
+use Rattle.tfpg_log.specs.EventLines.{mode_word}
 use Rattle.tfpg_log.specs.declared.limits.TheConstants.{MAX_MODE_CHANGES}
 use Rattle.tfpg_sim.specs.declared.limits.TheConstants.{MAX_ENTRIES}
 use Rattle.tfpg_sim.specs.declared.entry.Entry.{Entry}
 use Rattle.tfpg_sim.specs.declared.entry.Entry.TheVariants.{Start, Mode, Sweep, Tick, Stop}
 
--- the time that a word spells, where it is a number and not too large
-abbrev pub time_in : List ℕ → Option ℕ
-time_in word = option_and_then (λ time. then_some (nat_le time MAX_TIME) time) (number_of word)
+-- the words of a line of a script
+abbrev pub words_of_entry : Tfpg → Entry → List (List ℕ)
+words_of_entry graph (Start time node) = decimal time ∷ codes "start" ∷ name_word graph node ∷ []
+words_of_entry graph (Mode time mode) = decimal time ∷ codes "mode" ∷ mode_word graph mode ∷ []
+words_of_entry graph (Sweep time) = decimal time ∷ codes "sweep" ∷ []
+words_of_entry graph (Tick time) = decimal time ∷ codes "tick" ∷ []
+words_of_entry graph (Stop time) = decimal time ∷ codes "stop" ∷ []
 
--- the failure mode of this name
-abbrev pub failure_named : Tfpg → List ℕ → Option ℕ
-failure_named graph name =
-    option_and_then (λ node. then_some (is_kind_at is_failure graph node) node) (node_named graph name)
+-- the line
+abbrev pub entry_line : Tfpg → Entry → List ℕ
+entry_line graph entry = line_of (words_of_entry graph entry)
 
--- what a line says by the one word after its time
-abbrev pub entry_alone : List ℕ → ℕ → Option Entry
-entry_alone word time =
-    if bytes_eq word (codes "sweep") then Some (Sweep time)
-    else (if bytes_eq word (codes "tick") then Some (Tick time)
-    else (if bytes_eq word (codes "stop") then Some (Stop time) else None))
-
--- what it says by a word and a name
-abbrev pub entry_with_name : Tfpg → List ℕ → List ℕ → ℕ → Option Entry
-entry_with_name graph word name time =
-    if bytes_eq word (codes "start") then option_map (λ node. Start time node) (failure_named graph name)
-    else (if bytes_eq word (codes "mode") then option_map (λ mode. Mode time mode) (mode_named graph name) else None)
-
--- what a line of these words says, where they have one of the five shapes and its time and name are right
-abbrev pub entry_in : Tfpg → List (List ℕ) → Option Entry
-entry_in graph [] = None
-entry_in graph (time ∷ []) = None
-entry_in graph (time ∷ word ∷ []) = option_and_then (λ t. entry_alone word t) (time_in time)
-entry_in graph (time ∷ word ∷ name ∷ []) = option_and_then (λ t. entry_with_name graph word name t) (time_in time)
-entry_in graph (time ∷ word ∷ name ∷ more ∷ others) = None
-
--- what a line says
-abbrev pub entry_of : Tfpg → List ℕ → Option Entry
-entry_of graph line = entry_in graph (words_of line)
+-- The line names what the graph has, and its time is not too large.
+abbrev pub IsEntryOf : Tfpg → Entry → Type 0
+IsEntryOf graph (Start time node) = (time ≤ MAX_TIME) × IsTrue (is_kind_at is_failure graph node)
+IsEntryOf graph (Mode time mode) = (time ≤ MAX_TIME) × (mode < length graph.modes)
+IsEntryOf graph (Sweep time) = time ≤ MAX_TIME
+IsEntryOf graph (Tick time) = time ≤ MAX_TIME
+IsEntryOf graph (Stop time) = time ≤ MAX_TIME
 
 -- the time of a line
 abbrev pub time_of_entry : Entry → ℕ
@@ -87,44 +72,30 @@ time_so_far entries = option_map_or time_of_entry (last_of entries) 0
 abbrev pub has_stopped : List Entry → Bool
 has_stopped entries = option_map_or is_stop (last_of entries) false
 
--- A start is the first of its failure mode, and a change of mode is not one too many.
-abbrev pub is_new : List Entry → Entry → Bool
-is_new before (Start time node) = not (list_any (starts node) before)
-is_new before (Mode time mode) = nat_lt (count_by changes_mode before) MAX_MODE_CHANGES
-is_new before (Sweep time) = true
-is_new before (Tick time) = true
-is_new before (Stop time) = true
+-- The lines spell these entries, with which a script may begin: each is of the graph, and the times never fall; no failure
+-- mode starts twice, and nothing comes after the stop; and there are not too many entries and not too many changes of mode.
+pub record SpellsEntries (graph : Tfpg) (lines : List (List ℕ)) (entries : List Entry) : Type 0 where
+  pub spelled : lines ≡ map (entry_line graph) entries
+  pub of_graph : All (IsEntryOf graph) entries
+  pub in_order : AllPairs (λ earlier later. time_of_entry earlier ≤ time_of_entry later) entries
+  pub once : (failure : ℕ) → count_by (starts failure) entries ≤ 1
+  pub ended : AllPairs (λ earlier later. is_stop earlier ≡ false) entries
+  pub few : length entries ≤ MAX_ENTRIES
+  pub few_changes : count_by changes_mode entries ≤ MAX_MODE_CHANGES
 
--- The line may come after these: they are not too many and have no stop, and its time is not before theirs.
-abbrev pub may_follow : List Entry → Entry → Bool
-may_follow before entry =
-    nat_lt (length before) MAX_ENTRIES
-    && (not (has_stopped before) && (nat_le (time_so_far before) (time_of_entry entry) && is_new before entry))
+-- The lines spell this script, of which the last entry is the stop.
+pub record SpellsScript (graph : Tfpg) (lines : List (List ℕ)) (entries : List Entry) : Type 0 where
+  pub begun : SpellsEntries graph lines entries
+  pub stops : IsTrue (has_stopped entries)
 
--- what a line after these says, where it is right
-abbrev pub next_entry : Tfpg → List Entry → List ℕ → Option Entry
-next_entry graph before line =
-    option_and_then (λ entry. then_some (may_follow before entry) entry) (entry_of graph line)
+-- A script may begin with these lines.
+abbrev pub BeginsScript : Tfpg → List (List ℕ) → Type 0
+BeginsScript graph lines = (entries : List Entry) × SpellsEntries graph lines entries
 
--- The line is at fault where nothing right is said.
-abbrev pub with_next : List Entry → Option Entry → Result (List Entry) ℕ
-with_next before None = Err (length before + 1)
-with_next before (Some entry) = Ok (before ++ entry ∷ [])
-
--- what is read with one line more, or the number of the first line at fault
-abbrev pub with_script_line : Tfpg → Result (List Entry) ℕ → List ℕ → Result (List Entry) ℕ
-with_script_line graph (Ok before) line = with_next before (next_entry graph before line)
-with_script_line graph (Err number) line = Err number
-
--- what the lines say, or the number of the first line at fault
-abbrev pub read_lines : Tfpg → List (List ℕ) → Result (List Entry) ℕ
-read_lines graph lines = fold (with_script_line graph) (Ok []) lines
-
--- Where the stop is missing, the line after the last is at fault.
-abbrev pub stopped : Result (List Entry) ℕ → Result (List Entry) ℕ
-stopped (Err number) = Err number
-stopped (Ok entries) = if has_stopped entries then Ok entries else Err (length entries + 1)
-
--- the lines of a script, of which the last is the stop, or the number of the first line at fault
-abbrev pub script_of : Tfpg → List ℕ → Result (List Entry) ℕ
-script_of graph text = stopped (read_lines graph (lines_of text))
+-- Where lines are no script: their first faulty line; or, where a script may begin with all of them and yet they are none,
+-- the line after the last.
+abbrev pub IsScriptFault : Tfpg → List (List ℕ) → ℕ → Type 0
+IsScriptFault graph lines number =
+    IsFaultyLine (BeginsScript graph) lines number
+    ⊎ (BeginsScript graph lines × ((entries : List Entry) → SpellsScript graph lines entries → ⊥)
+    × (number ≡ length lines + 1))

@@ -7,6 +7,7 @@ use Rattle.tfpg_graph.specs.Graph.{Tfpg, is_kind_at, is_failure, is_or, is_and, 
 use Rattle.tfpg_log.specs.declared.event.Event.{Event}
 use Rattle.tfpg_log.specs.declared.event.Event.TheVariants as event
 use Rattle.tfpg_log.specs.Log.{Logbook}
+use Rattle.tfpg_log.specs.LogOfLines.{log_of_events}
 use Rattle.tfpg_log.specs.Rules.{HasAge, IsTraceOf}
 use Rattle.tfpg_sim.specs.declared.entry.Entry.{Entry}
 use Rattle.tfpg_sim.specs.declared.entry.Entry.TheVariants.{Start, Mode, Sweep, Tick, Stop}
@@ -22,7 +23,7 @@ event_of_entry (Stop time) = Some (event.Tick time)
 
 -- the script's own events, with which the log has all changes of mode
 abbrev pub script_log : List Entry → Logbook
-script_log entries = record { events = filter_map event_of_entry entries }
+script_log entries = log_of_events (filter_map event_of_entry entries)
 
 -- when a failure mode starts
 abbrev pub start_of : List Entry → ℕ → Option ℕ

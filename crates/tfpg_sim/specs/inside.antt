@@ -4,4 +4,5 @@ pub mod ModeSpans
 pub mod Arrivals
 pub mod Settling
 pub mod Entries
+pub mod ScriptReading
 pub mod GraphText

@@ -7,7 +7,7 @@ ghost use Rattle.tfpg_graph.specs.declared.limits.TheConstants.{MAX_NODES};
 ghost use Rattle.tfpg_log.specs.Log.{Logbook};
 ghost use Rattle.tfpg_sim.specs.inside.Arrivals.{IsDelayed, AreNearTimes};
 ghost use Rattle.tfpg_sim.specs.inside.ModeSpans.{AreSpans};
-ghost use Rattle.tfpg_sim.specs.inside.Settling.{IsCandidate, AreCandidates, IsEarliest, IsEarliestBelow, candidate_at};
+ghost use Rattle.tfpg_sim.specs.inside.Settling.{simulation_case, IsCandidate, AreCandidates, IsEarliest, IsEarliestBelow, candidate_at};
 
 use crate::arrival::first_arrival;
 use crate::delayed::Delayed;
@@ -24,7 +24,7 @@ pub(crate) fn first_candidates(
     requires times { AreNearTimes trace.now }
     ensures { IfOk result (λ candidates. (log : Logbook) (limit : ℕ) →
         AreSpans log (limit + 1) 0 delayed.now.spans.now →
-        AreCandidates delayed.now.graph.now log delayed.now.delays.now limit trace.now candidates.items) }
+        AreCandidates (simulation_case delayed.now.graph.now log delayed.now.delays.now limit) trace.now candidates.items) }
 {
     let mut candidates = Vec::new(alloc);
     for node in 0..delayed.graph.node_count() {
@@ -48,8 +48,8 @@ pub(crate) fn candidates_after(
     ensures { IfOk result (λ next. (log : Logbook) (limit : ℕ) (before : List Activation) (time : ℕ) →
         AreSpans log (limit + 1) 0 delayed.now.spans.now →
         trace.now ≡ with_time settled time before → time_of before settled ≡ None →
-        AreCandidates delayed.now.graph.now log delayed.now.delays.now limit before candidates.now →
-        AreCandidates delayed.now.graph.now log delayed.now.delays.now limit trace.now next.items) }
+        AreCandidates (simulation_case delayed.now.graph.now log delayed.now.delays.now limit) before candidates.now →
+        AreCandidates (simulation_case delayed.now.graph.now log delayed.now.delays.now limit) trace.now next.items) }
 {
     let mut next = Vec::new(alloc);
     for node in 0..delayed.graph.node_count() {
@@ -75,8 +75,8 @@ fn candidate_after(
     ensures { IfOk result (λ next. (log : Logbook) (limit : ℕ) (before : List Activation) (time : ℕ) →
         AreSpans log (limit + 1) 0 delayed.now.spans.now →
         trace.now ≡ with_time settled time before → time_of before settled ≡ None →
-        IsCandidate delayed.now.graph.now log delayed.now.delays.now limit before node candidate_before →
-        IsCandidate delayed.now.graph.now log delayed.now.delays.now limit trace.now node next) }
+        IsCandidate (simulation_case delayed.now.graph.now log delayed.now.delays.now limit) before node candidate_before →
+        IsCandidate (simulation_case delayed.now.graph.now log delayed.now.delays.now limit) trace.now node next) }
 {
     if node != settled && delayed.graph.edge_between(settled, node).is_none() {
         return Ok(candidate_before);
@@ -96,7 +96,7 @@ fn candidate(
     requires times { AreNearTimes trace.now }
     ensures { IfOk result (λ candidate. (log : Logbook) (limit : ℕ) →
         AreSpans log (limit + 1) 0 delayed.now.spans.now →
-        IsCandidate delayed.now.graph.now log delayed.now.delays.now limit trace.now node candidate) }
+        IsCandidate (simulation_case delayed.now.graph.now log delayed.now.delays.now limit) trace.now node candidate) }
 {
     if delayed.graph.kind(node).is_failure() {
         return Ok(None);

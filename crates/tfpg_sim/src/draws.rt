@@ -86,13 +86,13 @@ fn draw_latenesses(
 
 /// Draws the lateness of a node of this kind, where it is monitored.
 fn draw_lateness(kind: Kind, state: &mut Lcg64Xsh32) -> Option<u64>
-    requires { IfSome (lag_of kind) (λ lag. lag ≤ MAX_TIME) }
+    requires { IfSome (lag_of kind) (λ lag. lag.most ≤ MAX_TIME) }
     ensures small { IsLatenessInRange result }
-    ensures lateness { result ≡ option_map (λ lag. drawn state.old % (lag + 1)) (lag_of kind) }
+    ensures lateness { result ≡ option_map (λ lag. drawn state.old % (lag.most + 1)) (lag_of kind) }
     ensures after { state.new ≡ after_lag state.old (lag_of kind) }
 {
     let lag = kind.lag()?;
-    Some(draw_value(state) % (lag + 1))
+    Some(draw_value(state) % (lag.most + 1))
 }
 
 /// Takes a draw: two words, the high half first.

@@ -12,14 +12,18 @@ ghost use Rattle.tfpg_log.specs.LogOfLines.{log_of_lines};
 ghost use Rattle.tfpg_log.specs.Rules.{KeepsMay, KeepsMust};
 ghost use Rattle.tfpg_sim.specs.declared.entry.Entry.{Entry};
 ghost use Rattle.tfpg_sim.specs.declared.simulated.Simulated.{Simulated};
-ghost use Rattle.tfpg_sim.specs.AcceptedLog.{AreAccepted};
+ghost use Rattle.tfpg_log.specs.AcceptedLog.{AreAccepted};
 ghost use Rattle.tfpg_sim.specs.Simulated.{IsSimulationOf};
-ghost use Rattle.tfpg_sim.specs.Script.{script_of, time_so_far};
+ghost use Rattle.tfpg_sim.specs.Script.{IsScriptFault, time_so_far};
 ghost use Rattle.tfpg_sim.specs.Draws.{delays, latenesses};
 ghost use Rattle.tfpg_sim.specs.SimulatedLog.{log_events};
 ghost use Rattle.tfpg_sim.specs.Generated.{generated_graph, generated_script};
 ghost use Rattle.tfpg_sim.specs.declared.limits.TheConstants.{FAILURE_COUNT};
 ghost use Rattle.tfpg_sim.specs.Simulation.{IsSimulated, script_log};
+
+mod only_ones;
+
+pub use only_ones::{a_simulation_is_the_only_one, what_is_generated_is_the_only_one};
 
 /// The simulated trace keeps the propagation rules at each instant up to the stop, in the modes of the script: since each
 /// delay lies between the least and the greatest one of its edge.
@@ -56,7 +60,7 @@ pub fn a_generated_graph_is_valid()
 pub fn a_generated_script_is_right()
     ensures failures { (number size : ℕ) → length (failures (generated_graph number size)) ≡ FAILURE_COUNT }
     ensures right { (number size line : ℕ) → 1 ≤ size → size ≤ MAX_CASE_SIZE →
-        script_of (generated_graph number size) (generated_script number size) ≡ Err line → ⊥ }
+        IsScriptFault (generated_graph number size) (lines_of (generated_script number size)) line → ⊥ }
     ensures set { (number size draw : ℕ) (simulated : Simulated) → 1 ≤ size → size ≤ MAX_CASE_SIZE →
         IsSimulationOf (generated_graph number size) (generated_script number size) draw simulated →
         IsSet simulated.set × (length simulated.set ≤ 2) }

@@ -5,7 +5,8 @@
 //! - [`generate`] draws a graph and a script for it, which are [`Generated`].
 //! - [`MAX_ENTRIES`] and the other constants are its limits, and what it draws from.
 //! - [`laws`] says that a simulated trace keeps the propagation rules, that each line of its log is accepted and the trace
-//!   explains the log from the set, and that generated graphs are valid and generated scripts right.
+//!   explains the log from the set, that there is only one simulation, and that generated graphs are valid and generated
+//!   scripts right.
 //!
 //! ```
 //! let simulated = simulate(alloc, &graph, b"5 start ValveStuck\n40 stop\n", 1)?;

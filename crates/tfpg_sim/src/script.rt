@@ -2,7 +2,9 @@
 
 ghost use Rattle.std.specs.Prelude.{◌≡◌, ◌<◌, ◌≤◌, length, IfOk, IfErr};
 ghost use Rattle.std.specs.List.{list_any};
-ghost use Rattle.tfpg_sim.specs.Script.{has_stopped, starts, is_new, may_follow, next_entry, script_of};
+ghost use Rattle.tfpg_base.specs.Lines.{lines_of};
+ghost use Rattle.tfpg_sim.specs.Script.{SpellsScript, has_stopped, starts};
+ghost use Rattle.tfpg_sim.specs.inside.ScriptReading.{is_new, may_follow, next_entry};
 ghost use Rattle.tfpg_sim.specs.inside.Entries.{IsScript};
 ghost use Rattle.tfpg_sim.specs.ScriptFaults.{IsSimFault};
 
@@ -19,10 +21,11 @@ use tfpg_log::MAX_MODE_CHANGES;
 /// the text, but for look-ups by name, and for each start and each change of mode a walk over the lines before it, of
 /// which there are at most 65 and 1,025.
 pub(crate) fn read_script(alloc: Global, graph: &Graph, text: &[u8]) -> Result<Vec<Entry>, SimFault>
-    ensures read { IfOk result (λ entries. script_of graph.now text.now ≡ Ok entries.items) }
+    ensures read { IfOk result (λ entries. SpellsScript graph.now (lines_of text.now) entries.items) }
     ensures script { IfOk result (λ entries. IsScript graph.now entries.items) }
-    ensures fault { IfErr result (IsSimFault (script_of graph.now text.now)) }
+    ensures fault { IfErr result (IsSimFault graph.now text.now) }
 {
+    let _valid = graph.node_count();
     if text.is_empty() {
         return Err(SimFault::BadScript { line: 1 });
     }

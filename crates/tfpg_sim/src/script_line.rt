@@ -1,7 +1,7 @@
 //! What a line of a script says by itself.
 
 ghost use Rattle.std.specs.Prelude.{◌≡◌, map};
-ghost use Rattle.tfpg_sim.specs.Script.{time_in, failure_named, entry_alone, entry_with_name, entry_in, entry_of};
+ghost use Rattle.tfpg_sim.specs.inside.ScriptReading.{time_in, failure_named, entry_alone, entry_with_name, entry_in, entry_of};
 
 use crate::entry::Entry;
 use tfpg_base::{MAX_TIME, Number, Words, read_number};

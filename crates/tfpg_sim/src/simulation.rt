@@ -4,8 +4,7 @@ ghost use Rattle.std.specs.Prelude.{IfOk, IfErr};
 ghost use Rattle.tfpg_base.specs.Lines.{lines_of};
 ghost use Rattle.tfpg_log.specs.Explains.{Explains};
 ghost use Rattle.tfpg_log.specs.LogOfLines.{log_of_lines};
-ghost use Rattle.tfpg_sim.specs.AcceptedLog.{AreAccepted};
-ghost use Rattle.tfpg_sim.specs.Script.{script_of};
+ghost use Rattle.tfpg_log.specs.AcceptedLog.{AreAccepted};
 ghost use Rattle.tfpg_sim.specs.ScriptFaults.{IsSimFault};
 ghost use Rattle.tfpg_sim.specs.Simulated.{IsSimulationOf};
 
@@ -36,7 +35,7 @@ pub fn simulate(
     ensures accepted { IfOk result (λ simulated. AreAccepted graph.now (lines_of simulated.log)) }
     ensures explained { IfOk result (λ simulated.
         Explains graph.now (log_of_lines graph.now (lines_of simulated.log)) simulated.set simulated.trace) }
-    ensures fault { IfErr result (IsSimFault (script_of graph.now script.now)) }
+    ensures fault { IfErr result (IsSimFault graph.now script.now) }
 {
     let _few = graph.node_count();
     let entries = read_script(alloc, graph, script)?;

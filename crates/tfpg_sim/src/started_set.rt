@@ -3,7 +3,7 @@
 ghost use Rattle.std.specs.Prelude.{◌≡◌, ◌<◌, All, IfSome, IsTrue};
 ghost use Rattle.tfpg_base.specs.declared.limits.TheConstants.{MAX_MEMBERS};
 ghost use Rattle.tfpg_graph.specs.Graph.{is_kind_at, is_failure, position_of_failure};
-ghost use Rattle.tfpg_sim.specs.inside.Entries.{IsEntryOf};
+ghost use Rattle.tfpg_sim.specs.Script.{IsEntryOf};
 ghost use Rattle.tfpg_sim.specs.SimulatedLog.{set_of, with_started};
 
 use crate::entry::Entry;

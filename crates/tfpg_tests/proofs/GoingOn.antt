@@ -5,7 +5,6 @@ use Rattle.std.proofs.lemmas.Bool.{false≢true}
 use Rattle.tfpg_graph.specs.Graph.{Tfpg}
 use Rattle.tfpg_log.specs.declared.event.Event.{Event}
 use Rattle.tfpg_log.specs.Log.{Logbook, first_events, with_event}
-use Rattle.tfpg_log.specs.LogOfLines.{new_log}
 use Rattle.tfpg_log.proofs.Events.{whole_log}
 use Rattle.tfpg_log.proofs.PastKept.{first_events_kept}
 use Rattle.tfpg_evidence.specs.declared.step.Step.{Step}
@@ -14,7 +13,7 @@ use Rattle.tfpg_search.specs.declared.found.Found.{Found}
 use Rattle.tfpg_search.specs.declared.found.Found.TheVariants.{Shown, Closed, Spent}
 use Rattle.tfpg_search.specs.SearchState.{SearchState, SearchRepresents, RepresentsSome}
 use Rattle.tfpg_clause.specs.Paths.{with_steps}
-use Rattle.tfpg_search.specs.Searched.{IsSearched}
+use Rattle.tfpg_search.specs.Searched.{IsSearched, call_of}
 
 -- What a search represents at a log, it represents at the longer one.
 pub represents_still : (graph : Tfpg) (old new : Logbook) (search : SearchState) → ((event : Event) × (new ≡ with_event old event))
@@ -22,7 +21,13 @@ pub represents_still : (graph : Tfpg) (old new : Logbook) (search : SearchState)
 represents_still graph old new search longer some = (
   some.0,
   subst (λ (log : Logbook). SearchRepresents graph log search some.0)
-      (first_events_kept old new (longer.0 ∷ [], ap (λ (log : Logbook). log.events) longer.1) search.seen some.1.seen) some.1,
+      (first_events_kept old new
+      (record {
+        more = longer.0 ∷ [];
+        events = ap (λ (log : Logbook). log.events) longer.1;
+        ignored = ap (λ (log : Logbook). log.ignored) longer.1;
+      })
+      search.seen some.1.seen) some.1,
 )
 
 -- What it represents at the whole log, it represents at the first events of it.
@@ -34,7 +39,7 @@ at_first graph log search steps represents = (
 
 -- Whatever it found but a refutation, it represents all steps at the whole log.
 pub may_go_on : (graph : Tfpg) (log : Logbook) (budget : ℕ) (old new : SearchState) (before after : List Step) (found : Found)
-    → RepresentsSome graph log old → IsSearched graph log budget old new before after (Ok found)
+    → RepresentsSome graph log old → IsSearched graph log budget (call_of old new before after) (Ok found)
     → (found ≡ Closed) ⊎ RepresentsSome graph log new
 may_go_on graph log budget old new before after (Shown trace) some searched =
     inr (at_first graph log new (with_steps some.0 log searched.added) (searched.found some.0 some.1).1)
@@ -43,7 +48,7 @@ may_go_on graph log budget old new before after Spent some searched =
     inr (at_first graph log new (with_steps some.0 log searched.added) (searched.found some.0 some.1).2)
 
 -- A new search represents some steps at the first events of any log: it has seen none of them.
-pub new_represents : (graph : Tfpg) (log : Logbook) (search : SearchState) → SearchRepresents graph new_log search [] → RepresentsSome graph log search
+pub new_represents : (graph : Tfpg) (log : Logbook) (search : SearchState) → SearchRepresents graph (first_events log 0) search [] → RepresentsSome graph log search
 new_represents graph log search represents =
     ([], subst (λ (seen : ℕ). SearchRepresents graph (first_events log seen) search []) (sym represents.seen) represents)
 

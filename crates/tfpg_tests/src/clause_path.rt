@@ -4,7 +4,7 @@ use crate::given::{log_of, reach_of_first};
 use std::alloc::Global;
 use std::test::Fail;
 use tfpg_base::Constraint;
-use tfpg_clause::{Frame, advance, framed, stated_by};
+use tfpg_clause::{PathSplit, advance, picked, stated};
 use tfpg_evidence::{ClauseName, Reason};
 use tfpg_graph::read;
 
@@ -32,13 +32,13 @@ const NONE: ClauseName = ClauseName::OrMay {
 fn a_split_begins_with_its_first_alternative(rt: HostRuntime) -> Result<(), Fail> {
     let graph = read(rt.alloc(), GRAPH)?;
     let log = log_of(rt.alloc(), &graph, &LINES)?;
-    let begun = Frame {
+    let begun = PathSplit {
         name: MAY,
         alternative: 1,
         alternatives: 3,
     };
-    assert_eq!(rt; Frame::of_split(&graph, &log, MAY), Some(begun));
-    assert_eq!(rt; Frame::of_split(&graph, &log, NONE), None);
+    assert_eq!(rt; PathSplit::on_clause(&graph, &log, MAY), Some(begun));
+    assert_eq!(rt; PathSplit::on_clause(&graph, &log, NONE), None);
     Ok(())
 }
 
@@ -61,10 +61,10 @@ const TURNS: [(&str, &[(u32, u32)], Option<&[(u32, u32)]>); 6] = [
 ];
 
 /// The path of these splits.
-fn path_of(alloc: Global, splits: &[(u32, u32)]) -> Result<Vec<Frame>, Fail> {
+fn path_of(alloc: Global, splits: &[(u32, u32)]) -> Result<Vec<PathSplit>, Fail> {
     let mut path = Vec::new(alloc);
     for (alternative, alternatives) in splits {
-        path.push(Frame {
+        path.push(PathSplit {
             name: MAY,
             alternative: *alternative,
             alternatives: *alternatives,
@@ -81,6 +81,8 @@ fn a_path_goes_on_to_the_next_alternative(rt: HostRuntime) -> Result<(), Fail> {
         if let Some(splits) = after {
             let expected = path_of(rt.alloc(), splits)?;
             assert!(rt; path.as_slice() == expected.as_slice(), "{row}");
+        } else {
+            assert!(rt; path.is_empty(), "{row}");
         }
     }
     Ok(())
@@ -177,12 +179,12 @@ fn reasons_state_facts_and_picks(rt: HostRuntime) -> Result<(), Fail> {
     let path = path_of(rt.alloc(), &[(3, 3), (1, 3)])?;
     for (row, reason, expected) in &STATED {
         assert_eq!(rt;
-            stated_by(&graph, &log, &reach, &path, *reason),
+            stated(&graph, &log, &reach, &path, *reason),
             *expected,
             "{row}"
         );
     }
-    let second = framed(&graph, &log, &path, 1, 2);
+    let second = picked(&graph, &log, &path, 1, 2);
     let from_ten = Constraint {
         left: 0,
         right: 2,

@@ -226,7 +226,7 @@ fn finds_cost_and_robustness(rt: HostRuntime) -> Result<(), Fail> {
 
 /// The cost of the set of this number, if there is one.
 fn cost_of(graph: &Graph, table: &Table, number: u32) -> Option<u64>
-    requires { IsTableOf graph.now 2 table.now }
+    requires { IsTableOf graph.now (record { k = 2; budget = 1 }) table.now }
 {
     if number >= table.len() {
         return None;

@@ -313,7 +313,12 @@ fn a_refutation_closes_at_its_last_step(rt: HostRuntime) -> Result<(), Fail> {
     let log = log_of(rt.alloc(), &graph, &LINES)?;
     let reach = reach_of_first(&graph)?;
     let mut checker = Checker::new(rt.alloc(), reach);
-    go_through(&rt, rt.alloc(), &mut checker, &graph, &log, &REFUTATION)
+    go_through(&rt, rt.alloc(), &mut checker, &graph, &log, &REFUTATION)?;
+    assert_eq!(rt;
+        take_step(&mut checker, &graph, &log, &Step::Again)?,
+        Taken::Bad(BadStep::AfterClosed)
+    );
+    Ok(())
 }
 
 #[test]
@@ -325,6 +330,10 @@ fn the_first_cause_of_a_bad_step_is_named(rt: HostRuntime) -> Result<(), Fail> {
     assert_eq!(rt;
         take_step(&mut checker, &graph, &log, &Step::Split(MAY))?,
         Taken::Partial
+    );
+    assert_eq!(rt;
+        take_step(&mut checker, &graph, &log, &Step::Again)?,
+        Taken::Bad(BadStep::NotReusable)
     );
     go_through(&rt, rt.alloc(), &mut checker, &graph, &log, &BAD)
 }

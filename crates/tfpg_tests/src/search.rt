@@ -3,8 +3,7 @@
 
 ghost use Rattle.std.specs.Prelude.{◌≡◌, ◌⊎◌, ◌<◌, ◌≤◌, [], length, All, IsTrue, IfOk, IfSome};
 ghost use Rattle.tfpg_graph.specs.Graph.{failures};
-ghost use Rattle.tfpg_log.specs.Log.{IsLogOf};
-ghost use Rattle.tfpg_log.specs.LogOfLines.{new_log};
+ghost use Rattle.tfpg_log.specs.Log.{IsLogOf, Logbook, first_events};
 ghost use Rattle.tfpg_search.specs.SearchState.{SearchRepresents, RepresentsSome};
 
 use crate::given::{ONE, TWO, accept};
@@ -185,7 +184,8 @@ const SPENT: [Row; 2] = [
 
 /// A new search for the set of one failure mode, or of none.
 fn search_of(alloc: Global, graph: &Graph, member: Option<u32>) -> Result<Search, Fail>
-    ensures { IfOk result (λ search. SearchRepresents graph.now new_log search []) }
+    ensures { (log : Logbook) →
+        IfOk result (λ search. SearchRepresents graph.now (first_events log 0) search []) }
 {
     let set = set_of(graph, member).ok_or("no such failure mode")?;
     Ok(Search::new(alloc, graph, set, graph.reach(set))?)

@@ -12,7 +12,7 @@ use Rattle.tfpg_base.proofs.TraceTimes.{activation_there, time_there}
 use Rattle.tfpg_graph.specs.Graph.{Tfpg, is_kind_at, is_failure, is_monitored}
 use Rattle.tfpg_log.specs.declared.event.Event.{Event}
 use Rattle.tfpg_log.specs.declared.event.Event.TheVariants.{Alarm, Silent, Sweep, Tick, Mode}
-use Rattle.tfpg_log.specs.Log.{Logbook, now_of, alarm_among, quiet_time}
+use Rattle.tfpg_log.specs.Log.{Logbook, now_of, first_events, alarm_of, silence_time}
 use Rattle.tfpg_log.specs.Explains.{IsMember, ShowsSilence, Shows, ShowsAll, Explains}
 use Rattle.tfpg_trace.specs.declared.verdict.Verdict.{Verdict}
 use Rattle.tfpg_trace.specs.declared.verdict.Verdict.TheVariants as verdict
@@ -21,23 +21,23 @@ use Rattle.tfpg_trace.specs.FirstFault.{IsOnTimeFromSet, IsVerdict}
 use Rattle.tfpg_trace.proofs.Decided.{member_or_not}
 
 -- an event that is shown is shown of each node of which it is a silence
-pub shows_quiet : (graph : Tfpg) (trace : List Activation) (before : List Event) (event : Event) (node time : ℕ) → Shows graph trace before event
-    → quiet_time graph before event node ≡ Some time → ShowsSilence trace node time
-shows_quiet graph trace before (Alarm own alarmed) node time shows is = cc
-shows_quiet graph trace before (Silent own silent) node time shows is =
+pub shows_quiet : (graph : Tfpg) (before : Logbook) (trace : List Activation) (event : Event) (node time : ℕ) → Shows graph before trace event
+    → silence_time graph before event node ≡ Some time → ShowsSilence graph before trace node time
+shows_quiet graph before trace (Alarm own alarmed) node time shows is = cc
+shows_quiet graph before trace (Silent own silent) node time shows is =
     let told = cond_some (nat_eq silent node) own time is in
-    subst (λ t. ShowsSilence trace node t) told.1 (subst (λ n. ShowsSilence trace n own) (eqb-true silent node told.0) shows)
-shows_quiet graph trace before (Sweep own) node time shows is =
-    let told = cond_some (is_monitored graph node && is_none (alarm_among before node)) own time is in
-    let both = and_parts (is_monitored graph node) (is_none (alarm_among before node)) told.0 in
-    subst (λ t. ShowsSilence trace node t) told.1 (shows node both.0 (not-true (is_some (alarm_among before node)) both.1))
-shows_quiet graph trace before (Tick own) node time shows is = cc
-shows_quiet graph trace before (Mode own mode) node time shows is = cc
+    subst (λ t. ShowsSilence graph before trace node t) told.1 (subst (λ n. ShowsSilence graph before trace n own) (eqb-true silent node told.0) shows)
+shows_quiet graph before trace (Sweep own) node time shows is =
+    let told = cond_some (is_monitored graph node && is_none (alarm_of before node)) own time is in
+    let both = and_parts (is_monitored graph node) (is_none (alarm_of before node)) told.0 in
+    subst (λ t. ShowsSilence graph before trace node t) told.1 (shows node both.0 (not-true (is_some (alarm_of before node)) both.1))
+shows_quiet graph before trace (Tick own) node time shows is = cc
+shows_quiet graph before trace (Mode own mode) node time shows is = cc
 
 module _ (graph : Tfpg) (log : Logbook) (set : List ℕ) (trace : List Activation) where
   -- no fault
   pub explained : IsRisingByNode trace → All (λ activation. activation.node < length graph.nodes) trace → IsOnTimeFromSet graph log set trace
-      → KeepRulesBefore graph log trace (length graph.nodes) → ShowsAll graph trace log.events → Explains graph log set trace
+      → KeepRulesBefore graph log trace (length graph.nodes) → ShowsAll graph log trace → Explains graph log set trace
   explained rising nodes own rules shows = record {
     trace_of = (rising, nodes);
     by_now = All-from_members (λ activation. activation.time ≤ now_of log) trace
@@ -73,4 +73,4 @@ module _ (graph : Tfpg) (log : Logbook) (set : List ℕ) (trace : List Activatio
       absurd (fault.breaks.broken ((explains.rules node fault.in_graph).must time fault.breaks.by_now))
   only_yes (verdict.Alarm node time) fault explains = absurd (fault.not_shown (explains.shows fault.index (Alarm time node) fault.event))
   only_yes (verdict.Silence node time) fault explains =
-      absurd (fault.not_shown (shows_quiet graph trace (take fault.index log.events) fault.event node time (explains.shows fault.index fault.event fault.at) fault.silent))
+      absurd (fault.not_shown (shows_quiet graph (first_events log fault.index) trace fault.event node time (explains.shows fault.index fault.event fault.at) fault.silent))

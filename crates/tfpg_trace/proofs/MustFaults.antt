@@ -3,6 +3,7 @@ use Rattle.std.proofs.Common.{◌≡◌, ℕ, ◌≤◌, List, Option, Some, Non
 use Rattle.std.proofs.lemmas.Bool.{cases_lt}
 use Rattle.tfpg_base.specs.declared.activation.Activation.{Activation}
 use Rattle.tfpg_graph.specs.declared.kind.Kind.TheVariants.{Or, And}
+use Rattle.tfpg_graph.specs.declared.kind.Lag.{Lag}
 use Rattle.tfpg_graph.specs.Graph.{Tfpg, kind_at, is_or, is_and}
 use Rattle.tfpg_graph.proofs.NodeAt.{kind_test, not_so}
 use Rattle.tfpg_log.specs.declared.span.Span.{Span}
@@ -22,7 +23,7 @@ span_reported log number now found now_is e = sym (e ∙ ap (span_at log number)
 
 module _ (graph : Tfpg) (log : Logbook) (trace : List Activation) (node : ℕ) where
   -- An OR node must be active where some edge into it is due.
-  pub must_by_some : (lo hi : ℕ) (lag : Option ℕ) (found : Option ℕ) → kind_at graph node ≡ Some (Or lag) → Begins (SomeDue graph log trace node) lo hi found
+  pub must_by_some : (lo hi : ℕ) (lag : Option Lag) (found : Option ℕ) → kind_at graph node ≡ Some (Or lag) → Begins (SomeDue graph log trace node) lo hi found
       → Begins (MustBeActive graph log trace node) lo hi found
   must_by_some lo hi lag found kind begins =
       carried (SomeDue graph log trace node) (MustBeActive graph log trace node) lo hi found
@@ -34,7 +35,7 @@ module _ (graph : Tfpg) (log : Logbook) (trace : List Activation) (node : ℕ) w
       begins
 
   -- An AND node must be active where all edges into it are due.
-  pub must_by_all : (lo hi : ℕ) (lag : Option ℕ) (found : Option ℕ) → kind_at graph node ≡ Some (And lag) → Begins (AllDue graph log trace node) lo hi found
+  pub must_by_all : (lo hi : ℕ) (lag : Option Lag) (found : Option ℕ) → kind_at graph node ≡ Some (And lag) → Begins (AllDue graph log trace node) lo hi found
       → Begins (MustBeActive graph log trace node) lo hi found
   must_by_all lo hi lag found kind begins =
       carried (AllDue graph log trace node) (MustBeActive graph log trace node) lo hi found

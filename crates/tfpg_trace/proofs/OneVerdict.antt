@@ -6,9 +6,9 @@ use Rattle.tfpg_base.specs.declared.activation.Activation.{Activation}
 use Rattle.tfpg_base.specs.Trace.{time_of}
 use Rattle.tfpg_graph.specs.Graph.{Tfpg}
 use Rattle.tfpg_log.specs.declared.event.Event.TheVariants.{Alarm}
-use Rattle.tfpg_log.specs.Log.{Logbook, quiet_time}
+use Rattle.tfpg_log.specs.Log.{Logbook, first_events, silence_time}
 use Rattle.tfpg_log.specs.Explains.{Shows, ShowsSilence}
-use Rattle.tfpg_log.proofs.SilenceTimes.{silence_time}
+use Rattle.tfpg_log.proofs.SilenceTimes.{silence_time_is}
 use Rattle.tfpg_trace.specs.declared.verdict.Verdict.{Verdict}
 use Rattle.tfpg_trace.specs.declared.verdict.Verdict.TheVariants as verdict
 use Rattle.tfpg_trace.specs.Broken.{BreaksMay, FirstBreaksMust}
@@ -75,8 +75,8 @@ module _ (graph : Tfpg) (log : Logbook) (set : List ℕ) (trace : List Activatio
   first_must node time fault (verdict.Silence other later) also = absurd (fault.breaks.broken ((also.rules.rules node fault.in_graph).must time fault.breaks.by_now))
 
   -- an event of which a silence is not shown is not shown
-  not_shown : (node time : ℕ) (fault : IsSilenceFault graph log set trace node time) → Shows graph trace (take fault.index log.events) fault.event → ⊥
-  not_shown node time fault shows = fault.not_shown (shows_quiet graph trace (take fault.index log.events) fault.event node time shows fault.silent)
+  not_shown : (node time : ℕ) (fault : IsSilenceFault graph log set trace node time) → Shows graph (first_events log fault.index) trace fault.event → ⊥
+  not_shown node time fault shows = fault.not_shown (shows_quiet graph (first_events log fault.index) trace fault.event node time shows fault.silent)
 
   first_alarm : (node time : ℕ) → IsAlarmFault graph log set trace node time → (said : Verdict) → IsVerdict graph log set trace said → said ≡ verdict.Alarm node time
   first_alarm node time fault verdict.Yes explains = let yes = only_yes graph log set trace (verdict.Alarm node time) fault explains in absurd cc
@@ -95,8 +95,8 @@ module _ (graph : Tfpg) (log : Logbook) (set : List ℕ) (trace : List Activatio
       same_from_neither fault.index also.index (λ lt. fault.not_shown (also.before fault.index (Alarm time node) lt fault.event))
       (λ lt. not_shown other later also (fault.before also.index also.event lt also.at)) in
       let event : also.event ≡ Alarm time node = cc (same, fault.event, also.at) in
-      let silent : quiet_time graph (take also.index log.events) (Alarm time node) other ≡ Some later =
-      ap (λ e. quiet_time graph (take also.index log.events) e other) (sym event) ∙ also.silent in
+      let silent : silence_time graph (first_events log also.index) (Alarm time node) other ≡ Some later =
+      ap (λ e. silence_time graph (first_events log also.index) e other) (sym event) ∙ also.silent in
       absurd cc
 
   first_silence : (node time : ℕ) → IsSilenceFault graph log set trace node time → (said : Verdict) → IsVerdict graph log set trace said
@@ -112,17 +112,17 @@ module _ (graph : Tfpg) (log : Logbook) (set : List ℕ) (trace : List Activatio
       same_from_neither fault.index also.index (λ lt. not_shown node time fault (also.before fault.index fault.event lt fault.at))
       (λ lt. not_shown other later also (fault.before also.index also.event lt also.at)) in
       let event : fault.event ≡ also.event = cc (same, fault.at, also.at) in
-      let silent : quiet_time graph (take fault.index log.events) fault.event other ≡ Some later =
-      ap (λ p. quiet_time graph (take p log.events) fault.event other) same ∙ ap (λ e. quiet_time graph (take also.index log.events) e other) event ∙ also.silent in
-      let said : quiet_time graph (take also.index log.events) also.event node ≡ Some time =
-      ap (λ p. quiet_time graph (take p log.events) also.event node) (sym same) ∙ ap (λ e. quiet_time graph (take fault.index log.events) e node) (sym event) ∙ fault.silent in
+      let silent : silence_time graph (first_events log fault.index) fault.event other ≡ Some later =
+      ap (λ p. silence_time graph (first_events log p) fault.event other) same ∙ ap (λ e. silence_time graph (first_events log also.index) e other) event ∙ also.silent in
+      let said : silence_time graph (first_events log also.index) also.event node ≡ Some time =
+      ap (λ p. silence_time graph (first_events log p) also.event node) (sym same) ∙ ap (λ e. silence_time graph (first_events log fault.index) e node) (sym event) ∙ fault.silent in
       let at : time ≡ later =
-      silence_time graph (take fault.index log.events) fault.event node time fault.silent
-      ∙ sym (silence_time graph (take fault.index log.events) fault.event other later silent) in
+      silence_time_is graph (first_events log fault.index) fault.event node time fault.silent
+      ∙ sym (silence_time_is graph (first_events log fault.index) fault.event other later silent) in
       let node_is : node ≡ other =
       same_from_neither node other
-      (λ lt. fault.not_shown (subst (ShowsSilence trace node) (sym at) (also.first node lt (said ∙ ap Some at))))
-      (λ lt. also.not_shown (subst (ShowsSilence trace other) at (fault.first other lt (silent ∙ ap Some (sym at))))) in
+      (λ lt. fault.not_shown (subst (ShowsSilence graph log trace node) (sym at) (also.first node lt (said ∙ ap Some at))))
+      (λ lt. also.not_shown (subst (ShowsSilence graph log trace other) at (fault.first other lt (silent ∙ ap Some (sym at))))) in
       ap (λ n. verdict.Silence n later) (sym node_is) ∙ ap (verdict.Silence node) (sym at)
 
   -- What is said of a trace is the only thing that is said of it.

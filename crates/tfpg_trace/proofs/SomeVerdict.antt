@@ -7,7 +7,7 @@ use Rattle.tfpg_base.specs.declared.activation.Activation.{Activation}
 use Rattle.tfpg_base.specs.Trace.{time_of}
 use Rattle.tfpg_graph.specs.Graph.{Tfpg, is_kind_at, is_failure, position_of_failure}
 use Rattle.tfpg_log.specs.declared.event.Event.{Event}
-use Rattle.tfpg_log.specs.Log.{Logbook, now_of}
+use Rattle.tfpg_log.specs.Log.{Logbook, now_of, first_events}
 use Rattle.tfpg_log.specs.Rules.{KeepsRulesOf, IsTraceOf}
 use Rattle.tfpg_log.specs.Explains.{IsMember, Shows}
 use Rattle.tfpg_trace.specs.declared.verdict.Verdict.{Verdict}
@@ -75,20 +75,20 @@ module _ (graph : Tfpg) (log : Logbook) (set : List ℕ) (trace : List Activatio
 
   -- something is said of the event at this index
   abbrev IsNotShownAt : ℕ → Type 0
-  IsNotShownAt index = (event : Event) × (slice_get log.events index ≡ Some event) × ((said : Verdict) × IsNotShown graph trace (take index log.events) event said)
+  IsNotShownAt index = (event : Event) × (slice_get log.events index ≡ Some event) × ((said : Verdict) × IsNotShown graph (first_events log index) trace event said)
 
   -- the event at this index is shown
   abbrev IsShownAt : ℕ → Type 0
-  IsShownAt index = (event : Event) → slice_get log.events index ≡ Some event → Shows graph trace (take index log.events) event
+  IsShownAt index = (event : Event) → slice_get log.events index ≡ Some event → Shows graph (first_events log index) trace event
 
   fault_or_shown : (index : ℕ) → IsNotShownAt index ⊎ IsShownAt index
   fault_or_shown index = by (slice_get log.events index) refl
     where
       by : (found : Option Event) → slice_get log.events index ≡ found → IsNotShownAt index ⊎ IsShownAt index
       by None none = inr (λ event at. absurd cc)
-      by (Some event) at = elim (event_decided graph trace (take index log.events) event) [
+      by (Some event) at = elim (event_decided graph trace (first_events log index) event) [
         | inl fault ↦ inl (event, at, fault)
-        | inr shown ↦ inr (λ other also. (let same : event ≡ other = cc in subst (Shows graph trace (take index log.events)) same shown))
+        | inr shown ↦ inr (λ other also. (let same : event ≡ other = cc in subst (Shows graph (first_events log index) trace) same shown))
       ]
 
   -- ---- verdicts
@@ -98,8 +98,8 @@ module _ (graph : Tfpg) (log : Logbook) (set : List ℕ) (trace : List Activatio
   HasVerdict = (said : Verdict) × IsVerdict graph log set trace said
 
   -- What is said of the first event that is not shown is the verdict.
-  pub by_event : IsFaultlessBeforeEvents graph log set trace → (index : ℕ) (event : Event) → slice_get log.events index ≡ Some event → ShowsBefore graph trace log.events index
-      → (said : Verdict) → IsNotShown graph trace (take index log.events) event said → IsVerdict graph log set trace said
+  pub by_event : IsFaultlessBeforeEvents graph log set trace → (index : ℕ) (event : Event) → slice_get log.events index ≡ Some event → ShowsBefore graph log trace index
+      → (said : Verdict) → IsNotShown graph (first_events log index) trace event said → IsVerdict graph log set trace said
   by_event rules index event at before said (inl alarm) =
       let fault = alarm.3 in
       let is : IsAlarmFault graph log set trace alarm.0 alarm.1 =

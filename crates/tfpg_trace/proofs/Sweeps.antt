@@ -7,7 +7,7 @@ use Rattle.tfpg_graph.specs.Graph.{Tfpg, is_monitored}
 use Rattle.tfpg_graph.proofs.NodeAt.{monitored_within}
 use Rattle.tfpg_log.specs.declared.event.Event.{Event}
 use Rattle.tfpg_log.specs.declared.event.Event.TheVariants.{Sweep}
-use Rattle.tfpg_log.specs.Log.{Logbook, event_at, alarm_among, quiet_time, quiet_at}
+use Rattle.tfpg_log.specs.Log.{Logbook, event_at, first_events, alarm_among, silence_time, silence_at}
 use Rattle.tfpg_log.specs.Explains.{Shows}
 use Rattle.tfpg_trace.specs.FirstFault.{NoneBefore}
 use Rattle.tfpg_trace.specs.inside.Strays.{IsFirstNode}
@@ -15,28 +15,29 @@ use Rattle.tfpg_trace.specs.inside.Shown.{IsNotQuiet, IsSilenceNotShown}
 
 module _ (graph : Tfpg) (log : Logbook) (trace : List Activation) (number : ℕ) where
   -- the silence of an event, after those before it
-  quiet_by_event : (event : Event) (node : ℕ) → event_at log number ≡ Some event → quiet_at graph log number node ≡ quiet_time graph (take (number - 1) log.events) event node
-  quiet_by_event event node at = ap (option_and_then (λ said. quiet_time graph (take (number - 1) log.events) said node)) at
+  silence_by_event : (event : Event) (node : ℕ) → event_at log number ≡ Some event → silence_at graph log number node ≡ silence_time graph (first_events log (number - 1)) event node
+  silence_by_event event node at = ap (option_and_then (λ said. silence_time graph (first_events log (number - 1)) said node)) at
 
   -- where each node that a sweep asks is quiet, it is shown
   pub sweep_shown : (event : Event) (time : ℕ) → event_at log number ≡ Some event → event ≡ Sweep time → NoneBefore (IsNotQuiet graph log trace number) (length graph.nodes)
-      → Shows graph trace (take (number - 1) log.events) event
+      → Shows graph (first_events log (number - 1)) trace event
   sweep_shown event time at is none =
-      subst (Shows graph trace (take (number - 1) log.events)) (sym is)
-      (λ node monitored without active.
+      subst (Shows graph (first_events log (number - 1)) trace) (sym is)
+      (λ node monitored without until said active.
       none node time (monitored_within graph node monitored) (record {
-        silent = quiet_by_event (Sweep time) node (at ∙ ap Some is)
+        silent = silence_by_event (Sweep time) node (at ∙ ap Some is)
             ∙ cond-true (is_monitored graph node && is_none (alarm_among (take (number - 1) log.events) node)) (Some time) None
             (and_from (is_monitored graph node) (is_none (alarm_among (take (number - 1) log.events) node)) monitored
             (not_from_false (is_some (alarm_among (take (number - 1) log.events) node)) without));
-        active = active;
+        not_shown = λ shows. shows until said active;
       }))
 
   -- the first node that is not quiet is what is said of the event
   pub silence_not_shown : (event : Event) (node time : ℕ) → event_at log number ≡ Some event → IsFirstNode (IsNotQuiet graph log trace number) (length graph.nodes) node time
-      → IsSilenceNotShown graph trace (take (number - 1) log.events) event node time
+      → IsSilenceNotShown graph (first_events log (number - 1)) trace event node time
   silence_not_shown event node time at found = record {
-    silent = sym (quiet_by_event event node at) ∙ found.has.silent;
-    not_shown = λ quiet. quiet found.has.active;
-    first = λ earlier before silent active. found.first earlier time before (record { silent = quiet_by_event event earlier at ∙ silent; active = active });
+    silent = sym (silence_by_event event node at) ∙ found.has.silent;
+    not_shown = found.has.not_shown;
+    first = λ earlier before silent until said active.
+        found.first earlier time before (record { silent = silence_by_event event earlier at ∙ silent; not_shown = λ shows. shows until said active });
   }

@@ -1,12 +1,12 @@
 -- The first fault of a trace: first of times after now, then of strangers, then of the rules, node by node, and then of
 -- the events in their order.
-use Rattle.std.specs.Prelude.{◌≡◌, ℕ, ◌<◌, List, length, take, IsTrue, Some, slice_get}
+use Rattle.std.specs.Prelude.{◌≡◌, ℕ, ◌<◌, List, length, IsTrue, Some, slice_get}
 use Rattle.tfpg_base.specs.declared.activation.Activation.{Activation}
 use Rattle.tfpg_base.specs.Trace.{time_of}
 use Rattle.tfpg_graph.specs.Graph.{Tfpg, is_kind_at, is_failure}
 use Rattle.tfpg_log.specs.declared.event.Event.{Event}
 use Rattle.tfpg_log.specs.declared.event.Event.TheVariants.{Alarm}
-use Rattle.tfpg_log.specs.Log.{Logbook, now_of, quiet_time}
+use Rattle.tfpg_log.specs.Log.{Logbook, now_of, first_events, silence_time}
 use Rattle.tfpg_log.specs.Rules.{KeepsRules}
 use Rattle.tfpg_log.specs.Explains.{IsMember, ShowsAlarm, ShowsSilence, Shows, Explains}
 use Rattle.tfpg_trace.specs.declared.verdict.Verdict.{Verdict}
@@ -43,10 +43,10 @@ pub record IsFaultlessBeforeEvents (graph : Tfpg) (log : Logbook) (set : List �
   pub rules : KeepsRules graph log trace
 
 -- the trace shows each event before this index
-abbrev pub ShowsBefore : Tfpg → List Activation → List Event → ℕ → Type 0
-ShowsBefore graph trace events end =
-    (index : ℕ) (event : Event) → index < end → slice_get events index ≡ Some event
-    → Shows graph trace (take index events) event
+abbrev pub ShowsBefore : Tfpg → Logbook → List Activation → ℕ → Type 0
+ShowsBefore graph log trace end =
+    (index : ℕ) (event : Event) → index < end → slice_get log.events index ≡ Some event
+    → Shows graph (first_events log index) trace event
 
 -- the first node with a time after now
 pub record IsLateFault (graph : Tfpg) (log : Logbook) (trace : List Activation) (node time : ℕ) : Type 0 where
@@ -85,8 +85,8 @@ pub record IsAlarmFault (graph : Tfpg) (log : Logbook) (set : List ℕ) (trace :
   pub rules : IsFaultlessBeforeEvents graph log set trace
   pub index : ℕ
   pub event : slice_get log.events index ≡ Some (Alarm time node)
-  pub before : ShowsBefore graph trace log.events index
-  pub not_shown : ShowsAlarm graph trace node time → ⊥
+  pub before : ShowsBefore graph log trace index
+  pub not_shown : ShowsAlarm graph log trace node time → ⊥
 
 -- The first event that is not shown, which says that the node is silent; of a sweep this is the first such node.
 pub record IsSilenceFault (graph : Tfpg) (log : Logbook) (set : List ℕ) (trace : List Activation)
@@ -95,11 +95,11 @@ pub record IsSilenceFault (graph : Tfpg) (log : Logbook) (set : List ℕ) (trace
   pub index : ℕ
   pub event : Event
   pub at : slice_get log.events index ≡ Some event
-  pub before : ShowsBefore graph trace log.events index
-  pub silent : quiet_time graph (take index log.events) event node ≡ Some time
-  pub not_shown : ShowsSilence trace node time → ⊥
-  pub first : (earlier : ℕ) → earlier < node → quiet_time graph (take index log.events) event earlier ≡ Some time
-      → ShowsSilence trace earlier time
+  pub before : ShowsBefore graph log trace index
+  pub silent : silence_time graph (first_events log index) event node ≡ Some time
+  pub not_shown : ShowsSilence graph log trace node time → ⊥
+  pub first : (earlier : ℕ) → earlier < node → silence_time graph (first_events log index) event earlier ≡ Some time
+      → ShowsSilence graph log trace earlier time
 
 -- What is said of a trace: that it explains the log from the set, or its first fault.
 abbrev pub IsVerdict : Tfpg → Logbook → List ℕ → List Activation → Verdict → Type 0

@@ -1,28 +1,32 @@
 //! Whether a trace shows an alarm.
 
-ghost use Rattle.std.specs.Prelude.{◌+◌, ◌<◌, ◌≤◌, ◌↔◌, length, IsTrue};
-ghost use Rattle.tfpg_log.specs.Explains.{ShowsAlarm};
+ghost use Rattle.std.specs.Prelude.{◌<◌, ◌↔◌, length, IsTrue};
+ghost use Rattle.tfpg_log.specs.Explains.{IsActivatedIn, ShowsAlarm};
 
 use tfpg_base::Trace;
 use tfpg_graph::Graph;
+use tfpg_log::{Interval, Log};
 
-/// Whether the node became active at most its lag before the alarm, and not after it.
-pub(crate) fn shows_alarm(graph: &Graph, trace: &Trace, node: u32, time: u64) -> bool
+/// Whether the node is monitored and became active at one of the instants that its alarm at this time leaves.
+pub(crate) fn shows_alarm(graph: &Graph, log: &Log, trace: &Trace, node: u32, time: u64) -> bool
     requires { node < length graph.now.nodes }
-    ensures { IsTrue result ↔ ShowsAlarm graph.now trace.now node time }
+    ensures { IsTrue result ↔ ShowsAlarm graph.now log.now trace.now node time }
 {
-    let Some(lag) = graph.kind(node).lag() else {
+    if !graph.is_monitored(node) {
         return false;
-    };
-    match trace.at(node) {
-        Some(active) => is_within_lag(active, lag, time),
-        None => false,
+    }
+    match log.alarm_interval(graph, node, time) {
+        Some(interval) => is_activated_in(trace, node, interval),
+        None => true,
     }
 }
 
-/// Whether an alarm at this time can come of a node that became active at that one.
-fn is_within_lag(active: u64, lag: u64, time: u64) -> bool
-    ensures { IsTrue result ↔ ((time ≤ active + lag) × (active ≤ time)) }
+/// Whether the node became active at one of the instants.
+fn is_activated_in(trace: &Trace, node: u32, interval: Interval) -> bool
+    ensures { IsTrue result ↔ IsActivatedIn trace.now node interval }
 {
-    active <= time && time - active <= lag
+    match trace.at(node) {
+        Some(active) => interval.earliest <= active && active <= interval.latest,
+        None => false,
+    }
 }

@@ -1,13 +1,13 @@
 //! The first event of a log that a trace does not show.
 
-ghost use Rattle.std.specs.Prelude.{◌≡◌, ◌-◌, ◌≤◌, length, take, Some, MatchOption};
-ghost use Rattle.tfpg_log.specs.Log.{IsLogOf, IsEventOf, event_at};
+ghost use Rattle.std.specs.Prelude.{◌≡◌, ◌-◌, ◌≤◌, length, Some, MatchOption};
+ghost use Rattle.tfpg_log.specs.Log.{IsLogOf, IsEventOf, event_at, first_events};
 ghost use Rattle.tfpg_log.specs.Explains.{Shows, ShowsAll};
 ghost use Rattle.tfpg_trace.specs.inside.Shown.{IsNotShown, IsFirstNotShown};
 
 use crate::Verdict;
 use crate::alarms::shows_alarm;
-use crate::silences::{first_not_quiet, is_active};
+use crate::silences::{first_not_quiet, shows_silence};
 use tfpg_base::Trace;
 use tfpg_graph::Graph;
 use tfpg_log::{Event, Log};
@@ -17,8 +17,8 @@ use tfpg_log::{Event, Log};
 pub(crate) fn first_not_shown(graph: &Graph, log: &Log, trace: &Trace) -> Option<Verdict>
     requires { IsLogOf graph.now log.now }
     ensures { MatchOption result
-        (ShowsAll graph.now trace.now log.now.events)
-        (IsFirstNotShown graph.now trace.now log.now.events) }
+        (ShowsAll graph.now log.now trace.now)
+        (IsFirstNotShown graph.now log.now trace.now) }
 {
     for index in 0..log.len() {
         let number = index + 1;
@@ -36,21 +36,21 @@ fn not_shown(graph: &Graph, log: &Log, trace: &Trace, number: u32, event: Event)
     requires at { event_at log.now number ≡ Some event }
     requires own { IsEventOf graph.now event }
     ensures { MatchOption result
-        (Shows graph.now trace.now (take (number - 1) log.now.events) event)
-        (IsNotShown graph.now trace.now (take (number - 1) log.now.events) event) }
+        (Shows graph.now (first_events log.now (number - 1)) trace.now event)
+        (IsNotShown graph.now (first_events log.now (number - 1)) trace.now event) }
 {
     match event {
         Event::Alarm { time, node } => {
-            if shows_alarm(graph, trace, node, time) {
+            if shows_alarm(graph, log, trace, node, time) {
                 return None;
             }
             Some(Verdict::Alarm { node, time })
         }
         Event::Silent { time, node } => {
-            if is_active(trace, node, time) {
-                return Some(Verdict::Silence { node, time });
+            if shows_silence(graph, log, trace, node, time) {
+                return None;
             }
-            None
+            Some(Verdict::Silence { node, time })
         }
         Event::Sweep { time: _ } => match first_not_quiet(graph, log, trace, number) {
             Some((node, time)) => Some(Verdict::Silence { node, time }),

@@ -2,6 +2,7 @@
 
 ghost use Rattle.std.specs.Prelude.{◌↔◌, ℕ, length, IsTrue, MatchOption};
 ghost use Rattle.tfpg_log.specs.Rules.{IsActive};
+ghost use Rattle.tfpg_log.specs.Explains.{ShowsSilence};
 ghost use Rattle.tfpg_trace.specs.FirstFault.{NoneBefore};
 ghost use Rattle.tfpg_trace.specs.inside.Strays.{IsFirstNode};
 ghost use Rattle.tfpg_trace.specs.inside.Shown.{IsNotQuiet};
@@ -10,7 +11,7 @@ use tfpg_base::Trace;
 use tfpg_graph::Graph;
 use tfpg_log::Log;
 
-/// The first node that the event of this number says is silent and that is active by then, and the time of the event.
+/// The first node of which the event of this number is a silence that the trace does not show, and the time of the event.
 /// Goes through the nodes.
 pub(crate) fn first_not_quiet(
     graph: &Graph,
@@ -31,17 +32,27 @@ pub(crate) fn first_not_quiet(
     None
 }
 
-/// The time of the event of this number, where it says that the node is silent and the node is active by then.
+/// The time of the event of this number, where it is a silence of the node that the trace does not show.
 fn not_quiet_time(graph: &Graph, log: &Log, trace: &Trace, number: u32, node: u32) -> Option<u64>
     ensures { MatchOption result
         ((time : ℕ) → IsNotQuiet graph.now log.now trace.now number node time → ⊥)
         (IsNotQuiet graph.now log.now trace.now number node) }
 {
-    let time = log.quiet_at(graph, number, node)?;
-    if is_active(trace, node, time) {
-        Some(time)
-    } else {
+    let time = log.silence_at(graph, number, node)?;
+    if shows_silence(graph, log, trace, node, time) {
         None
+    } else {
+        Some(time)
+    }
+}
+
+/// Whether the trace shows a silence of the node at this time.
+pub(crate) fn shows_silence(graph: &Graph, log: &Log, trace: &Trace, node: u32, time: u64) -> bool
+    ensures { IsTrue result ↔ ShowsSilence graph.now log.now trace.now node time }
+{
+    match log.inactive_until(graph, node, time) {
+        Some(until) => !is_active(trace, node, until),
+        None => true,
     }
 }
 

@@ -15,7 +15,7 @@ pub record IsInLimits (option : NumberOption) (number : ℕ) : Type 0 where
 
 -- so is each number of the meaning
 abbrev pub AreInLimits : Meaning → Type 0
-AreInLimits (Diagnose k budget graph) = IsInLimits k_option k × IsInLimits budget_option budget
+AreInLimits (Diagnose terms graph) = IsInLimits k_option terms.k × IsInLimits budget_option terms.budget
 AreInLimits (Explain graph log) = ⊤
 AreInLimits (Simulate draw trace graph script) = IsInLimits draw_option draw
 AreInLimits (Generate draw size) = IsInLimits draw_option draw × IsInLimits size_option size

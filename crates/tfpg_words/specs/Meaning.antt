@@ -1,6 +1,7 @@
 -- What the words of a command line mean: a command with its values, or the first cause by which they are refused.
 use Rattle.std.specs.Prelude.{ℕ, ◌&&◌, Bool, List, [], ◌∷◌, Option, Some, None, Result, Ok, Err}
 use Rattle.std.specs.Prelude.{bytes_eq, codes, if◌then◌else◌, is_some, nat_le, find}
+use Rattle.tfpg_base.specs.declared.terms.Terms.{Terms}
 use Rattle.tfpg_base.specs.Words.{number_of}
 use Rattle.tfpg_base.specs.declared.limits.TheConstants.{MAX_CASE_SIZE}
 use Rattle.tfpg_words.specs.declared.limits.TheConstants.{MAX_K, MAX_BUDGET, MAX_DRAW, DEFAULT_K, DEFAULT_BUDGET, DEFAULT_DRAW, DEFAULT_SIZE}
@@ -10,7 +11,7 @@ use Rattle.tfpg_words.specs.Words.{Form, Parts, Use, Word, parts_of_words}
 
 -- What a command asks for.
 pub data Meaning : Type 0 where
-  Diagnose : (k budget : ℕ) (graph : Word) → Meaning
+  Diagnose : (terms : Terms) (graph : Word) → Meaning
   Explain : (graph log : Word) → Meaning
   Simulate : (draw : ℕ) (trace : Bool) (graph script : Word) → Meaning
   Generate : (draw size : ℕ) → Meaning
@@ -81,7 +82,7 @@ diagnose_form = record { options = k_option.name ∷ budget_option.name ∷ []; 
 -- what the positional words after `diagnose` mean with these numbers
 abbrev pub diagnose_with : Word → List Word → Result (ℕ × ℕ) UsageCause → Result Meaning UsageCause
 diagnose_with graph panels (Err cause) = Err cause
-diagnose_with graph [] (Ok (k, budget)) = Ok (Diagnose k budget graph)
+diagnose_with graph [] (Ok (k, budget)) = Ok (Diagnose (record { k = k; budget = budget }) graph)
 diagnose_with graph (panel ∷ panels) (Ok numbers) = Err BadPanel
 
 -- what the uses and the positional words after `diagnose` mean

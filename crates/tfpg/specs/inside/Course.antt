@@ -9,6 +9,7 @@ use Rattle.tfpg_graph.specs.Graph.{Tfpg}
 use Rattle.tfpg_engine.specs.EngineState.{EngineState}
 use Rattle.tfpg_report.specs.Blocks.{Block}
 use Rattle.tfpg_check.specs.Report.{AreBlocks, report_text, progress_of}
+use Rattle.tfpg_base.specs.declared.terms.Terms.{Terms}
 use Rattle.tfpg.specs.declared.course.Turn.{Turn}
 use Rattle.tfpg.specs.declared.course.Turn.TheVariants.{Written, Ended}
 use Rattle.tfpg.specs.ForNow.{LosesNone}
@@ -17,26 +18,35 @@ use Rattle.tfpg.specs.inside.LineBlocks.{EngineReports}
 use Rattle.tfpg.specs.Run.{Diagnoses}
 use Rattle.tfpg.specs.Streams.{Streams, CountsUnchanged}
 
+-- a diagnosis at one moment: the streams, the reader of lines and the engine
+pub record DiagnosisState : Type 0 where
+  pub streams : Streams
+  pub lines : LinesState
+  pub engine : EngineState
+
+-- the diagnosis with these
+abbrev pub diagnosis_at : Streams → LinesState → EngineState → DiagnosisState
+diagnosis_at streams lines engine = record { streams = streams; lines = lines; engine = engine }
+
 -- A diagnosis that began with the streams before has come to this: each line that the reader has returned has its
 -- block, which is written, and nothing else was written but the head. Nothing has failed.
-pub record IsDiagnosing (graph : Tfpg) (k budget : ℕ) (before now : Streams) (lines : LinesState)
-    (engine : EngineState) : Type 0 where
+pub record IsDiagnosing (graph : Tfpg) (terms : Terms) (before : Streams) (now : DiagnosisState) : Type 0 where
   pub reading : Reading
-  pub takes : Takes before.input now.input reading.taken
+  pub takes : Takes before.input now.streams.input reading.taken
   pub few : length reading.taken ≤ MAX_BYTES
-  pub represents : LinesRepresent lines reading
-  pub goes_on : (reading.ended ≡ None) ⊎ ((reading.ended ≡ Some (Ok line.End)) × IsAtEnd now.input)
+  pub represents : LinesRepresent now.lines reading
+  pub goes_on : (reading.ended ≡ None) ⊎ ((reading.ended ≡ Some (Ok line.End)) × IsAtEnd now.streams.input)
   pub front : take (length reading.given) (lines_of reading.taken) ≡ reading.given
   pub blocks : List Block
-  pub writes : Puts before.output now.output (report_text graph k budget blocks)
-  pub are_blocks : AreBlocks graph k budget reading.given blocks
+  pub writes : Puts before.output now.streams.output (report_text graph terms blocks)
+  pub are_blocks : AreBlocks graph terms reading.given blocks
   pub no_losses : AllByRecursion LosesNone blocks
-  pub say : RoundsSay graph k budget reading.given blocks
-  pub reports : EngineReports graph k budget engine (progress_of graph reading.given blocks)
-  pub no_fault : CountsUnchanged before now
+  pub say : RoundsSay graph terms reading.given blocks
+  pub reports : EngineReports graph terms now.engine (progress_of graph reading.given blocks)
+  pub no_fault : CountsUnchanged before now.streams
 
 -- What a turn after the line of this number leads to: the diagnosis is under way still, one line on; or it is done.
-abbrev pub ComesTo : Tfpg → ℕ → ℕ → Streams → Streams → ℕ → LinesState → EngineState → Turn → Type 0
-ComesTo graph k budget before now number lines engine Written =
-    IsDiagnosing graph k budget before now lines engine × (lines.number ≡ number + 1)
-ComesTo graph k budget before now number lines engine Ended = Diagnoses graph k budget before now (Ok tt)
+abbrev pub ComesTo : Tfpg → Terms → Streams → ℕ → DiagnosisState → Turn → Type 0
+ComesTo graph terms before number now Written =
+    IsDiagnosing graph terms before now × (now.lines.number ≡ number + 1)
+ComesTo graph terms before number now Ended = Diagnoses graph terms before now.streams (Ok tt)

@@ -6,17 +6,15 @@ use Rattle.tfpg_log.specs.LogOfLines.{log_of_lines}
 use Rattle.tfpg_evidence.specs.declared.round.Round.{Round}
 use Rattle.tfpg_engine.specs.EngineState.{EngineRepresents}
 use Rattle.tfpg.specs.declared.diagnosis.Diagnosis.{Diagnosis}
-use Rattle.tfpg.specs.declared.limits.TheConstants.{GENERATED_K, GENERATED_BUDGET}
-use Rattle.tfpg.specs.Diagnosed.{AreRoundsOf}
+use Rattle.tfpg.specs.Diagnosed.{AreRoundsOf, generated_terms}
 
 -- The diagnosis of the graph has taken these lines, and gave a round for each.
 pub record HasDiagnosed (graph : Tfpg) (lines : List (List ℕ)) (diagnosis : Diagnosis) : Type 0 where
   pub graph_is : diagnosis.engine.graph ≡ graph
-  pub k_is : diagnosis.engine.k ≡ GENERATED_K
-  pub budget_is : diagnosis.engine.budget ≡ GENERATED_BUDGET
+  pub terms_is : diagnosis.engine.terms ≡ generated_terms
   pub log_is : diagnosis.engine.log ≡ log_of_lines graph lines
   pub counted : length diagnosis.engine.log.events ≡ length lines
   pub rounds : List Round
   pub represents : EngineRepresents diagnosis.engine rounds
-  pub rounds_are : AreRoundsOf graph GENERATED_K GENERATED_BUDGET lines rounds
+  pub rounds_are : AreRoundsOf graph generated_terms lines rounds
   pub last_is : diagnosis.last ≡ last_of rounds

@@ -1,6 +1,6 @@
 -- How the faults of the layers below become those of fetching, of the streams and of a run.
-use Rattle.std.specs.Prelude.{ℕ, List, Result, Ok, Err}
-use Rattle.tfpg_base.specs.Outside.{ShelfState, Rose}
+use Rattle.std.specs.Prelude.{◌≡◌, ℕ, List}
+use Rattle.tfpg_base.specs.Outside.{ShelfState, Rose, NotesName}
 use Rattle.tfpg_base.specs.declared.line.LineFault.{LineFault}
 use Rattle.tfpg_base.specs.declared.line.LineFault.TheVariants as lines
 use Rattle.tfpg_base.specs.declared.outside.ShelfFault.{ShelfFault}
@@ -64,8 +64,9 @@ abbrev pub simulate_fault_of_sim : SimFault → SimulateFault
 simulate_fault_of_sim (sim.BadScript line) = simulate.BadScript line
 simulate_fault_of_sim sim.NoMemory = simulate.NoMemory
 
--- Why the file of this name was not fetched: the shelf failed; the file has more than 2^24 bytes; or memory ran out.
+-- Why the file of this name was not fetched: the shelf was asked for it, and failed; or it did not fail, and the file has
+-- more than 2^24 bytes, or memory ran out.
 abbrev pub IsFileFault : ShelfState → ShelfState → List ℕ → ShelfFault → Type 0
-IsFileFault before now name shelf.Failed = Rose before.faults now.faults
-IsFileFault before now name shelf.TooLong = IsTooLong before name
-IsFileFault before now name shelf.NoMemory = Unit {0}
+IsFileFault before now name shelf.Failed = Rose before.faults now.faults × NotesName before now name
+IsFileFault before now name shelf.TooLong = IsTooLong before name × (now.faults ≡ before.faults)
+IsFileFault before now name shelf.NoMemory = now.faults ≡ before.faults

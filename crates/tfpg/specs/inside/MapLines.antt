@@ -1,5 +1,5 @@
 -- What the reader of maps reads of a line, and what it has read so far.
-use Rattle.std.specs.Prelude.{◌≡◌, ℕ, ◌<◌, ◌≤◌, List, [], ◌∷◌, All, if◌then◌else◌, Option, Some, None, option_and_then, codes, bytes_eq}
+use Rattle.std.specs.Prelude.{◌≡◌, ℕ, ◌≤◌, List, [], ◌∷◌, All, if◌then◌else◌, Option, Some, None, option_and_then, codes, bytes_eq}
 use Rattle.tfpg_base.specs.declared.activation.Activation.{Activation}
 use Rattle.tfpg_base.specs.Set.{Rises}
 use Rattle.tfpg_base.specs.Trace.{time_of, with_time}

@@ -18,16 +18,26 @@ use Rattle.tfpg.specs.declared.map_reading.MapTurn.{MapTurn}
 use Rattle.tfpg.specs.declared.map_reading.MapTurn.TheVariants.{Read, Ended}
 use Rattle.tfpg.specs.inside.MapLines.{MapRepresents}
 
+-- the reading of a map at one moment: the input, the reader of lines and the reader of the map
+pub record MapReadingState : Type 0 where
+  pub input : SourceState
+  pub lines : LinesState
+  pub map : MapReader
+
+-- the reading of a map with these
+abbrev pub map_reading_at : SourceState → LinesState → MapReader → MapReadingState
+map_reading_at input lines map = record { input = input; lines = lines; map = map }
+
 -- Reading that began with this input has come to this: each line that was returned is read, and nothing has failed.
-pub record IsReadingMap (graph : Tfpg) (before now : SourceState) (lines : LinesState) (map : MapReader) : Type 0 where
+pub record IsReadingMap (graph : Tfpg) (before : SourceState) (now : MapReadingState) : Type 0 where
   pub reading : Reading
-  pub takes : Takes before now reading.taken
+  pub takes : Takes before now.input reading.taken
   pub few : length reading.taken ≤ MAX_BYTES
-  pub represents : LinesRepresent lines reading
-  pub goes_on : (reading.ended ≡ None) ⊎ ((reading.ended ≡ Some (Ok line.End)) × IsAtEnd now)
+  pub represents : LinesRepresent now.lines reading
+  pub goes_on : (reading.ended ≡ None) ⊎ ((reading.ended ≡ Some (Ok line.End)) × IsAtEnd now.input)
   pub front : take (length reading.given) (lines_of reading.taken) ≡ reading.given
-  pub read : MapRepresents graph map reading.given
-  pub no_fault : now.faults ≡ before.faults
+  pub read : MapRepresents graph now.map reading.given
+  pub no_fault : now.input.faults ≡ before.faults
 
 -- The whole input was taken, and each of its lines is read.
 pub record HasReadAll (graph : Tfpg) (before now : SourceState) (map : MapReader) : Type 0 where
@@ -39,9 +49,9 @@ pub record HasReadAll (graph : Tfpg) (before now : SourceState) (map : MapReader
   pub no_fault : now.faults ≡ before.faults
 
 -- What a turn after the line of this number leads to: reading is under way still, one line on; or all is read.
-abbrev pub ReadsOn : Tfpg → SourceState → SourceState → ℕ → LinesState → MapReader → MapTurn → Type 0
-ReadsOn graph before now number lines map Read = IsReadingMap graph before now lines map × (lines.number ≡ number + 1)
-ReadsOn graph before now number lines map Ended = HasReadAll graph before now map
+abbrev pub ReadsOn : Tfpg → SourceState → ℕ → MapReadingState → MapTurn → Type 0
+ReadsOn graph before number now Read = IsReadingMap graph before now × (now.lines.number ≡ number + 1)
+ReadsOn graph before number now Ended = HasReadAll graph before now.input now.map
 
 -- The lines of the whole input spell this map.
 pub record ReadsMap (graph : Tfpg) (before now : SourceState) (map : Map) : Type 0 where
@@ -60,8 +70,8 @@ abbrev pub ShowsNoMap : Tfpg → SourceState → SourceState → List ℕ → No
 ShowsNoMap graph before now taken (Refused number) = RefusesMap graph before now taken number
 ShowsNoMap graph before now taken (Lines ReadFault) = Rose before.faults now.faults × BeginsMap graph (whole_lines taken)
 ShowsNoMap graph before now taken (Lines TooMuchInput) =
-    (length taken ≡ MAX_BYTES + 1) × BeginsMap graph (whole_lines (take MAX_BYTES taken))
-ShowsNoMap graph before now taken NoMemory = Unit {0}
+    (length taken ≡ MAX_BYTES + 1) × BeginsMap graph (whole_lines (take MAX_BYTES taken)) × (now.faults ≡ before.faults)
+ShowsNoMap graph before now taken NoMemory = now.faults ≡ before.faults
 
 -- The input gives no map, with this cause.
 pub record LacksMap (graph : Tfpg) (before now : SourceState) (fault : NoMap) : Type 0 where

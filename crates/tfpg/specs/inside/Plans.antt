@@ -5,7 +5,7 @@ use Rattle.tfpg_words.specs.Meaning.{Meaning, Diagnose, Explain, Simulate, Gener
 
 -- The numbers of the command are within their limits.
 abbrev pub AreWithinLimits : Meaning → Type 0
-AreWithinLimits (Diagnose k budget graph) = 1 ≤ budget
+AreWithinLimits (Diagnose terms graph) = 1 ≤ terms.budget
 AreWithinLimits (Explain graph log) = Unit {0}
 AreWithinLimits (Simulate draw trace graph script) = Unit {0}
 AreWithinLimits (Generate draw size) = (1 ≤ size) × (size ≤ MAX_CASE_SIZE)

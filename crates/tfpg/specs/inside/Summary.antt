@@ -1,9 +1,8 @@
 -- What the code knows when it writes the three lines of `generate`.
 use Rattle.std.specs.Prelude.{◌≡◌, ℕ, List, Contains}
-use Rattle.tfpg_graph.specs.Graph.{Tfpg}
 use Rattle.tfpg_evidence.specs.declared.finding.Finding.{Finding}
 use Rattle.tfpg_evidence.specs.declared.round.Round.{Round}
-use Rattle.tfpg.specs.Summary.{summary_text}
+use Rattle.tfpg.specs.Summary.{Drawing, summary_text}
 
 -- the round has a finding on the set
 pub record HasFindingOn (set : List ℕ) (round : Round) : Type 0 where
@@ -11,7 +10,7 @@ pub record HasFindingOn (set : List ℕ) (round : Round) : Type 0 where
   pub there : Contains round.findings finding
   pub on_set : finding.set ≡ set
 
--- The text is the three lines by this round, the last of so many, and by its finding on the set.
-pub record SaysOfRound (number size : ℕ) (graph : Tfpg) (rounds : ℕ) (set text : List ℕ) (round : Round) : Type 0 where
+-- The text is the three lines by this round, the last of as many as there are lines, and by its finding on the set.
+pub record SaysOfRound (drawn : Drawing) (set text : List ℕ) (round : Round) : Type 0 where
   pub has : HasFindingOn set round
-  pub text_is : text ≡ summary_text number size graph rounds rounds round.counts set has.finding.status
+  pub text_is : text ≡ summary_text drawn drawn.lines round.counts set has.finding.status

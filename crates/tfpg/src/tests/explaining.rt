@@ -1,9 +1,10 @@
 //! Maps that are judged by graphs and logs in memory.
 
 use super::{GRAPH, InMemory, TWO_MODES, log_of, run_in_memory, words_of};
-use crate::end::{CheckCause, End};
+use crate::end::End;
 use std::alloc::{AllocError, Global};
 use std::test::Fail;
+use tfpg_check::CheckCause;
 use tfpg_graph::GraphCause;
 
 /// An AND node whose two edges are active in one mode each.

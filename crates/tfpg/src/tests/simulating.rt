@@ -1,9 +1,10 @@
 //! Scripts that are simulated on graphs in memory.
 
 use super::{InMemory, TWO_MODES, run_in_memory, words_of};
-use crate::end::{CheckCause, End};
+use crate::end::End;
 use std::alloc::{AllocError, Global};
 use std::test::Fail;
+use tfpg_check::CheckCause;
 use tfpg_graph::GraphCause;
 
 /// A name, a script over the graph with two modes, its log, and the map of what happened.

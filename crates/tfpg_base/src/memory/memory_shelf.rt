@@ -1,10 +1,10 @@
 //! A shelf of files in memory, which fails at chosen calls.
 
-ghost use Rattle.std.specs.Prelude.{◌≡◌, [], ◌∷◌, ◌++◌, map, OnOk, OnErr, IsErrOf};
+ghost use Rattle.std.specs.Prelude.{◌≡◌, ◌⊎◌, ℕ, List, [], ◌∷◌, ◌++◌, map, Some, None, OnOk, OnErr, IsErrOf};
 ghost use Rattle.std.specs.String.{string_bytes};
 ghost use Rattle.std.specs.Option.{option_copied};
 ghost use Rattle.tfpg_base.specs.Outside.{file_of, Rose};
-ghost use Rattle.tfpg_base.specs.Memory.{Copies, Fetches, FailsNext, after_fetch};
+ghost use Rattle.tfpg_base.specs.Memory.{Copies, Fetches, FailsNext, FailsOrLacksMemory, GivesOrLacksMemory, after_fetch};
 
 use super::failing_calls::FailingCalls;
 use crate::{NoMemory, Shelf, ShelfFault, append_to_file};
@@ -77,6 +77,11 @@ impl<'a> MemoryShelf<'a> {
     pub fn fetch(&mut self, alloc: Global, name: &str, into: &mut Vec<u8>) -> Result<(), ShelfFault>
         ensures fetched { Fetches (FailsNext self.old.failing self.old.calls)
             (file_of self.old.files name.now) into.new.items result }
+        ensures fails { FailsNext self.old.failing self.old.calls ⊎ (file_of self.old.files name.now ≡ None) →
+            FailsOrLacksMemory result }
+        ensures gives { (FailsNext self.old.failing self.old.calls → ⊥) →
+            (content : List ℕ) → file_of self.old.files name.now ≡ Some content →
+            GivesOrLacksMemory content result }
         ensures now { self.new ≡ after_fetch self.old name.now result }
         ensures rises { IsErrOf result ShelfFault.Failed → Rose self.old.faults self.new.faults }
     {

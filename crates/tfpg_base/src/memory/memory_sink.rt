@@ -1,11 +1,11 @@
 //! A sink that keeps its bytes, and fails at chosen calls.
 
-ghost use Rattle.std.specs.Prelude.{◌≡◌, ◌<◌, [], min, length, IsErr, IfOk, OnErr};
+ghost use Rattle.std.specs.Prelude.{◌≡◌, ◌<◌, ◌↔◌, [], min, length, IsErr, IfOk, OnErr};
 ghost use Rattle.tfpg_base.specs.Outside.{Rose};
-ghost use Rattle.tfpg_base.specs.Memory.{FailsNext, after_put};
+ghost use Rattle.tfpg_base.specs.Memory.{FailsNext, FitsRoom, after_put};
 
 use super::failing_calls::FailingCalls;
-use crate::{Failed, Sink};
+use crate::{Failed, NoMemory, Sink};
 use std::alloc::Global;
 use std::marker::Model;
 
@@ -14,34 +14,37 @@ use std::marker::Model;
 #[derive(Debug, Drop)]
 pub struct MemorySink<'a> {
     bytes: Vec<u8>,
+    room: usize,
     limit: usize,
     calls: FailingCalls<'a>,
 }
 
 impl<'a> Model for MemorySink<'a> {
-    ghost use Rattle.std.specs.Prelude.{◌<◌};
+    ghost use Rattle.std.specs.Prelude.{◌<◌, ◌≤◌, vec_capacity};
     ghost use Rattle.tfpg_base.specs.Memory.{MemorySinkState};
 
     ghost Value = { MemorySinkState };
 
     ghost view = { λ sink. record {
       holds = sink.bytes.items;
+      room = sink.room;
       limit = sink.limit;
       failing = sink.calls.failing.now;
       calls = sink.calls.calls;
       faults = sink.calls.faults.count;
     } };
 
-    ghost invariant = { λ sink. 0 < sink.limit };
+    ghost invariant = { λ sink. (0 < sink.limit) × (sink.room ≤ vec_capacity sink.bytes) };
 }
 
 impl<'a> MemorySink<'a> {
     /// A sink that holds nothing yet, takes at most `limit` bytes in a call, and fails at the calls with these
-    /// numbers. Takes no memory.
+    /// numbers, and where it runs out of memory. Takes no memory.
     pub fn new(alloc: Global, limit: usize, failing: &'a [u64]) -> MemorySink<'a>
         requires { 0 < limit }
         ensures { result ≡ record {
           holds = [];
+          room = 0;
           limit = limit;
           failing = failing.now;
           calls = 0;
@@ -50,9 +53,36 @@ impl<'a> MemorySink<'a> {
     {
         MemorySink {
             bytes: Vec::new(alloc),
+            room: 0,
             limit,
             calls: FailingCalls::new(failing),
         }
+    }
+
+    /// A sink as [`MemorySink::new`] makes it, with room for so many bytes. Until it holds more it fails exactly at the
+    /// calls with these numbers.
+    pub fn with_room(
+        alloc: Global,
+        room: usize,
+        limit: usize,
+        failing: &'a [u64],
+    ) -> Result<MemorySink<'a>, NoMemory>
+        requires { 0 < limit }
+        ensures { IfOk result (λ sink. sink ≡ record {
+          holds = [];
+          room = room;
+          limit = limit;
+          failing = failing.now;
+          calls = 0;
+          faults = 0;
+        }) }
+    {
+        Ok(MemorySink {
+            bytes: Vec::with_capacity(alloc, room)?,
+            room,
+            limit,
+            calls: FailingCalls::new(failing),
+        })
     }
 
     /// All the bytes so far.
@@ -70,9 +100,11 @@ impl<'a> MemorySink<'a> {
     }
 
     /// Appends the first bytes of the piece, and returns how many, as [`Sink::put`] does. It fails at the chosen calls, and
-    /// where it runs out of memory.
+    /// where it runs out of memory. While what it holds fits its room it fails exactly at the chosen calls.
     pub fn put(&mut self, piece: &[u8]) -> Result<usize, Failed>
         ensures fails { FailsNext self.old.failing self.old.calls → IsErr result }
+        ensures exact { FitsRoom self.old piece.now →
+            (IsErr result ↔ FailsNext self.old.failing self.old.calls) }
         ensures count { IfOk result (λ count. count ≡ min (length piece.now) self.old.limit) }
         ensures now { self.new ≡ after_put self.old piece.now result }
         ensures progress { 0 < length piece.now → IfOk result (λ count. 0 < count) }

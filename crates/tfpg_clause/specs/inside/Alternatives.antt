@@ -9,8 +9,8 @@ use Rattle.tfpg_graph.specs.declared.kind.Kind.{Kind}
 use Rattle.tfpg_graph.specs.Graph.{Tfpg, is_kind_at}
 use Rattle.tfpg_log.specs.Log.{Logbook}
 use Rattle.tfpg_log.specs.declared.span.Span.{Span}
-use Rattle.tfpg_clause.specs.Clauses.{arrival, due_over, latest_of}
-use Rattle.tfpg_clause.specs.declared.due.Due.{Due}
+use Rattle.tfpg_clause.specs.Clauses.{Due, arrival, due_over, latest_of}
+use Rattle.tfpg_clause.specs.declared.due.EdgeDue.{EdgeDue}
 use Rattle.tfpg_clause.specs.declared.alternative.Alternative.{Alternative}
 use Rattle.tfpg_clause.specs.declared.alternative.Alternative.TheVariants.{One, Arrival}
 
@@ -27,6 +27,10 @@ arrival_over graph log number horizon span edge =
 -- the alternatives of these edges
 abbrev pub arrivals_over : Tfpg → Logbook → ℕ → ℕ → Span → List ℕ → List (List Constraint)
 arrivals_over graph log number horizon span edges = filter_map (arrival_over graph log number horizon span) edges
+
+-- what the code finds due over an edge, as the definitions have it
+abbrev pub due_seen : EdgeDue → Due
+due_seen due = record { source = due.source; target = due.target; tmax = due.tmax; by = due.by }
 
 -- what is due over an edge, by its number
 abbrev pub due_by_number : Tfpg → Logbook → ℕ → ℕ → ℕ → Option Due

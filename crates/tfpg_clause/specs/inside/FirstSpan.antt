@@ -11,9 +11,9 @@ use Rattle.tfpg_evidence.specs.declared.clause_name.ClauseName.TheVariants.{OrMa
 use Rattle.tfpg_clause.specs.declared.clause_kind.ClauseKind.{ClauseKind}
 use Rattle.tfpg_clause.specs.declared.clause_kind.ClauseKind.TheVariants as kind
 use Rattle.tfpg_base.specs.Constraint.{Meets}
-use Rattle.tfpg_clause.specs.declared.due.Due.{Due}
+use Rattle.tfpg_clause.specs.Clauses.{Due}
 use Rattle.tfpg_clause.specs.Clauses.{alternatives, outside_span, must_in, starts_late, follows_in_time, MeetsClause}
-use Rattle.tfpg_clause.specs.inside.Alternatives.{arrivals_over, dues_over}
+use Rattle.tfpg_clause.specs.inside.Alternatives.{arrivals_over}
 
 -- the name of the clause of a kind, of a node or an edge, and of a span up to a horizon
 abbrev pub named : ClauseKind → ℕ → ℕ → ℕ → ClauseName
@@ -82,10 +82,9 @@ may_over graph log node edges horizon number =
     option_map (λ (span : Span). outside_span node span ++ arrivals_over graph log number horizon span edges)
     (span_at log number horizon)
 
--- the must clause of a node in a window, by the numbers of edges
-abbrev pub must_over : Tfpg → Logbook → ℕ → List ℕ → Window → ℕ → ℕ → Option (List (List Constraint))
-must_over graph log node edges window horizon number =
-    option_and_then (λ dues. must_in node number window dues) (dues_over graph log number horizon edges)
+-- the must clause of a node in a window, by what is due
+abbrev pub must_over : ℕ → ℕ → Window → Option (List Due) → Option (List (List Constraint))
+must_over node number window dues = option_and_then (λ all. must_in node number window all) dues
 
 -- The source starts too late, or the target follows in time.
 abbrev pub IsExcused : List ℕ → ℕ → Due → Type 0

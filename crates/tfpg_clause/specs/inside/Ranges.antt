@@ -4,7 +4,7 @@ use Rattle.tfpg_base.specs.declared.limits.TheConstants.{MAX_TIME}
 use Rattle.tfpg_graph.specs.declared.edge.Edge.{Edge}
 use Rattle.tfpg_graph.specs.declared.limits.TheConstants.{MAX_NODES}
 use Rattle.tfpg_graph.specs.Graph.{Tfpg}
-use Rattle.tfpg_clause.specs.declared.due.Due.{Due}
+use Rattle.tfpg_clause.specs.declared.due.EdgeDue.{EdgeDue}
 use Rattle.tfpg_log.specs.declared.span.Span.{Span}
 use Rattle.tfpg_log.specs.declared.span.Window.{Window}
 use Rattle.tfpg_log.specs.declared.event.Event.{Event}
@@ -36,7 +36,7 @@ pub record IsSmallWindow (window : Window) : Type 0 where
   pub in_range : window.hi ≤ MAX_TIME
 
 -- what is due over an edge names few nodes, and its times are in range
-pub record IsSmallDue (due : Due) : Type 0 where
+pub record IsSmallDue (due : EdgeDue) : Type 0 where
   pub source : due.source < MAX_NODES
   pub target : due.target < MAX_NODES
   pub tmax : due.tmax ≤ MAX_TIME

@@ -35,16 +35,13 @@ IsLabelled links = (number : ℕ) (demand : Demand) → 0 < number → slice_get
 abbrev pub IsRooted : List Demand → Type 0
 IsRooted links = (number : ℕ) → number < length links → (chain : List Demand) × Climbs links number chain 0
 
--- The links from one number lead to where the walk stands, and none of them is the link of the number that it seeks; their
+-- Some links lead from one number to where the walk stands, and none of them is the link of the number that it seeks; their
 -- tags were appended.
-pub record IsWalk (links : List Demand) (from sought stands : ℕ) (before after : List Why) (chain : List Demand) : Type 0 where
+pub record Walked (links : List Demand) (from sought stands : ℕ) (before after : List Why) : Type 0 where
+  pub chain : List Demand
   pub climbs : Climbs links from chain stands
   pub avoids : All (λ (demand : Demand). demand.constraint.left ≢ sought) chain
   pub tags : after ≡ before ++ map (λ (demand : Demand). demand.why) chain
-
--- Some links lead from one number to where the walk stands.
-abbrev pub Walked : List Demand → ℕ → ℕ → ℕ → List Why → List Why → Type 0
-Walked links from sought stands before after = (chain : List Demand) × IsWalk links from sought stands before after chain
 
 -- The link of a number is a demanded constraint with that number on its left, whose right side has a link, and the value
 -- of the number is at least what the constraint allows.
@@ -96,11 +93,11 @@ pub record AreAtCeilings (bounds : List Bounds) (values : List ℕ) (links : Lis
       slice_get links (variable + 1) ≡ Some (ceiling_of variable limits)
 
 -- Between calls: what is kept, every pick met, and room for what a call saves or lends.
-pub record IsReady (bounds : List Bounds) (picks : List Pick) (values : List ℕ) (links : List Demand) (backup_values : List ℕ)
+pub record IsReady (demands : Demands) (values : List ℕ) (links : List Demand) (backup_values : List ℕ)
     (backup_links : List Demand) (cycle_capacity : ℕ) : Type 0 where
-  pub sound : IsSound (demands_of bounds picks)
-  pub kept : IsKept (demands_of bounds picks) values links
-  pub met : MeetsPicks values picks
-  pub backup_values_len : length backup_values ≡ length bounds + 1
-  pub backup_links_len : length backup_links ≡ length bounds + 1
-  pub room : length bounds + 3 ≤ cycle_capacity
+  pub sound : IsSound demands
+  pub kept : IsKept demands values links
+  pub met : MeetsPicks values demands.picks
+  pub backup_values_len : length backup_values ≡ length demands.bounds + 1
+  pub backup_links_len : length backup_links ≡ length demands.bounds + 1
+  pub room : length demands.bounds + 3 ≤ cycle_capacity

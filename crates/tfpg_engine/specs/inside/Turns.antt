@@ -1,17 +1,18 @@
 -- What a round finds of one hypothesis after the other, whatever the earlier rounds were.
 use Rattle.std.specs.Prelude.{◌≡◌, ℕ, ◌≤◌, List, length, take, All, Bool, true, false, Some, slice_get}
 use Rattle.tfpg_graph.specs.Graph.{Tfpg, AreFailures}
-use Rattle.tfpg_log.specs.Log.{Logbook, now_of}
+use Rattle.tfpg_log.specs.Log.{now_of}
 use Rattle.tfpg_evidence.specs.declared.finding.Finding.{Finding}
 use Rattle.tfpg_evidence.specs.declared.finding.Status.{Status}
 use Rattle.tfpg_evidence.specs.declared.round.Round.{Round}
 use Rattle.tfpg_evidence.specs.declared.finding.Status.TheVariants as status
 use Rattle.tfpg_evidence.specs.RoundOf.{is_open}
+use Rattle.tfpg_evidence.specs.Findings.{hypothesis_of}
 use Rattle.tfpg_clause.specs.Trees.{Judged}
-use Rattle.tfpg_hyp.specs.Hypotheses.{Hypotheses, AreReaches}
+use Rattle.tfpg_hyp.specs.Hypotheses.{Hypotheses, Row, IsRowOf, AreReaches}
 use Rattle.tfpg_hyp.specs.declared.ranking_key.Fraction.{Fraction}
 use Rattle.tfpg_hyp.specs.declared.ranking_key.RankingKey.{RankingKey}
-use Rattle.tfpg_hyp.specs.Rounds.{HasEvidence, IsOrder, counts_of, key_of_status}
+use Rattle.tfpg_hyp.specs.Rounds.{Inquiry, HasEvidence, IsOrder, counts_of, key_of_status}
 use Rattle.tfpg_search.specs.Enough.{IsEnough}
 use Rattle.tfpg_search.specs.SearchState.{SearchState}
 use Rattle.tfpg_clause.specs.Paths.{with_steps}
@@ -21,6 +22,7 @@ use Rattle.tfpg_engine.specs.declared.slot.Slot.{Slot}
 use Rattle.tfpg_engine.specs.declared.slot.Slot.TheVariants.{Untouched, Searched, Rejected}
 use Rattle.tfpg_engine.specs.EngineState.{SlotRepresents}
 use Rattle.tfpg_engine.specs.Earned.{IsEarned}
+use Rattle.tfpg_engine.specs.inside.Asking.{case_of_row}
 use Rattle.tfpg_engine.specs.inside.RankedKeys.{HasFraction}
 
 -- the test of a slot that is rejected
@@ -47,50 +49,57 @@ RanksByFraction number status = (key : RankingKey) → key_of_status number stat
 
 -- The finding goes on from these steps: what is kept represents the steps with those of the finding, which are its evidence
 -- and are earned.
-pub record GoesOnFrom (graph : Tfpg) (log : Logbook) (budget : ℕ) (set reach : List ℕ)
-    (findings : List Finding) (earlier : List Judged) (slot : Slot) (finding : Finding) : Type 0 where
-  pub represents : SlotRepresents graph log set reach slot (with_steps earlier log finding.steps)
-  pub evidence : HasEvidence graph log budget findings reach (with_steps earlier log finding.steps) finding finding.status
-  pub earned : IsEarned graph log budget reach earlier finding
+pub record GoesOnFrom (inquiry : Inquiry) (row : Row) (findings : List Finding) (earlier : List Judged)
+    (slot : Slot) (finding : Finding) : Type 0 where
+  pub represents : SlotRepresents (case_of_row inquiry row) row.hypothesis slot
+      (with_steps earlier inquiry.log finding.steps)
+  pub evidence : HasEvidence (case_of_row inquiry row) inquiry.terms.budget findings
+      (with_steps earlier inquiry.log finding.steps) finding finding.status
+  pub earned : IsEarned (case_of_row inquiry row) inquiry.terms.budget earlier finding
 
--- The finding on the hypothesis of this number, after these findings, and what was kept of it before and is kept now.
-pub record IsTurn (graph : Tfpg) (log : Logbook) (budget : ℕ) (set reach : List ℕ) (number : ℕ)
-    (findings : List Finding) (old new : Slot) (finding : Finding) : Type 0 where
-  pub number_is : finding.number ≡ number
-  pub set_is : finding.set ≡ set
-  pub whole : RanksByFraction number finding.status
-  pub none_open : IsEnough graph log budget → is_open finding.status ≡ false
-  pub goes_on : (earlier : List Judged) → SlotRepresents graph log set reach old earlier
-      → GoesOnFrom graph log budget set reach findings earlier new finding
+-- The finding on the hypothesis of a row, after these findings, and what was kept of it before and is kept now.
+pub record IsTurn (inquiry : Inquiry) (row : Row) (findings : List Finding) (old new : Slot)
+    (finding : Finding) : Type 0 where
+  pub number_is : finding.number ≡ row.number
+  pub hypothesis_is : hypothesis_of finding ≡ row.hypothesis
+  pub whole : RanksByFraction row.number finding.status
+  pub none_open : IsEnough inquiry.graph inquiry.log inquiry.terms.budget → is_open finding.status ≡ false
+  pub goes_on : (earlier : List Judged)
+      → SlotRepresents (case_of_row inquiry row) row.hypothesis old earlier
+      → GoesOnFrom inquiry row findings earlier new finding
+
+-- The finding on a row is a turn after the findings before it.
+abbrev pub HasTurn : Inquiry → Row → List Slot → List Slot → List Finding → Type 0
+HasTurn inquiry row old new findings =
+    (before now : Slot) (finding : Finding) → slice_get old row.number ≡ Some before →
+    slice_get new row.number ≡ Some now → slice_get findings row.number ≡ Some finding →
+    IsTurn inquiry row (take row.number findings) before now finding
 
 -- These are the findings on the first hypotheses of the table, each after those before it.
-abbrev pub AreTurns : Tfpg → Logbook → ℕ → Hypotheses → List Slot → List Slot → List Finding → Type 0
-AreTurns graph log budget table old new findings =
-    (number : ℕ) (set reach : List ℕ) (before now : Slot) (finding : Finding) →
-    slice_get table.sets number ≡ Some set → slice_get table.reaches number ≡ Some reach →
-    slice_get old number ≡ Some before → slice_get new number ≡ Some now → slice_get findings number ≡ Some finding →
-    IsTurn graph log budget set reach number (take number findings) before now finding
+abbrev pub AreTurns : Inquiry → Hypotheses → List Slot → List Slot → List Finding → Type 0
+AreTurns inquiry table old new findings =
+    (row : Row) → IsRowOf table row → HasTurn inquiry row old new findings
 
 -- The same, where the slots of the hypotheses after those are as they were.
-pub record AreFirstTurns (graph : Tfpg) (log : Logbook) (budget : ℕ) (table : Hypotheses)
-    (old new : List Slot) (findings : List Finding) (count : ℕ) : Type 0 where
+pub record AreFirstTurns (inquiry : Inquiry) (table : Hypotheses) (old new : List Slot)
+    (findings : List Finding) (count : ℕ) : Type 0 where
   pub counted : length findings ≡ count
   pub one_each : length new ≡ length old
-  pub turns : AreTurns graph log budget table old new findings
+  pub turns : AreTurns inquiry table old new findings
   pub same : (number : ℕ) → count ≤ number → slice_get new number ≡ slice_get old number
 
--- a table of sets of failure modes of the graph, with what each reaches
+-- a table of hypotheses of failure modes of the graph, with what each reaches
 pub record IsOfGraph (graph : Tfpg) (table : Hypotheses) : Type 0 where
-  pub members : All (AreFailures graph) table.sets
-  pub reached : AreReaches graph table.sets table.reaches
+  pub members : All (λ hypothesis. AreFailures graph hypothesis.set) table.hypotheses
+  pub reached : AreReaches graph table.hypotheses table.reaches
 
 -- A finding on each hypothesis was made, they were put in order and counted.
-pub record MakesRound (graph : Tfpg) (log : Logbook) (budget : ℕ) (table : Hypotheses)
-    (old new : List Slot) (line : ℕ) (round : Round) : Type 0 where
-  pub number : round.number ≡ length log.events
+pub record MakesRound (inquiry : Inquiry) (table : Hypotheses) (old new : List Slot) (line : ℕ)
+    (round : Round) : Type 0 where
+  pub number : round.number ≡ length inquiry.log.events
   pub line_is : round.line ≡ line
-  pub now_is : round.now ≡ now_of log
-  pub complete : length round.findings ≡ length table.sets
-  pub turns : AreTurns graph log budget table old new round.findings
+  pub now_is : round.now ≡ now_of inquiry.log
+  pub complete : length round.findings ≡ length table.hypotheses
+  pub turns : AreTurns inquiry table old new round.findings
   pub order : IsOrder round.findings round.order
   pub counts : round.counts ≡ counts_of round.findings

@@ -1,3 +1,2 @@
-pub mod NodeSets
 pub mod Sources
 pub mod Reaches

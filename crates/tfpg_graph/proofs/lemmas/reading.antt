@@ -33,3 +33,5 @@ pub mod WholeText
 pub mod LinesCounted
 pub mod OneFault
 pub mod FoundNames
+pub mod ValidSoFar
+pub mod EachText

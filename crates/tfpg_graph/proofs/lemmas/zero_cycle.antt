@@ -5,3 +5,4 @@ pub mod ZeroEdgeSteps
 pub mod ZeroGroups
 pub mod ZeroCycles
 pub mod ZeroRanks
+pub mod FirstOnCycle

@@ -2,33 +2,29 @@
 
 ghost use Rattle.std.specs.Prelude.{◌≡◌, ◌<◌, ◌↔◌, [], IsTrue, Contains};
 ghost use Rattle.tfpg_base.specs.Set.{with_member};
-ghost use Rattle.tfpg_graph.specs.NodeSet.{IsNodeSet};
+ghost use Rattle.tfpg_base.specs.NodeSet.{IsNodeSet};
 
 use crate::limits::MAX_NODES;
 use std::marker::Model;
+use tfpg_base::NodeNumbers;
 
 /// A set of nodes, each by its number, which is below [`MAX_NODES`]. It takes no memory.
 /// Contracts see it as the rising list of these numbers.
 #[derive(Clone, Copy, Debug)]
 pub struct NodeSet {
-    words: [u64; MAX_NODES as usize / 64],
+    nodes: NodeNumbers,
 }
 
 impl Model for NodeSet {
-    ghost use Rattle.std.specs.Prelude.{ℕ, List};
-    ghost use Rattle.std.proofs.Common.{ap};
-    ghost use Rattle.tfpg_graph.specs.inside.reach.NodeWords.{AreWords, nodes_of, words_keeping, words_keeping-nodes_of};
+    ghost use Rattle.std.specs.Prelude.{ℕ, List, refl};
 
     ghost Value = { List ℕ };
 
-    ghost view = { λ set. nodes_of set.words };
+    ghost view = { λ set. set.nodes };
 
-    ghost invariant = { λ set. AreWords set.words };
+    ghost inverse = { λ nodes. record { nodes = nodes } };
 
-    ghost inverse = { λ nodes. record { words = words_keeping nodes } };
-
-    ghost inverse_ok = { λ set are. ap (λ (words : List ℕ). record { words = words })
-        (words_keeping-nodes_of set.words are) };
+    ghost inverse_ok = { λ set fits. refl };
 }
 
 impl NodeSet {
@@ -37,7 +33,7 @@ impl NodeSet {
         ensures { result ≡ [] }
     {
         NodeSet {
-            words: [0; MAX_NODES as usize / 64],
+            nodes: NodeNumbers::empty(),
         }
     }
 
@@ -47,9 +43,9 @@ impl NodeSet {
         ensures nodes { result ≡ with_member node self }
         ensures set { IsNodeSet result }
     {
-        let mut words = self.words;
-        words[(node / 64) as usize] |= 1 << (node % 64);
-        NodeSet { words }
+        NodeSet {
+            nodes: self.nodes.with(node),
+        }
     }
 
     /// Whether the node is in the set. A number from [`MAX_NODES`] on is in none.
@@ -57,6 +53,6 @@ impl NodeSet {
         ensures node { IsTrue result ↔ Contains self.now node }
         ensures set { IsNodeSet self.now }
     {
-        node < MAX_NODES && self.words[(node / 64) as usize] >> (node % 64) & 1 == 1
+        self.nodes.has(node)
     }
 }

@@ -3,7 +3,7 @@
 ghost use Rattle.std.specs.Prelude.{◌≡◌, ◌≤◌, ◌∷◌, [], IfOk, IfSome, Some, Ok, Err, nat_lt, if◌then◌else◌};
 ghost use Rattle.tfpg_base.specs.Words.{number_of};
 ghost use Rattle.tfpg_base.specs.declared.limits.TheConstants.{MAX_TIME};
-ghost use Rattle.tfpg_graph.specs.Valid.{HasValidNumber};
+ghost use Rattle.tfpg_graph.specs.Valid.{HasValidNumber, IsValidLag};
 ghost use Rattle.tfpg_graph.specs.Declares.{kind_of_words, lag_of_word, delays_of_words};
 ghost use Rattle.tfpg_base.specs.Choice.{first_of};
 ghost use Rattle.tfpg_graph.specs.Causes.{node_number, lag_number};
@@ -14,7 +14,7 @@ ghost use Rattle.tfpg_graph.specs.inside.declaring.Declaring.{AreDelays};
 ghost use Rattle.tfpg_graph.specs.declared.cause.GraphCause.TheVariants.{MinOverMax};
 
 use crate::cause::GraphCause;
-use crate::kind::Kind;
+use crate::kind::{Kind, Lag};
 use crate::limits::MAX_RARITY;
 use crate::reading::statement::NodeWords;
 use tfpg_base::{MAX_TIME, Number, read_number};
@@ -41,17 +41,17 @@ pub(crate) fn read_kind(words: NodeWords<'_>) -> Result<Kind, GraphCause>
     }
 }
 
-/// The lag that the word says, in milliseconds, where there is a word.
-fn read_lag(word: Option<&[u8]>) -> Result<Option<u64>, GraphCause>
+/// The lag from 0 up to what the word says, in milliseconds, where there is a word.
+fn read_lag(word: Option<&[u8]>) -> Result<Option<Lag>, GraphCause>
     ensures lag { ReadAs (first_of (number_causes (lag_number (word_seen word.entry))))
         (lag_of_word (word_seen word.entry)) result }
-    ensures small { IfOk result (λ lag. IfSome lag (λ time. time ≤ MAX_TIME)) }
+    ensures valid { IfOk result (λ lag. IfSome lag IsValidLag) }
 {
     match word {
         None => Ok(None),
         Some(word) => {
-            let time = read_up_to(word, MAX_TIME)?;
-            Ok(Some(time))
+            let most = read_up_to(word, MAX_TIME)?;
+            Ok(Some(Lag { least: 0, most }))
         }
     }
 }

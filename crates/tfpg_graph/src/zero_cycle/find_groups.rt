@@ -1,7 +1,7 @@
 //! The groups of nodes that reach each other, which are the strongly connected components, by two depth-first searches.
 
 ghost use Rattle.std.specs.Prelude.{◌≡◌, ◌<◌, [], None, length, replicate, IfOk, OnOk};
-ghost use Rattle.tfpg_graph.specs.inside.zero_cycle.ZeroSearch.{IsVisited, HasVisited, IsFinishingOrder, AreReversed, AreGroups};
+ghost use Rattle.tfpg_graph.specs.inside.zero_cycle.ZeroSearch.{IsVisited, search_of, HasVisited, IsFinishingOrder, AreReversed, AreGroups};
 
 use crate::zero_cycle::steps::ZeroSteps;
 use std::alloc::Global;
@@ -41,8 +41,8 @@ fn visit(
     requires count { length search.old.marks.items ≡ length steps.now }
     requires searched { IsVisited steps.now search.old.marks.items search.old.order.items }
     ensures { OnOk result
-        (HasVisited steps.now node mark search.old.marks.items search.old.order.items search.new.marks.items
-        search.new.order.items) }
+        (HasVisited steps.now node mark (search_of search.old.marks.items search.old.order.items)
+        (search_of search.new.marks.items search.new.order.items)) }
 {
     if search.marks[node as usize].is_some() {
         return Ok(());

@@ -1,6 +1,7 @@
 //! What the statuses of a round say of the sets themselves.
 
 ghost use Rattle.std.specs.Prelude.{ℕ, List};
+ghost use Rattle.tfpg_base.specs.declared.terms.Terms.{Terms};
 ghost use Rattle.tfpg_graph.specs.Graph.{Tfpg};
 ghost use Rattle.tfpg_graph.specs.Valid.{IsValid};
 ghost use Rattle.tfpg_log.specs.Log.{Logbook, IsLogOf, IsOrdered};
@@ -14,9 +15,10 @@ use tfpg_clause::laws::a_refutation_leaves_no_trace;
 /// the log, a set that fits is never rejected, and a ranked set of whose proper subsets none is open has no proper subset that
 /// fits.
 pub fn rounds_say_which_sets_fit()
-    ensures { (graph : Tfpg) (k budget line : ℕ) (rounds : List Round) (log : Logbook) (round : Round) →
-        IsValid graph → IsLogOf graph log → IsOrdered log → IsRound graph k budget rounds log line round →
-        SayWhichSetsFit graph log k round.findings }
+    ensures { (graph : Tfpg) (terms : Terms) (line : ℕ) (rounds : List Round) (log : Logbook)
+        (round : Round) →
+        IsValid graph → IsLogOf graph log → IsOrdered log → IsRound graph terms rounds log line round →
+        SayWhichSetsFit graph log terms round.findings }
 {
     a_refutation_leaves_no_trace();
 }
@@ -24,9 +26,10 @@ pub fn rounds_say_which_sets_fit()
 /// In a round without an open set the statuses depend on the graph, on `k` and on the log alone: ranked are exactly the sets that
 /// fit while no proper subset does, covered exactly the others that fit, and rejected exactly those that do not.
 pub fn statuses_are_those_of_minimal_sets()
-    ensures { (graph : Tfpg) (k budget line : ℕ) (rounds : List Round) (log : Logbook) (round : Round) →
-        IsValid graph → IsLogOf graph log → IsOrdered log → IsRound graph k budget rounds log line round →
-        HasNoneOpen round → AreStatusesOfMinimalSets graph log k round.findings }
+    ensures { (graph : Tfpg) (terms : Terms) (line : ℕ) (rounds : List Round) (log : Logbook)
+        (round : Round) →
+        IsValid graph → IsLogOf graph log → IsOrdered log → IsRound graph terms rounds log line round →
+        HasNoneOpen round → AreStatusesOfMinimalSets graph log terms round.findings }
 {
     a_refutation_leaves_no_trace();
 }

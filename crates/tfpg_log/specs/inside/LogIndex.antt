@@ -17,20 +17,20 @@ abbrev pub AreFirstAlarms : Logbook → Type 0
 AreFirstAlarms log =
     (number time node : ℕ) → event_at log number ≡ Some (Alarm time node) → alarm_event log node ≡ Some number
 
--- The index of the events: for each node those that bound when it became active, the last sweep, the changes of mode that
--- begin the spans, and how many events are changes of mode.
-pub record IsLogIndex (events : List Event) (nodes : List NodeEvents) (sweep : Option ℕ) (changes : List ModeChange)
+-- The index of a log's events: for each node those that bound when it became active, the last sweep, the changes of mode
+-- that begin the spans, and how many events are changes of mode.
+pub record IsLogIndex (log : Logbook) (nodes : List NodeEvents) (sweep : Option ℕ) (changes : List ModeChange)
     (count : ℕ) : Type 0 where
-  pub few : length events ≤ MAX_EVENTS
-  pub own : (node : ℕ) → IsNodeEvents (record { events = events }) node (events_of nodes node)
-  pub swept : IsLast (IsSweep (record { events = events })) sweep
-  pub counted : count ≡ count_by is_mode_change events
+  pub few : length log.events ≤ MAX_EVENTS
+  pub own : (node : ℕ) → IsNodeEvents log node (events_of nodes node)
+  pub swept : IsLast (IsSweep log) sweep
+  pub counted : count ≡ count_by is_mode_change log.events
   pub fewer : length changes ≤ count
-  pub spans : BeginSpans (mode_after 0 events) changes
+  pub spans : BeginSpans (mode_after 0 log.events) changes
   pub in_order : IsNonDecreasingBy (λ (change : ModeChange). change.time) changes
-  pub by_now : begin_of_span changes (length changes) ≤ now_of (record { events = events }) + 1
-  pub ordered : IsOrdered (record { events = events })
-  pub first_alarms : AreFirstAlarms (record { events = events })
+  pub by_now : begin_of_span changes (length changes) ≤ now_of log + 1
+  pub ordered : IsOrdered log
+  pub first_alarms : AreFirstAlarms log
 
 -- One more event may come at this time: there is room for it, and the time is neither before now nor too large.
 pub record MayComeAt (log : Logbook) (time : ℕ) : Type 0 where

@@ -54,7 +54,7 @@ pub fn age_is_the_time_in_the_window()
     ensures exactly { (log : Logbook) (trace : List Activation) (edge : Edge) (instant horizon age : ℕ) →
         instant ≤ horizon → horizon ≤ now_of log →
         HasAge log trace edge instant age
-        ↔ HasAgeInWindow log trace edge (span_number log instant) horizon instant age }
+        ↔ HasAgeInWindow (window_of log edge (span_number log instant) horizon) trace edge instant age }
     ensures only_there { (log : Logbook) (trace : List Activation) (edge : Edge) (instant age : ℕ) →
         HasAge log trace edge instant age →
         IsTrue (is_active_at log edge instant)
@@ -142,5 +142,5 @@ pub fn ages_at_once_are_the_time_in_the_joint_window()
         (node number horizon instant age : ℕ) (joint : Window) (edge : Edge) →
         joint_of graph log node number horizon ≡ Some joint → joint.lo ≤ instant → instant ≤ joint.hi →
         Contains (edges_into graph node) edge →
-        HasAge log trace edge instant age ↔ HasAgeInWindow log trace edge number horizon instant age }
+        HasAge log trace edge instant age ↔ HasAgeInWindow (window_of log edge number horizon) trace edge instant age }
 {}

@@ -14,7 +14,7 @@ const THREE_MODES_WRITTEN: &[u8] =
 
 /// What its look-ups return, node by node, edge by edge, and mode by mode.
 const THREE_MODES_SEEN: &str = "node 0 And { lag: None } false 0 Some(0) None [0, 1]\n\
-    node 1 Or { lag: Some(7) } true 7 Some(1) None [2, 3]\n\
+    node 1 Or { lag: Some(Lag { least: 0, most: 7 }) } true 7 Some(1) None [2, 3]\n\
     node 2 Failure { rarity: 3 } false 0 Some(2) Some(0) []\n\
     node 3 Failure { rarity: 5 } false 0 Some(3) Some(1) []\n\
     edge 0 Edge { source: 1, target: 0, tmin: 0, tmax: None, modes: 3 }\n\

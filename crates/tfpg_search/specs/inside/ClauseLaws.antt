@@ -1,7 +1,7 @@
 -- What the laws of clauses and of refutations say that the proofs of this crate rest on.
-use Rattle.tfpg_clause.specs.Laws.{LowerBoundsHold, UpperBoundsHold, AllowedClausesHaveAlternatives, AllowedClausesAreShort, AllowedClausesAreSmall, LogsGoOnFromTheirFirstEvents, AllowedClausesStay, FactsStay, FrontsOfPartialTreesArePartial, TreesBeginAtTheRoot, PartialTreesHaveAPresentLeaf, PresentLeavesAreAlone, PresentLeavesStay, RefutationsAreNotPartial, FramesBeginAtTheRoot, FramesFollowSplits, FramesFollowCycles, FramesEndInRefutations, FramesStayAtTheLeaf, FramesStateWhatPathsState}
+use Rattle.tfpg_clause.specs.Laws.{LowerBoundsHold, UpperBoundsHold, AllowedClausesHaveAlternatives, AllowedClausesAreShort, AllowedClausesAreSmall, LogsGoOnFromTheirFirstEvents, AllowedClausesStay, FactsStay, StatedConstraintsStay, FrontsOfPartialTreesArePartial, TreesBeginAtTheRoot, PresentLeavesFollowSteps, LastLeavesEndInRefutations, PartialTreesHaveAPresentLeaf, PresentLeavesAreAlone, PresentLeavesStay, RefutationsAreNotPartial}
 
--- What each law says, in the order of bounds, clauses, leaves and frames.
+-- What each law says, in the order of bounds, clauses and leaves.
 pub record ClauseLaws : Type 0 where
   -- bounds hold of the times of nodes
   pub lower : LowerBoundsHold
@@ -14,18 +14,14 @@ pub record ClauseLaws : Type 0 where
   pub first : LogsGoOnFromTheirFirstEvents
   pub clause_stays : AllowedClausesStay
   pub fact_stays : FactsStay
+  pub stated_stays : StatedConstraintsStay
   -- what a partial tree begins with is one
   pub partial_front : FrontsOfPartialTreesArePartial
-  -- a partial tree has one present leaf, which stays, and is no refutation
+  -- a partial tree has one present leaf, which follows the steps and stays, and is no refutation
   pub leaf_begins : TreesBeginAtTheRoot
+  pub leaf_moves : PresentLeavesFollowSteps
+  pub leaf_ends : LastLeavesEndInRefutations
   pub leaf_there : PartialTreesHaveAPresentLeaf
   pub one_leaf : PresentLeavesAreAlone
   pub leaf_stays : PresentLeavesStay
   pub finished : RefutationsAreNotPartial
-  -- frames follow the steps to the present leaf, and state what its path states
-  pub frames_begin : FramesBeginAtTheRoot
-  pub frames_split : FramesFollowSplits
-  pub frames_next : FramesFollowCycles
-  pub frames_closed : FramesEndInRefutations
-  pub frames_stay : FramesStayAtTheLeaf
-  pub states_same : FramesStateWhatPathsState

@@ -6,14 +6,15 @@ use Rattle.tfpg_evidence.specs.declared.reason.Reason.{Reason}
 use Rattle.tfpg_graph.specs.Graph.{Tfpg}
 use Rattle.tfpg_log.specs.Log.{Logbook}
 use Rattle.tfpg_clause.specs.Facts.{fact}
-use Rattle.tfpg_clause.specs.Paths.{stated_by}
-use Rattle.tfpg_clause.specs.declared.path.Frame.{Frame}
+use Rattle.tfpg_clause.specs.Case.{Case}
+use Rattle.tfpg_clause.specs.Trees.{stated}
+use Rattle.tfpg_clause.specs.declared.path.PathSplit.{PathSplit}
 use Rattle.tfpg_base.specs.Choice.{item_at}
 use Rattle.tfpg_search.specs.Leaf.{Leaf, IsStated, pick_reasons}
 use Rattle.tfpg_search.specs.Picks.{constraint_count}
 
 -- how many constraints were picked at the split of this number
-abbrev pub constraint_count_at : Tfpg → Logbook → List Frame → ℕ → ℕ
+abbrev pub constraint_count_at : Tfpg → Logbook → List PathSplit → ℕ → ℕ
 constraint_count_at graph log path split = option_map_or (constraint_count graph log) (item_at path split) 0
 
 -- The bounds are as they were, and so is all that is stated.
@@ -27,9 +28,9 @@ Leaves None old new = new ≡ old
 Leaves (Some count) old new = KeepsBounds old new × (pick_reasons new ≡ take count (pick_reasons old))
 
 -- Constraints of the alternatives on the path were pushed, or none: all is stated still, and the picks go on from the old ones.
-pub record Pushing (graph : Tfpg) (log : Logbook) (reach : List ℕ) (path : List Frame) (old new : Leaf) : Type 0 where
+pub record Pushing (case : Case) (path : List PathSplit) (old new : Leaf) : Type 0 where
   pub variables : length new.demands.bounds ≡ length old.demands.bounds
-  pub stated : IsStated (fact graph log reach) (stated_by graph log reach path) new
+  pub stated : IsStated (fact case) (stated case path) new
   pub more : (added : List Reason) × (pick_reasons new ≡ pick_reasons old ++ added)
 
 -- Where there is a constraint, it was pushed with its reason. The call returns whether there is one.

@@ -4,10 +4,10 @@ ghost use Rattle.std.specs.Prelude.{◌≡◌, ◌≤◌, ◌++◌, ◌∷◌, �
 ghost use Rattle.tfpg_evidence.specs.declared.reason.Reason.{Reason};
 ghost use Rattle.tfpg_evidence.specs.declared.reason.Reason.TheVariants.{Pick};
 ghost use Rattle.tfpg_clause.specs.Facts.{fact};
-ghost use Rattle.tfpg_clause.specs.Paths.{framed, stated_by};
+ghost use Rattle.tfpg_clause.specs.Trees.{picked, stated};
 ghost use Rattle.tfpg_search.specs.Leaf.{pick_reasons, IsStated};
 ghost use Rattle.tfpg_search.specs.Picks.{picks_from};
-ghost use Rattle.tfpg_search.specs.SearchState.{IsAtItsLeaf, HasEnteredAll};
+ghost use Rattle.tfpg_search.specs.SearchState.{IsAtItsLeaf, HasEnteredAll, case_of_search};
 ghost use Rattle.tfpg_search.specs.inside.Closing.{Closes};
 ghost use Rattle.tfpg_search.specs.inside.Leaving.{constraint_count_at, Leaves, Pushing, PushesOne};
 ghost use Rattle.tfpg_search.specs.inside.Moves.{KeepsSet};
@@ -17,7 +17,7 @@ use crate::clause_laws::clause_laws;
 use crate::search::Search;
 use std::sync::ledger::Ledger;
 use tfpg_base::{NoMemory, Steps};
-use tfpg_clause::{MAX_CONSTRAINTS, framed};
+use tfpg_clause::{MAX_CONSTRAINTS, picked};
 use tfpg_evidence::Reason;
 use tfpg_graph::Graph;
 use tfpg_log::Log;
@@ -36,7 +36,8 @@ impl Search {
         ensures keeps { KeepsSet self.old self.new }
         ensures path { self.new.path ≡ self.old.path }
         ensures entered { OnOk result (HasEnteredAll self.new) }
-        ensures closes { IfErr result (Closes (stated_by graph.now log.now self.old.reach self.old.path)) }
+        ensures closes { IfErr result
+            (Closes (stated (case_of_search graph.now log.now self.old) self.old.path)) }
     {
         let split = self.entered_count();
         if split == self.depth() {
@@ -73,14 +74,16 @@ impl Search {
         work: &mut Steps<L>,
     ) -> Result<(), AddFault>
         requires variables { length self.old.leaf.demands.bounds ≡ length graph.now.nodes }
-        requires stated { IsStated (fact graph.now log.now self.old.reach)
-            (stated_by graph.now log.now self.old.reach self.old.path) self.old.leaf }
+        requires stated { IsStated (fact (case_of_search graph.now log.now self.old))
+            (stated (case_of_search graph.now log.now self.old) self.old.path) self.old.leaf }
         ensures same { self.new ≡ record self.old { leaf = self.new.leaf } }
-        ensures pushing { Pushing graph.now log.now self.old.reach self.old.path self.old.leaf self.new.leaf }
+        ensures pushing { Pushing (case_of_search graph.now log.now self.old) self.old.path
+            self.old.leaf self.new.leaf }
         ensures ok { OnOk result (pick_reasons self.new.leaf
             ≡ pick_reasons self.old.leaf ++ picks_from split 1
             (constraint_count_at graph.now log.now self.old.path split)) }
-        ensures closes { IfErr result (Closes (stated_by graph.now log.now self.old.reach self.old.path)) }
+        ensures closes { IfErr result
+            (Closes (stated (case_of_search graph.now log.now self.old) self.old.path)) }
     {
         clause_laws();
         let _valid = graph.node_count();
@@ -105,18 +108,20 @@ impl Search {
         work: &mut Steps<L>,
     ) -> Result<bool, AddFault>
         requires variables { length self.old.leaf.demands.bounds ≡ length graph.now.nodes }
-        requires stated { IsStated (fact graph.now log.now self.old.reach)
-            (stated_by graph.now log.now self.old.reach self.old.path) self.old.leaf }
+        requires stated { IsStated (fact (case_of_search graph.now log.now self.old))
+            (stated (case_of_search graph.now log.now self.old) self.old.path) self.old.leaf }
         ensures same { self.new ≡ record self.old { leaf = self.new.leaf } }
-        ensures pushing { Pushing graph.now log.now self.old.reach self.old.path self.old.leaf self.new.leaf }
+        ensures pushing { Pushing (case_of_search graph.now log.now self.old) self.old.path
+            self.old.leaf self.new.leaf }
         ensures ok { IfOk result
-            (PushesOne (framed graph.now log.now self.old.path split number) (Pick split number)
+            (PushesOne (picked graph.now log.now self.old.path split number) (Pick split number)
             self.old.leaf self.new.leaf) }
-        ensures closes { IfErr result (Closes (stated_by graph.now log.now self.old.reach self.old.path)) }
+        ensures closes { IfErr result
+            (Closes (stated (case_of_search graph.now log.now self.old) self.old.path)) }
     {
         clause_laws();
         let _valid = graph.node_count();
-        let Some(constraint) = framed(graph, log, &self.path, split, number) else {
+        let Some(constraint) = picked(graph, log, &self.path, split, number) else {
             return Ok(false);
         };
         match self.leaf.push(

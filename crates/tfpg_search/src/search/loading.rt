@@ -8,11 +8,14 @@ ghost use Rattle.tfpg_base.specs.declared.constraint.Constraint.{Constraint};
 ghost use Rattle.tfpg_log.specs.Log.{IsLogOf};
 ghost use Rattle.tfpg_evidence.specs.declared.reason.Reason.{Reason};
 ghost use Rattle.tfpg_clause.specs.Facts.{fact};
-ghost use Rattle.tfpg_clause.specs.Paths.{stated_by, path_after};
+ghost use Rattle.tfpg_clause.specs.Trees.{stated};
+ghost use Rattle.tfpg_clause.specs.Paths.{next_leaf};
 ghost use Rattle.tfpg_search.specs.Leaf.{pick_reasons, IsStated};
-ghost use Rattle.tfpg_search.specs.SearchState.{IsAtItsLeaf, HasEnteredAll};
+ghost use Rattle.tfpg_search.specs.SearchState.{IsAtItsLeaf, HasEnteredAll, case_of_search};
+ghost use Rattle.tfpg_search.specs.Live.{IsLiveAt};
+ghost use Rattle.tfpg_search.specs.Searched.{call_of};
 ghost use Rattle.tfpg_search.specs.inside.Closing.{IsSimpleCycle, Closes};
-ghost use Rattle.tfpg_search.specs.inside.Moves.{KeepsSet, IsLoaded, IsLiveFramed, Closing, Loading, Sees, Looking, Splitting};
+ghost use Rattle.tfpg_search.specs.inside.Moves.{KeepsSet, IsLoaded, Closing, Loading, Sees, Looking, Splitting};
 
 use crate::add_fault::AddFault;
 use crate::clause_laws::clause_laws;
@@ -21,7 +24,7 @@ use crate::search::{Look, Search};
 use std::sync::ledger::Ledger;
 use tfpg_base::{NoMemory, Steps};
 use tfpg_clause::laws::numbers_that_meet_all_give_a_trace;
-use tfpg_clause::{Frame, advance, violated};
+use tfpg_clause::{PathSplit, advance, violated};
 use tfpg_evidence::{ClauseName, Reasons, Step, StepList};
 use tfpg_graph::Graph;
 use tfpg_log::Log;
@@ -39,7 +42,7 @@ impl Search {
         requires of { IsLogOf graph.now log.now }
         requires stands { IsAtItsLeaf graph.now log.now self.old }
         ensures keeps { KeepsSet self.old self.new }
-        ensures looking { Looking graph.now log.now self.old self.new steps.old steps.new result }
+        ensures looking { Looking graph.now log.now (call_of self.old self.new steps.old steps.new) result }
     {
         match self.load(graph, log, steps, work) {
             Ok(true) => {}
@@ -83,7 +86,7 @@ impl Search {
         requires of { IsLogOf graph.now log.now }
         requires stands { IsAtItsLeaf graph.now log.now self.old }
         ensures keeps { KeepsSet self.old self.new }
-        ensures loading { Loading graph.now log.now self.old self.new steps.old steps.new result }
+        ensures loading { Loading graph.now log.now (call_of self.old self.new steps.old steps.new) result }
     {
         loop {
             match self.add_all(graph, log, work) {
@@ -111,7 +114,8 @@ impl Search {
         ensures keeps { KeepsSet self.old self.new }
         ensures path { self.new.path ≡ self.old.path }
         ensures loaded { OnOk result (IsLoaded graph.now log.now self.new) }
-        ensures closes { IfErr result (Closes (stated_by graph.now log.now self.old.reach self.old.path)) }
+        ensures closes { IfErr result
+            (Closes (stated (case_of_search graph.now log.now self.old) self.old.path)) }
     {
         self.enter(graph, log, work)?;
         self.add_facts(graph, log, work)
@@ -130,13 +134,13 @@ impl Search {
         ensures variables { length self.new.leaf.demands.bounds ≡ length self.old.leaf.demands.bounds }
         ensures reasons { pick_reasons self.new.leaf ≡ pick_reasons self.old.leaf }
         ensures stated { (stated : Reason → Option Constraint) →
-            IsStated (fact graph.now log.now self.old.reach) stated self.old.leaf →
-            IsStated (fact graph.now log.now self.old.reach) stated self.new.leaf }
+            IsStated (fact (case_of_search graph.now log.now self.old)) stated self.old.leaf →
+            IsStated (fact (case_of_search graph.now log.now self.old)) stated self.new.leaf }
         ensures closes { (stated : Reason → Option Constraint) →
-            IsStated (fact graph.now log.now self.old.reach) stated self.old.leaf →
+            IsStated (fact (case_of_search graph.now log.now self.old)) stated self.old.leaf →
             IfErr result (Closes stated) }
         ensures facts { OnOk result ((reason : Reason) (constraint : Constraint) →
-            fact graph.now log.now self.old.reach reason ≡ Some constraint →
+            fact (case_of_search graph.now log.now self.old) reason ≡ Some constraint →
             (times : List ℕ) → IsSolution self.new.leaf.demands times → Meets times constraint) }
     {
         self.leaf.add_facts(graph, log, &self.reach, work)
@@ -151,9 +155,10 @@ impl Search {
         steps: &mut StepList,
     ) -> Result<bool, NoMemory>
         requires stands { IsAtItsLeaf graph.now log.now self.old }
-        requires cycle { IsSimpleCycle (stated_by graph.now log.now self.old.reach self.old.path) reasons }
+        requires cycle { IsSimpleCycle
+            (stated (case_of_search graph.now log.now self.old) self.old.path) reasons }
         ensures keeps { KeepsSet self.old self.new }
-        ensures closing { Closing graph.now log.now self.old self.new steps.old steps.new result }
+        ensures closing { Closing graph.now log.now (call_of self.old self.new steps.old steps.new) result }
     {
         steps.push(Step::Cycle(reasons))?;
         if !self.advance() {
@@ -167,8 +172,8 @@ impl Search {
     /// Moves the path to the next leaf. Returns whether there is one.
     fn advance(&mut self) -> bool
         ensures same { self.new ≡ record self.old { path = self.new.path } }
-        ensures path { MatchBool result (path_after self.old.path ≡ Some self.new.path)
-            (path_after self.old.path ≡ None) }
+        ensures path { MatchBool result (next_leaf self.old.path ≡ Some self.new.path)
+            ((next_leaf self.old.path ≡ None) × (self.new.path ≡ [])) }
     {
         advance(&mut self.path)
     }
@@ -183,25 +188,26 @@ impl Search {
     ) -> Result<(), NoMemory>
         requires stands { IsAtItsLeaf graph.now log.now self.old }
         requires entered { HasEnteredAll self.old }
-        requires live { IsLiveFramed graph.now log.now self.old.reach self.old.path name }
+        requires live { IsLiveAt (case_of_search graph.now log.now self.old) self.old.path name }
         ensures keeps { KeepsSet self.old self.new }
-        ensures splitting { Splitting graph.now log.now self.old self.new steps.old steps.new result }
+        ensures splitting { Splitting graph.now log.now
+            (call_of self.old self.new steps.old steps.new) result }
     {
         clause_laws();
-        let Some(frame) = Frame::of_split(graph, log, name) else {
+        let Some(split) = PathSplit::on_clause(graph, log, name) else {
             unreachable!()
         };
-        self.descend(frame)?;
+        self.descend(split)?;
         steps.push(Step::Split(name))?;
         Ok(())
     }
 
     /// Appends a split to the path.
-    fn descend(&mut self, frame: Frame) -> Result<(), NoMemory>
-        ensures ok { OnOk result (self.new ≡ record self.old { path = self.old.path ++ frame ∷ [] }) }
+    fn descend(&mut self, split: PathSplit) -> Result<(), NoMemory>
+        ensures ok { OnOk result (self.new ≡ record self.old { path = self.old.path ++ split ∷ [] }) }
         ensures err { OnErr result (self.new ≡ self.old) }
     {
-        self.path.push(frame)?;
+        self.path.push(split)?;
         Ok(())
     }
 }

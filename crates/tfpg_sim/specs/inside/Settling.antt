@@ -13,21 +13,34 @@ use Rattle.tfpg_sim.specs.Simulation.{Arrives, IsFirst}
 abbrev pub candidate_at : List (Option ℕ) → ℕ → Option ℕ
 candidate_at candidates node = slice_index_or candidates node None
 
+-- What a simulation goes by: a graph, the log that has the changes of mode, the delay of each edge, and the last instant.
+pub record SimulationCase : Type 0 where
+  pub graph : Tfpg
+  pub log : Logbook
+  pub delays : List ℕ
+  pub limit : ℕ
+
+-- the case of a graph, a log, delays and a last instant
+abbrev pub simulation_case : Tfpg → Logbook → List ℕ → ℕ → SimulationCase
+simulation_case graph log delays limit = record { graph = graph; log = log; delays = delays; limit = limit }
+
+-- the failure arrives at the node by this trace
+abbrev pub ArrivesBy : SimulationCase → List Activation → ℕ → ℕ → Type 0
+ArrivesBy case trace node instant = Arrives case.graph case.log case.delays trace node instant
+
 -- What is known of the next activation of a node: nothing of a failure mode or of a node that is active already, and
 -- else the first arrival by the nodes that are active so far.
-pub record IsCandidate (graph : Tfpg) (log : Logbook) (delays : List ℕ) (limit : ℕ) (trace : List Activation)
-    (node : ℕ) (candidate : Option ℕ) : Type 0 where
-  pub failure_mode : IsTrue (is_kind_at is_failure graph node) → candidate ≡ None
+pub record IsCandidate (case : SimulationCase) (trace : List Activation) (node : ℕ) (candidate : Option ℕ) : Type 0 where
+  pub failure_mode : IsTrue (is_kind_at is_failure case.graph node) → candidate ≡ None
   pub active : (time : ℕ) → time_of trace node ≡ Some time → candidate ≡ None
-  pub waiting : is_kind_at is_failure graph node ≡ false → time_of trace node ≡ None
-      → IsFirst (Arrives graph log delays trace node) limit candidate
+  pub waiting : is_kind_at is_failure case.graph node ≡ false → time_of trace node ≡ None
+      → IsFirst (ArrivesBy case trace node) case.limit candidate
 
 -- so much of each node
-pub record AreCandidates (graph : Tfpg) (log : Logbook) (delays : List ℕ) (limit : ℕ) (trace : List Activation)
-    (candidates : List (Option ℕ)) : Type 0 where
-  pub count : length candidates ≡ length graph.nodes
-  pub each : (node : ℕ) → node < length graph.nodes
-      → IsCandidate graph log delays limit trace node (candidate_at candidates node)
+pub record AreCandidates (case : SimulationCase) (trace : List Activation) (candidates : List (Option ℕ)) : Type 0 where
+  pub count : length candidates ≡ length case.graph.nodes
+  pub each : (node : ℕ) → node < length case.graph.nodes
+      → IsCandidate case trace node (candidate_at candidates node)
 
 -- the least of the candidates
 pub record IsEarliest (candidates : List (Option ℕ)) (node time : ℕ) : Type 0 where
@@ -37,15 +50,14 @@ pub record IsEarliest (candidates : List (Option ℕ)) (node time : ℕ) : Type 
 
 -- A simulation is under way: the discrepancies that are active are so from their first arrival on, and no candidate is
 -- earlier than one of them.
-pub record IsUnderWay (graph : Tfpg) (log : Logbook) (delays : List ℕ) (limit : ℕ) (starts : ℕ → Option ℕ)
-    (trace : List Activation) (candidates : List (Option ℕ)) : Type 0 where
-  pub within : All (λ activation. activation.node < length graph.nodes) trace
-  pub times : All (λ activation. activation.time ≤ limit) trace
-  pub failure_modes : (node : ℕ) → IsTrue (is_kind_at is_failure graph node) → time_of trace node ≡ starts node
-  pub settled : (node time : ℕ) → is_kind_at is_failure graph node ≡ false → time_of trace node ≡ Some time
-      → IsFirst (Arrives graph log delays trace node) limit (Some time)
-  pub known : AreCandidates graph log delays limit trace candidates
-  pub ordered : (node time other later : ℕ) → is_kind_at is_failure graph node ≡ false → time_of trace node ≡ Some time
+pub record IsUnderWay (case : SimulationCase) (starts : ℕ → Option ℕ) (trace : List Activation) (candidates : List (Option ℕ)) : Type 0 where
+  pub within : All (λ activation. activation.node < length case.graph.nodes) trace
+  pub times : All (λ activation. activation.time ≤ case.limit) trace
+  pub failure_modes : (node : ℕ) → IsTrue (is_kind_at is_failure case.graph node) → time_of trace node ≡ starts node
+  pub settled : (node time : ℕ) → is_kind_at is_failure case.graph node ≡ false → time_of trace node ≡ Some time
+      → IsFirst (ArrivesBy case trace node) case.limit (Some time)
+  pub known : AreCandidates case trace candidates
+  pub ordered : (node time other later : ℕ) → is_kind_at is_failure case.graph node ≡ false → time_of trace node ≡ Some time
       → candidate_at candidates other ≡ Some later → time ≤ later
 
 -- the least of the first candidates, where there is one

@@ -2,6 +2,7 @@
 
 ghost use Rattle.std.specs.Prelude.{◌≡◌, ◌<◌, ◌≤◌, ◌+◌, ◌++◌, OnOk, IfOk, if◌then◌else◌};
 ghost use Rattle.tfpg_base.specs.declared.limits.TheConstants.{MAX_CASE_SIZE};
+ghost use Rattle.tfpg_graph.specs.Graph.{lag_up_to};
 ghost use Rattle.tfpg_sim.specs.Generated.{discrepancy_count, kind_drawn, lag_drawn, edges_drawn, after_node, after_words, edge_drawn, draft_after};
 
 use crate::generating::draws::{draw, draw_edge};
@@ -9,7 +10,7 @@ use crate::limits::FAILURE_COUNT;
 use rand_pcg::Lcg64Xsh32;
 use std::alloc::Global;
 use tfpg_base::NoMemory;
-use tfpg_graph::{Edge, Kind};
+use tfpg_graph::{Edge, Kind, Lag};
 
 /// The kinds of the discrepancies, and the edges.
 #[derive(Drop)]
@@ -53,23 +54,27 @@ fn draw_discrepancy(
     let second = draw(state, node);
     let joins = draw(state, 8) == 0;
     let is_hidden = draw(state, 4) == 0;
-    let lag = u64::from(draw(state, 20));
+    let most = u64::from(draw(state, 20));
     edges.push(draw_edge(first, node, state))?;
     if first != second {
         edges.push(draw_edge(second, node, state))?;
     }
-    Ok(discrepancy_kind(first != second && joins, lag_unless(lag, is_hidden)))
+    Ok(discrepancy_kind(first != second && joins, lag_unless(most, is_hidden)))
 }
 
-/// The lag, which a hidden node has not.
-fn lag_unless(lag: u64, is_hidden: bool) -> Option<u64>
-    ensures { result ≡ (if is_hidden then None else Some lag) }
+/// The lag from 0 up to this, which a hidden node has not.
+fn lag_unless(most: u64, is_hidden: bool) -> Option<Lag>
+    ensures { result ≡ (if is_hidden then None else Some (lag_up_to most)) }
 {
-    if is_hidden { None } else { Some(lag) }
+    if is_hidden {
+        None
+    } else {
+        Some(Lag { least: 0, most })
+    }
 }
 
 /// An AND node or an OR node.
-fn discrepancy_kind(is_and: bool, lag: Option<u64>) -> Kind
+fn discrepancy_kind(is_and: bool, lag: Option<Lag>) -> Kind
     ensures { result ≡ (if is_and then Kind.And lag else Kind.Or lag) }
 {
     if is_and {

@@ -3,7 +3,7 @@ use Rattle.tfpg.specs.declared.fault.StreamFault.TheVariants as faults
 use Rattle.tfpg_graph.specs.Valid.{IsValid}
 use Rattle.tfpg.specs.Streams.{streams}
 use Rattle.tfpg.specs.Run.{Diagnoses}
-use Rattle.tfpg.specs.inside.Course.{ComesTo}
+use Rattle.tfpg.specs.inside.Course.{ComesTo, diagnosis_at}
 use Rattle.tfpg_base.proofs.lists.Choices.{Err-from}
 use Rattle.tfpg.proofs.Putting.{Puts-same}
 use Rattle.tfpg.proofs.InputLines.{falls_short}
@@ -13,29 +13,29 @@ use Rattle.tfpg.proofs.course.diagnose.Goals as goal
 pub returns-in_err-lines : goal.returns-in_err-lines
 returns-in_err-lines g c =
     let before = streams (g.S.Source.state c.args.input.now) (g.K.Sink.state c.args.out.now) in
-    subst (Diagnoses c.args.engine.now.graph c.args.engine.now.k c.args.engine.now.budget before before) (sym (Err-from c.from_residual.result faults.NoMemory c.from_residual.ensures.1)) (begins_without_memory c.args.engine.now.graph c.args.engine.now.k c.args.engine.now.budget before)
+    subst (Diagnoses c.args.engine.now.graph c.args.engine.now.terms before before) (sym (Err-from c.from_residual.result faults.NoMemory c.from_residual.ensures.1)) (begins_without_memory c.args.engine.now.graph c.args.engine.now.terms before)
 
 pub returns-in_err-head : goal.returns-in_err-head
 returns-in_err-head g c =
     let before = streams (g.S.Source.state c.args.input.now) (g.K.Sink.state c.args.out.now) in
-    subst (Diagnoses c.args.engine.now.graph c.args.engine.now.k c.args.engine.now.budget before before) (sym (Err-from c.from_residual-in_err-head.result faults.NoMemory c.from_residual-in_err-head.ensures.1)) (begins_without_memory c.args.engine.now.graph c.args.engine.now.k c.args.engine.now.budget before)
+    subst (Diagnoses c.args.engine.now.graph c.args.engine.now.terms before before) (sym (Err-from c.from_residual-in_err-head.result faults.NoMemory c.from_residual-in_err-head.ensures.1)) (begins_without_memory c.args.engine.now.graph c.args.engine.now.terms before)
 
 pub returns-in_err-write_all : goal.returns-in_err-write_all
 returns-in_err-write_all g c =
     let before = streams (g.S.Source.state c.args.input.now) (g.K.Sink.state c.args.out.now) in
     let output = g.K.Sink.state c.write_all.new.out in
     let front = c.in_err-write_all.ensures.front in
-    subst (Diagnoses c.args.engine.now.graph c.args.engine.now.k c.args.engine.now.budget before (streams (g.S.Source.state c.args.input.now) output))
+    subst (Diagnoses c.args.engine.now.graph c.args.engine.now.terms before (streams (g.S.Source.state c.args.input.now) output))
     (sym (Err-from c.from_residual-in_err-write_all.result faults.WriteFault c.from_residual-in_err-write_all.ensures.1))
-    (begins_badly c.args.engine.now.graph c.args.engine.now.k c.args.engine.now.budget before output c.deref.result.now front.0 front.1 (c.deref.ensures.value ∙ head_as _ _ _ _ _ c.k.ensures c.budget.ensures c.in_ok-head.ensures) front.2 front.3 c.in_err-write_all.ensures.failed)
+    (begins_badly c.args.engine.now.graph c.args.engine.now.terms before output c.deref.result.now front.0 front.1 (c.deref.ensures.value ∙ head_as _ _ _ c.terms.ensures c.in_ok-head.ensures) front.2 front.3 c.in_err-write_all.ensures.failed)
 
 pub loop-head-init : goal.loop-head-init
 loop-head-init g c =
     let before = streams (g.S.Source.state c.args.input.now) (g.K.Sink.state c.args.out.now) in
     let output = g.K.Sink.state c.write_all.new.out in
-    begins_under_way c.args.engine.now.graph c.args.engine.now.k c.args.engine.now.budget before c.in_ok-lines.lines c.args.engine.now output
-    c.in_ok-lines.ensures.unread (record { graph_is = refl; k_is = refl; budget_is = refl; log_is = c.requires.unread; represents = c.requires.new })
-    (Puts-same (g.K.Sink.state c.args.out.now) output _ _ (c.deref.ensures.value ∙ head_as _ _ _ _ _ c.k.ensures c.budget.ensures c.in_ok-head.ensures) c.in_ok-write_all.ensures.put) c.in_ok-write_all.ensures.no_fault
+    begins_under_way c.args.engine.now.graph c.args.engine.now.terms before c.in_ok-lines.lines c.args.engine.now output
+    c.in_ok-lines.ensures.unread (record { graph_is = refl; terms_is = refl; log_is = c.requires.unread; represents = c.requires.new })
+    (Puts-same (g.K.Sink.state c.args.out.now) output _ _ (c.deref.ensures.value ∙ head_as _ _ _ c.terms.ensures c.in_ok-head.ensures) c.in_ok-write_all.ensures.put) c.in_ok-write_all.ensures.no_fault
 
 -- the engine is ready for the next turn
 pub take_turn-requires : goal.take_turn-requires
@@ -47,21 +47,21 @@ take_turn-requires g c = record {
 
 pub loop-head-smaller : goal.loop-head-smaller
 loop-head-smaller g c =
-    let leads = c.in_ok-take_turn.ensures.turn c.args.engine.now.graph c.args.engine.now.k c.args.engine.now.budget _ c.loop-head.invariant in
-    let on = subst (ComesTo c.args.engine.now.graph c.args.engine.now.k c.args.engine.now.budget _ _ c.loop-head.lines.number c.take_turn.new.lines c.take_turn.new.engine) c.in-Written.is leads in
-    falls_short _ _ (few_given c.args.engine.now.graph c.args.engine.now.k c.args.engine.now.budget _ _ c.loop-head.lines c.loop-head.engine c.loop-head.invariant) on.1
+    let leads = c.in_ok-take_turn.ensures.turn c.args.engine.now.graph c.args.engine.now.terms _ c.loop-head.invariant in
+    let on = subst (ComesTo c.args.engine.now.graph c.args.engine.now.terms _ c.loop-head.lines.number (diagnosis_at _ c.take_turn.new.lines c.take_turn.new.engine)) c.in-Written.is leads in
+    falls_short _ _ (few_given c.args.engine.now.graph c.args.engine.now.terms _ _ c.loop-head.lines c.loop-head.engine c.loop-head.invariant) on.1
 
 pub returns-in-Ended : goal.returns-in-Ended
 returns-in-Ended g c =
-    subst (ComesTo c.args.engine.now.graph c.args.engine.now.k c.args.engine.now.budget _ _ c.loop-head.lines.number c.take_turn.new.lines c.take_turn.new.engine) c.in-Ended.is
-    (c.in_ok-take_turn.ensures.turn c.args.engine.now.graph c.args.engine.now.k c.args.engine.now.budget _ c.loop-head.invariant)
+    subst (ComesTo c.args.engine.now.graph c.args.engine.now.terms _ c.loop-head.lines.number (diagnosis_at _ c.take_turn.new.lines c.take_turn.new.engine)) c.in-Ended.is
+    (c.in_ok-take_turn.ensures.turn c.args.engine.now.graph c.args.engine.now.terms _ c.loop-head.invariant)
 
 pub loop-head-preserved : goal.loop-head-preserved
 loop-head-preserved g c =
-    (subst (ComesTo c.args.engine.now.graph c.args.engine.now.k c.args.engine.now.budget _ _ c.loop-head.lines.number c.take_turn.new.lines c.take_turn.new.engine) c.in-Written.is
-    (c.in_ok-take_turn.ensures.turn c.args.engine.now.graph c.args.engine.now.k c.args.engine.now.budget _ c.loop-head.invariant)).0
+    (subst (ComesTo c.args.engine.now.graph c.args.engine.now.terms _ c.loop-head.lines.number (diagnosis_at _ c.take_turn.new.lines c.take_turn.new.engine)) c.in-Written.is
+    (c.in_ok-take_turn.ensures.turn c.args.engine.now.graph c.args.engine.now.terms _ c.loop-head.invariant)).0
 
 pub returns-in_err-take_turn : goal.returns-in_err-take_turn
 returns-in_err-take_turn g c =
-    subst (Diagnoses c.args.engine.now.graph c.args.engine.now.k c.args.engine.now.budget _ _) (sym (Err-from c.from_residual-in_err-take_turn.result c.in_err-take_turn.field-0.0 c.from_residual-in_err-take_turn.ensures.1))
-    (c.in_err-take_turn.ensures.stopped c.args.engine.now.graph c.args.engine.now.k c.args.engine.now.budget _ c.loop-head.invariant)
+    subst (Diagnoses c.args.engine.now.graph c.args.engine.now.terms _ _) (sym (Err-from c.from_residual-in_err-take_turn.result c.in_err-take_turn.field-0.0 c.from_residual-in_err-take_turn.ensures.1))
+    (c.in_err-take_turn.ensures.stopped c.args.engine.now.graph c.args.engine.now.terms _ c.loop-head.invariant)

@@ -1,13 +1,13 @@
 use Rattle.std.proofs.Common.{◌-◌, ◌+◌}
 use Rattle.tfpg_base.specs.declared.limits.TheConstants.{MAX_BYTES}
 use Rattle.tfpg.specs.Streams.{streams}
-use Rattle.tfpg.specs.inside.Course.{IsDiagnosing}
+use Rattle.tfpg.specs.inside.Course.{IsDiagnosing, diagnosis_at}
 use Rattle.tfpg.proofs.course.diagnose.Given as goal
 
 -- the lines so far have their blocks
 abbrev pub invariant-loop-head : goal.invariant-loop-head
 invariant-loop-head g l =
-    IsDiagnosing l.fn.engine.graph l.fn.engine.k l.fn.engine.budget (streams (g.S.Source.state l.fn.input) (g.K.Sink.state l.fn.out)) (streams (g.S.Source.state l.input) (g.K.Sink.state l.out)) l.lines l.engine
+    IsDiagnosing l.fn.engine.graph l.fn.engine.terms (streams (g.S.Source.state l.fn.input) (g.K.Sink.state l.fn.out)) (diagnosis_at (streams (g.S.Source.state l.input) (g.K.Sink.state l.out)) l.lines l.engine)
 
 -- there are no more lines than bytes that are taken, but for a last one
 abbrev pub decreases-loop-head : goal.decreases-loop-head

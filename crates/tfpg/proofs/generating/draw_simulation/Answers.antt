@@ -1,7 +1,8 @@
 use Rattle.std.proofs.Common.{◌≡◌, List, ℕ, Err, subst, ◌∙◌}
+use Rattle.tfpg_base.specs.Lines.{lines_of}
 use Rattle.tfpg_graph.specs.Graph.{Tfpg}
 use Rattle.tfpg_sim.specs.Generated.{generated_script}
-use Rattle.tfpg_sim.specs.Script.{script_of}
+use Rattle.tfpg_sim.specs.Script.{IsScriptFault}
 use Rattle.tfpg.proofs.generating.draw_simulation.Goals as goal
 
 pub unreachable-requires : goal.unreachable-requires
@@ -9,8 +10,8 @@ unreachable-requires c =
     let line = c.in-Err-BadScript.field-0-0 in
     let fault = rw c.in-Err-BadScript.field-0-is at c.in-Err-BadScript.ensures.fault in
     c.a_generated_script_is_right.ensures.right c.args.number c.args.size line c.requires.some c.requires.few
-    (subst (λ (graph : Tfpg). script_of graph (generated_script c.args.number c.args.size) ≡ Err line) c.in_ok-graph.ensures.graph
-    (subst (λ (script : List ℕ). script_of c.in_ok-graph.field-0.graph script ≡ Err line) (c.as_slice.ensures ∙ c.in_ok-graph.ensures.script) fault))
+    (subst (λ (graph : Tfpg). IsScriptFault graph (lines_of (generated_script c.args.number c.args.size)) line) c.in_ok-graph.ensures.graph
+    (subst (λ (script : List ℕ). IsScriptFault c.in_ok-graph.field-0.graph (lines_of script) line) (c.as_slice.ensures ∙ c.in_ok-graph.ensures.script) fault))
 
 pub returns-in-Ok : goal.returns-in-Ok
 returns-in-Ok c = record {

@@ -2,8 +2,9 @@ use Rattle.std.proofs.Common.{◌<◌, List, ℕ, map, length, Bor, sym, ap, sub
 use Rattle.std.proofs.lemmas.Result.{IfOk-weaker}
 use Rattle.std.specs.Prelude.{IsSomeAnd}
 use Rattle.tfpg_base.specs.Lines.{lines_of}
-use Rattle.tfpg_sim.specs.AcceptedLog.{AreAccepted}
+use Rattle.tfpg_log.specs.AcceptedLog.{AreAccepted}
 use Rattle.tfpg.specs.Generating.{HasSummary}
+use Rattle.tfpg.specs.Summary.{drawing}
 use Rattle.tfpg.specs.inside.Summary.{SaysOfRound}
 use Rattle.tfpg.proofs.Truths.{drawn_log, drawn_failures, members_there, found_there, summary_there}
 use Rattle.tfpg.proofs.generating.summary.Goals as goal
@@ -34,9 +35,9 @@ pub returns : goal.returns
 returns g c =
     let d = c.in_ok-diagnosis.diagnosis in
     IfOk-weaker c.summary_of.result
-    (λ text. IsSomeAnd d.last (SaysOfRound c.args.number c.args.size d.engine.graph (length d.engine.log.events) c.in_ok-graph.field-0.simulated.set text.items))
+    (λ text. IsSomeAnd d.last (SaysOfRound (drawing c.args.number c.args.size d.engine.graph (length d.engine.log.events)) c.in_ok-graph.field-0.simulated.set text.items))
     (λ text. HasSummary c.args.number c.args.size text.items)
     (λ text says. summary_there c.args.number c.args.size c.in_ok-graph.field-0.graph c.in_ok-graph.field-0.simulated c.in_ok-graph.ensures (map (λ (l : Bor (List ℕ)). l.now) c.deref.result.now)
     d (ap (map (λ (l : Bor (List ℕ)). l.now)) c.deref.ensures.value ∙ c.in_ok-lines.ensures ∙ ap lines_of c.as_slice.ensures) c.in_ok-diagnosis.ensures text.items
-    (λ graph k budget line rounds log round valid of ordered is. (c.rounds_say_which_sets_fit.ensures graph k budget line rounds log round valid of ordered is).not_rejected) says)
+    (λ graph terms line rounds log round valid of ordered is. (c.rounds_say_which_sets_fit.ensures graph terms line rounds log round valid of ordered is).not_rejected) says)
     c.summary_of.ensures

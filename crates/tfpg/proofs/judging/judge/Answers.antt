@@ -5,7 +5,7 @@ use Rattle.tfpg.specs.declared.fault.StreamFault.TheVariants.{WriteFault}
 use Rattle.tfpg.specs.Judging.{JudgesMap}
 use Rattle.tfpg.specs.Streams.{streams}
 use Rattle.tfpg_base.proofs.lists.Choices.{IfErr-from}
-use Rattle.tfpg.proofs.Judged.{judges_badly}
+use Rattle.tfpg.proofs.Judged.{judges_well, judges_badly}
 use Rattle.tfpg.proofs.judging.judge.Goals as goal
 
 pub returns-in_err-write_all-clause-stopped : goal.returns-in_err-write_all-clause-stopped
@@ -17,3 +17,11 @@ returns-in_err-write_all-clause-stopped g c =
     IfErr-from (λ (fault : JudgeFault). JudgesMap c.args.graph.now c.args.log.now before (streams input output) (Err fault)) c.from_residual-in_err-write_all.result (Stream WriteFault) c.from_residual-in_err-write_all.ensures.1
     (judges_badly c.args.graph.now c.args.log.now before input c.in_ok-map.map c.in_ok-map.ensures.map c.explains-verdict.result c.explains-verdict.ensures.verdict
     c.in_ok-line.line.items output front.0 front.1 c.in_ok-line.ensures (sym c.deref.ensures.value ∙ front.2) front.3 c.in_err-write_all.ensures.failed)
+
+pub returns-clause-done : goal.returns-clause-done
+returns-clause-done g c =
+    let before = streams (g.S.Source.state c.args.input.now) (g.K.Sink.state c.args.out.now) in
+    let input = g.S.Source.state c.read_map.new.input in
+    let output = g.K.Sink.state c.write_all.new.out in
+    judges_well c.args.graph.now c.args.log.now before input c.in_ok-map.map c.in_ok-map.ensures.map c.explains-verdict.result c.explains-verdict.ensures.verdict
+    c.in_ok-line.line.items c.deref.result.now output c.in_ok-line.ensures c.deref.ensures.value c.in_ok-write_all.ensures.put c.in_ok-write_all.ensures.no_fault

@@ -13,20 +13,20 @@ round_block-requires g c =
     c.graph.result.now c.graph.ensures c.a_round_is_of_its_graph.ensures
 
 pub returns-in-Refused : goal.returns-in-Refused
-returns-in-Refused g c graph k b before reports short =
+returns-in-Refused g c graph terms before reports short =
     let brings = brings_refusal c.args.number c.args.text.now before.rounds c.in-Refused.refusal c.args.engine.now c.event.new.self c.in_ok-refusal.field-0 c.in-Refused.is
     (c.in_ok-refusal.ensures.brings before.rounds reports.represents) in
     IfOk-weaker c.refused_block.result _ _ (λ block e.
-    block_of_refusal graph k b before c.args.number c.args.text.now block.items c.args.engine.now c.event.new.self short reports c.in-Refused.refusal brings.0 brings.1 e)
+    block_of_refusal graph terms before c.args.number c.args.text.now block.items c.args.engine.now c.event.new.self short reports c.in-Refused.refusal brings.0 brings.1 e)
     c.refused_block.ensures
 
 pub returns-in-Round : goal.returns-in-Round
-returns-in-Round g c graph k b before reports short =
+returns-in-Round g c graph terms before reports short =
     let rounds = before.rounds in
     let gives = brings_round c.args.number c.args.text.now rounds c.in-Round.round c.args.engine.now c.event.new.self c.in_ok-refusal.field-0 c.in-Round.is (c.in_ok-refusal.ensures.brings rounds reports.represents) in
     let says = round_says c.args.number c.args.text.now rounds c.in-Round.round c.args.engine.now c.event.new.self gives c.in_ok-refusal.ensures.graph c.log.result.now c.log.ensures.log c.log.ensures.of
     c.requires.valid c.len-events.ensures.ordered c.rounds_say_which_sets_fit.ensures c.statuses_are_those_of_minimal_sets.ensures in
     IfOk-weaker c.round_block.result _ _ (λ block e.
-    block_of_round graph k b before c.args.number c.args.text.now block.items c.args.engine.now c.event.new.self short reports c.in-Round.round gives says
-    c.in_ok-refusal.ensures.graph c.in_ok-refusal.ensures.k c.in_ok-refusal.ensures.budget (e ∙ ap (λ (lent : Tfpg). round_text lent c.in-Round.round) c.graph.ensures))
+    block_of_round graph terms before c.args.number c.args.text.now block.items c.args.engine.now c.event.new.self short reports c.in-Round.round gives says
+    c.in_ok-refusal.ensures.graph c.in_ok-refusal.ensures.terms (e ∙ ap (λ (lent : Tfpg). round_text lent c.in-Round.round) c.graph.ensures))
     c.round_block.ensures

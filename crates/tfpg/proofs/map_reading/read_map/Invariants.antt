@@ -1,11 +1,11 @@
 use Rattle.std.proofs.Common.{◌-◌, ◌+◌}
 use Rattle.tfpg_base.specs.declared.limits.TheConstants.{MAX_BYTES}
-use Rattle.tfpg.specs.inside.MapReading.{IsReadingMap}
+use Rattle.tfpg.specs.inside.MapReading.{IsReadingMap, map_reading_at}
 use Rattle.tfpg.proofs.map_reading.read_map.Given as goal
 
 -- the lines so far are read
 abbrev pub invariant-loop-lines : goal.invariant-loop-lines
-invariant-loop-lines g l = IsReadingMap l.graph (g.S.Source.state l.fn.input) (g.S.Source.state l.input) l.lines l.reader
+invariant-loop-lines g l = IsReadingMap l.graph (g.S.Source.state l.fn.input) (map_reading_at (g.S.Source.state l.input) l.lines l.reader)
 
 -- there are no more lines than bytes that are taken, but for a last one
 abbrev pub decreases-loop-lines : goal.decreases-loop-lines

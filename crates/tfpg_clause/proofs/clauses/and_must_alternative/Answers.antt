@@ -9,15 +9,15 @@ use Rattle.tfpg_clause.proofs.clauses.and_must_alternative.Goals as goal
 
 pub returns : goal.returns
 returns c =
-    let graph = c.args.graph.now in
-    let log = c.args.log.now in
+    let graph = c.args.site.now.graph.now in
+    let log = c.args.site.now.log.now in
     let window = c.in_ok-window.window in
     c.must_alternative_in.ensures
     ∙ ap
     (λ edges.
     option_map (λ (clause : List (List Constraint)). item_at clause c.args.alternative)
-    (option_and_then (λ dues. must_in c.args.node c.args.number window dues) (dues_over graph log c.args.number c.args.horizon edges)))
+    (option_and_then (λ dues. must_in c.args.node c.args.site.now.span window dues) (dues_over graph log c.args.site.now.span c.args.site.now.horizon edges)))
     c.incoming-edges.ensures.edges
     ∙ sym (ap (option_map (λ (clause : List (List Constraint)). item_at clause c.args.alternative))
-    (and_must_found graph log c.args.node c.args.number c.args.horizon window (sym c.is_and.ensures.value ∙ c.if-not-is_and.false)
+    (and_must_found graph log c.args.node c.args.site.now.span c.args.site.now.horizon window (sym c.is_and.ensures.value ∙ c.if-not-is_and.false)
     (sym c.find_joint.ensures.value ∙ c.in_ok-window.ensures.ok_part)))

@@ -4,14 +4,14 @@ use Rattle.tfpg_clause.proofs.known_windows.take_windows.Goals as goal
 
 pub loop-index-preserved : goal.loop-index-preserved
 loop-index-preserved c =
-    let graph = c.args.graph.now in
-    let log = c.args.log.now in
+    let graph = c.args.site.now.graph.now in
+    let log = c.args.site.now.log.now in
     let index = c.loop-index.index in
     let within : index < length c.loop-index.known = omega (arith, c.loop-index-test.true, c.requires.room, c.loop-index.invariant.same) in
     record {
-      taken = more_windows graph log c.args.number c.args.horizon c.args.edges.now c.loop-index.known index c.window_over.result within c.window_over.ensures.value c.loop-index.invariant.taken;
-      known = more_known graph log c.args.horizon c.args.edges.now c.loop-index.known index c.window_over.result within
-          (is_over graph log (get_or c.args.edges.now index 0) c.args.number c.args.horizon c.window_over.result c.window_over.ensures.value)
+      taken = more_windows graph log c.args.site.now.span c.args.site.now.horizon c.args.edges.now c.loop-index.known index c.window_over.result within c.window_over.ensures.value c.loop-index.invariant.taken;
+      known = more_known graph log c.args.site.now.horizon c.args.edges.now c.loop-index.known index c.window_over.result within
+          (is_over graph log (get_or c.args.edges.now index 0) c.args.site.now.span c.args.site.now.horizon c.window_over.result c.window_over.ensures.value)
           c.loop-index.invariant.known;
       same = length-set c.loop-index.known index c.window_over.result ∙ c.loop-index.invariant.same;
     }

@@ -1,8 +1,6 @@
-use Rattle.tfpg_clause.proofs.PresentLeaf.{leaf_there, one_leaf}
+use Rattle.tfpg_clause.proofs.PresentLeaf.{leaf_there}
+use Rattle.tfpg_clause.proofs.TreeSteps.{one_leaf}
 use Rattle.tfpg_clause.proofs.laws.a_partial_tree_has_one_present_leaf.Goals as goal
 
 pub returns : goal.returns
-returns c = record {
-  there = leaf_there;
-  only_one = one_leaf;
-}
+returns c = record { there = leaf_there; only_one = one_leaf }

@@ -8,7 +8,7 @@ use Rattle.tfpg_clause.proofs.may.arrival_count.Goals.{then-is_some, else-is_som
 
 pub loop-edge-preserved : goal.loop-edge-preserved
 loop-edge-preserved c =
-    let h = arrival_over c.args.graph.now c.args.log.now c.args.number c.args.horizon c.args.span in
+    let h = arrival_over c.args.site.now.graph.now c.args.site.now.log.now c.args.site.now.span c.args.site.now.horizon c.args.span in
     let edges = c.args.edges.now in
     let i = c.loop-edge.edge-index in
     let there : is_some (h (get_or edges i 0)) ≡ c.is_some.result =

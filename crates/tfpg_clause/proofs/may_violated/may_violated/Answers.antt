@@ -19,7 +19,7 @@ returns-in_err-span c =
     rw c.from_residual-in_err-span.ensures
     (met_without c.args.graph.now c.args.log.now c.args.times.now c.args.node c.args.edges.now number
     (numbered_so c.args.log.now (get_or c.args.times.now c.args.node 0) number c.in_ok-number.ensures).1
-    (c.in_err-span.ensures.value ∙ ap (span_at c.args.log.now number) c.now-horizon.ensures.now))
+    (c.in_err-span.ensures.value ∙ ap (span_at c.args.log.now number) c.now.ensures.now))
 
 pub returns-then-has_arrived : goal.returns-then-has_arrived
 returns-then-has_arrived c =
@@ -27,8 +27,8 @@ returns-then-has_arrived c =
     let span = c.in_ok-span.span in
     met_by_arrival c.args.graph.now c.args.log.now c.args.times.now c.args.node c.args.edges.now number
     (numbered_so c.args.log.now (get_or c.args.times.now c.args.node 0) number c.in_ok-number.ensures).1 span
-    (sym (c.in_ok-span.ensures.value ∙ ap (span_at c.args.log.now number) c.now-horizon.ensures.now))
-    (subst (λ horizon. MeetsClause c.args.times.now (arrivals_over c.args.graph.now c.args.log.now number horizon span c.args.edges.now)) c.now-horizon.ensures.now
+    (sym (c.in_ok-span.ensures.value ∙ ap (span_at c.args.log.now number) c.now.ensures.now))
+    (subst (λ horizon. MeetsClause c.args.times.now (arrivals_over c.args.graph.now c.args.log.now number horizon span c.args.edges.now)) c.now.ensures.now
     (c.has_arrived.ensures.0 c.if-has_arrived.true))
 
 pub returns : goal.returns
@@ -37,9 +37,9 @@ returns c =
     let span = c.in_ok-span.span in
     let here = numbered_so c.args.log.now (get_or c.args.times.now c.args.node 0) number c.in_ok-number.ensures in
     is_first c.args.graph.now c.args.log.now c.args.times.now c.args.node c.args.edges.now number here.1 span
-    (sym (c.in_ok-span.ensures.value ∙ ap (span_at c.args.log.now number) c.now-horizon.ensures.now)) here.0
+    (sym (c.in_ok-span.ensures.value ∙ ap (span_at c.args.log.now number) c.now.ensures.now)) here.0
     (λ met.
     both_ways c.has_arrived.result
     c.if-has_arrived.false
     (c.has_arrived.ensures.1
-    (subst (λ horizon. MeetsClause c.args.times.now (arrivals_over c.args.graph.now c.args.log.now number horizon span c.args.edges.now)) (sym c.now-horizon.ensures.now) met)))
+    (subst (λ horizon. MeetsClause c.args.times.now (arrivals_over c.args.graph.now c.args.log.now number horizon span c.args.edges.now)) (sym c.now.ensures.now) met)))

@@ -20,6 +20,6 @@ returns c = (
       let index = excuse.1 in
       absurd
       (c.loop-index.invariant index.0 (omega arith)
-      (subst (λ edge. IsSomeAnd (due_by_number c.args.graph.now c.args.log.now c.args.number c.args.horizon edge) (IsExcused c.args.times.now c.args.hi))
+      (subst (λ edge. IsSomeAnd (due_by_number c.args.site.now.graph.now c.args.site.now.log.now c.args.site.now.span c.args.site.now.horizon edge) (IsExcused c.args.times.now c.args.hi))
       (sym (get_or_default c.args.edges.now index.0 0 excuse.0 index.1 ∙ index.2)) excuse.2)),
 )

@@ -1,25 +1,26 @@
 use Rattle.std.proofs.Common.{◌≡◌, ℕ, zero, suc, ◌-◌, ◌<◌, ◌≤◌, length, take, get_or, List, Option, Some, ap, sym, subst, ◌∙◌, refl, arith}
 use Rattle.std.specs.Prelude.{slice_set, IsSomeAnd}
 use Rattle.tfpg_base.proofs.lists.Cuts.{slice_get-last_taken}
-use Rattle.tfpg_clause.specs.declared.path.Frame.{Frame}
-use Rattle.tfpg_clause.specs.Paths.{path_after, next_alternative}
-use Rattle.tfpg_clause.specs.inside.Frames.{IsUnfinished, HasNext}
-use Rattle.tfpg_clause.proofs.FramePaths.{moved_on}
+use Rattle.tfpg_clause.specs.declared.path.PathSplit.{PathSplit}
+use Rattle.tfpg_clause.specs.Paths.{next_leaf}
+use Rattle.tfpg_clause.specs.Trees.{next_alternative}
+use Rattle.tfpg_clause.specs.inside.UnfinishedSplits.{IsUnfinished, HasNext}
+use Rattle.tfpg_clause.proofs.LeafPaths.{moved_on}
 use Rattle.tfpg_clause.proofs.path.advance.Goals as goal
 
-module _ (path items : List Frame) (frame : Frame) where
-  pub left : (kept : ℕ) → (kept ≡ 0 → ⊥) → kept ≤ length path → items ≡ take kept path → HasNext path kept → frame ≡ get_or items (kept - 1) frame → frame.alternative < frame.alternatives
+module _ (path items : List PathSplit) (split : PathSplit) where
+  pub left : (kept : ℕ) → (kept ≡ 0 → ⊥) → kept ≤ length path → items ≡ take kept path → HasNext path kept → split ≡ get_or items (kept - 1) split → split.alternative < split.alternatives
   left zero some within are next is = absurd (some refl)
-  left (suc before) some within are next is = subst (λ (o : Option Frame). IsSomeAnd o IsUnfinished) (slice_get-last_taken path items before frame within are is) next
+  left (suc before) some within are next is = subst (λ (o : Option PathSplit). IsSomeAnd o IsUnfinished) (slice_get-last_taken path items before split within are is) next
 
-  pub moved : (kept : ℕ) → (kept ≡ 0 → ⊥) → kept ≤ length path → items ≡ take kept path → HasNext path kept → frame ≡ get_or items (kept - 1) frame
-      → path_after path ≡ path_after (take kept path) → path_after path ≡ Some (slice_set items (kept - 1) (next_alternative frame))
+  pub moved : (kept : ℕ) → (kept ≡ 0 → ⊥) → kept ≤ length path → items ≡ take kept path → HasNext path kept → split ≡ get_or items (kept - 1) split
+      → next_leaf path ≡ next_leaf (take kept path) → next_leaf path ≡ Some (slice_set items (kept - 1) (next_alternative split))
   moved zero some within are next is same = absurd (some refl)
   moved (suc before) some within are next is same =
       let number : before ≡ suc before - 1 = omega arith in
-      same ∙ moved_on path before frame (slice_get-last_taken path items before frame within are is) (left (suc before) some within are next is)
-      ∙ ap (λ (fs : List Frame). Some (slice_set fs before (next_alternative frame))) (sym are)
-      ∙ ap (λ (n : ℕ). Some (slice_set items n (next_alternative frame))) number
+      same ∙ moved_on path before split (slice_get-last_taken path items before split within are is) (left (suc before) some within are next is)
+      ∙ ap (λ (path : List PathSplit). Some (slice_set path before (next_alternative split))) (sym are)
+      ∙ ap (λ (n : ℕ). Some (slice_set items n (next_alternative split))) number
 
 pub overflow_add-deepest : goal.overflow_add-deepest
 overflow_add-deepest c =

@@ -2,24 +2,24 @@ use Rattle.std.proofs.Common.{◌≡◌, ℕ, zero, suc, ◌-◌, ◌<◌, ◌�
 use Rattle.std.specs.Prelude.{IsSomeAnd}
 use Rattle.std.proofs.lemmas.Option.{slice_get-get_or}
 use Rattle.tfpg_evidence.specs.declared.clause_name.ClauseName.TheVariants.{OrMay}
-use Rattle.tfpg_clause.specs.declared.path.Frame.{Frame}
-use Rattle.tfpg_clause.specs.Paths.{path_after}
-use Rattle.tfpg_clause.specs.inside.Frames.{IsUnfinished, HasNext}
-use Rattle.tfpg_clause.proofs.FramePaths.{shorter}
+use Rattle.tfpg_clause.specs.declared.path.PathSplit.{PathSplit}
+use Rattle.tfpg_clause.specs.Paths.{next_leaf}
+use Rattle.tfpg_clause.specs.inside.UnfinishedSplits.{IsUnfinished, HasNext}
+use Rattle.tfpg_clause.proofs.LeafPaths.{shorter}
 use Rattle.tfpg_clause.proofs.path.unfinished.Goals as goal
 
 -- what the code reads past the end
-abbrev none : Frame
+abbrev none : PathSplit
 none = record { name = OrMay 0 0 0; alternative = 0; alternatives = 0 }
 
-one_less : (path : List Frame) (kept : ℕ) (d : Frame) → 0 < kept → kept ≤ length path → (get_or path (kept - 1) d).alternatives ≤ (get_or path (kept - 1) d).alternative
-    → path_after path ≡ path_after (take kept path) → path_after path ≡ path_after (take (kept - 1) path)
+one_less : (path : List PathSplit) (kept : ℕ) (d : PathSplit) → 0 < kept → kept ≤ length path → (get_or path (kept - 1) d).alternatives ≤ (get_or path (kept - 1) d).alternative
+    → next_leaf path ≡ next_leaf (take kept path) → next_leaf path ≡ next_leaf (take (kept - 1) path)
 one_less path zero d some within most same = absurd (omega arith)
 one_less path (suc kept) d some within most same =
     let before : suc kept - 1 ≡ kept = omega arith in
-    same ∙ shorter path kept d (omega arith) (subst (λ (n : ℕ). (get_or path n d).alternatives ≤ (get_or path n d).alternative) before most) ∙ ap (λ (n : ℕ). path_after (take n path)) (sym before)
+    same ∙ shorter path kept d (omega arith) (subst (λ (n : ℕ). (get_or path n d).alternatives ≤ (get_or path n d).alternative) before most) ∙ ap (λ (n : ℕ). next_leaf (take n path)) (sym before)
 
-has_next : (path : List Frame) (kept : ℕ) (d : Frame) → kept ≤ length path → (0 < kept → (get_or path (kept - 1) d).alternative < (get_or path (kept - 1) d).alternatives) → HasNext path kept
+has_next : (path : List PathSplit) (kept : ℕ) (d : PathSplit) → kept ≤ length path → (0 < kept → (get_or path (kept - 1) d).alternative < (get_or path (kept - 1) d).alternatives) → HasNext path kept
 has_next path zero d within less = tt
 has_next path (suc kept) d within less =
     let before : suc kept - 1 ≡ kept = omega arith in

@@ -1,7 +1,8 @@
--- No finding before ranks a proper subset.
+-- No finding before ranks a proper part.
 use Rattle.std.proofs.Common.{ℕ, ◌≤◌}
-use Rattle.tfpg_hyp.specs.Rounds.{IsRankedSubset}
+use Rattle.tfpg_base.specs.Hypothesis.{believing}
+use Rattle.tfpg_hyp.specs.Rounds.{IsRankedPart}
 use Rattle.tfpg_engine.proofs.covering.covering.Given as goal
 
 abbrev pub invariant-loop-number : goal.invariant-loop-number
-invariant-loop-number l = (other : ℕ) → IsRankedSubset l.findings l.set other → l.number ≤ other
+invariant-loop-number l = (other : ℕ) → IsRankedPart l.findings (believing l.set) other → l.number ≤ other

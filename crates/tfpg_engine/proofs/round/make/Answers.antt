@@ -1,5 +1,6 @@
 use Rattle.std.proofs.Common.{length, ap, sym, ◌∙◌, arith}
 use Rattle.tfpg_hyp.specs.Rounds.{key_at, counts_of}
+use Rattle.tfpg_engine.specs.inside.Asking.{inquiry_of}
 use Rattle.tfpg_engine.proofs.Rounding.{fractions_of, makes}
 use Rattle.tfpg_engine.proofs.round.make.Goals as goal
 
@@ -11,7 +12,7 @@ pub order-requires-clause-fractions : goal.order-requires-clause-fractions
 order-requires-clause-fractions g c =
     let turns = c.in_ok-findings.ensures.turns in
     λ number key key_is.
-    fractions_of c.args.asked.now.graph.now c.args.asked.now.log.now c.args.asked.now.budget c.args.table.now c.args.slots.now c.new_findings.new.slots c.in_ok-findings.findings.items turns.1 turns.0
+    fractions_of (inquiry_of c.args.asked.now) c.args.table.now c.args.slots.now c.new_findings.new.slots c.in_ok-findings.findings.items turns.1 turns.0
     c.requires.table.reached.complete c.requires.one_each c.new_findings.ensures.one_each number key (sym (ap (λ fs. key_at fs number) c.deref.ensures.value) ∙ key_is)
 
 pub counts_of-counts-requires : goal.counts_of-counts-requires
@@ -20,6 +21,6 @@ counts_of-counts-requires g c =
 
 pub returns-clause-round : goal.returns-clause-round
 returns-clause-round g c =
-    makes c.args.asked.now.graph.now c.args.asked.now.log.now c.args.asked.now.budget c.args.table.now c.args.slots.now c.new_findings.new.slots c.args.line c.len.result c.now.result c.in_ok-findings.findings.items c.deref.result.now
+    makes (inquiry_of c.args.asked.now) c.args.table.now c.args.slots.now c.new_findings.new.slots c.args.line c.len.result c.now.result c.in_ok-findings.findings.items c.deref.result.now
     c.from_vec.result c.in_ok-order.order c.counts_of-counts.result c.len.ensures.len c.now.ensures c.in_ok-findings.ensures.turns c.from_vec.ensures c.deref.ensures.value c.in_ok-order.ensures
     (c.counts_of-counts.ensures ∙ ap counts_of c.deref-2.ensures.value)

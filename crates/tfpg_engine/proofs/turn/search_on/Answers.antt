@@ -1,6 +1,11 @@
-use Rattle.std.proofs.Common.{ap, ◌≡◌, false, sym, subst}
+use Rattle.std.proofs.Common.{ap, [], ◌≡◌, false, sym, subst}
 use Rattle.std.specs.Prelude.{Ok}
+use Rattle.tfpg_base.specs.Hypothesis.{believing}
+use Rattle.tfpg_clause.specs.Case.{case_of}
+use Rattle.tfpg_evidence.specs.declared.finding.Finding.{Finding}
+use Rattle.tfpg_evidence.specs.declared.finding.Status.{Status}
 use Rattle.tfpg_engine.specs.EngineState.{SlotRepresents}
+use Rattle.tfpg_engine.specs.inside.Asking.{row_of, inquiry_of}
 use Rattle.tfpg_engine.specs.inside.Turns.{is_rejected_slot, kept, IsTurn}
 use Rattle.tfpg_search.specs.Searched.{IsSearched}
 use Rattle.tfpg_engine.proofs.Turning.{turn_searched}
@@ -10,17 +15,19 @@ pub returns : goal.returns
 returns g c findings not_covered =
     let graph = c.args.asked.now.graph.now in
     let log = c.args.asked.now.log.now in
-    let reach = c.args.hypothesis.now.reach.now in
+    let set = c.args.listed.now.set in
+    let reach = c.args.listed.now.reach.now in
+    let number = c.args.listed.now.number in
     let found = c.in_ok-found.found in
-    let searched = subst (λ xs. IsSearched graph log c.args.asked.now.budget c.in_ok-search.search c.round.new.self xs c.round.new.steps (Ok found)) c.new-steps.ensures c.in_ok-found.ensures.searched in
+    let searched = subst (λ xs. IsSearched graph log c.args.asked.now.terms.budget (record { old = c.in_ok-search.search; new = c.round.new.self; before = xs; after = c.round.new.steps }) (Ok found)) c.new-steps.ensures c.in_ok-found.ensures.searched in
     let turn =
-    turn_searched graph log c.args.asked.now.budget c.args.hypothesis.now.set reach c.args.hypothesis.now.number findings c.len-ordered.ensures.ordered c.args.slot.now c.in_ok-search.search c.round.new.self c.round.new.steps
+    turn_searched (inquiry_of c.args.asked.now) set reach number findings c.len-ordered.ensures.ordered c.args.slot.now c.in_ok-search.search c.round.new.self c.round.new.steps
     not_covered
     (λ earlier represents.
     c.in_ok-search.ensures.represents log earlier (subst (λ s. is_rejected_slot s ≡ false) (sym c.replace.ensures.value) c.requires.not_rejected)
-    (subst (λ s. SlotRepresents graph log c.args.hypothesis.now.set reach s earlier) (sym c.replace.ensures.value) represents))
+    (subst (λ s. SlotRepresents (case_of graph log reach) (believing set) s earlier) (sym c.replace.ensures.value) represents))
     c.round.ensures.set c.round.ensures.reach c.round.ensures.seen found (λ enough is. c.in_ok-found.ensures.enough enough (ap Ok is)) searched in
-    subst (λ slot. IsTurn graph log c.args.asked.now.budget c.args.hypothesis.now.set reach c.args.hypothesis.now.number findings c.args.slot.now slot
-    (record { number = c.args.hypothesis.now.number; set = c.args.hypothesis.now.set; steps = c.round.new.steps; status = c.status.result })) (sym c.of.ensures)
-    (subst (λ s. IsTurn graph log c.args.asked.now.budget c.args.hypothesis.now.set reach c.args.hypothesis.now.number findings c.args.slot.now (kept c.round.new.self found)
-    (record { number = c.args.hypothesis.now.number; set = c.args.hypothesis.now.set; steps = c.round.new.steps; status = s })) (sym c.status.ensures) turn)
+    let finding_with : Status → Finding = λ s. record { number = number; set = set; doubts = []; steps = c.round.new.steps; status = s } in
+    subst (λ f. IsTurn (inquiry_of c.args.asked.now) (row_of c.args.listed.now) findings c.args.slot.now c.of.result f) (sym c.finding_on.ensures)
+    (subst (λ slot. IsTurn (inquiry_of c.args.asked.now) (row_of c.args.listed.now) findings c.args.slot.now slot (finding_with c.status.result)) (sym c.of.ensures)
+    (subst (λ s. IsTurn (inquiry_of c.args.asked.now) (row_of c.args.listed.now) findings c.args.slot.now (kept c.round.new.self found) (finding_with s)) (sym c.status.ensures) turn))

@@ -12,38 +12,39 @@ use Rattle.tfpg_base.specs.Set.{with_member}
 use Rattle.tfpg_base.proofs.lists.Elements.{All-from_members}
 use Rattle.tfpg_base.proofs.Sets.{same_from_members, Contains-with_member, with_member-keeps, length-with_new_member, All-with_member}
 use Rattle.tfpg_graph.specs.declared.kind.Kind.{Kind}
+use Rattle.tfpg_graph.specs.declared.kind.Lag.{Lag}
 use Rattle.tfpg_graph.specs.declared.kind.Kind.TheVariants.{Failure, Or, And}
 use Rattle.tfpg_graph.specs.declared.limits.TheConstants.{MAX_NODES}
 use Rattle.tfpg_graph.specs.Graph.{Tfpg, is_failure, is_or, is_and, is_kind_at, kind_at, failures, failure_at, edges_into}
-use Rattle.tfpg_graph.specs.NodeSet.{IsNodeSet}
+use Rattle.tfpg_base.specs.NodeSet.{IsNodeSet}
 use Rattle.tfpg_graph.specs.Reach.{IsClosed, Reaches, IsReach, is_among}
 use Rattle.tfpg_graph.specs.Valid.{IsValid}
 use Rattle.tfpg_graph.specs.inside.reach.Reaching.{IsFedAs, IsFed, IsFullBefore, AreReached, Widens}
 use Rattle.tfpg_base.proofs.lists.Numbered.{All-below-numbers_from}
 use Rattle.tfpg_graph.proofs.NodeAt.{kind_test}
-use Rattle.tfpg_graph.proofs.lemmas.reach.NodeSets.{IsNodeSet-nil, IsNodeSet-with}
+use Rattle.tfpg_base.proofs.NodeSets.{IsNodeSet-nil, IsNodeSet-with}
 
 -- ---- the kind of a node
 
 module _ (graph : Tfpg) (node : ℕ) where
   -- what the tests on a node's kind say it by
-  kind_from_is_or : IsTrue (is_kind_at is_or graph node) → (lag : Option ℕ) × (kind_at graph node ≡ Some (Or lag))
+  kind_from_is_or : IsTrue (is_kind_at is_or graph node) → (lag : Option Lag) × (kind_at graph node ≡ Some (Or lag))
   kind_from_is_or passes = by (kind_at graph node) refl passes
     where
       by : (kind : Option Kind) → kind_at graph node ≡ kind
           → IsTrue (option_map_or is_or kind false)
-          → (lag : Option ℕ) × (kind_at graph node ≡ Some (Or lag))
+          → (lag : Option Lag) × (kind_at graph node ≡ Some (Or lag))
       by None is passes = absurd (false≢true passes)
       by (Some (Failure rarity)) is passes = absurd (false≢true passes)
       by (Some (Or lag)) is passes = (lag, is)
       by (Some (And lag)) is passes = absurd (false≢true passes)
 
-  kind_from_is_and : IsTrue (is_kind_at is_and graph node) → (lag : Option ℕ) × (kind_at graph node ≡ Some (And lag))
+  kind_from_is_and : IsTrue (is_kind_at is_and graph node) → (lag : Option Lag) × (kind_at graph node ≡ Some (And lag))
   kind_from_is_and passes = by (kind_at graph node) refl passes
     where
       by : (kind : Option Kind) → kind_at graph node ≡ kind
           → IsTrue (option_map_or is_and kind false)
-          → (lag : Option ℕ) × (kind_at graph node ≡ Some (And lag))
+          → (lag : Option Lag) × (kind_at graph node ≡ Some (And lag))
       by None is passes = absurd (false≢true passes)
       by (Some (Failure rarity)) is passes = absurd (false≢true passes)
       by (Some (Or lag)) is passes = absurd (false≢true passes)

@@ -22,7 +22,7 @@ lag-some : (lag : Option (List ℕ))
     → list_all (λ number. is_number number.0) (numbers_in (DeclaresNode [] (OrWords lag))) ≡ true
     → is_some (lag_of_word lag) ≡ true
 lag-some None numbers = refl
-lag-some (Some word) numbers = is_some-option_map Some (number_of word) ∙ is_some-number_of word (and_parts (is_number word) true numbers).0
+lag-some (Some word) numbers = is_some-option_map _ (number_of word) ∙ is_some-number_of word (and_parts (is_number word) true numbers).0
 
 kind-some : (name : List ℕ) (words : NodeWords)
     → list_all (λ number. is_number number.0) (numbers_in (DeclaresNode name words)) ≡ true
@@ -40,7 +40,7 @@ tmax-some word = by (bytes_eq word (codes "inf"))
         → list_all (λ (number : List ℕ × ℕ). is_number number.0) (cond is_inf [] ((word, MAX_TIME) ∷ [])) ≡ true
         → is_some (cond is_inf (Some None) (option_map Some (number_of word))) ≡ true
     by true numbers = refl
-    by false numbers = is_some-option_map Some (number_of word) ∙ is_some-number_of word (and_parts (is_number word) true numbers).0
+    by false numbers = is_some-option_map _ (number_of word) ∙ is_some-number_of word (and_parts (is_number word) true numbers).0
 
 -- A statement that has no cause has its value.
 pub HasValue-no_cause : (out_of_order : Bool) (graph : Tfpg) (said : Statement)

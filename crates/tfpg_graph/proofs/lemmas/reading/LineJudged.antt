@@ -4,6 +4,7 @@ use Rattle.std.specs.Option.{option_map}
 use Rattle.tfpg_base.specs.Words.{number_of}
 use Rattle.tfpg_graph.specs.declared.cause.GraphCause.{GraphCause}
 use Rattle.tfpg_graph.specs.declared.kind.Kind.{Kind}
+use Rattle.tfpg_graph.specs.declared.kind.Lag.{Lag}
 use Rattle.tfpg_graph.specs.declared.kind.Kind.TheVariants.{Failure, Or, And}
 use Rattle.tfpg_graph.specs.Graph.{Tfpg, is_failure}
 use Rattle.tfpg_graph.specs.Statements.{NodeWords, FailureWords, OrWords, AndWords, DeclaresNode, DeclaresEdge}
@@ -20,11 +21,11 @@ failure_word : (number : Option ℕ) (kind : Kind) → option_map Failure number
 failure_word None kind is = absurd cc
 failure_word (Some n) kind is = ap is_failure (let same : Failure n ≡ kind = cc in same)
 
-or_word : (lag : Option (Option ℕ)) (kind : Kind) → option_map Or lag ≡ Some kind → false ≡ is_failure kind
+or_word : (lag : Option (Option Lag)) (kind : Kind) → option_map Or lag ≡ Some kind → false ≡ is_failure kind
 or_word None kind is = absurd cc
 or_word (Some l) kind is = ap is_failure (let same : Or l ≡ kind = cc in same)
 
-and_word : (lag : Option (Option ℕ)) (kind : Kind) → option_map And lag ≡ Some kind → false ≡ is_failure kind
+and_word : (lag : Option (Option Lag)) (kind : Kind) → option_map And lag ≡ Some kind → false ≡ is_failure kind
 and_word None kind is = absurd cc
 and_word (Some l) kind is = ap is_failure (let same : And l ≡ kind = cc in same)
 

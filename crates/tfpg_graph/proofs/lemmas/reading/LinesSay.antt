@@ -89,7 +89,7 @@ statement_of-node name (Or (Some lag)) named small =
       keyword (codes "or") refl refl,
       (
         IsWord-name name named,
-        (keyword (codes "watch") refl refl, (IsWord-decimal lag (omega arith), tt)),
+        (keyword (codes "watch") refl refl, (IsWord-decimal lag.most (omega (arith, small.most)), tt)),
       ),
     ) (short_node name (Or
     (Some lag)) named small)
@@ -102,7 +102,7 @@ statement_of-node name (And (Some lag)) named small =
       keyword (codes "and") refl refl,
       (
         IsWord-name name named,
-        (keyword (codes "watch") refl refl, (IsWord-decimal lag (omega arith), tt)),
+        (keyword (codes "watch") refl refl, (IsWord-decimal lag.most (omega (arith, small.most)), tt)),
       ),
     ) (short_node name (And
     (Some lag)) named small)

@@ -118,16 +118,16 @@ module _ (name : List ℕ) where
   node_numbers : (kind : Kind) → HasValidNumber kind → has_bad_number (DeclaresNode name (words_of_kind kind)) ≡ false
   node_numbers (Failure rarity) small = ap (λ b. not (b && true)) (is_number-decimal rarity (omega arith))
   node_numbers (Or None) small = refl
-  node_numbers (Or (Some lag)) small = ap (λ b. not (b && true)) (is_number-decimal lag (omega arith))
+  node_numbers (Or (Some lag)) small = ap (λ b. not (b && true)) (is_number-decimal lag.most (omega (arith, small.most)))
   node_numbers (And None) small = refl
-  node_numbers (And (Some lag)) small = ap (λ b. not (b && true)) (is_number-decimal lag (omega arith))
+  node_numbers (And (Some lag)) small = ap (λ b. not (b && true)) (is_number-decimal lag.most (omega (arith, small.most)))
 
   node_small : (kind : Kind) → HasValidNumber kind → has_large_number (DeclaresNode name (words_of_kind kind)) ≡ false
   node_small (Failure rarity) small = ap (λ b. b || false) (digits_value-decimal_within MAX_RARITY rarity small (omega arith))
   node_small (Or None) small = refl
-  node_small (Or (Some lag)) small = ap (λ b. b || false) (digits_value-decimal_within MAX_TIME lag small (omega arith))
+  node_small (Or (Some lag)) small = ap (λ b. b || false) (digits_value-decimal_within MAX_TIME lag.most small.most (omega arith))
   node_small (And None) small = refl
-  node_small (And (Some lag)) small = ap (λ b. b || false) (digits_value-decimal_within MAX_TIME lag small (omega arith))
+  node_small (And (Some lag)) small = ap (λ b. b || false) (digits_value-decimal_within MAX_TIME lag.most small.most (omega arith))
 
 failure_room_for : (kind : Kind) (count : ℕ) → (IsTrue (is_failure kind) → count < MAX_FAILURES)
     → (are_failure_words (words_of_kind kind) && nat_le MAX_FAILURES count) ≡ false

@@ -11,9 +11,10 @@ use Rattle.tfpg_base.specs.Words.{line_of, is_number, number_of}
 use Rattle.tfpg_base.proofs.Numbers.{number_of-within}
 use Rattle.tfpg_base.proofs.lists.LookedUp.{found}
 use Rattle.tfpg_graph.specs.declared.kind.Kind.{Kind}
+use Rattle.tfpg_graph.specs.declared.kind.Lag.{Lag}
 use Rattle.tfpg_graph.specs.declared.kind.Kind.TheVariants.{Failure, Or, And}
 use Rattle.tfpg_graph.specs.declared.edge.Edge.{Edge}
-use Rattle.tfpg_graph.specs.Graph.{Tfpg, name_word, node_named}
+use Rattle.tfpg_graph.specs.Graph.{Tfpg, lag_up_to, name_word, node_named}
 use Rattle.tfpg_graph.specs.Text.{node_words, tmax_word, SpellsEdge}
 use Rattle.tfpg_graph.specs.inside.writing.Written.{watch_words}
 use Rattle.tfpg_base.specs.declared.limits.TheConstants.{MAX_TIME}
@@ -38,11 +39,11 @@ has_large numbers = list_any (λ number. nat_lt number.1 (digits_value 10 number
 -- ---- nodes
 
 lag_said : (lag : Option (List ℕ)) → are_numbers (lag_number lag) ≡ true → has_large (lag_number lag) ≡ false
-    → (value : Option ℕ) × (lag_of_word lag ≡ Some value) × (words_of_watch lag ≡ watch_words value)
+    → (value : Option Lag) × (lag_of_word lag ≡ Some value) × (words_of_watch lag ≡ watch_words value)
 lag_said None numbers small = (None, refl, refl)
 lag_said (Some word) numbers small =
     let is = number_of-within word MAX_TIME (omega arith) (and_parts (is_number word) true numbers).0 (or_parts _ false small).0 in
-    (Some (digits_value 10 word), ap (option_map Some) is.0, ap (λ lag. codes "watch" ∷ lag ∷ []) is.1)
+    (Some (lag_up_to (digits_value 10 word)), ap (option_map (λ most. Some (lag_up_to most))) is.0, ap (λ lag. codes "watch" ∷ lag ∷ []) is.1)
 
 kind_said : (name : List ℕ) (words : NodeWords) → are_numbers (node_number words) ≡ true → has_large (node_number words) ≡ false
     → (kind : Kind) × (kind_of_words words ≡ Some kind) × (words_of_node name words ≡ node_words name kind)

@@ -14,19 +14,23 @@ use Rattle.tfpg_base.proofs.Separators.{name_lacks}
 use Rattle.tfpg_base.proofs.lists.Lacking.{Lacks, slice_split-join}
 use Rattle.tfpg_base.proofs.lists.Elements.{AllPairs-head, AllPairs-tail}
 use Rattle.tfpg_graph.specs.declared.kind.Kind.{Kind}
+use Rattle.tfpg_graph.specs.declared.kind.Lag.{Lag}
 use Rattle.tfpg_graph.specs.declared.kind.Kind.TheVariants.{Failure, Or, And}
-use Rattle.tfpg_graph.specs.Text.{tmax_word, words_of_kind}
+use Rattle.tfpg_graph.specs.Text.{tmax_word, lag_word, words_of_kind}
 use Rattle.tfpg_base.specs.declared.limits.TheConstants.{MAX_TIME}
-use Rattle.tfpg_graph.specs.Valid.{HasValidNumber}
+use Rattle.tfpg_graph.specs.Valid.{HasValidNumber, IsValidLag}
+use Rattle.tfpg_graph.specs.Graph.{lag_up_to}
 use Rattle.tfpg_graph.specs.Declares.{kind_of_words, lag_of_word, tmax_of_word, modes_listed}
 use Rattle.tfpg_graph.specs.Causes.{has_twice}
 use Rattle.tfpg_base.proofs.lists.SameBytes.{bytes_eq-differ}
 use Rattle.tfpg_base.proofs.lists.Images.{list_any-map}
 use Rattle.tfpg_base.proofs.lists.Distinct.{get_or-differ}
 
-lag_read : (lag : Option ℕ) → IfSome lag (λ l. l ≤ MAX_TIME) → lag_of_word (option_map decimal lag) ≡ Some lag
+lag_read : (lag : Option Lag) → IfSome lag IsValidLag → lag_of_word (option_map lag_word lag) ≡ Some lag
 lag_read None small = refl
-lag_read (Some lag) small = ap (option_map Some) (number_of-decimal lag (omega arith))
+lag_read (Some lag) small =
+    ap (option_map (λ most. Some (lag_up_to most))) (number_of-decimal lag.most (omega (arith, small.most)))
+    ∙ ap (λ least. Some (Some (record { least = least; most = lag.most }))) (sym small.least)
 
 -- The words that say what a node is are read as it.
 pub kind_of_words-kind : (kind : Kind) → HasValidNumber kind → kind_of_words (words_of_kind kind) ≡ Some kind

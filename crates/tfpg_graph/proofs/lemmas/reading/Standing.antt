@@ -28,8 +28,8 @@ use Rattle.tfpg_graph.proofs.lemmas.reading.PartAfter.{part-declarations, part-e
 all_clean-none : AllClean []
 all_clean-none index within = absurd (omega arith)
 
--- what is taken has no cause and a value
-is_taken : (first : Option GraphCause) (value : Option Reader) (next : Reader) → cause_or_value first value ≡ Ok next
+-- What is taken has no cause and a value.
+pub is_taken : (first : Option GraphCause) (value : Option Reader) (next : Reader) → cause_or_value first value ≡ Ok next
     → (first ≡ None) × (value ≡ Some next)
 is_taken (Some cause) value next taken = absurd cc
 is_taken None (Some value) next taken = (refl, cc)

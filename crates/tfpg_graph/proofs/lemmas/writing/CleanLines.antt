@@ -12,13 +12,14 @@ use Rattle.tfpg_base.proofs.lists.Lacking.{decimal_lacks}
 use Rattle.tfpg_base.proofs.lists.Joined.{All-join}
 use Rattle.tfpg_base.proofs.lists.Passing.{All-filter_map-slice_get}
 use Rattle.tfpg_graph.specs.declared.kind.Kind.{Kind}
+use Rattle.tfpg_graph.specs.declared.kind.Lag.{Lag}
 use Rattle.tfpg_graph.specs.declared.kind.Kind.TheVariants.{Failure, Or, And}
 use Rattle.tfpg_graph.specs.declared.edge.Edge.{Edge}
 use Rattle.tfpg_graph.specs.Graph.{Tfpg, Node, name_word}
 use Rattle.tfpg_graph.specs.Text.{header, mode_line, node_words, tmax_word, edge_line, modes_word, all_modes}
 use Rattle.tfpg_graph.specs.inside.writing.Written.{watch_words, modes_before, mode_names_before}
 use Rattle.tfpg_base.specs.declared.limits.TheConstants.{MAX_TIME}
-use Rattle.tfpg_graph.specs.Valid.{HasValidNumber, IsValidEdge}
+use Rattle.tfpg_graph.specs.Valid.{HasValidNumber, IsValidLag, IsValidEdge}
 
 -- the list of one word
 clean_one : (word : List ℕ) → HasNoLineEnd word → All HasNoLineEnd (word ∷ [])
@@ -44,10 +45,10 @@ clean_end = clean_name (codes "end") refl
 pub clean_mode : (name : List ℕ) → IsTrue (is_name name) → HasNoLineEnd (mode_line name)
 clean_mode name named = clean_words (codes "mode") (name ∷ []) (clean_name (codes "mode") refl) (clean_one name (clean_name name named))
 
-clean_watch : (lag : Option ℕ) → IfSome lag (λ l. l ≤ MAX_TIME) → All HasNoLineEnd (watch_words lag)
+clean_watch : (lag : Option Lag) → IfSome lag IsValidLag → All HasNoLineEnd (watch_words lag)
 clean_watch None small = clean_one (codes "hidden") (clean_name (codes "hidden") refl)
 clean_watch (Some lag) small =
-    All-cons HasNoLineEnd (codes "watch") (decimal lag ∷ []) (clean_name (codes "watch") refl) (clean_one (decimal lag) (clean_number lag small))
+    All-cons HasNoLineEnd (codes "watch") (decimal lag.most ∷ []) (clean_name (codes "watch") refl) (clean_one (decimal lag.most) (clean_number lag.most small.most))
 
 pub clean_node : (name : List ℕ) (kind : Kind) → IsTrue (is_name name) → HasValidNumber kind → HasNoLineEnd (line_of (node_words name kind))
 clean_node name (Failure rarity) named small =

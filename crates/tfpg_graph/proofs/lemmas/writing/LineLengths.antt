@@ -10,13 +10,14 @@ use Rattle.tfpg_base.specs.Words.{is_name, line_of}
 use Rattle.tfpg_base.specs.declared.limits.TheConstants.{LONGEST_LINE, LONGEST_NAME, MAX_TIME}
 use Rattle.tfpg_base.proofs.WordLengths.{name_short, number_short}
 use Rattle.tfpg_graph.specs.declared.kind.Kind.{Kind}
+use Rattle.tfpg_graph.specs.declared.kind.Lag.{Lag}
 use Rattle.tfpg_graph.specs.declared.kind.Kind.TheVariants.{Failure, Or, And}
 use Rattle.tfpg_graph.specs.declared.edge.Edge.{Edge}
 use Rattle.tfpg_graph.specs.declared.limits.TheConstants.{MAX_MODES}
 use Rattle.tfpg_graph.specs.Graph.{Tfpg, Node, name_word}
 use Rattle.tfpg_graph.specs.Text.{mode_line, node_words, tmax_word, edge_line, modes_word, all_modes}
 use Rattle.tfpg_graph.specs.inside.writing.Written.{watch_words, modes_before, mode_names_before}
-use Rattle.tfpg_graph.specs.Valid.{HasValidNumber, IsValidEdge}
+use Rattle.tfpg_graph.specs.Valid.{HasValidNumber, IsValidLag, IsValidEdge}
 use Rattle.tfpg_graph.proofs.lemmas.writing.ModeBits.{modes_before-few}
 use Rattle.tfpg_base.proofs.lists.Passing.{length-filter_map, All-filter_map-slice_get}
 use Rattle.tfpg_base.proofs.lists.Joined.{length-join}
@@ -24,9 +25,9 @@ use Rattle.tfpg_base.proofs.lists.Joined.{length-join}
 pub short_mode : (name : List ℕ) → IsTrue (is_name name) → length (mode_line name) ≤ LONGEST_LINE
 short_mode name named = omega (arith, name_short name named)
 
-short_watch : (name : List ℕ) (lag : Option ℕ) → length name ≤ LONGEST_NAME → IfSome lag (λ l. l ≤ MAX_TIME) → length (line_of (name ∷ watch_words lag)) ≤ 100
+short_watch : (name : List ℕ) (lag : Option Lag) → length name ≤ LONGEST_NAME → IfSome lag IsValidLag → length (line_of (name ∷ watch_words lag)) ≤ 100
 short_watch name None named small = omega (arith, length-append name (32 ∷ codes "hidden"))
-short_watch name (Some lag) named small = omega (arith, length-append name (32 ∷ codes "watch" ++ 32 ∷ decimal lag), number_short lag small)
+short_watch name (Some lag) named small = omega (arith, length-append name (32 ∷ codes "watch" ++ 32 ∷ decimal lag.most), number_short lag.most small.most)
 
 pub short_node : (name : List ℕ) (kind : Kind) → IsTrue (is_name name) → HasValidNumber kind → length (line_of (node_words name kind)) ≤ LONGEST_LINE
 short_node name (Failure rarity) named small = omega (arith, name_short name named, length-append name (32 ∷ decimal rarity), number_short rarity (omega arith))

@@ -3,7 +3,7 @@ use Rattle.std.proofs.Common.{◌≡◌, ℕ, zero, suc, ◌+◌, ◌-◌, ◌<�
 use Rattle.std.proofs.lemmas.Bool.{cases_lt}
 use Rattle.std.proofs.lemmas.List.{get_or-replicate, length-replicate, get_or_past, get_or_default, get_or_read}
 use Rattle.std.proofs.lemmas.List.Elements.{Contains-append_left}
-use Rattle.tfpg_graph.specs.inside.zero_cycle.ZeroSearch.{IsStep, mark_of, IsMarked, AreReversed, WalksUnmarked, ReachesUnmarked, ClosesGroup, IsVisited, HasVisited, HasSwept, IsFinishingOrder, IsGroupedFrom, AreGroups}
+use Rattle.tfpg_graph.specs.inside.zero_cycle.ZeroSearch.{IsStep, mark_of, IsMarked, AreReversed, WalksUnmarked, ReachesUnmarked, ClosesGroup, IsVisited, search_of, HasVisited, HasSwept, IsFinishingOrder, IsGroupedFrom, AreGroups}
 use Rattle.tfpg_graph.proofs.lemmas.zero_cycle.StepRows.{IsStep-begin}
 use Rattle.tfpg_graph.proofs.lemmas.zero_cycle.ZeroWalks.{ReachesUnmarked-any, ReachesUnmarked-trans, ReachesUnmarked-reversed}
 use Rattle.tfpg_base.proofs.lists.Choices.{option_cases, some-not_none}
@@ -24,7 +24,7 @@ IsVisited-none rows marks = record {
 }
 
 module _ (rows : List (List ℕ)) (node mark : ℕ) (m₀ : List (Option ℕ)) (o₀ : List ℕ) (m₁ : List (Option ℕ))
-    (o₁ : List ℕ) (visited : HasVisited rows node mark m₀ o₀ m₁ o₁) where
+    (o₁ : List ℕ) (visited : HasVisited rows node mark (search_of m₀ o₀) (search_of m₁ o₁)) where
   -- what was done is done
   still_done : (other : ℕ) → Contains o₀ other → Contains o₁ other
   still_done other has = subst (λ (o : List ℕ). Contains o other) (sym visited.grown.order_is)
@@ -56,7 +56,7 @@ HasSwept-none rows count same = record {
 -- one search more
 pub HasSwept-more : (rows : List (List ℕ)) (node mark : ℕ) (m₀ : List (Option ℕ)) (o₀ : List ℕ)
     (m₁ : List (Option ℕ)) (o₁ : List ℕ) → HasSwept rows m₀ o₀ node
-    → HasVisited rows node mark m₀ o₀ m₁ o₁ → HasSwept rows m₁ o₁ (node + 1)
+    → HasVisited rows node mark (search_of m₀ o₀) (search_of m₁ o₁) → HasSwept rows m₁ o₁ (node + 1)
 HasSwept-more rows node mark m₀ o₀ m₁ o₁ was visited = record {
   count = visited.grown.count ∙ was.count;
   marked = below_more (λ other. IsMarked m₁ other) node
@@ -103,7 +103,7 @@ module _ (rows reversed : List (List ℕ)) (order : List ℕ) (index : ℕ) (m�
     (m₁ : List (Option ℕ)) (o₁ : List ℕ)
     (round : AreReversed rows reversed) (finishing : IsFinishingOrder reversed order) (within : index < length order)
     (was : IsGroupedFrom rows reversed order m₀ o₀ (index + 1))
-    (visited : HasVisited rows (get_or order index 0) index m₀ o₀ m₁ o₁) where
+    (visited : HasVisited rows (get_or order index 0) index (search_of m₀ o₀) (search_of m₁ o₁)) where
   abbrev root : ℕ
   root = get_or order index 0
 
@@ -231,7 +231,7 @@ pub IsGroupedFrom-turn : (rows reversed : List (List ℕ)) (order : List ℕ) (t
     (o₀ : List ℕ) (m₁ : List (Option ℕ)) (o₁ : List ℕ)
     → AreReversed rows reversed → IsFinishingOrder reversed order → index + turn + 1 ≡ length order
     → node ≡ get_or order index node
-    → IsGroupedFrom rows reversed order m₀ o₀ (length order - turn) → HasVisited rows node index m₀ o₀ m₁ o₁
+    → IsGroupedFrom rows reversed order m₀ o₀ (length order - turn) → HasVisited rows node index (search_of m₀ o₀) (search_of m₁ o₁)
     → IsGroupedFrom rows reversed order m₁ o₁ (length order - (turn + 1))
 IsGroupedFrom-turn rows reversed order turn index node m₀ o₀ m₁ o₁ round finishing stands at was visited =
     let within : index < length order = omega (arith, stands) in
@@ -241,7 +241,7 @@ IsGroupedFrom-turn rows reversed order turn index node m₀ o₀ m₁ o₁ round
     subst (λ (from : ℕ). IsGroupedFrom rows reversed order m₁ o₁ from) after
     (IsGroupedFrom-more rows reversed order index m₀ o₀ m₁ o₁ round finishing within
     (subst (λ (from : ℕ). IsGroupedFrom rows reversed order m₀ o₀ from) before was)
-    (subst (λ (x : ℕ). HasVisited rows x index m₀ o₀ m₁ o₁) root_is visited))
+    (subst (λ (x : ℕ). HasVisited rows x index (search_of m₀ o₀) (search_of m₁ o₁)) root_is visited))
 
 -- after the last turn
 pub AreGroups-end : (rows reversed : List (List ℕ)) (order : List ℕ) (marks : List (Option ℕ)) (done : List ℕ)

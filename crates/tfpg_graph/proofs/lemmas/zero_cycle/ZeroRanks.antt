@@ -36,12 +36,12 @@ module _ (graph : Tfpg) where
       same_steps (suc (steps + more)) (suc steps + more) from to (omega arith)
       (walk.0, walk.1, walk.2, walk.3, append_walks steps more walk.0.target between to walk.4 next)
 
-  -- some steps lead from the one node to the other in no time
-  abbrev WalksSome : ℕ → ℕ → Type 0
+  -- Some steps lead from the one node to the other in no time.
+  abbrev pub WalksSome : ℕ → ℕ → Type 0
   WalksSome from to = (steps : ℕ) × WalksInNoTime graph from to (suc steps)
 
-  -- what the test says is so
-  walks-true : (below from to : ℕ) → walks graph below from to ≡ true → WalksSome from to
+  -- What the test says is so.
+  pub walks-true : (below from to : ℕ) → walks graph below from to ≡ true → WalksSome from to
   walks-true zero from to is =
       let found = list_any-found (is_zero_edge from to) graph.edges is in
       let source = and_parts (nat_eq found.0.source from) (nat_eq found.0.target to && nat_eq found.0.tmin 0) found.2 in
@@ -68,8 +68,8 @@ module _ (graph : Tfpg) where
   walks-suc : (below from to : ℕ) → walks graph below from to ≡ true → walks graph (suc below) from to ≡ true
   walks-suc below from to is = or_left _ _ is
 
-  -- along an edge that may take no time
-  walks-edge : (below : ℕ) (edge : Edge) → Contains graph.edges edge → edge.tmin ≡ 0
+  -- Along an edge that may take no time one can walk.
+  pub walks-edge : (below : ℕ) (edge : Edge) → Contains graph.edges edge → edge.tmin ≡ 0
       → walks graph below edge.source edge.target ≡ true
   walks-edge zero edge among no_time =
       let test = is_zero_edge edge.source edge.target in

@@ -3,7 +3,7 @@ use Rattle.std.proofs.Common.{◌≡◌, ◌≢◌, ℕ, zero, ◌+◌, ◌-◌,
 use Rattle.std.proofs.lemmas.Bool.{cases_lt, cases_eq}
 use Rattle.std.proofs.lemmas.List.{append-nil, length-set, length_push, get_or_append_left, get_or-append_right, get_or_push}
 use Rattle.std.proofs.lemmas.List.Elements.{Contains-get_or, Contains-append_left, Contains-append_right, Contains-append_cases, Contains-push, Contains-push_cases}
-use Rattle.tfpg_graph.specs.inside.zero_cycle.ZeroSearch.{IsStep, mark_of, IsMarked, unmarked_count, ReachesUnmarked, ClosesGroup, IsVisited, HasGrown, HasVisited}
+use Rattle.tfpg_graph.specs.inside.zero_cycle.ZeroSearch.{IsStep, mark_of, IsMarked, unmarked_count, ReachesUnmarked, ClosesGroup, IsVisited, HasGrown, search_of, HasVisited}
 use Rattle.tfpg_graph.proofs.lemmas.zero_cycle.ZeroWalks.{unmarked_before, ReachesUnmarked-weaker, ReachesUnmarked-any, ReachesUnmarked-step}
 use Rattle.tfpg_base.proofs.lists.Choices.{option_cases, some-not_none}
 
@@ -44,7 +44,7 @@ IsVisited-kept rows old new order kept is = record {
 -- a search from a node that has a mark does nothing
 pub HasVisited-already : (rows : List (List ℕ)) (node mark : ℕ) (marks : List (Option ℕ)) (order : List ℕ)
     → IsVisited rows marks order → IsMarked marks node
-    → HasVisited rows node mark marks order marks order
+    → HasVisited rows node mark (search_of marks order) (search_of marks order)
 HasVisited-already rows node mark marks order is marked = record {
   grown = record {
     count = refl;
@@ -79,7 +79,7 @@ module _ (rows : List (List ℕ)) (node mark : ℕ) (marks : List (Option ℕ)) 
 
   -- the node has got its mark
   pub HasGrown-begin : IsVisited rows marks order
-      → HasGrown rows node mark marks order (set marks node (Some mark)) order
+      → HasGrown rows node mark (search_of marks order) (search_of (set marks node (Some mark)) order)
   HasGrown-begin is = record {
     count = length-set marks node (Some mark);
     kept = begin_kept;
@@ -102,7 +102,7 @@ module _ (rows : List (List ℕ)) (node mark : ℕ) (marks : List (Option ℕ)) 
 
 module _ (rows : List (List ℕ)) (node mark next : ℕ) (m₀ : List (Option ℕ)) (o₀ : List ℕ) (m₁ : List (Option ℕ))
     (o₁ : List ℕ) (m₂ : List (Option ℕ)) (o₂ : List ℕ)
-    (was : HasGrown rows node mark m₀ o₀ m₁ o₁) (visited : HasVisited rows next mark m₁ o₁ m₂ o₂)
+    (was : HasGrown rows node mark (search_of m₀ o₀) (search_of m₁ o₁)) (visited : HasVisited rows next mark (search_of m₁ o₁) (search_of m₂ o₂))
     (none : mark_of m₀ node ≡ None) (leads : IsStep rows node next) where
   before : (other : ℕ) → mark_of m₁ other ≡ None → mark_of m₀ other ≡ None
   before other = unmarked_before m₀ m₁ was.kept other
@@ -116,7 +116,7 @@ module _ (rows : List (List ℕ)) (node mark next : ℕ) (m₀ : List (Option �
       subst (λ (x : ℕ). Contains o₂ x) (sym same) (visited.finished (ap (mark_of m₁) (sym same) ∙ unmarked))
 
   -- one node is searched to which a step leads
-  pub HasGrown-next : HasGrown rows node mark m₀ o₀ m₂ o₂
+  pub HasGrown-next : HasGrown rows node mark (search_of m₀ o₀) (search_of m₂ o₂)
   HasGrown-next = record {
     count = visited.grown.count ∙ was.count;
     kept = λ other given e. visited.grown.kept other given (was.kept other given e);
@@ -149,7 +149,7 @@ module _ (rows : List (List ℕ)) (node mark next : ℕ) (m₀ : List (Option �
 
 module _ (rows : List (List ℕ)) (node mark : ℕ) (m₀ : List (Option ℕ)) (o₀ : List ℕ) (m₁ : List (Option ℕ))
     (o₁ : List ℕ)
-    (was : IsVisited rows m₀ o₀) (grown : HasGrown rows node mark m₀ o₀ m₁ o₁) (none : mark_of m₀ node ≡ None)
+    (was : IsVisited rows m₀ o₀) (grown : HasGrown rows node mark (search_of m₀ o₀) (search_of m₁ o₁)) (none : mark_of m₀ node ≡ None)
     (marked : IsMarked m₁ node)
     (followed : (to : ℕ) → IsStep rows node to → IsMarked m₁ to) where
   abbrev whole : List ℕ
@@ -229,7 +229,7 @@ module _ (rows : List (List ℕ)) (node mark : ℕ) (m₀ : List (Option ℕ)) (
   }
 
   -- the search is done with the node
-  pub HasVisited-done : unmarked_count m₁ ≤ unmarked_count m₀ → HasVisited rows node mark m₀ o₀ m₁ (o₁ ++ node ∷ [])
+  pub HasVisited-done : unmarked_count m₁ ≤ unmarked_count m₀ → HasVisited rows node mark (search_of m₀ o₀) (search_of m₁ (o₁ ++ node ∷ []))
   HasVisited-done fewer = record {
     grown = record {
       count = grown.count;

@@ -5,7 +5,7 @@ use Rattle.tfpg_graph.specs.declared.kind.Kind.{Kind}
 use Rattle.tfpg_graph.specs.declared.kind.Kind.TheVariants.{Failure, Or, And}
 use Rattle.tfpg_graph.specs.declared.edge.Edge.{Edge}
 use Rattle.tfpg_graph.specs.Graph.{Tfpg, kind_at, failure_at, edges_into}
-use Rattle.tfpg_graph.specs.NodeSet.{IsNodeSet}
+use Rattle.tfpg_base.specs.NodeSet.{IsNodeSet}
 use Rattle.tfpg_graph.specs.Reach.{Reaches}
 
 -- the source of some edge into the node is one of these

@@ -1,19 +1,20 @@
 -- Pieces of the canonical text, as the calls that append them name them.
-use Rattle.std.specs.Prelude.{ℕ, List, filter, filter_map, slice_get, Option, option_map, decimal}
+use Rattle.std.specs.Prelude.{ℕ, List, filter, filter_map, slice_get, Option, option_map}
 use Rattle.std.specs.List.{range_with_len}
 use Rattle.tfpg_base.specs.Lines.{with_line_end}
+use Rattle.tfpg_graph.specs.declared.kind.Lag.{Lag}
 use Rattle.tfpg_graph.specs.declared.edge.Edge.{Edge}
 use Rattle.tfpg_graph.specs.Graph.{Tfpg, has_mode_bit}
 use Rattle.tfpg_graph.specs.Statements.{words_of_watch}
-use Rattle.tfpg_graph.specs.Text.{mode_line, edge_line, modes_word}
+use Rattle.tfpg_graph.specs.Text.{lag_word, mode_line, edge_line, modes_word}
 
 -- the line of a mode, with its line end
 abbrev pub mode_text : List ℕ → List ℕ
 mode_text name = with_line_end (mode_line name)
 
 -- a discrepancy's last words, by its lag
-abbrev pub watch_words : Option ℕ → List (List ℕ)
-watch_words lag = words_of_watch (option_map decimal lag)
+abbrev pub watch_words : Option Lag → List (List ℕ)
+watch_words lag = words_of_watch (option_map lag_word lag)
 
 -- the line of an edge, with its line end
 abbrev pub edge_text : Tfpg → Edge → List ℕ

@@ -62,6 +62,15 @@ pub record IsVisited (rows : List (List ℕ)) (marks : List (Option ℕ)) (order
   pub followed : (from to : ℕ) → Contains order from → IsStep rows from to → IsMarked marks to
   pub closed : (index : ℕ) → index < length order → ClosesGroup rows order index
 
+-- What searches have found so far: the marks of the nodes, and the nodes with which they are done, in order.
+pub record Searched : Type 0 where
+  pub marks : List (Option ℕ)
+  pub order : List ℕ
+
+-- these marks and this order
+abbrev pub search_of : List (Option ℕ) → List ℕ → Searched
+search_of marks order = record { marks = marks; order = order }
+
 -- A node got this mark in a search from a node that had none.
 pub record IsFresh (rows : List (List ℕ)) (node mark : ℕ) (old_marks : List (Option ℕ)) (other given : ℕ) : Type 0 where
   pub same : given ≡ mark
@@ -70,25 +79,23 @@ pub record IsFresh (rows : List (List ℕ)) (node mark : ℕ) (old_marks : List 
 
 -- What a search from a node has done so far: old marks are kept, new ones are on nodes that it has reached, and with
 -- these it is done, but for the node itself.
-pub record HasGrown (rows : List (List ℕ)) (node mark : ℕ) (old_marks : List (Option ℕ)) (old_order : List ℕ)
-    (marks : List (Option ℕ)) (order : List ℕ) : Type 0 where
-  pub count : length marks ≡ length old_marks
-  pub kept : (other given : ℕ) → mark_of old_marks other ≡ Some given → mark_of marks other ≡ Some given
-  pub fresh : (other given : ℕ) → mark_of marks other ≡ Some given
-      → (mark_of old_marks other ≡ Some given) ⊎ IsFresh rows node mark old_marks other given
-  pub done : (other : ℕ) → IsMarked marks other → mark_of old_marks other ≡ None → (other ≡ node) ⊎ Contains order other
+pub record HasGrown (rows : List (List ℕ)) (node mark : ℕ) (old new : Searched) : Type 0 where
+  pub count : length new.marks ≡ length old.marks
+  pub kept : (other given : ℕ) → mark_of old.marks other ≡ Some given → mark_of new.marks other ≡ Some given
+  pub fresh : (other given : ℕ) → mark_of new.marks other ≡ Some given
+      → (mark_of old.marks other ≡ Some given) ⊎ IsFresh rows node mark old.marks other given
+  pub done : (other : ℕ) → IsMarked new.marks other → mark_of old.marks other ≡ None → (other ≡ node) ⊎ Contains new.order other
   pub more : List ℕ
-  pub order_is : order ≡ old_order ++ more
-  pub more_new : (other : ℕ) → Contains more other → mark_of old_marks other ≡ None
-  pub searched : IsVisited rows marks order
+  pub order_is : new.order ≡ old.order ++ more
+  pub more_new : (other : ℕ) → Contains more other → mark_of old.marks other ≡ None
+  pub searched : IsVisited rows new.marks new.order
 
 -- What a whole search from a node has done.
-pub record HasVisited (rows : List (List ℕ)) (node mark : ℕ) (old_marks : List (Option ℕ)) (old_order : List ℕ)
-    (marks : List (Option ℕ)) (order : List ℕ) : Type 0 where
-  pub grown : HasGrown rows node mark old_marks old_order marks order
-  pub marked : IsMarked marks node
-  pub finished : mark_of old_marks node ≡ None → Contains order node
-  pub fewer : unmarked_count marks ≤ unmarked_count old_marks
+pub record HasVisited (rows : List (List ℕ)) (node mark : ℕ) (old new : Searched) : Type 0 where
+  pub grown : HasGrown rows node mark old new
+  pub marked : IsMarked new.marks node
+  pub finished : mark_of old.marks node ≡ None → Contains new.order node
+  pub fewer : unmarked_count new.marks ≤ unmarked_count old.marks
 
 -- Searches from all nodes before this one are done.
 pub record HasSwept (rows : List (List ℕ)) (marks : List (Option ℕ)) (order : List ℕ) (end : ℕ) : Type 0 where

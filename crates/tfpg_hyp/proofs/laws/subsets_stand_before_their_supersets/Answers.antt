@@ -1,5 +1,5 @@
-use Rattle.tfpg_hyp.proofs.Subsets.{hypothesis_subset, subset_first}
+use Rattle.tfpg_hyp.proofs.Subsets.{hypothesis_part, part_first}
 use Rattle.tfpg_hyp.proofs.laws.subsets_stand_before_their_supersets.Goals as goal
 
 pub returns : goal.returns
-returns c = record { hypothesis = hypothesis_subset; before = subset_first }
+returns c = record { hypothesis = hypothesis_part; before = part_first }

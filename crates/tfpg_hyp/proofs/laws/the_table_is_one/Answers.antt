@@ -3,4 +3,4 @@ use Rattle.tfpg_hyp.proofs.Subsets.{once}
 use Rattle.tfpg_hyp.proofs.laws.the_table_is_one.Goals as goal
 
 pub returns : goal.returns
-returns c = record { sets = one_table; count = one_count; once = once }
+returns c = record { hypotheses = one_table; count = one_count; once = once }

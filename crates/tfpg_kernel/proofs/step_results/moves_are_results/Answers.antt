@@ -9,11 +9,9 @@ returns c =
       last_of_refutation = c.the_last_step_of_a_tree_is_right.ensures.refutation;
       last_of_partial = c.the_last_step_of_a_tree_is_right.ensures.partial;
       refutation_stays = c.a_tree_stays.ensures.refutation;
-      frames_stay = c.frames_are_at_the_present_leaf.ensures.stays;
-      split = c.frames_are_at_the_present_leaf.ensures.split;
-      next = c.frames_are_at_the_present_leaf.ensures.next;
-      closed = c.frames_are_at_the_present_leaf.ensures.closed;
-      states_same = c.frames_follow_the_path.ensures.states_same;
+      leaf_stays = c.a_tree_stays.ensures.leaf;
+      leaf_moves = c.a_partial_tree_grows.ensures.moves;
+      leaf_ends = c.a_partial_tree_grows.ensures.closed;
     } in
     record {
       refused = λ graph earlier log old steps step ordered goes_on represents. refused laws graph earlier log old steps ordered goes_on represents step;

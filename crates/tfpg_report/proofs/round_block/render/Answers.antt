@@ -1,4 +1,5 @@
 use Rattle.tfpg_base.proofs.Appended.{Appends-after_five}
+use Rattle.tfpg_report.proofs.SectionLines.{open_lines, rejected_lines}
 use Rattle.tfpg_report.proofs.round_block.render.Goals as goal
 
 pub returns : goal.returns
@@ -7,6 +8,6 @@ returns c =
     c.in_ok-append_round_line.ensures
     (rw c.as_slice-findings.ensures at c.in_ok-append_section.ensures)
     (rw (c.as_slice-findings.ensures, c.as_slice.ensures) at c.in_ok-append_all_ranked.ensures)
-    (rw c.as_slice-findings.ensures at c.in_ok-append_section-2.ensures)
-    (rw c.as_slice-findings.ensures at c.in_ok-append_section-3.ensures)
+    (rw (c.as_slice-findings.ensures, open_lines c.args.graph.now c.args.round.now.findings) at c.in_ok-append_section-2.ensures)
+    (rw (c.as_slice-findings.ensures, rejected_lines c.args.graph.now c.args.round.now.findings) at c.in_ok-append_section-3.ensures)
     c.append_counts_line.ensures

@@ -4,7 +4,6 @@ pub returns : goal.returns
 returns c =
     let clauses = c.a_clause_has_few_small_alternatives.ensures in
     let leaves = c.a_partial_tree_has_one_present_leaf.ensures in
-    let frames = c.frames_are_at_the_present_leaf.ensures in
     record {
       lower = c.bounds_hold_of_the_times_of_nodes.ensures.lower;
       upper = c.bounds_hold_of_the_times_of_nodes.ensures.upper;
@@ -14,16 +13,13 @@ returns c =
       first = c.a_log_goes_on_from_its_first_events.ensures;
       clause_stays = c.what_is_allowed_stays_allowed.ensures.clause;
       fact_stays = c.what_is_allowed_stays_allowed.ensures.fact;
+      stated_stays = c.a_tree_stays.ensures.stated;
       partial_front = c.the_front_of_a_tree_is_a_partial_tree.ensures.partial;
       leaf_begins = c.a_partial_tree_grows.ensures.begins;
+      leaf_moves = c.a_partial_tree_grows.ensures.moves;
+      leaf_ends = c.a_partial_tree_grows.ensures.closed;
       leaf_there = leaves.there;
       one_leaf = leaves.only_one;
       leaf_stays = c.a_tree_stays.ensures.leaf;
       finished = c.a_refutation_is_finished.ensures;
-      frames_begin = frames.begins;
-      frames_split = frames.split;
-      frames_next = frames.next;
-      frames_closed = frames.closed;
-      frames_stay = frames.stays;
-      states_same = c.frames_follow_the_path.ensures.states_same;
     }

@@ -1,7 +1,7 @@
 -- The alarm says that the node became active at most its lag before.
 use Rattle.std.proofs.Common.{◌≡◌, ◌-◌, ℕ, Some, sym, ap, ◌∙◌, arith}
 use Rattle.std.specs.Prelude.{unwrap_or}
-use Rattle.tfpg_graph.specs.Graph.{lag_at}
+use Rattle.tfpg_graph.specs.Graph.{lag_or_zero}
 use Rattle.tfpg_log.specs.Log.{time_of_event}
 use Rattle.tfpg_log.proofs.AlarmEvents.{alarm_event_within}
 use Rattle.tfpg_log.proofs.Order.{number_by_now}
@@ -16,7 +16,7 @@ event-requires-clause-high c = (alarm_event_within c.args.log.now c.args.node c.
 pub returns-in-Some-clause-stated : goal.returns-in-Some-clause-stated
 returns-in-Some-clause-stated c reach =
     let lag = c.lag_or_zero-lag.ensures in
-    let time : c.saturating_sub.result ≡ time_of_event c.event.result - unwrap_or (lag_at c.args.graph.now c.args.node) 0 = cc in
+    let time : c.saturating_sub.result ≡ time_of_event c.event.result - lag_or_zero c.args.graph.now c.args.node = cc in
     from_stated c.args.log.now c.args.node c.in-Some.event c.event.result (sym c.in-Some.ensures.first) c.event.ensures c.args.graph.now
     ∙ ap (λ (t : ℕ). Some (at_least c.args.node t)) (sym time)
 

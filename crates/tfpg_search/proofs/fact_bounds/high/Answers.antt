@@ -13,7 +13,7 @@ event-requires-clause-high c = (alarm_event_within c.args.log.now c.args.node c.
 
 pub returns-in-Some-clause-stated : goal.returns-in-Some-clause-stated
 returns-in-Some-clause-stated c reach =
-    upto_stated c.args.log.now c.args.node c.in-Some.event c.event.result (sym c.in-Some.ensures.first) c.event.ensures
+    upto_stated c.args.log.now c.args.node c.in-Some.event c.event.result (sym c.in-Some.ensures.first) c.event.ensures c.args.graph.now
     ∙ ap (λ (t : ℕ). Some (at_most c.args.node (pos t))) (sym c.time.ensures)
 
 pub returns-in-Some-clause-least : goal.returns-in-Some-clause-least

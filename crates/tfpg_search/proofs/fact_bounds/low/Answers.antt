@@ -8,6 +8,7 @@ use Rattle.tfpg_base.specs.Bounds.{at_least}
 use Rattle.tfpg_clause.specs.Facts.{fact}
 use Rattle.tfpg_search.proofs.StatedBounds.{low_of_events, unreached_stated}
 use Rattle.tfpg_search.proofs.fact_bounds.low.Goals as goal
+use Rattle.tfpg_clause.specs.Case.{case_of}
 
 pub returns-then-not-has-clause-stated : goal.returns-then-not-has-clause-stated
 returns-then-not-has-clause-stated c =
@@ -15,7 +16,7 @@ returns-then-not-has-clause-stated c =
     let same : c.has.result ≡ is_among reach c.args.node =
     same_from_decides {P = Contains reach c.args.node} c.has.result (is_among reach c.args.node) c.has.ensures.node
     (Contains-from_among reach c.args.node, among-from_Contains reach c.args.node) in
-    ap (fact c.args.graph.now c.args.log.now reach) c.after_now.ensures.reason
+    ap (fact (case_of c.args.graph.now c.args.log.now reach)) c.after_now.ensures.reason
     ∙ unreached_stated c.args.graph.now c.args.log.now reach c.args.node c.requires (sym same ∙ c.if-not-has.true)
     ∙ ap (λ (time : ℕ). Some (at_least c.args.node time)) (sym c.after_now.ensures.time)
 

@@ -10,7 +10,7 @@ use Rattle.std.proofs.lemmas.List.Elements.{All-append, All-cons, All-nil}
 pub loop-node-preserved : goal.loop-node-preserved
 loop-node-preserved c =
     let before = c.loop-node.invariant in
-    let one = c.draw_lateness.ensures.lateness ∙ ap (λ state. option_map (λ lag. drawn state % (lag + 1)) (lag_of c.kind.result)) before.after in
+    let one = c.draw_lateness.ensures.lateness ∙ ap (λ state. option_map (λ lag. drawn state % (lag.most + 1)) (lag_of c.kind.result)) before.after in
     record {
       latenesses = c.in_ok-push.ensures.items ∙ (λ i. before.latenesses i ++ one i ∷ [])
           ∙ sym (latenesses_from-more c.args.state.now c.args.graph.now.nodes c.loop-node.node c.kind.result c.kind.ensures);

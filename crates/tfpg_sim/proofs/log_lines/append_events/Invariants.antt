@@ -1,6 +1,6 @@
 use Rattle.std.proofs.Common.{◌≡◌, ◌++◌, take}
 use Rattle.std.specs.List.{flat_map}
-use Rattle.tfpg_sim.specs.SimulatedLog.{event_line}
+use Rattle.tfpg_log.specs.EventLines.{event_line}
 use Rattle.tfpg_sim.proofs.log_lines.append_events.Given as goal
 
 -- the texts of the items so far stand after the old bytes

@@ -1,5 +1,5 @@
 use Rattle.std.proofs.Common.{◌≡◌, map, Ok}
-use Rattle.tfpg_sim.specs.Script.{read_lines}
+use Rattle.tfpg_sim.specs.inside.ScriptReading.{read_lines}
 use Rattle.tfpg_sim.specs.inside.Entries.{IsScript}
 use Rattle.tfpg_sim.proofs.script.read_script.Given as goal
 

@@ -2,7 +2,7 @@ use Rattle.std.proofs.Common.{◌≡◌, ◌≤◌, ℕ, All, None, ◌<◌, ◌
 use Rattle.tfpg_base.specs.declared.limits.TheConstants.{MAX_TIME}
 use Rattle.tfpg_sim.specs.Script.{time_of_entry}
 use Rattle.tfpg_sim.specs.Simulation.{script_log, start_of}
-use Rattle.tfpg_sim.specs.inside.Settling.{IsUnderWay, AreCandidates, IsEarliest, candidate_at, waiting_count}
+use Rattle.tfpg_sim.specs.inside.Settling.{simulation_case, IsUnderWay, AreCandidates, IsEarliest, candidate_at, waiting_count}
 use Rattle.tfpg_sim.specs.inside.ModeSpans.{AreSpans}
 use Rattle.tfpg_sim.proofs.ScriptOrder.{in_order, all_by_last, small}
 use Rattle.tfpg_sim.proofs.SettledNodes.{is_absent}
@@ -70,12 +70,12 @@ loop-node-preserved c =
     let absent = is_absent c.args.graph.now (script_log c.args.entries.now) c.args.delays.now c.time_so_far-stop.result (start_of c.args.entries.now) c.loop-node.trace c.loop-node.candidates.items
     c.loop-node.invariant c.in-Some.node c.in-Some.time earliest in
     let known = c.in_ok-candidates-2.ensures (script_log c.args.entries.now) c.time_so_far-stop.result c.loop-node.trace c.in-Some.time spans c.in_ok-set.ensures.list absent
-    (subst (AreCandidates c.args.graph.now (script_log c.args.entries.now) c.args.delays.now c.time_so_far-stop.result c.loop-node.trace) (sym c.deref-in-Some.ensures.value) c.loop-node.invariant.known) in
-    subst (λ trace. IsUnderWay c.args.graph.now (script_log c.args.entries.now) c.args.delays.now c.time_so_far-stop.result (start_of c.args.entries.now) trace c.in_ok-candidates-2.candidates.items)
+    (subst (AreCandidates (simulation_case c.args.graph.now (script_log c.args.entries.now) c.args.delays.now c.time_so_far-stop.result) c.loop-node.trace) (sym c.deref-in-Some.ensures.value) c.loop-node.invariant.known) in
+    subst (λ trace. IsUnderWay (simulation_case c.args.graph.now (script_log c.args.entries.now) c.args.delays.now c.time_so_far-stop.result) (start_of c.args.entries.now) trace c.in_ok-candidates-2.candidates.items)
     (sym c.in_ok-set.ensures.list)
     (goes_on c.args.graph.now c.args.entries.now c.args.delays.now c.time_so_far-stop.result c.loop-node.trace c.loop-node.candidates.items c.in_ok-candidates-2.candidates.items
     c.in-Some.node c.in-Some.time c.loop-node.invariant earliest
-    (subst (λ trace. AreCandidates c.args.graph.now (script_log c.args.entries.now) c.args.delays.now c.time_so_far-stop.result trace c.in_ok-candidates-2.candidates.items) c.in_ok-set.ensures.list known))
+    (subst (λ trace. AreCandidates (simulation_case c.args.graph.now (script_log c.args.entries.now) c.args.delays.now c.time_so_far-stop.result) trace c.in_ok-candidates-2.candidates.items) c.in_ok-set.ensures.list known))
 
 pub returns-clause-simulated : goal.returns-clause-simulated
 returns-clause-simulated c =

@@ -2,7 +2,7 @@ use Rattle.tfpg_tests.proofs.GoingOn.{new_represents, not_closed}
 use Rattle.tfpg_tests.proofs.search.asked.Goals as goal
 
 pub loop-line-2-init : goal.loop-line-2-init
-loop-line-2-init g c = (c.loop-line.invariant, new_represents c.args.graph.now c.loop-line.log c.in_ok-search.search c.in_ok-search.ensures)
+loop-line-2-init g c = (c.loop-line.invariant, new_represents c.args.graph.now c.loop-line.log c.in_ok-search.search (c.in_ok-search.ensures c.loop-line.log))
 
 pub loop-line-2-preserved : goal.loop-line-2-preserved
 loop-line-2-preserved g c =

@@ -11,5 +11,5 @@ unreachable-requires c =
 
 pub returns-in-Ok : goal.returns-in-Ok
 returns-in-Ok c =
-    nothing_diagnosed c.args.graph (record { engine = c.in-Ok.engine; last = None }) c.in-Ok.ensures.graph c.in-Ok.ensures.k c.in-Ok.ensures.budget c.in-Ok.ensures.log
+    nothing_diagnosed c.args.graph (record { engine = c.in-Ok.engine; last = None }) c.in-Ok.ensures.graph c.in-Ok.ensures.terms c.in-Ok.ensures.log
     c.in-Ok.ensures.represents refl

@@ -10,4 +10,4 @@ returns-in-Round g c = λ graph lines has accepted.
     let gives = brings_round (c.from-number.result + 1) c.args.line.now has.rounds c.in-Round.round c.args.self.now.engine c.event.new.self c.in_ok-round.field-0 c.in-Round.is
     (c.in_ok-round.ensures.brings has.rounds has.represents) in
     one_more_diagnosed graph lines c.args.line.now c.args.self.now (record { engine = c.event.new.self; last = Some c.in-Round.round }) (c.from-number.result + 1) c.in-Round.round
-    has accepted number_is gives c.event.ensures.graph c.event.ensures.k c.event.ensures.budget refl
+    has accepted number_is gives c.event.ensures.graph c.event.ensures.terms refl

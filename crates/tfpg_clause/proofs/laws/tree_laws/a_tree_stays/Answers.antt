@@ -1,10 +1,10 @@
-use Rattle.tfpg_clause.proofs.TreesKept.{leaf_stays, partial_stays, refutation_stays, stated_later}
+use Rattle.tfpg_clause.proofs.TreesKept.{leaf_stays, partial_stays, refutation_stays, stated_stays}
 use Rattle.tfpg_clause.proofs.laws.tree_laws.a_tree_stays.Goals as goal
 
 pub returns : goal.returns
 returns c = record {
-  leaf = λ graph earlier later reach steps path ordered goes_on. leaf_stays graph earlier later ordered goes_on reach steps path;
-  partial = λ graph earlier later reach steps ordered goes_on. partial_stays graph earlier later ordered goes_on reach steps;
-  refutation = λ graph earlier later reach steps ordered goes_on. refutation_stays graph earlier later ordered goes_on reach steps;
-  stated = λ graph earlier later reach path seen more reason constraint ordered goes_on. stated_later graph earlier later ordered goes_on reach path seen more reason constraint;
+  leaf = λ case later steps path ordered goes_on. leaf_stays case later ordered goes_on steps path;
+  partial = λ case later steps ordered goes_on. partial_stays case later ordered goes_on steps;
+  refutation = λ case later steps ordered goes_on. refutation_stays case later ordered goes_on steps;
+  stated = λ case later path reason constraint ordered goes_on. stated_stays case later ordered goes_on path reason constraint;
 }

@@ -1,6 +1,6 @@
 -- A pick that the values meet is pushed on the stack, and any other lowers values or is taken off again.
-use Rattle.std.proofs.Common.{◌≡◌, ℕ, ◌-◌, ◌≤◌, true, List, ◌∷◌, ◌++◌, [], length, take, refl, sym, ◌∙◌, ap, subst, arith, length-append}
-use Rattle.std.specs.Prelude.{vec_capacity, vec_len, is_ok}
+use Rattle.std.proofs.Common.{◌≡◌, ℕ, ◌-◌, ◌≤◌, List, ◌∷◌, ◌++◌, [], length, take, refl, sym, ◌∙◌, ap, subst, arith, length-append}
+use Rattle.std.specs.Prelude.{vec_capacity, vec_len}
 use Rattle.std.proofs.lemmas.List.{take_at}
 use Rattle.std.proofs.lemmas.List.Elements.{All-same}
 use Rattle.tfpg_diff.specs.declared.demand.Demand.{Demand}
@@ -10,25 +10,21 @@ use Rattle.tfpg_diff.specs.Solution.{HasSolution}
 use Rattle.tfpg_diff.specs.Cycle.{NamesNegativeCycle}
 use Rattle.tfpg_base.specs.declared.limits.TheConstants.{NEVER}
 use Rattle.tfpg_diff.specs.SystemState.{SystemState, with_pick}
-use Rattle.tfpg_diff.specs.inside.Kept.{IsMetBy, IsKept, IsReady}
+use Rattle.tfpg_diff.specs.inside.Kept.{IsMetBy, IsKept, IsSound, IsReady}
 use Rattle.tfpg_diff.proofs.Totals.{HasNoSolution-cycle}
 use Rattle.tfpg_diff.proofs.Relaxing.{small-kept}
 use Rattle.tfpg_diff.proofs.Changes.{IsKept-pick}
 use Rattle.tfpg_diff.proofs.Outcomes as outcome
 use Rattle.tfpg_diff.proofs.system.System.add_pick.Goals as goal
-use Rattle.tfpg_diff.proofs.system.System.add_pick.Goals.{After-push, After-is_broken, After-deref-3}
+use Rattle.tfpg_diff.proofs.system.System.add_pick.Goals.{After-push_in_room, After-is_broken, After-deref-3}
 
 -- the demands of the fields are those that contracts see
-seen : (c : After-push) → demands_of c.self.inside.bounds.items c.self.inside.picks.items ≡ c.args.self.now.demands
+seen : (c : After-push_in_room) → demands_of c.self.inside.bounds.items c.self.inside.picks.items ≡ c.args.self.now.demands
 seen c = ap (λ (s : SystemState). s.demands) c.self.view_is
 
--- there is room, so the pick stands on the stack
-pushed : (c : After-push) → c.push.new.self.items ≡ c.self.inside.picks.items ++ c.args.pick ∷ []
-pushed c =
-    let room = ap (λ (s : SystemState). s.spare) c.self.view_is in
-    let one = c.requires.spare in
-    let ok : is_ok c.push.result ≡ true = c.push.ensures.succeeds (omega arith) in
-    rw ok at c.push.ensures.items
+-- the pick stands on the stack
+pushed : (c : After-push_in_room) → c.push_in_room.new.picks.items ≡ c.self.inside.picks.items ++ c.args.pick ∷ []
+pushed c = c.push_in_room.ensures.items
 
 pub is_broken-requires-clause-small : goal.is_broken-requires-clause-small
 is_broken-requires-clause-small c =
@@ -42,8 +38,8 @@ met c m = subst (λ (values : List ℕ). IsMetBy values (demand_of_pick c.args.p
 
 pub invariant_of-self : goal.invariant_of-self
 invariant_of-self c =
-    let a = (goal.at.invariant_of-self c).After-push in
-    subst (λ (picks : List Pick). IsReady c.self.inside.bounds.items picks c.self.inside.labels.values.items c.self.inside.labels.links.items
+    let a = (goal.at.invariant_of-self c).After-push_in_room in
+    subst (λ (picks : List Pick). IsReady (demands_of c.self.inside.bounds.items picks) c.self.inside.labels.values.items c.self.inside.labels.links.items
     c.self.inside.backup.values.items c.self.inside.backup.links.items (vec_capacity c.self.inside.cycle)) (sym (pushed a))
     (outcome.IsReady-pick c.self.inside.bounds.items c.self.inside.picks.items c.self.inside.labels.values.items c.self.inside.labels.links.items
     c.self.inside.backup.values.items c.self.inside.backup.links.items (vec_capacity c.self.inside.cycle) c.self.invariant c.args.self.now.demands (seen a)
@@ -51,37 +47,37 @@ invariant_of-self c =
 
 pub returns-then-not-is_broken-clause-adds : goal.returns-then-not-is_broken-clause-adds
 returns-then-not-is_broken-clause-adds c =
-    let a = (goal.at.returns-then-not-is_broken-clause-adds c).After-push in
+    let a = (goal.at.returns-then-not-is_broken-clause-adds c).After-push_in_room in
     rw (pushed a) (outcome.adds_pick c.self.inside.bounds.items c.self.inside.picks.items c.self.inside.labels.values.items c.self.inside.labels.links.items
     c.self.inside.backup.values.items c.self.inside.backup.links.items (vec_capacity c.self.inside.cycle) c.self.invariant c.args.self.now.demands (seen a)
     c.args.pick c.requires.left c.requires.right (met (goal.at.returns-then-not-is_broken-clause-adds c).After-is_broken (c.is_broken.ensures.met c.if-not-is_broken.true)))
 
 -- the lengthened demands, as the code reads them
-lengthened : (c : After-deref-3) (pushed : c.push.new.self.items ≡ c.self.inside.picks.items ++ c.args.pick ∷ []) →
+lengthened : (c : After-deref-3) (pushed : c.push_in_room.new.picks.items ≡ c.self.inside.picks.items ++ c.args.pick ∷ []) →
     demands_of c.deref-2.result.now c.deref-3.result.now ≡ demands_of c.self.inside.bounds.items (c.self.inside.picks.items ++ c.args.pick ∷ [])
 lengthened c pushed = outcome.demands_read c.self.inside.bounds.items c.deref-2.result.now (c.self.inside.picks.items ++ c.args.pick ∷ []) c.deref-3.result.now
     c.deref-2.ensures.value (c.deref-3.ensures.value ∙ pushed)
 
 pub lower_or_restore-requires-clause-kept : goal.lower_or_restore-requires-clause-kept
 lower_or_restore-requires-clause-kept c =
-    let p = pushed (goal.at.lower_or_restore-requires-clause-kept c).After-push in
+    let p = pushed (goal.at.lower_or_restore-requires-clause-kept c).After-push_in_room in
     subst (λ (d : Demands). IsKept d c.self.inside.labels.values.items c.self.inside.labels.links.items)
     (sym (lengthened (goal.at.lower_or_restore-requires-clause-kept c).After-deref-3 p))
     (IsKept-pick c.self.inside.bounds.items c.self.inside.picks.items c.args.pick c.self.inside.labels.values.items c.self.inside.labels.links.items c.self.invariant.kept)
 
 -- what is left after the pick is taken off
-popped : (c : After-push) (rest : List Pick) → rest ≡ take (vec_len c.push.new.self - 1) c.push.new.self.items → rest ≡ c.self.inside.picks.items
+popped : (c : After-push_in_room) (rest : List Pick) → rest ≡ take (vec_len c.push_in_room.new.picks - 1) c.push_in_room.new.picks.items → rest ≡ c.self.inside.picks.items
 popped c rest is =
     let p = pushed c in
     let len = ap length p in
-    let own = c.push.new.self.ok.0 in
-    is ∙ ap (take (vec_len c.push.new.self - 1)) p
-    ∙ take_at c.self.inside.picks.items (c.args.pick ∷ []) (vec_len c.push.new.self - 1)
+    let own = c.push_in_room.new.picks.ok.0 in
+    is ∙ ap (take (vec_len c.push_in_room.new.picks - 1)) p
+    ∙ take_at c.self.inside.picks.items (c.args.pick ∷ []) (vec_len c.push_in_room.new.picks - 1)
     (omega (arith, len, own, length-append c.self.inside.picks.items (c.args.pick ∷ [])))
 
 pub invariant_of-self-in-Err : goal.invariant_of-self-in-Err
 invariant_of-self-in-Err c =
-    let a = (goal.at.invariant_of-self-in-Err c).After-push in
+    let a = (goal.at.invariant_of-self-in-Err c).After-push_in_room in
     let read = ap length c.deref-2.ensures.value in
     outcome.IsReady-restored c.self.inside.bounds.items c.self.inside.picks.items c.self.inside.labels.values.items c.self.inside.labels.links.items
     c.self.inside.backup.values.items c.self.inside.backup.links.items (vec_capacity c.self.inside.cycle) c.self.invariant c.args.self.now.demands (seen a)
@@ -92,7 +88,7 @@ invariant_of-self-in-Err c =
 
 pub returns-in-Ok-clause-adds : goal.returns-in-Ok-clause-adds
 returns-in-Ok-clause-adds c =
-    let a = (goal.at.returns-in-Ok-clause-adds c).After-push in
+    let a = (goal.at.returns-in-Ok-clause-adds c).After-push_in_room in
     let p = pushed a in
     let is = outcome.with_pick-seen c.self.inside.bounds.items c.self.inside.picks.items c.self.inside.labels.values.items c.self.inside.labels.links.items
     c.self.inside.backup.values.items c.self.inside.backup.links.items (vec_capacity c.self.inside.cycle) c.self.invariant c.args.self.now.demands (seen a) c.args.pick in
@@ -105,7 +101,7 @@ returns-in-Ok-clause-adds c =
 
 pub returns-in-Err-clause-adds : goal.returns-in-Err-clause-adds
 returns-in-Err-clause-adds c =
-    let a = (goal.at.returns-in-Err-clause-adds c).After-push in
+    let a = (goal.at.returns-in-Err-clause-adds c).After-push_in_room in
     let is = outcome.with_pick-seen c.self.inside.bounds.items c.self.inside.picks.items c.self.inside.labels.values.items c.self.inside.labels.links.items
     c.self.inside.backup.values.items c.self.inside.backup.links.items (vec_capacity c.self.inside.cycle) c.self.invariant c.args.self.now.demands (seen a) c.args.pick in
     let same = lengthened (goal.at.returns-in-Err-clause-adds c).After-deref-3 (pushed a) in
@@ -114,3 +110,25 @@ returns-in-Err-clause-adds c =
       HasNoSolution-cycle (with_pick c.args.self.now.demands c.args.pick.constraint c.args.pick.tag) c.lower_or_restore.new.cycle.items cycle,
       cycle,
     )
+
+pub lower_or_restore-requires-clause-sound : goal.lower_or_restore-requires-clause-sound
+lower_or_restore-requires-clause-sound c =
+    let a = goal.at.lower_or_restore-requires-clause-sound c in
+    subst IsSound (sym (lengthened a.After-deref-3 (pushed a.After-push_in_room)))
+    (outcome.IsSound-more c.self.inside.bounds.items c.self.inside.picks.items c.self.inside.labels.values.items c.self.inside.labels.links.items
+    c.self.inside.backup.values.items c.self.inside.backup.links.items (vec_capacity c.self.inside.cycle) c.self.invariant c.args.self.now.demands (seen a.After-push_in_room)
+    c.args.pick c.requires.left c.requires.right)
+
+pub invariant_of-self-in-Ok : goal.invariant_of-self-in-Ok
+invariant_of-self-in-Ok c =
+    let a = (goal.at.invariant_of-self-in-Ok c).After-push_in_room in
+    let read = ap length c.deref-2.ensures.value in
+    let more = outcome.IsSound-more c.self.inside.bounds.items c.self.inside.picks.items c.self.inside.labels.values.items c.self.inside.labels.links.items
+    c.self.inside.backup.values.items c.self.inside.backup.links.items (vec_capacity c.self.inside.cycle) c.self.invariant c.args.self.now.demands (seen a)
+    c.args.pick c.requires.left c.requires.right in
+    outcome.IsReady-read c.self.inside.bounds.items c.deref-2.result.now c.push_in_room.new.picks.items c.deref-3.result.now c.deref-2.ensures.value c.deref-3.ensures.value
+    c.lower_or_restore.new.labels.values.items c.lower_or_restore.new.labels.links.items c.lower_or_restore.new.backup.values.items c.lower_or_restore.new.backup.links.items
+    (vec_capacity c.lower_or_restore.new.cycle)
+    (subst (λ (picks : List Pick). IsSound (demands_of c.self.inside.bounds.items picks)) (sym (pushed a)) more)
+    c.in-Ok.ensures.kept c.in-Ok.ensures.met c.in-Ok.ensures.backup_values c.in-Ok.ensures.backup_links
+    (omega (arith, c.self.invariant.room, c.in-Ok.ensures.capacity))

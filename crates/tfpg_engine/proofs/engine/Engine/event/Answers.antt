@@ -8,7 +8,7 @@ use Rattle.tfpg_engine.proofs.Eventing.{of_graph, same_refusal, lent_go_on, engi
 use Rattle.tfpg_engine.proofs.engine.Engine.event.Goals as goal
 
 pub make-requires-clause-table : goal.make-requires-clause-table
-make-requires-clause-table g c = of_graph c.self.inside.graph c.self.inside.k c.self.inside.table c.self.invariant.table
+make-requires-clause-table g c = of_graph c.self.inside.graph c.self.inside.terms c.self.inside.table c.self.invariant.table
 
 pub make-requires-clause-go_on : goal.make-requires-clause-go_on
 make-requires-clause-go_on g c =

@@ -1,6 +1,6 @@
 use Rattle.std.proofs.Common.{rules, ◌≡◌, ℕ, ◌<◌, List, None, length, get_or, Contains, sym, ◌∙◌, subst, arith, below_more}
 use Rattle.std.proofs.lemmas.List.Elements.{Contains-get_or}
-use Rattle.tfpg_graph.specs.inside.zero_cycle.ZeroSearch.{IsStep, mark_of, IsMarked, HasVisited}
+use Rattle.tfpg_graph.specs.inside.zero_cycle.ZeroSearch.{IsStep, mark_of, IsMarked, search_of, HasVisited}
 use Rattle.tfpg_graph.proofs.lemmas.zero_cycle.ZeroWalks.{fewer-set, marked_read, unmarked_read, marked_all}
 use Rattle.tfpg_graph.proofs.lemmas.zero_cycle.ZeroVisits.{HasVisited-already, HasGrown-begin, begin_marked, HasGrown-next, next_kept, HasVisited-done}
 use Rattle.tfpg_graph.proofs.zero_cycle.find_groups.+visit.Goals as goal
@@ -48,7 +48,7 @@ loop-next-preserved t c =
     let was = c.loop-next.invariant in
     let seen = c.loop-next.search in
     let now = c.visit.new.search in
-    let visited : HasVisited steps next c.args.mark seen.marks.items seen.order.items now.marks.items now.order.items
+    let visited : HasVisited steps next c.args.mark (search_of seen.marks.items seen.order.items) (search_of now.marks.items now.order.items)
     = c.in_ok-visit.ensures in
     let none : mark_of marks node ≡ None =
     unmarked_read marks node c.index.result.now (omega arith) c.index.ensures
@@ -83,7 +83,7 @@ returns t c =
     let followed : (to : ℕ) → IsStep steps node to → IsMarked seen.marks.items to =
     λ to leads. marked_all seen.marks.items items c.loop-next.next-index c.loop-next-test.false was.followed to
     (subst (λ (nodes : List ℕ). Contains nodes to) (sym {A = List ℕ} c.row-next-items.ensures.row) leads) in
-    subst (λ (done : List ℕ). HasVisited steps node c.args.mark marks order seen.marks.items done)
+    subst (λ (done : List ℕ). HasVisited steps node c.args.mark (search_of marks order) (search_of seen.marks.items done))
     (sym {A = List ℕ} c.in_ok-push.ensures.items)
     (HasVisited-done steps node c.args.mark marks order seen.marks.items seen.order.items c.requires.searched
     was.grown none was.marked followed (omega (arith, was.fewer)))

@@ -4,17 +4,17 @@ use Rattle.tfpg_hyp.proofs.Tables.{HasHypotheses-counted, too_many-exactly, not_
 use Rattle.tfpg_hyp.proofs.table.Table.new.Goals as goal
 
 pub returns-then-count-from-clause-too_many : goal.returns-then-count-from-clause-too_many
-returns-then-count-from-clause-too_many c =
-    let has = HasHypotheses-counted c.args.graph.now c.args.k c.failure_count.result c.count_sets-count.result c.failure_count.ensures c.count_sets-count.ensures in
-    too_many-exactly c.args.graph.now c.args.k c.count_sets-count.result has (omega (arith, c.from.ensures, c.if-count-from.true))
+returns-then-count-from-clause-too_many c terms same =
+    let has = HasHypotheses-counted c.args.graph.now terms c.args.k same c.failure_count.result c.count_sets-count.result c.failure_count.ensures c.count_sets-count.ensures in
+    too_many-exactly c.args.graph.now terms c.count_sets-count.result has (omega (arith, c.from.ensures, c.if-count-from.true))
 
 pub returns-in_err-table-clause-too_many : goal.returns-in_err-table-clause-too_many
-returns-in_err-table-clause-too_many c =
-    let has = HasHypotheses-counted c.args.graph.now c.args.k c.failure_count.result c.count_sets-count.result c.failure_count.ensures c.count_sets-count.ensures in
+returns-in_err-table-clause-too_many c terms same =
+    let has = HasHypotheses-counted c.args.graph.now terms c.args.k same c.failure_count.result c.count_sets-count.result c.failure_count.ensures c.count_sets-count.ensures in
     let failed = err_from_is_err_and c.from_residual.result c.from_residual.ensures.1 in
-    not_too_many c.args.graph.now c.args.k c.count_sets-count.result has c.from_residual.result (omega (arith, c.from.ensures, c.if-count-from.false)) (λ count same. cc)
+    not_too_many c.args.graph.now terms c.count_sets-count.result has c.from_residual.result (omega (arith, c.from.ensures, c.if-count-from.false)) (λ count same. cc)
 
 pub returns-clause-too_many : goal.returns-clause-too_many
-returns-clause-too_many c =
-    let has = HasHypotheses-counted c.args.graph.now c.args.k c.failure_count.result c.count_sets-count.result c.failure_count.ensures c.count_sets-count.ensures in
-    not_too_many c.args.graph.now c.args.k c.count_sets-count.result has (Ok c.in_ok-table.table) (omega (arith, c.from.ensures, c.if-count-from.false)) (λ count same. cc)
+returns-clause-too_many c terms same =
+    let has = HasHypotheses-counted c.args.graph.now terms c.args.k same c.failure_count.result c.count_sets-count.result c.failure_count.ensures c.count_sets-count.ensures in
+    not_too_many c.args.graph.now terms c.count_sets-count.result has (Ok c.in_ok-table.table) (omega (arith, c.from.ensures, c.if-count-from.false)) (λ count same. cc)

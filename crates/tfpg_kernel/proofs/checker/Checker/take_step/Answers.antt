@@ -1,6 +1,8 @@
-use Rattle.std.proofs.Common.{◌≡◌, ap, sym, subst, ◌∙◌}
+use Rattle.std.proofs.Common.{◌≡◌, ap, sym, subst, ◌∙◌, refl}
 use Rattle.tfpg_evidence.specs.declared.step.Step.{Step}
 use Rattle.tfpg_evidence.specs.declared.step.Step.TheVariants.{Cycle}
+use Rattle.tfpg_kernel.specs.declared.taken.Taken.TheVariants.{Bad}
+use Rattle.tfpg_kernel.specs.declared.taken.BadStep.TheVariants.{NotReusable}
 use Rattle.tfpg_kernel.specs.CheckerState.{CheckerState}
 use Rattle.tfpg_kernel.specs.inside.Paths.{Moves}
 use Rattle.tfpg_kernel.proofs.checker.Checker.take_step.Goals as goal
@@ -22,3 +24,9 @@ returns-in-Cycle-clause-result c = λ earlier steps goes_on represents.
     c.moves_are_results.ensures.moved c.args.graph.now earlier c.args.log.now c.args.self.now c.close.new.self steps c.args.step.now c.close.result c.len-ordered.ensures.ordered goes_on
     represents (sym (ap (λ (b : CheckerState). b.closed) c.self.view_is) ∙ c.if-self.false) c.close.ensures.reach
     (subst (λ (step : Step). Moves c.args.graph.now c.args.log.now c.args.self.now step c.close.result c.close.new.self) same c.close.ensures.moves)
+
+pub returns-in-Again-clause-result : goal.returns-in-Again-clause-result
+returns-in-Again-clause-result c = λ earlier steps goes_on represents.
+    c.moves_are_results.ensures.moved c.args.graph.now earlier c.args.log.now c.args.self.now c.args.self.now steps c.args.step.now (Bad NotReusable) c.len-ordered.ensures.ordered goes_on
+    represents (sym (ap (λ (b : CheckerState). b.closed) c.self.view_is) ∙ c.if-self.false) refl
+    (subst (λ (step : Step). Moves c.args.graph.now c.args.log.now c.args.self.now step (Bad NotReusable) c.args.self.now) (sym c.in-Again.is) (refl, refl))

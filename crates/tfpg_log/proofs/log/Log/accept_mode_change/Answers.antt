@@ -6,8 +6,9 @@ use Rattle.tfpg_log.proofs.log.Log.accept_mode_change.Goals as goal
 
 pub invariant_of-self-2 : goal.invariant_of-self-2
 invariant_of-self-2 c =
+    let log : Logbook = record { events = c.self.inside.events.items; ignored = c.self.inside.ignored } in
     let length_is = ap (λ (log : Logbook). length log.events) c.self.view_is in
     let room : length c.self.inside.events.items < MAX_EVENTS = omega (arith, length_is, c.requires.room) in
-    let not_back : now_of (record { events = c.self.inside.events.items }) ≤ c.args.time = omega (arith, ap now_of c.self.view_is, c.requires.not_back) in
+    let not_back : now_of log ≤ c.args.time = omega (arith, ap now_of c.self.view_is, c.requires.not_back) in
     rw (c.in_ok-push.ensures.items, c.in_ok-take_change.ensures.changes, c.reserve.ensures.items)
-    (indexed_mode c.self.inside.events.items c.self.inside.nodes.items c.self.inside.last_sweep c.self.inside.changes.items c.self.inside.change_count c.self.invariant room c.args.time not_back c.requires.in_range c.args.mode)
+    (indexed_mode log c.self.inside.nodes.items c.self.inside.last_sweep c.self.inside.changes.items c.self.inside.change_count c.self.invariant room c.args.time not_back c.requires.in_range c.args.mode)

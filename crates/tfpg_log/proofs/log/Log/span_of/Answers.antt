@@ -9,7 +9,7 @@ use Rattle.tfpg_log.proofs.log.Log.span_of.Goals as goal
 
 pub returns : goal.returns
 returns c =
-    let log : Logbook = record { events = c.self.inside.events.items } in
+    let log : Logbook = record { events = c.self.inside.events.items; ignored = c.self.inside.ignored } in
     let within = subst (λ (changes : List ModeChange). IsInSpan changes c.span_number.result c.args.instant) c.deref.ensures.value c.span_number.ensures in
     let number : span_number c.args.self.now c.args.instant ≡ c.span_number.result =
     sym (ap (λ (l : Logbook). span_number l c.args.instant) c.self.view_is)

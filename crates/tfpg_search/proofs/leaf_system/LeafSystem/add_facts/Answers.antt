@@ -8,26 +8,27 @@ use Rattle.tfpg_search.specs.inside.Closing.{Closes}
 use Rattle.tfpg_search.specs.inside.Facts.{AreFactsIn}
 use Rattle.tfpg_search.proofs.FactsAdded.{facts_met, facts-tightened, facts-kept}
 use Rattle.tfpg_search.proofs.leaf_system.LeafSystem.add_facts.Goals as goal
+use Rattle.tfpg_clause.specs.Case.{case_of}
 
 pub returns-in_err-raise_to-clause-stated : goal.returns-in_err-raise_to-clause-stated
 returns-in_err-raise_to-clause-stated g c stated before =
-    c.raise_to.ensures.stated (fact c.args.graph.now c.args.log.now c.args.reach.now) stated (c.loop-node.invariant.stated stated before) c.low.ensures.stated
+    c.raise_to.ensures.stated (fact (case_of c.args.graph.now c.args.log.now c.args.reach.now)) stated (c.loop-node.invariant.stated stated before) c.low.ensures.stated
 
 pub returns-in_err-raise_to-clause-closes : goal.returns-in_err-raise_to-clause-closes
 returns-in_err-raise_to-clause-closes g c stated before =
-    let F = fact c.args.graph.now c.args.log.now c.args.reach.now in
+    let F = fact (case_of c.args.graph.now c.args.log.now c.args.reach.now) in
     let p = err_from_is_err_and c.from_residual.result c.from_residual.ensures.1 in
     rw p.1 (subst (Closes stated) (sym p.2) (c.in_err-raise_to.ensures.closes F stated (c.loop-node.invariant.stated stated before) c.low.ensures.stated))
 
 pub returns-in_err-lower_to-clause-stated : goal.returns-in_err-lower_to-clause-stated
 returns-in_err-lower_to-clause-stated g c stated before =
-    let F = fact c.args.graph.now c.args.log.now c.args.reach.now in
+    let F = fact (case_of c.args.graph.now c.args.log.now c.args.reach.now) in
     c.lower_to.ensures.stated F stated (c.raise_to.ensures.stated F stated (c.loop-node.invariant.stated stated before) c.low.ensures.stated)
     (c.high.ensures.stated c.args.reach.now)
 
 pub returns-in_err-lower_to-clause-closes : goal.returns-in_err-lower_to-clause-closes
 returns-in_err-lower_to-clause-closes g c stated before =
-    let F = fact c.args.graph.now c.args.log.now c.args.reach.now in
+    let F = fact (case_of c.args.graph.now c.args.log.now c.args.reach.now) in
     let p = err_from_is_err_and c.from_residual-in_err-lower_to.result c.from_residual-in_err-lower_to.ensures.1 in
     rw p.1 (subst (Closes stated) (sym p.2)
     (c.in_err-lower_to.ensures.closes F stated (c.raise_to.ensures.stated F stated (c.loop-node.invariant.stated stated before) c.low.ensures.stated)
@@ -35,7 +36,7 @@ returns-in_err-lower_to-clause-closes g c stated before =
 
 pub loop-node-preserved : goal.loop-node-preserved
 loop-node-preserved g c =
-    let F = fact c.args.graph.now c.args.log.now c.args.reach.now in
+    let F = fact (case_of c.args.graph.now c.args.log.now c.args.reach.now) in
     let v = c.loop-node.node in
     let before : Demands = c.loop-node.self.demands in
     let tag = length c.raise_to.new.self.demands.bounds + v in

@@ -6,13 +6,14 @@ use Rattle.tfpg_clause.specs.Facts.{fact}
 use Rattle.tfpg_search.specs.Leaf.{pick_reasons, IsStated}
 use Rattle.tfpg_search.specs.inside.Facts.{AreFactsIn}
 use Rattle.tfpg_search.proofs.leaf_system.LeafSystem.add_facts.Given as goal
+use Rattle.tfpg_clause.specs.Case.{case_of}
 
 abbrev pub invariant-loop-node : goal.invariant-loop-node
 invariant-loop-node g l = record {
   picks : l.self.demands.picks ≡ l.initial.self.demands.picks;
   reasons : pick_reasons l.self ≡ pick_reasons l.initial.self;
   nodes : length l.self.demands.bounds ≡ length l.initial.self.demands.bounds;
-  stated : (stated : Reason → Option Constraint) → IsStated (fact l.graph l.log l.reach) stated l.initial.self → IsStated (fact l.graph l.log l.reach) stated l.self;
-  facts : (node : ℕ) → node < l.node → AreFactsIn (fact l.graph l.log l.reach) l.self.demands node;
+  stated : (stated : Reason → Option Constraint) → IsStated (fact (case_of l.graph l.log l.reach)) stated l.initial.self → IsStated (fact (case_of l.graph l.log l.reach)) stated l.self;
+  facts : (node : ℕ) → node < l.node → AreFactsIn (fact (case_of l.graph l.log l.reach)) l.self.demands node;
   steps : l.work ≤ l.initial.work + 2 * l.node;
 }

@@ -1,6 +1,7 @@
-use Rattle.tfpg_clause.specs.Paths.{stated_by}
 use Rattle.tfpg_search.proofs.Moving.{facts_stand, add_loaded, add_closes}
 use Rattle.tfpg_search.proofs.search.Search.add_all.Goals as goal
+use Rattle.tfpg_clause.specs.Trees.{stated}
+use Rattle.tfpg_clause.specs.Case.{case_of}
 
 pub returns-clause-stands : goal.returns-clause-stands
 returns-clause-stands g c =
@@ -14,4 +15,4 @@ returns-clause-loaded g c =
 pub returns-clause-closes : goal.returns-clause-closes
 returns-clause-closes g c =
     add_closes c.args.graph.now c.args.log.now c.args.self.now c.enter.new.self c.enter.ensures.keeps c.enter.ensures.path c.add_facts.result
-    (c.add_facts.ensures.closes (stated_by c.args.graph.now c.args.log.now c.enter.new.self.reach c.enter.new.self.path) c.enter.ensures.stands.stated)
+    (c.add_facts.ensures.closes (stated (case_of c.args.graph.now c.args.log.now c.enter.new.self.reach) c.enter.new.self.path) c.enter.ensures.stands.stated)

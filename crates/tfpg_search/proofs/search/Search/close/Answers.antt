@@ -1,9 +1,9 @@
-use Rattle.std.proofs.Common.{ap, sym, subst, ◌∙◌, ◌-◌, ℕ, List, Option, arith}
+use Rattle.std.proofs.Common.{ap, sym, subst, ◌∙◌, ◌-◌, ℕ, List, arith}
 use Rattle.std.proofs.Math.Nat.{pos_of_ne-zero}
 use Rattle.std.proofs.lemmas.Result.{err_from_is_err_and}
 use Rattle.tfpg_evidence.specs.declared.step.Step.{Step}
-use Rattle.tfpg_clause.specs.declared.path.Frame.{Frame}
-use Rattle.tfpg_search.specs.inside.Moves.{Grows}
+use Rattle.tfpg_search.specs.inside.Moves.{GrowsAnyhow}
+use Rattle.tfpg_search.specs.Searched.{call_of}
 use Rattle.tfpg_search.proofs.Moving.{nothing, close_counted, close_some, close_ok}
 use Rattle.tfpg_search.proofs.search.Search.close.Goals as goal
 
@@ -11,8 +11,8 @@ pub returns-in_err-push-clause-closing : goal.returns-in_err-push-clause-closing
 returns-in_err-push-clause-closing c =
     let error = err_from_is_err_and c.from_residual.result c.from_residual.ensures.1 in
     rw error.1
-    (subst (λ (after : List Step). (end : Option (List Frame)) × Grows c.args.graph.now c.args.log.now c.args.self.now.reach c.args.self.now.path c.args.steps.now after 0 end)
-    (sym c.in_err-push.ensures.err) (nothing c.args.graph.now c.args.log.now c.args.self.now c.requires.stands c.args.steps.now))
+    (subst (λ (after : List Step). GrowsAnyhow c.args.graph.now c.args.log.now (call_of c.args.self.now c.args.self.now c.args.steps.now after))
+    (sym c.in_err-push.ensures.err) (nothing c.args.graph.now c.args.log.now c.args.self.now c.requires.stands c.args.steps.now c.args.self.now))
 
 pub overflow_sub-kept : goal.overflow_sub-kept
 overflow_sub-kept c =

@@ -3,7 +3,9 @@ use Rattle.std.proofs.Math.Arith.{lt_of_le-ne}
 use Rattle.std.specs.Prelude.{Ok}
 use Rattle.tfpg_search.specs.declared.search.Look.{Look}
 use Rattle.tfpg_search.specs.inside.Moves.{Looking, Sees}
-use Rattle.tfpg_search.proofs.Loading.{keeps_on, grows_still, grows_after, found_on}
+use Rattle.tfpg_search.proofs.Loading.{keeps_on, grows_still, found_on}
+use Rattle.tfpg_search.proofs.Growing.{grows_on}
+use Rattle.tfpg_search.specs.Searched.{call_of}
 use Rattle.tfpg_search.proofs.search.Search.search_on.Goals as goal
 
 pub returns-in-Err-clause-searches : goal.returns-in-Err-clause-searches
@@ -13,35 +15,35 @@ returns-in-Err-clause-searches g c =
 pub returns-in-Ok-None-clause-searches : goal.returns-in-Ok-None-clause-searches
 returns-in-Ok-None-clause-searches g c =
     let looking =
-    subst (λ (o : Option Look). Looking c.args.graph.now c.args.log.now c.loop-trace.self c.look.new.self c.loop-trace.steps c.look.new.steps (Ok o)) c.in-Ok-None.field-0-is c.in-Ok-None.ensures.looking in
+    subst (λ (o : Option Look). Looking c.args.graph.now c.args.log.now (call_of c.loop-trace.self c.look.new.self c.loop-trace.steps c.look.new.steps) (Ok o)) c.in-Ok-None.field-0-is c.in-Ok-None.ensures.looking in
     found_on c.args.graph.now c.args.log.now c.args.budget c.args.self.now c.loop-trace.self c.look.new.self c.args.steps.now c.loop-trace.steps c.look.new.steps c.loop-trace.spent None _ c.loop-trace.invariant.keeps c.loop-trace.invariant.grows looking c.loop-trace.invariant.within refl
 
 pub returns-in-Ok-Some-Shown-clause-searches : goal.returns-in-Ok-Some-Shown-clause-searches
 returns-in-Ok-Some-Shown-clause-searches g c =
     let looking =
-    subst (λ (o : Option Look). Looking c.args.graph.now c.args.log.now c.loop-trace.self c.look.new.self c.loop-trace.steps c.look.new.steps (Ok o)) c.in-Ok-Some-Shown.field-0-is c.in-Ok-Some-Shown.ensures.looking in
+    subst (λ (o : Option Look). Looking c.args.graph.now c.args.log.now (call_of c.loop-trace.self c.look.new.self c.loop-trace.steps c.look.new.steps) (Ok o)) c.in-Ok-Some-Shown.field-0-is c.in-Ok-Some-Shown.ensures.looking in
     found_on c.args.graph.now c.args.log.now c.args.budget c.args.self.now c.loop-trace.self c.look.new.self c.args.steps.now c.loop-trace.steps c.look.new.steps c.loop-trace.spent (Some c.look.new.self.path) _ c.loop-trace.invariant.keeps c.loop-trace.invariant.grows looking.3 c.loop-trace.invariant.within (subst (Sees c.args.graph.now c.args.log.now c.look.new.self) c.in-Ok-Some-Shown.field-0-0-is looking.2, looking.0, looking.1, refl)
 
 pub returns-then-spent-budget-clause-searches : goal.returns-then-spent-budget-clause-searches
 returns-then-spent-budget-clause-searches g c =
     let looking =
-    subst (λ (o : Option Look). Looking c.args.graph.now c.args.log.now c.loop-trace.self c.look.new.self c.loop-trace.steps c.look.new.steps (Ok o)) c.in-Ok-Some-Violated.field-0-is c.in-Ok-Some-Violated.ensures.looking in
+    subst (λ (o : Option Look). Looking c.args.graph.now c.args.log.now (call_of c.loop-trace.self c.look.new.self c.loop-trace.steps c.look.new.steps) (Ok o)) c.in-Ok-Some-Violated.field-0-is c.in-Ok-Some-Violated.ensures.looking in
     found_on c.args.graph.now c.args.log.now c.args.budget c.args.self.now c.loop-trace.self c.look.new.self c.args.steps.now c.loop-trace.steps c.look.new.steps c.loop-trace.spent (Some c.look.new.self.path) _ c.loop-trace.invariant.keeps c.loop-trace.invariant.grows looking.3 c.loop-trace.invariant.within (c.if-spent-budget.true, (c.in-Ok-Some-Violated.name, subst (Sees c.args.graph.now c.args.log.now c.look.new.self) c.in-Ok-Some-Violated.field-0-0-is looking.2), looking.0, looking.1, refl)
 
 pub returns-in-Err-split-clause-searches : goal.returns-in-Err-split-clause-searches
 returns-in-Err-split-clause-searches g c =
     let looking =
-    subst (λ (o : Option Look). Looking c.args.graph.now c.args.log.now c.loop-trace.self c.look.new.self c.loop-trace.steps c.look.new.steps (Ok o)) c.in-Ok-Some-Violated.field-0-is c.in-Ok-Some-Violated.ensures.looking in
+    subst (λ (o : Option Look). Looking c.args.graph.now c.args.log.now (call_of c.loop-trace.self c.look.new.self c.loop-trace.steps c.look.new.steps) (Ok o)) c.in-Ok-Some-Violated.field-0-is c.in-Ok-Some-Violated.ensures.looking in
     found_on c.args.graph.now c.args.log.now c.args.budget c.args.self.now c.look.new.self c.split.new.self c.args.steps.now c.look.new.steps c.split.new.steps c.loop-trace.spent c.in-Err-split.ensures.splitting.0 _
-    (keeps_on c.args.self.now c.loop-trace.self c.look.new.self c.loop-trace.invariant.keeps c.look.ensures.keeps) (grows_still c.args.graph.now c.args.log.now c.args.self.now c.loop-trace.self c.loop-trace.self.path c.args.steps.now c.loop-trace.steps c.look.new.steps c.loop-trace.spent (Some c.look.new.self.path) c.loop-trace.invariant.keeps refl c.loop-trace.invariant.grows looking.3) c.in-Err-split.ensures.splitting.1 c.loop-trace.invariant.within tt
+    (keeps_on c.args.self.now c.loop-trace.self c.look.new.self c.loop-trace.invariant.keeps c.look.ensures.keeps) (grows_still c.args.graph.now c.args.log.now c.args.self.now c.loop-trace.self c.loop-trace.self c.look.new.self c.args.steps.now c.loop-trace.steps c.look.new.steps c.loop-trace.spent (Some c.look.new.self.path) c.loop-trace.invariant.keeps refl c.loop-trace.invariant.grows looking.3) c.in-Err-split.ensures.splitting.1 c.loop-trace.invariant.within tt
 
 pub loop-trace-preserved : goal.loop-trace-preserved
 loop-trace-preserved g c =
     let looking =
-    subst (λ (o : Option Look). Looking c.args.graph.now c.args.log.now c.loop-trace.self c.look.new.self c.loop-trace.steps c.look.new.steps (Ok o)) c.in-Ok-Some-Violated.field-0-is c.in-Ok-Some-Violated.ensures.looking in
+    subst (λ (o : Option Look). Looking c.args.graph.now c.args.log.now (call_of c.loop-trace.self c.look.new.self c.loop-trace.steps c.look.new.steps) (Ok o)) c.in-Ok-Some-Violated.field-0-is c.in-Ok-Some-Violated.ensures.looking in
     record {
       stands = c.in-Ok.ensures.splitting.0;
       keeps = keeps_on c.args.self.now c.look.new.self c.split.new.self (keeps_on c.args.self.now c.loop-trace.self c.look.new.self c.loop-trace.invariant.keeps c.look.ensures.keeps) c.split.ensures.keeps;
-      grows = grows_after c.args.graph.now c.args.log.now c.args.self.now c.look.new.self c.look.new.self.path c.args.steps.now c.look.new.steps c.split.new.steps c.loop-trace.spent 1 (Some c.split.new.self.path) (keeps_on c.args.self.now c.loop-trace.self c.look.new.self c.loop-trace.invariant.keeps c.look.ensures.keeps) refl (grows_still c.args.graph.now c.args.log.now c.args.self.now c.loop-trace.self c.loop-trace.self.path c.args.steps.now c.loop-trace.steps c.look.new.steps c.loop-trace.spent (Some c.look.new.self.path) c.loop-trace.invariant.keeps refl c.loop-trace.invariant.grows looking.3) c.in-Ok.ensures.splitting.1;
+      grows = grows_on c.args.graph.now c.args.log.now c.args.self.now c.look.new.self c.look.new.self c.split.new.self c.args.steps.now c.look.new.steps c.split.new.steps c.loop-trace.spent 1 (Some c.split.new.self.path) (keeps_on c.args.self.now c.loop-trace.self c.look.new.self c.loop-trace.invariant.keeps c.look.ensures.keeps) refl (grows_still c.args.graph.now c.args.log.now c.args.self.now c.loop-trace.self c.loop-trace.self c.look.new.self c.args.steps.now c.loop-trace.steps c.look.new.steps c.loop-trace.spent (Some c.look.new.self.path) c.loop-trace.invariant.keeps refl c.loop-trace.invariant.grows looking.3) c.in-Ok.ensures.splitting.1;
       within = omega (arith, lt_of_le-ne c.loop-trace.invariant.within c.if-spent-budget.false);
     }

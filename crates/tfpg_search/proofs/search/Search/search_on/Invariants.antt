@@ -1,5 +1,6 @@
 use Rattle.std.proofs.Common.{Some, ◌≤◌, ◌-◌}
 use Rattle.tfpg_search.specs.SearchState.{IsAtItsLeaf}
+use Rattle.tfpg_search.specs.Searched.{call_of}
 use Rattle.tfpg_search.specs.inside.Moves.{KeepsSet, Grows}
 use Rattle.tfpg_search.proofs.search.Search.search_on.Given as goal
 
@@ -7,7 +8,7 @@ abbrev pub invariant-loop-trace : goal.invariant-loop-trace
 invariant-loop-trace g l = record {
   stands : IsAtItsLeaf l.graph l.log l.self;
   keeps : KeepsSet l.initial.self l.self;
-  grows : Grows l.graph l.log l.initial.self.reach l.initial.self.path l.initial.steps l.steps l.spent (Some l.self.path);
+  grows : Grows l.graph l.log (call_of l.initial.self l.self l.initial.steps l.steps) l.spent (Some l.self.path);
   within : l.spent ≤ l.budget;
 }
 

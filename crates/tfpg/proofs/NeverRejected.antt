@@ -1,0 +1,160 @@
+-- No round of a diagnosis rejects a set that fits the whole log, as a simulated set fits its log.
+use Rattle.std.proofs.Common.{◌≡◌, ℕ, ◌+◌, cond, Bool, true, false, List, [], ◌∷◌, ◌++◌, take, drop, fold, Contains, Some, Result, Ok, Err, refl, sym, ap, subst, ◌∙◌, append_assoc, arith}
+use Rattle.std.specs.Prelude.{slice_get, flat_map}
+use Rattle.std.proofs.lemmas.Bool.{cond_both}
+use Rattle.std.proofs.lemmas.List.{append-nil, take-append-drop}
+use Rattle.std.proofs.lemmas.List.Sums.{fold-append}
+use Rattle.std.proofs.lemmas.Option.{slice_get_within, slice_get-get_or}
+use Rattle.tfpg_base.specs.declared.terms.Terms.{Terms}
+use Rattle.tfpg_base.specs.Hypothesis.{Hypothesis, believing}
+use Rattle.tfpg_base.specs.Lines.{is_too_long}
+use Rattle.tfpg_base.proofs.lists.Cuts.{take-next}
+use Rattle.tfpg_base.proofs.lists.Elements.{slice_get-there}
+use Rattle.tfpg_graph.specs.Graph.{Tfpg}
+use Rattle.tfpg_graph.specs.Reach.{IsReach}
+use Rattle.tfpg_graph.specs.Valid.{IsValid}
+use Rattle.tfpg_log.specs.declared.event.Event.{Event}
+use Rattle.tfpg_log.specs.declared.event.Offered.{Offered}
+use Rattle.tfpg_log.specs.declared.event.Offered.TheVariants.{Accepted, Refused}
+use Rattle.tfpg_log.specs.Log.{Logbook, GoesOn, IsLogOf, IsOrdered, with_event}
+use Rattle.tfpg_log.specs.Accepted.{reply_to}
+use Rattle.tfpg_log.specs.LogOfLines.{log_after_reply, log_after, log_of_lines, new_log}
+use Rattle.tfpg_log.specs.Explains.{Fits}
+use Rattle.tfpg_log.proofs.LogsOfLines.{log_of_lines-push, of-log_of_lines, ordered-log_of_lines}
+use Rattle.tfpg_evidence.specs.declared.finding.Finding.{Finding}
+use Rattle.tfpg_evidence.specs.declared.finding.Status.{Status}
+use Rattle.tfpg_evidence.specs.declared.finding.Status.TheVariants.{Ranked, Covered, Rejected, Open}
+use Rattle.tfpg_evidence.specs.declared.round.Round.{Round}
+use Rattle.tfpg_evidence.specs.Findings.{hypothesis_of}
+use Rattle.tfpg_evidence.specs.RoundOf.{is_rejected}
+use Rattle.tfpg_clause.specs.Case.{case_of}
+use Rattle.tfpg_clause.specs.Trees.{Judged, IsRefutation}
+use Rattle.tfpg_hyp.specs.Rounds.{IsRound, HasEvidence, steps_so_far}
+use Rattle.tfpg_hyp.specs.Views.{case_for}
+use Rattle.tfpg_hyp.proofs.FindingsOfRound.{HasFindingAt, evidence}
+use Rattle.tfpg_report.specs.declared.refused_line.RefusedLine.{RefusedLine}
+use Rattle.tfpg_report.specs.declared.refused_line.RefusedLine.TheVariants.{TooLong}
+use Rattle.tfpg_report.specs.Blocks.{Block, Loss, RoundBlock}
+use Rattle.tfpg_check.specs.Report.{Progress, IsBlockOf, AreBlocks, event_of_reply, event_of_line, rounds_of, progress_of}
+
+-- That a refutation leaves no trace is a law of facts, clauses and trees.
+abbrev LeavesNoTrace : Type 0
+LeavesNoTrace =
+    (graph : Tfpg) (earlier log : Logbook) (set reach : List ℕ) (steps : List Judged) → IsValid graph → IsLogOf graph log → IsOrdered log → IsReach graph set reach
+    → GoesOn earlier log → IsRefutation (case_of graph earlier reach) steps → Fits graph log set → ⊥
+
+-- ---- logs that go on
+
+-- a log goes on from itself
+GoesOn-refl : (log : Logbook) → GoesOn log log
+GoesOn-refl log = record { more = []; events = sym (append-nil log.events); ignored = refl }
+
+-- what goes on from a log that goes on goes on from the first
+GoesOn-through : (one middle other : Logbook) → GoesOn one middle → GoesOn middle other → GoesOn one other
+GoesOn-through one middle other first second = record {
+  more = first.more ++ second.more;
+  events = second.events ∙ ap (λ (held : List Event). held ++ second.more) first.events ∙ append_assoc one.events first.more second.more;
+  ignored = second.ignored ∙ first.ignored;
+}
+
+-- so does what a reply makes of it
+GoesOn-reply : (log : Logbook) (reply : Offered) → GoesOn log (log_after_reply log reply)
+GoesOn-reply log (Accepted event) = record { more = event ∷ []; events = refl; ignored = refl }
+GoesOn-reply log (Refused refusal) = GoesOn-refl log
+
+module _ (graph : Tfpg) where
+  -- one line more
+  GoesOn-line : (log : Logbook) (line : List ℕ) → GoesOn log (log_after graph log line)
+  GoesOn-line log line =
+      cond_both (is_too_long line) log (log_after_reply log (reply_to graph log line)) (GoesOn log)
+      (λ _. GoesOn-refl log) (λ _. GoesOn-reply log (reply_to graph log line))
+
+  -- some lines more
+  GoesOn-lines : (log : Logbook) (lines : List (List ℕ)) → GoesOn log (fold (log_after graph) log lines)
+  GoesOn-lines log [] = GoesOn-refl log
+  GoesOn-lines log (line ∷ lines) =
+      GoesOn-through log (log_after graph log line) (fold (log_after graph) (log_after graph log line) lines)
+      (GoesOn-line log line) (GoesOn-lines (log_after graph log line) lines)
+
+  -- the log of all lines goes on from that of the first
+  GoesOn-first : (lines : List (List ℕ)) (count : ℕ) → GoesOn (log_of_lines graph (take count lines)) (log_of_lines graph lines)
+  GoesOn-first lines count =
+      subst (GoesOn (log_of_lines graph (take count lines)))
+      (sym (fold-append (log_after graph) new_log (take count lines) (drop count lines)) ∙ ap (log_of_lines graph) (take-append-drop count lines))
+      (GoesOn-lines (log_of_lines graph (take count lines)) (drop count lines))
+
+-- ---- the round of a line
+
+-- the log with a line that brings an event has that event
+log_by_event : (graph : Tfpg) (log : Logbook) (line : List ℕ) (event : Event) → event_of_line graph log line ≡ Ok event → log_after graph log line ≡ with_event log event
+log_by_event graph log line event is = by (is_too_long line) is
+  where
+    by_reply : (reply : Offered) → event_of_reply reply ≡ Ok event → log_after_reply log reply ≡ with_event log event
+    by_reply (Accepted other) same = let one : other ≡ event = cc in ap (with_event log) one
+    by_reply (Refused refusal) same = cc
+
+    by : (long : Bool) → cond long (Err TooLong) (event_of_reply (reply_to graph log line)) ≡ Ok event
+        → cond long log (log_after_reply log (reply_to graph log line)) ≡ with_event log event
+    by true same = cc
+    by false same = by_reply (reply_to graph log line) same
+
+-- the round in the block of a line is one of the log with the line
+round_of_block : (graph : Tfpg) (terms : Terms) (before : Progress) (number : ℕ) (line : List ℕ) (round : Round) (losses : List Loss) (found : Result Event RefusedLine)
+    → event_of_line graph before.log line ≡ found → IsBlockOf graph terms before number (RoundBlock round losses) found
+    → IsRound graph terms before.rounds (log_after graph before.log line) number round
+round_of_block graph terms before number line round losses (Err cause) same is = absurd cc
+round_of_block graph terms before number line round losses (Ok event) same is =
+    let own : is.0 ≡ round = (let both = is.2 in cc) in
+    subst (λ (log : Logbook). IsRound graph terms before.rounds log number round) (sym (log_by_event graph before.log line event same))
+    (subst (λ (other : Round). IsRound graph terms before.rounds (with_event before.log event) number other) own is.3)
+
+module _ (graph : Tfpg) (terms : Terms) (lines : List (List ℕ)) (blocks : List Block) (are : AreBlocks graph terms lines blocks)
+    (index : ℕ) (round : Round) (losses : List Loss) (at : slice_get blocks index ≡ Some (RoundBlock round losses)) where
+  abbrev Earlier : List Round
+  Earlier = flat_map rounds_of (take index blocks)
+
+  -- there is such a line
+  line_there : (line : List ℕ) × (slice_get lines index ≡ Some line)
+  line_there =
+      let one_each = are.one_each in
+      slice_get-there lines index (omega (arith, slice_get_within blocks index (RoundBlock round losses) at, one_each))
+
+  -- its round is one of the log so far
+  round_there : IsRound graph terms Earlier (log_of_lines graph (take (index + 1) lines)) (index + 1) round
+  round_there =
+      let line = line_there.0 in
+      let before = progress_of graph (take index lines) (take index blocks) in
+      subst (λ (log : Logbook). IsRound graph terms Earlier log (index + 1) round)
+      (sym (ap (log_of_lines graph) (take-next lines index line line_there.1) ∙ log_of_lines-push graph (take index lines) line))
+      (round_of_block graph terms before (index + 1) line round losses (event_of_line graph before.log line) refl
+      (are.each index line (RoundBlock round losses) line_there.1 at))
+
+  -- a set that fits the whole log is not rejected
+  module _ (leaves_none : LeavesNoTrace) (valid : IsValid graph) (set : List ℕ) (fits : Fits graph (log_of_lines graph lines) set) where
+    module _ (number : ℕ) (finding : Finding) (there : HasFindingAt round number finding) where
+      abbrev Reached : List ℕ
+      Reached = (evidence round_there number finding there).2.reach
+
+      -- no evidence of its is a refutation
+      not_rejected_by : IsReach graph set Reached → (status : Status)
+          → HasEvidence (case_for graph (log_of_lines graph (take (index + 1) lines)) (evidence round_there number finding there).0 Reached) terms.budget round.findings
+          (steps_so_far number (Earlier ++ round ∷ [])) finding status
+          → is_rejected status ≡ false
+      not_rejected_by reach_is Rejected refuted =
+          absurd
+          (leaves_none graph (log_of_lines graph (take (index + 1) lines)) (log_of_lines graph lines) set Reached (steps_so_far number (Earlier ++ round ∷ []))
+          valid (of-log_of_lines graph lines) (ordered-log_of_lines graph lines) reach_is (GoesOn-first graph lines (index + 1)) refuted fits)
+      not_rejected_by reach_is (Ranked trace cost alarmed monitored) ranked = refl
+      not_rejected_by reach_is (Covered other) covered = refl
+      not_rejected_by reach_is Open left = refl
+
+      not_rejected_at : hypothesis_of finding ≡ believing set → is_rejected finding.status ≡ false
+      not_rejected_at on_set =
+          let own = evidence round_there number finding there in
+          not_rejected_by
+          (subst (λ (members : List ℕ). IsReach graph members Reached) (ap (λ (hypothesis : Hypothesis). hypothesis.set) (sym own.2.hypothesis_is ∙ on_set)) own.2.reach_is)
+          finding.status own.2.evidence
+
+    pub not_rejected : (finding : Finding) → Contains round.findings finding → hypothesis_of finding ≡ believing set → is_rejected finding.status ≡ false
+    not_rejected finding member on_set =
+        not_rejected_at member.0 finding (slice_get-get_or round.findings member.0 finding member.1 ∙ ap Some member.2) on_set

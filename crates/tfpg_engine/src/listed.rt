@@ -1,0 +1,12 @@
+//! A hypothesis, as the table lists it.
+
+use tfpg_base::Set;
+use tfpg_graph::NodeSet;
+
+/// A set of failure modes, with its number and with what it reaches.
+#[derive(Clone, Copy)]
+pub(crate) struct Listed<'a> {
+    pub(crate) number: u32,
+    pub(crate) set: Set,
+    pub(crate) reach: &'a NodeSet,
+}
