@@ -16,4 +16,5 @@ pub mod Diagnosing
 pub mod FewHypotheses
 pub mod Truths
 pub mod NeverRejected
+pub mod StaysRejected
 pub mod Completing

@@ -77,7 +77,7 @@ module _ (graph : Tfpg) where
       (GoesOn-line log line) (GoesOn-lines (log_after graph log line) lines)
 
   -- the log of all lines goes on from that of the first
-  GoesOn-first : (lines : List (List ℕ)) (count : ℕ) → GoesOn (log_of_lines graph (take count lines)) (log_of_lines graph lines)
+  pub GoesOn-first : (lines : List (List ℕ)) (count : ℕ) → GoesOn (log_of_lines graph (take count lines)) (log_of_lines graph lines)
   GoesOn-first lines count =
       subst (GoesOn (log_of_lines graph (take count lines)))
       (sym (fold-append (log_after graph) new_log (take count lines) (drop count lines)) ∙ ap (log_of_lines graph) (take-append-drop count lines))
@@ -120,7 +120,7 @@ module _ (graph : Tfpg) (terms : Terms) (lines : List (List ℕ)) (blocks : List
       slice_get-there lines index (omega (arith, slice_get_within blocks index (RoundBlock round losses) at, one_each))
 
   -- its round is one of the log so far
-  round_there : IsRound graph terms Earlier (log_of_lines graph (take (index + 1) lines)) (index + 1) round
+  pub round_there : IsRound graph terms Earlier (log_of_lines graph (take (index + 1) lines)) (index + 1) round
   round_there =
       let line = line_there.0 in
       let before = progress_of graph (take index lines) (take index blocks) in

@@ -13,6 +13,7 @@ pub mod EndsOf
 pub mod Map
 pub mod MapText
 pub mod Simulating
+pub mod BlockFindings
 pub mod Completeness
 pub mod Diagnosed
 pub mod Summary

@@ -1,6 +1,6 @@
 //! What the definitions of maps and of reports come to, as functions that do nothing: each says its laws in its clauses.
 
-ghost use Rattle.std.specs.Prelude.{◌≡◌, ℕ, List, All, Contains, Some, false, slice_get};
+ghost use Rattle.std.specs.Prelude.{◌≡◌, ◌<◌, ℕ, List, [], All, Contains, Some, false, slice_get};
 ghost use Rattle.tfpg_base.specs.declared.activation.Activation.{Activation};
 ghost use Rattle.tfpg_base.specs.declared.terms.Terms.{Terms};
 ghost use Rattle.tfpg_base.specs.Hypothesis.{believing};
@@ -9,6 +9,7 @@ ghost use Rattle.tfpg_base.specs.Trace.{IsRisingByNode};
 ghost use Rattle.tfpg_graph.specs.Graph.{Tfpg, IsSetOf};
 ghost use Rattle.tfpg_graph.specs.Valid.{IsValid};
 ghost use Rattle.tfpg_evidence.specs.declared.finding.Finding.{Finding};
+ghost use Rattle.tfpg_evidence.specs.declared.finding.Status.TheVariants.{Rejected};
 ghost use Rattle.tfpg_evidence.specs.declared.round.Round.{Round};
 ghost use Rattle.tfpg_evidence.specs.Findings.{hypothesis_of};
 ghost use Rattle.tfpg_evidence.specs.RoundOf.{is_rejected};
@@ -16,10 +17,14 @@ ghost use Rattle.tfpg_report.specs.Blocks.{Block, Loss, RoundBlock};
 ghost use Rattle.tfpg_check.specs.Report.{AreBlocks};
 ghost use Rattle.tfpg_sim.specs.declared.simulated.Simulated.{Simulated};
 ghost use Rattle.tfpg_sim.specs.Simulated.{IsSimulationOf};
+ghost use Rattle.tfpg.specs.BlockFindings.{HasFindingInBlock};
 ghost use Rattle.tfpg.specs.Map.{IsActivationOf, SpellsMap};
 ghost use Rattle.tfpg.specs.MapText.{map_text};
 
-use tfpg_clause::laws::a_refutation_leaves_no_trace;
+use tfpg_clause::laws::{
+    a_refutation_is_finished, a_refutation_leaves_no_trace, a_tree_stays,
+    the_front_of_a_tree_is_a_partial_tree,
+};
 use tfpg_sim::laws::a_simulated_log_is_accepted_and_explained;
 
 /// Lines spell at most one map of a valid graph. So a verdict on a map that they spell is the verdict on theirs.
@@ -48,4 +53,22 @@ pub fn a_simulated_set_is_rejected_in_no_round()
 {
     a_refutation_leaves_no_trace();
     a_simulated_log_is_accepted_and_explained();
+}
+
+/// In the blocks of a diagnosis what one round rejects has no step in a later round, and is rejected there.
+pub fn a_rejected_set_stays_rejected()
+    ensures rejected { (graph : Tfpg) (terms : Terms) (lines : List (List ℕ)) (blocks : List Block) →
+        AreBlocks graph terms lines blocks → (earlier later : ℕ) → earlier < later →
+        (number : ℕ) (first second : Finding) →
+        HasFindingInBlock blocks earlier number first → HasFindingInBlock blocks later number second →
+        first.status ≡ Rejected → second.status ≡ Rejected }
+    ensures no_steps { (graph : Tfpg) (terms : Terms) (lines : List (List ℕ)) (blocks : List Block) →
+        AreBlocks graph terms lines blocks → (earlier later : ℕ) → earlier < later →
+        (number : ℕ) (first second : Finding) →
+        HasFindingInBlock blocks earlier number first → HasFindingInBlock blocks later number second →
+        first.status ≡ Rejected → second.steps ≡ [] }
+{
+    a_refutation_is_finished();
+    the_front_of_a_tree_is_a_partial_tree();
+    a_tree_stays();
 }

@@ -1,7 +1,8 @@
 //! The program: a diagnoser for timed failure propagation graphs.
 //!
 //! [`run::run`] is the top call, over any shelf of files, input and output. `main` calls it on the real ones. [`laws`] says
-//! that lines spell at most one map, that the text of a map spells it, and that a simulated set is rejected in no round.
+//! that lines spell at most one map, that the text of a map spells it, that a simulated set is rejected in no round, and that a
+//! rejected set stays rejected.
 //!
 //! ```text
 //! ./tfpg diagnose examples/pump.tfpg < examples/pump.log

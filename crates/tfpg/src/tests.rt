@@ -5,6 +5,7 @@ ghost use Rattle.std.specs.Prelude.{◌<◌};
 mod diagnosing;
 mod explaining;
 mod generating;
+mod limits;
 mod satellite;
 mod simulating;
 
