@@ -6,7 +6,8 @@
 Without `--from` it begins with the clauses of all public functions and traits and with the values of public models, with
 `--from run` with those of the functions of that name, and with `--of IsReport` with the definition of that name. Each word of a
 clause or of a definition is looked up where the `use` line of its file says, and from there on. With `--names` each
-definition is printed. It goes by names and knows no types, so it is a guide and no proof.
+definition is printed. What a relation of representation is made of in `specs/inside/` is left out, since no promise reads it. It
+goes by names and knows no types, so it is a guide and no proof.
 """
 import argparse
 import re
@@ -16,6 +17,8 @@ CRATES = Path(__file__).resolve().parent.parent / "crates"
 WORD = re.compile(r"[A-Za-z_][\w'-]*")
 USE = re.compile(r"\buse Rattle\.(\w+)\.specs\.([\w.]+)\.\{([^}]*)\}")
 DEFINITION = re.compile(r"^(?: {2})?(?:abbrev (?:pub )?|pub (?:abbrev |record |data )?|record |data )([A-Za-z]\S*)(?= [:({]|$)")
+# What a type is seen as, and what ties that to its history: what these are made of in `specs/inside/` needs no belief.
+REPRESENTS = re.compile(r"Represents|State$")
 NO_DEFINITION = re.compile(r"^ *(?:pub )?(?:use|mod|module|abbrev mutual)\b")
 
 
@@ -62,7 +65,9 @@ def clauses_of(text, wanted):
             head = rest[: end.start()] if end else rest
             yield from re.findall(r"(?:requires|ensures)[^{]*\{(.*?)\}\s*(?=requires|ensures|$)", head, re.S)
     if wanted is None:
-        yield from re.findall(r"^\s*ghost Value = \{(.*?)\};", text, re.M | re.S)
+        for name, body in re.findall(r"^impl\b[^\n]*\bModel for (\w+)(.*?)^\}", text, re.M | re.S):
+            if re.search(rf"^pub (?:struct|enum) {name}\b", text, re.M):
+                yield from re.findall(r"^\s*ghost Value = \{(.*?)\};", body, re.M | re.S)
         for trait in re.findall(r"^pub trait .*?^\}", text, re.M | re.S):
             yield from re.findall(r"ghost [^;]*;", trait)
 
@@ -79,19 +84,24 @@ def read_definitions():
     return found, imports
 
 
+def is_inside(place):
+    """Whether a definition stands in `specs/inside/`."""
+    return "inside" in place[1].split(".")
+
+
 def reached_from(function, definition, found, imports):
     """The places of the definitions that the clauses reach, or else that this definition does, itself among them."""
     reached, waiting = set(), []
 
-    def look_up(text, names, crate=None, module=None):
+    def look_up(text, names, crate=None, module=None, inside=True):
         for word in set(WORD.findall(text)):
             for place in (names.get(word), (crate, module, word)):
-                if place in found and place not in reached:
+                if place in found and place not in reached and (inside or not is_inside(place)):
                     reached.add(place)
                     waiting.append(place)
 
     if definition is not None:
-        waiting = [place for place in found if place[2] == definition and "inside" not in place[1].split(".")]
+        waiting = [place for place in found if place[2] == definition and not is_inside(place)]
         reached.update(waiting)
     else:
         for file in sorted(CRATES.glob("*/src/**/*.rt")):
@@ -100,7 +110,7 @@ def reached_from(function, definition, found, imports):
                 look_up(clause, imported(text))
     while waiting:
         crate, module, name = waiting.pop()
-        look_up("\n".join(found[crate, module, name].lines), imports[crate, module], crate, module)
+        look_up("\n".join(found[crate, module, name].lines), imports[crate, module], crate, module, inside=not REPRESENTS.search(name))
     return reached
 
 
@@ -122,7 +132,7 @@ def main():
         print(f"{crate + '/specs/' + module.replace('.', '/'):<56} {len(definitions):>4} definitions {size:>5} lines  {names}".rstrip())
     size = sum(len(found[place].lines) for place in reached)
     print(f"{len(reached)} definitions, {size} lines")
-    inside = [f"{crate}.{module}.{name}" for crate, module, name in sorted(reached) if "inside" in module.split(".")]
+    inside = [".".join(place) for place in sorted(reached) if is_inside(place)]
     if inside:
         print("reached in inside/:", " ".join(inside))
 

@@ -1,8 +1,7 @@
 //! The program: a diagnoser for timed failure propagation graphs.
 //!
-//! [`run::run`] is the top call, over any shelf of files, input and output. `main` calls it on the real ones. [`laws`] says
-//! that lines spell at most one map, that the text of a map spells it, that a simulated set is rejected in no round, and that a
-//! rejected set stays rejected.
+//! `main` calls [`tfpg_run::run`] on the words of the command line, over the files of the system, standard input and standard
+//! output. It writes the line of the end to standard error, and exits with its code.
 //!
 //! ```text
 //! ./tfpg diagnose examples/pump.tfpg < examples/pump.log
@@ -11,31 +10,11 @@
 
 ghost use Rattle.std.specs.Prelude.{◌≡◌, ◌<◌};
 
-mod course;
-mod diagnosis;
-mod end;
-mod fault;
-mod fetching;
-mod generating;
-mod judging;
-pub mod laws;
-mod limits;
-mod line_blocks;
-mod map;
-mod map_lines;
-mod map_reading;
-mod map_text;
-mod output;
 mod real;
-mod run;
-mod simulating;
-mod summary;
 #[cfg(test)]
 mod tests;
-mod verdict_line;
 mod words;
 
-use end::End;
 use real::{FileShelf, StandardInput, StandardOutput};
 use std::alloc::Global;
 use std::io::{ErrorKind, Write};
@@ -44,6 +23,7 @@ use std::process::ExitCode;
 use std::sync::ledger::{Blank, Ledger};
 use std::{env, io};
 use tfpg_base::{NoMemory, Shelf, Sink, Source, Steps};
+use tfpg_run::{End, run};
 use tfpg_words::UsageCause;
 use words::words_after_name;
 
@@ -111,7 +91,7 @@ fn run_counted<F: Shelf, S: Source, K: Sink, L: Ledger>(
     requires some { 0 < blank.parts }
 {
     let mut work = Steps::<L>::new(blank);
-    run::run(alloc, words, shelf, input, out, &mut work)
+    run(alloc, words, shelf, input, out, &mut work)
 }
 
 /// Writes the line of the end to standard error, where it has one. Where that fails, nothing more can be said.

@@ -60,6 +60,11 @@ last_part-after (line ∷ given) rest h =
 pub lines_of-after : (given : List (List ℕ)) (rest : List ℕ) → All HasNoLineEnd given → lines_of (flat_map with_line_end given ++ rest) ≡ given ++ lines_of rest
 lines_of-after given rest h = rw (whole_lines-after given rest h, last_part-after given rest h) (append_assoc given (whole_lines rest) (line_of_part (last_part rest)))
 
+-- lines with their line ends are these lines
+pub lines_again : (lines : List (List ℕ)) → All HasNoLineEnd lines → lines_of (flat_map with_line_end lines) ≡ lines
+lines_again lines clean_lines =
+    ap lines_of (sym (append-nil (flat_map with_line_end lines))) ∙ lines_of-after lines [] clean_lines ∙ append-nil lines
+
 -- bytes without a line end are the last part
 pub last_part-none : (bytes : List ℕ) → HasNoLineEnd bytes → last_part bytes ≡ bytes
 last_part-none bytes h = rw (slice_split_none ends_line bytes h) refl

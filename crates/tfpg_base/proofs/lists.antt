@@ -22,6 +22,7 @@ pub mod Valued
 pub mod LookedUp
 pub mod Choices
 pub mod Scans
+pub mod Groups
 -- Bytes and numbers.
 pub mod SameBytes
 pub mod Digits

@@ -7,6 +7,7 @@ pub mod TextLine
 pub mod Append
 pub mod Set
 pub mod SetBits
+pub mod Terms
 pub mod Hypothesis
 pub mod NodeSet
 pub mod Trace

@@ -18,6 +18,18 @@ pub const LONGEST_NAME: usize = 32;
 /// How many members a set of failure modes has at most: their positions are below this.
 pub const MAX_MEMBERS: u32 = 64;
 
+/// The greatest `k` of a diagnosis: a set of failure modes has no more members.
+pub const MAX_K: u64 = MAX_MEMBERS as u64;
+
+/// The greatest budget of a diagnosis.
+pub const MAX_BUDGET: u64 = 1_000_000_000_000;
+
+/// The greatest number of a line in a report: 2^63 - 1.
+pub const MAX_LINE_NUMBER: u64 = 9_223_372_036_854_775_807;
+
+/// The greatest number of a panel in a report.
+pub const MAX_PANEL_NUMBER: u64 = MAX_LINE_NUMBER;
+
 /// How many numbers a set of nodes has at most: each is below this.
 pub const MAX_NODE_NUMBERS: u32 = 512;
 

@@ -78,6 +78,13 @@ impl Trace {
     {
         &self.items
     }
+
+    /// Does nothing: brings into a proof that the activations stand by rising nodes.
+    pub fn is_always_rising(&self)
+        ensures { IsRisingByNode self.now }
+    {
+        let _opened = &self.items;
+    }
 }
 
 /// Where the node stands, or where it would.

@@ -1,1 +1,4 @@
 pub mod Progressing
+pub mod SameStatuses
+pub mod RoundsOfReports
+pub mod EqualSayings

@@ -4,3 +4,4 @@ pub use Rattle.tfpg_log.specs.Log
 pub use Rattle.tfpg_graph.specs.Graph
 -- What the public contracts say.
 pub mod Report
+pub mod EqualReports

@@ -1,6 +1,8 @@
 -- The report of a graph and a list of lines.
-use Rattle.std.specs.Prelude.{◌≡◌, ℕ, ◌+◌, ◌<◌, List, [], ◌∷◌, ◌++◌, length, take, flat_map, AllPairs, if◌then◌else◌, Some, slice_get, Result, Ok, Err}
+use Rattle.std.specs.Prelude.{◌≡◌, ℕ, ◌+◌, ◌<◌, ◌≤◌, List, [], ◌∷◌, ◌++◌, length, take, flat_map, All, AllPairs, if◌then◌else◌, Some, slice_get, Result, Ok, Err}
 use Rattle.tfpg_base.specs.declared.terms.Terms.{Terms}
+use Rattle.tfpg_base.specs.declared.limits.TheConstants.{MAX_LINE_NUMBER, MAX_PANEL_NUMBER}
+use Rattle.tfpg_base.specs.Terms.{AreReportTerms}
 use Rattle.tfpg_graph.specs.Graph.{Tfpg}
 use Rattle.tfpg_log.specs.declared.event.Event.{Event}
 use Rattle.tfpg_log.specs.declared.event.Offered.{Offered}
@@ -10,7 +12,9 @@ use Rattle.tfpg_log.specs.Accepted.{reply_to}
 use Rattle.tfpg_log.specs.LogOfLines.{new_log, log_after, log_of_lines}
 use Rattle.tfpg_base.specs.Lines.{is_too_long}
 use Rattle.tfpg_evidence.specs.declared.round.Round.{Round}
+use Rattle.tfpg_hyp.specs.Hypotheses.{HasHypotheses}
 use Rattle.tfpg_hyp.specs.Rounds.{IsRound}
+use Rattle.tfpg_hyp.specs.declared.limits.TheConstants.{MAX_HYPOTHESES}
 use Rattle.tfpg_report.specs.declared.refused_line.RefusedLine.{RefusedLine}
 use Rattle.tfpg_report.specs.declared.refused_line.RefusedLine.TheVariants.{TooLong, Offer}
 use Rattle.tfpg_report.specs.Blocks.{head_text, Loss, Block, RefusedBlock, RoundBlock, block_text}
@@ -47,15 +51,18 @@ progress_after graph before line block =
 abbrev pub progress_of : Tfpg → List (List ℕ) → List Block → Progress
 progress_of graph lines blocks = record { rounds = flat_map rounds_of blocks; log = log_of_lines graph lines }
 
+-- The panels that are lost at a round stand by rising numbers, from 1 to the greatest.
+pub record AreLosses (losses : List Loss) : Type 0 where
+  pub numbers : All (λ loss. (1 ≤ loss.panel) × (loss.panel ≤ MAX_PANEL_NUMBER)) losses
+  pub rising : AllPairs (λ earlier later. earlier.panel < later.panel) losses
+
 -- What block a line has. A refused line has the block of its refusal. An accepted one has the block of some round that
--- meets the definition of a round for all events and all rounds so far; panels may be lost at it, in the order of their
--- numbers.
+-- meets the definition of a round for all events and all rounds so far; panels may be lost at it.
 abbrev pub IsBlockOf : Tfpg → Terms → Progress → ℕ → Block → Result Event RefusedLine → Type 0
 IsBlockOf graph terms before number block (Err cause) = block ≡ RefusedBlock number cause
 IsBlockOf graph terms before number block (Ok event) =
     (round : Round) × (losses : List Loss) × (block ≡ RoundBlock round losses)
-    × IsRound graph terms before.rounds (with_event before.log event) number round
-    × AllPairs (λ earlier later. earlier.panel < later.panel) losses
+    × IsRound graph terms before.rounds (with_event before.log event) number round × AreLosses losses
 
 -- This is the block of a line of this number, after what the report has come to.
 abbrev pub IsBlock : Tfpg → Terms → Progress → ℕ → List ℕ → Block → Type 0
@@ -74,8 +81,17 @@ pub record AreBlocks (graph : Tfpg) (terms : Terms) (lines : List (List ℕ))
 abbrev pub report_text : Tfpg → Terms → List Block → List ℕ
 report_text graph terms blocks = head_text terms ++ flat_map (block_text graph) blocks
 
--- The bytes are a report of the graph, on these terms and of these lines, with these blocks.
+-- There are reports of the graph on these terms: the terms are within their limits, and there are at most 4,096
+-- hypotheses.
+pub record HasReports (graph : Tfpg) (terms : Terms) : Type 0 where
+  pub within : AreReportTerms terms
+  pub few_hypotheses : (count : ℕ) → HasHypotheses graph terms count → count ≤ MAX_HYPOTHESES
+
+-- The bytes are a report of the graph, on these terms and of these lines, with these blocks. No number in it that stands
+-- for a line, a panel or a hypothesis, or that the terms give, is above its limit.
 pub record IsReport (graph : Tfpg) (terms : Terms) (lines : List (List ℕ)) (blocks : List Block)
     (bytes : List ℕ) : Type 0 where
+  pub has_reports : HasReports graph terms
+  pub few_lines : length lines ≤ MAX_LINE_NUMBER
   pub are_blocks : AreBlocks graph terms lines blocks
   pub text : bytes ≡ report_text graph terms blocks

@@ -3,7 +3,12 @@
 ghost use Rattle.std.specs.Prelude.{◌≡◌, ℕ, List, [], ◌∷◌, ◌++◌};
 ghost use Rattle.tfpg_graph.specs.Graph.{Tfpg};
 ghost use Rattle.tfpg_report.specs.Blocks.{Block};
+ghost use Rattle.tfpg_check.specs.EqualReports.{EqualReportsSayTheSame};
 ghost use Rattle.tfpg_check.specs.Report.{new_progress, progress_after, progress_of};
+
+use tfpg_hyp::laws::{
+    a_round_is_of_its_graph, rounds_say_which_sets_fit, subsets_stand_before_their_supersets,
+};
 
 /// A report goes on block by block: what it has come to after one more line and its block follows from what it had come to
 /// before.
@@ -14,3 +19,13 @@ pub fn a_report_goes_on_block_by_block()
         progress_of graph (lines ++ line ∷ []) (blocks ++ block ∷ [])
         ≡ progress_after graph (progress_of graph lines blocks) line block }
 {}
+
+/// Equal reports of one graph and one list of lines say the same: they are on the same terms, and for each line both refuse it for the
+/// same cause, or give each set the same status, and each ranked set the same trace.
+pub fn equal_reports_say_the_same()
+    ensures { EqualReportsSayTheSame }
+{
+    rounds_say_which_sets_fit();
+    a_round_is_of_its_graph();
+    subsets_stand_before_their_supersets();
+}

@@ -152,8 +152,8 @@ fn quiet_at(graph: &Graph, log: &Log, event: u32, node: u32) -> Option<u64>
     ensures value { result ≡ quiet_at graph.now log.now event node }
     ensures small { IfSome result (λ time. (time ≤ MAX_TIME) × (node < MAX_NODES)) }
 {
-    let _few = graph.node_count();
-    let _ordered = log.len();
+    graph.is_always_valid();
+    log.is_always_ordered();
     log.quiet_at(graph, event, node)
 }
 
@@ -163,8 +163,8 @@ fn find_event(graph: &Graph, log: &Log, number: u32) -> Option<Event>
     ensures value { result ≡ event_at log.now number }
     ensures small { IfSome result (IsSmallAlarm graph.now) }
 {
-    let _few = graph.node_count();
-    let _ordered = log.len();
+    graph.is_always_valid();
+    log.is_always_ordered();
     log.find_event(number)
 }
 
@@ -180,6 +180,6 @@ pub(crate) fn now(log: &Log) -> u64
     ensures now { result ≡ now_of log.now }
     ensures in_range { result ≤ MAX_TIME }
 {
-    let _ordered = log.len();
+    log.is_always_ordered();
     log.now()
 }

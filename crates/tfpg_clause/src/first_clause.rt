@@ -30,7 +30,7 @@ pub fn violated(graph: &Graph, log: &Log, times: &[u64]) -> Option<ClauseName>
         (IsFirstViolated graph.now log.now times.now) }
     ensures rules { (result ≡ None) ↔ KeepsRules graph.now log.now (cut (now_of log.now) times.now) }
 {
-    let _valid = graph.node_count();
+    graph.is_always_valid();
     first_violated(graph, log, times)
 }
 

@@ -18,7 +18,7 @@ pub(crate) fn window_over(site: &Site<'_>, edge: u32, known: Option<Window>) -> 
         ≡ window_over site.now.graph.now site.now.log.now site.now.span site.now.horizon edge }
     ensures small { IfSome result IsSmallWindow }
 {
-    let _ordered = site.log.len();
+    site.log.is_always_ordered();
     let instant = find_span(site)?.lo;
     match known {
         Some(window) if window.lo <= instant && instant <= window.hi => Some(window),

@@ -6,7 +6,8 @@
 //! - [`MAX_CONSTRAINTS`] says how many constraints an alternative has at most.
 //! - [`violated`] is the first clause with the horizon now that some times violate.
 //! - [`PathSplit`] is a split on the path to the present leaf of a partial tree. [`PathSplit::on_clause`] splits the leaf,
-//!   [`advance`] moves the path on once the leaf is closed, and [`stated`] and [`picked`] look up what a reason states there.
+//!   [`backtrack`] moves the path to the next leaf once this one is closed, and [`stated`] and [`picked`] look up what a
+//!   reason states there.
 //! - [`laws`] ties facts, clauses and refutations to the traces that explain a log, and says how trees grow.
 //!
 //! Its definitions, in `specs/`, say which constraints are facts of a log and a reach, which clauses every trace meets,
@@ -45,4 +46,4 @@ pub use clauses::{NotAClause, constraint, count};
 pub use facts::{NotAFact, fact};
 pub use first_clause::violated;
 pub use limits::MAX_CONSTRAINTS;
-pub use path::{PathSplit, advance, picked, stated};
+pub use path::{PathSplit, backtrack, picked, stated};

@@ -122,7 +122,7 @@ pub(crate) fn edge_of(graph: &Graph, edge: u32) -> Edge
     ensures value { slice_get graph.now.edges edge ≡ Some result }
     ensures small { IsSmallEdge result }
 {
-    let _few = graph.node_count();
+    graph.is_always_valid();
     graph.edge(edge)
 }
 
@@ -131,6 +131,6 @@ pub(crate) fn find_span(site: &Site<'_>) -> Option<Span>
     ensures value { result ≡ span_at site.now.log.now site.now.span site.now.horizon }
     ensures small { IfSome result IsSmallSpan }
 {
-    let _ordered = site.log.len();
+    site.log.is_always_ordered();
     site.log.span(site.span, site.horizon)
 }

@@ -142,7 +142,7 @@ pub(crate) fn find_window(site: &Site<'_>, edge: u32) -> Option<Window>
         (slice_get site.now.graph.now.edges edge) }
     ensures small { IfSome result IsSmallWindow }
 {
-    let _ordered = site.log.len();
+    site.log.is_always_ordered();
     site.log
         .window_of(site.graph, edge, site.span, site.horizon)
 }
@@ -154,6 +154,6 @@ pub(crate) fn find_joint(site: &Site<'_>, node: u32) -> Option<Window>
         ≡ joint_of site.now.graph.now site.now.log.now node site.now.span site.now.horizon }
     ensures small { IfSome result IsSmallWindow }
 {
-    let _ordered = site.log.len();
+    site.log.is_always_ordered();
     site.log.joint_of(site.graph, node, site.span, site.horizon)
 }

@@ -40,9 +40,10 @@ impl PathSplit {
     }
 }
 
-/// Moves the path to the next alternative of the deepest split that has one left, and returns whether there is one. Where
-/// none has, the tree is finished, and the path is empty. Takes no memory, and goes through the splits that it drops.
-pub fn advance(path: &mut Vec<PathSplit>) -> bool
+/// Backtracks from a closed leaf (chronological backtracking): moves the path to the next alternative of the deepest split
+/// that has one left, and returns whether there is one. Where none has, the tree is finished, and the path is empty. Takes
+/// no memory, and goes through the splits that it drops.
+pub fn backtrack(path: &mut Vec<PathSplit>) -> bool
     ensures moved { MatchBool result
         (next_leaf path.old.items ≡ Some path.new.items)
         ((next_leaf path.old.items ≡ None) × (path.new.items ≡ [])) }

@@ -1,6 +1,6 @@
 mod InsertedKeys
-mod Going
-mod Turning
-mod Rounding
-mod Eventing
+mod KeptStaysRight
+mod NewFindingIsRight
+mod FindingsMakeRound
+mod EventBringsRound
 mod Parts

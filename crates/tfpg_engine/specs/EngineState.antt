@@ -15,7 +15,7 @@ use Rattle.tfpg_hyp.specs.Views.{case_for}
 use Rattle.tfpg_hyp.specs.Rounds.{IsRound, HasNoneOpen, steps_so_far}
 use Rattle.tfpg_search.specs.Enough.{IsEnough}
 use Rattle.tfpg_search.specs.Live.{HasNoNameTwice}
-use Rattle.tfpg_search.specs.SearchState.{SearchRepresents}
+use Rattle.tfpg_search.specs.Represents.{SearchRepresents}
 use Rattle.tfpg_engine.specs.declared.slot.Slot.{Slot}
 use Rattle.tfpg_engine.specs.declared.slot.Slot.TheVariants.{Untouched, Searched, Rejected}
 use Rattle.tfpg_engine.specs.declared.told.Told.{Told}

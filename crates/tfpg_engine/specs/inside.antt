@@ -1,7 +1,7 @@
 -- What the code and its proofs need besides. No public clause reaches it.
 pub mod Slots
-pub mod Turns
+pub mod NewFindings
 pub mod RankedKeys
 pub mod StatusCounts
 pub mod TreeLaws
-pub mod Asking
+pub mod Inquiries

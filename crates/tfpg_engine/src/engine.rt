@@ -10,7 +10,7 @@ ghost use Rattle.tfpg_log.specs.LogOfLines.{new_log};
 ghost use Rattle.tfpg_log.specs.declared.refusal.Refusal.{Refusal};
 ghost use Rattle.tfpg_engine.specs.EngineState.{EngineRepresents, Brings};
 
-use crate::asked::Asked;
+use crate::inquiry::Inquiry;
 use crate::round;
 use crate::slot::Slot;
 use crate::told::{EventFault, Told};
@@ -102,15 +102,22 @@ impl Engine {
         match self.log.offer(&self.graph, text) {
             Ok(Offered::Refused(refusal)) => Ok(Told::Refused(refusal)),
             Ok(Offered::Accepted(_)) => {
-                let _ordered = self.log.len();
+                self.log.is_always_ordered();
                 tree_laws();
                 subsets_stand_before_their_supersets();
-                let asked = Asked {
+                let inquiry = Inquiry {
                     graph: &self.graph,
                     log: &self.log,
                     terms: self.terms,
                 };
-                match round::make(self.alloc, &asked, &self.table, line, &mut self.slots, work) {
+                match round::make(
+                    self.alloc,
+                    &inquiry,
+                    &self.table,
+                    line,
+                    &mut self.slots,
+                    work,
+                ) {
                     Ok(round) => Ok(Told::Round(round)),
                     Err(NoMemory) => {
                         self.ended = true;

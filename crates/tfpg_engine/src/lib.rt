@@ -13,18 +13,18 @@
 //! ```
 #![tactic(auto)]
 
-mod asked;
 mod counts;
 mod covering;
 mod engine;
+mod finding;
+mod findings;
+mod inquiry;
 mod listed;
 mod order;
 mod round;
 mod slot;
 mod told;
 mod tree_laws;
-mod turn;
-mod turns;
 
 pub use engine::Engine;
 pub use slot::Slot;

@@ -1,15 +1,15 @@
 //! The round of an accepted line.
 
 ghost use Rattle.std.specs.Prelude.{◌≡◌, length, IfOk};
-ghost use Rattle.tfpg_engine.specs.inside.Asking.{CanBeAsked, inquiry_of};
+ghost use Rattle.tfpg_engine.specs.inside.Inquiries.{IsInquiry, inquiry_of};
 ghost use Rattle.tfpg_engine.specs.inside.Slots.{AllCanGoOn};
-ghost use Rattle.tfpg_engine.specs.inside.Turns.{IsOfGraph, MakesRound};
+ghost use Rattle.tfpg_engine.specs.inside.NewFindings.{IsOfGraph, MakesRound};
 
-use crate::asked::Asked;
 use crate::counts::counts_of;
+use crate::findings::new_findings;
+use crate::inquiry::Inquiry;
 use crate::order::order;
 use crate::slot::Slot;
-use crate::turns::new_findings;
 use std::alloc::Global;
 use std::sync::ledger::Ledger;
 use tfpg_base::{NoMemory, Steps};
@@ -20,28 +20,28 @@ use tfpg_hyp::Table;
 /// and the engine ends.
 pub(crate) fn make<L: Ledger>(
     alloc: Global,
-    asked: &Asked<'_>,
+    inquiry: &Inquiry<'_>,
     table: &Table,
     line: u64,
     slots: &mut [Slot],
     work: &mut Steps<L>,
 ) -> Result<Round, NoMemory>
-    requires asked { CanBeAsked (inquiry_of asked.now) }
-    requires table { IsOfGraph asked.now.graph.now table.now }
+    requires inquiry { IsInquiry (inquiry_of inquiry.now) }
+    requires table { IsOfGraph inquiry.now.graph.now table.now }
     requires one_each { length slots.old ≡ length table.now.hypotheses }
-    requires go_on { AllCanGoOn asked.now.graph.now asked.now.log.now table.now slots.old }
-    ensures round { IfOk result (MakesRound (inquiry_of asked.now) table.now slots.old slots.new line) }
+    requires go_on { AllCanGoOn inquiry.now.graph.now inquiry.now.log.now table.now slots.old }
+    ensures round { IfOk result (MakesRound (inquiry_of inquiry.now) table.now slots.old slots.new line) }
     ensures one_each { length slots.new ≡ length slots.old }
 {
     // So many hypotheses that their numbers fit.
     let _few = table.len();
-    let findings = new_findings(alloc, asked, table, slots, work)?;
+    let findings = new_findings(alloc, inquiry, table, slots, work)?;
     let order = order(alloc, &findings)?;
     let counts = counts_of(&findings);
     Ok(Round {
-        number: asked.log.len(),
+        number: inquiry.log.len(),
         line,
-        now: asked.log.now(),
+        now: inquiry.log.now(),
         findings: Findings::from_vec(findings),
         order,
         counts,

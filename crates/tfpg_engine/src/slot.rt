@@ -5,10 +5,10 @@ ghost use Rattle.tfpg_log.specs.Log.{Logbook, first_events};
 ghost use Rattle.tfpg_base.specs.Hypothesis.{believing};
 ghost use Rattle.tfpg_clause.specs.Case.{case_of};
 ghost use Rattle.tfpg_clause.specs.Trees.{Judged};
-ghost use Rattle.tfpg_search.specs.SearchState.{SearchRepresents};
+ghost use Rattle.tfpg_search.specs.Represents.{SearchRepresents};
 ghost use Rattle.tfpg_engine.specs.EngineState.{SlotRepresents};
-ghost use Rattle.tfpg_engine.specs.inside.Asking.{IsRowOfGraph, row_of};
-ghost use Rattle.tfpg_engine.specs.inside.Turns.{is_rejected_slot, kept};
+ghost use Rattle.tfpg_engine.specs.inside.Inquiries.{IsRowOfGraph, row_of};
+ghost use Rattle.tfpg_engine.specs.inside.NewFindings.{is_rejected_slot, kept};
 
 use crate::listed::Listed;
 use std::alloc::Global;

@@ -1,5 +1,5 @@
 -- The text of a graph: what each line spells.
-use Rattle.std.specs.Prelude.{◌≡◌, ℕ, ◌-◌, ◌≤◌, ◌^◌, List, [], ◌∷◌, ◌++◌, length, map, filter, All, Bool, true, not, ◌==◌, if◌then◌else◌, Option, Some, None, slice_get, codes, decimal, option_map, filter_map, flat_map, ◌⊎◌, ◌≢◌, ◌<◌, AllPairs}
+use Rattle.std.specs.Prelude.{◌≡◌, ℕ, ◌-◌, ◌≤◌, ◌^◌, List, [], ◌∷◌, ◌++◌, length, map, filter, All, not, ◌==◌, if◌then◌else◌, Option, Some, None, slice_get, codes, decimal, option_map, filter_map, flat_map, ◌⊎◌, ◌≢◌, ◌<◌, AllPairs}
 use Rattle.std.specs.List.{range_with_len, AllZip}
 use Rattle.tfpg_base.specs.SetBits.{bits_of}
 use Rattle.tfpg_base.specs.Words.{joined_by_commas, line_of}

@@ -60,6 +60,15 @@ impl Graph {
         self.declared.node_count()
     }
 
+    /// Does nothing: brings into a proof that the graph is valid.
+    pub fn is_always_valid(&self)
+        ensures valid { IsValid self.now }
+        ensures few { length self.now.nodes ≤ MAX_NODES }
+        ensures order { HasZeroOrder self.now }
+    {
+        let _opened = &self.declared;
+    }
+
     /// How many edges it has: at most [`MAX_EDGES`](crate::MAX_EDGES).
     pub fn edge_count(&self) -> u32
         ensures { result ≡ length self.now.edges }

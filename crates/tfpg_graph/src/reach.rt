@@ -35,8 +35,7 @@ impl Graph {
     fn own_nodes(&self, set: Set) -> NodeSet
         ensures { AreReached self.now set result }
     {
-        // The count says that the graph is valid, and so the numbers of its nodes are below `MAX_NODES`.
-        let _count = self.node_count();
+        self.is_always_valid();
         let mut nodes = NodeSet::empty();
         for position in 0..self.failure_count() {
             if set.has(position) {

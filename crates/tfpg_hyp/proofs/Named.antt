@@ -12,7 +12,7 @@ use Rattle.tfpg_graph.specs.Graph.{Tfpg, sizes_of, is_kind_at, is_or, is_and, ed
 use Rattle.tfpg_graph.proofs.NodeAt.{kind_within}
 use Rattle.tfpg_log.specs.Log.{Logbook, IsLogOf, IsEventOf, first_events, quiet_at}
 use Rattle.tfpg_log.specs.Spans.{joint_of}
-use Rattle.tfpg_log.proofs.SilentNodes.{quiet_within}
+use Rattle.tfpg_log.proofs.events.SilentNodes.{quiet_within}
 use Rattle.tfpg_evidence.specs.declared.clause_name.ClauseName.{ClauseName}
 use Rattle.tfpg_evidence.specs.declared.clause_name.ClauseName.TheVariants.{OrMay, AndMay, OrMust, AndMust}
 use Rattle.tfpg_evidence.specs.declared.reason.Reason.{Reason}
@@ -21,7 +21,7 @@ use Rattle.tfpg_evidence.specs.declared.step.Step.{Step}
 use Rattle.tfpg_evidence.specs.declared.step.Step.TheVariants.{Split, Cycle, Again}
 use Rattle.tfpg_evidence.specs.RoundOf.{IsReasonOf, IsClauseOf, IsStepOf}
 use Rattle.tfpg_clause.specs.Clauses.{alternatives, and_may, or_must}
-use Rattle.tfpg_clause.proofs.RulesMet.{may_holds, must_holds}
+use Rattle.tfpg_clause.proofs.rules.RulesMet.{may_holds, must_holds}
 use Rattle.tfpg_clause.specs.Case.{Case}
 use Rattle.tfpg_clause.specs.Trees.{stated, IsRightStep}
 use Rattle.tfpg_clause.specs.declared.path.PathSplit.{PathSplit}

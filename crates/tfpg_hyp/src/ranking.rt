@@ -75,8 +75,8 @@ fn rarity(graph: &Graph, position: u32) -> u64
     ensures worth { result ≡ rarity_at graph.now position }
     ensures small { result ≤ MAX_RARITY }
 {
-    // The count says that the graph is valid, and so the node is one of its nodes and its rarity is within the limit.
-    let _count = graph.node_count();
+    // The graph is valid, and so the node is one of its nodes and its rarity is within the limit.
+    graph.is_always_valid();
     match graph.kind(graph.failure_node(position)) {
         Kind::Failure { rarity } => rarity,
         Kind::Or { lag: _ } => 0,

@@ -72,7 +72,7 @@ impl Table {
             (count : ℕ) → (result ≡ Err (TableFault.TooMany count)) ↔
             ((MAX_HYPOTHESES < count) × HasHypotheses graph.now terms count) }
     {
-        let _nodes = graph.node_count();
+        graph.is_always_valid();
         let count = count_sets(graph.failure_count(), k);
         if count > u128::from(MAX_HYPOTHESES) {
             return Err(TableFault::TooMany { count });
@@ -111,7 +111,7 @@ impl Table {
         requires { choices_below (length (failures graph.now)) (k + 1) ≤ MAX_HYPOTHESES }
         ensures { IfOk result (λ table. (terms : Terms) → terms.k ≡ k → IsTableOf graph.now terms table) }
     {
-        let _nodes = graph.node_count();
+        graph.is_always_valid();
         let sets = list_sets(alloc, graph.failure_count(), k)?;
         let reaches = reaches_of(alloc, graph, &sets)?;
         Ok(Table { sets, reaches })

@@ -20,6 +20,7 @@ use Rattle.tfpg_kernel.specs.inside.Chains.{new_chain, with_constraint, chain_of
 abbrev chain_from : Chain → List Constraint → Chain
 chain_from chain constraints = fold with_constraint chain constraints
 
+-- The chain of some constraints and one more is that of the ones before, with that one.
 pub chain_push : (constraints : List Constraint) (last : Constraint) → chain_of (constraints ++ last ∷ []) ≡ with_constraint (chain_of constraints) last
 chain_push constraints last = fold_push with_constraint new_chain constraints last
 

@@ -8,7 +8,7 @@ use Rattle.tfpg_clause.specs.Trees.{Judged, IsRefutation, IsPartial, IsPresentLe
 use Rattle.tfpg_clause.specs.Laws.{PresentLeavesAreAlone, RefutationsAreNotPartial, LastStepsOfRefutationsAreRight, LastStepsOfPartialTreesAreRight, RefutationsStay, PresentLeavesStay, PresentLeavesFollowSteps, LastLeavesEndInRefutations}
 use Rattle.tfpg_clause.specs.Paths.{judged_by, with_step, IsRightNext}
 use Rattle.tfpg_clause.specs.declared.path.PathSplit.{PathSplit}
-use Rattle.tfpg_clause.proofs.LeafSteps.{whole_case}
+use Rattle.tfpg_clause.proofs.trees.LeafSteps.{whole_case}
 use Rattle.tfpg_kernel.specs.declared.taken.Taken.{Taken}
 use Rattle.tfpg_kernel.specs.declared.taken.Taken.TheVariants.{Partial, Closed, Bad}
 use Rattle.tfpg_kernel.specs.declared.taken.BadStep.{BadStep}

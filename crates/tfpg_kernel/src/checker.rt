@@ -23,7 +23,7 @@ use std::alloc::Global;
 use std::marker::Model;
 use tfpg_base::NoMemory;
 use tfpg_clause::laws::{a_partial_tree_grows, a_refutation_leaves_no_trace};
-use tfpg_clause::{PathSplit, advance};
+use tfpg_clause::{PathSplit, backtrack};
 use tfpg_evidence::{ClauseName, Reason, Step};
 use tfpg_graph::{Graph, NodeSet};
 use tfpg_log::Log;
@@ -110,7 +110,7 @@ impl Checker {
         ensures reach { self.new.reach ≡ self.old.reach }
         ensures spare { self.old.spare ≤ self.new.spare + 1 }
     {
-        let _valid = graph.node_count();
+        graph.is_always_valid();
         // A law: what a closed tree is worth.
         a_refutation_leaves_no_trace();
         self.take_step(graph, log, step)
@@ -127,7 +127,7 @@ impl Checker {
         ensures reach { self.new.reach ≡ self.old.reach }
         ensures spare { self.old.spare ≤ self.new.spare + 1 }
     {
-        let _ordered = log.len();
+        log.is_always_ordered();
         moves_are_results();
         if self.closed {
             return Taken::Bad(BadStep::AfterClosed);
@@ -179,7 +179,7 @@ impl Checker {
         if let Err(bad) = check_cycle(graph, log, &self.reach, &self.path, reasons) {
             return Taken::Bad(bad);
         }
-        if advance(&mut self.path) {
+        if backtrack(&mut self.path) {
             Taken::Partial
         } else {
             self.closed = true;

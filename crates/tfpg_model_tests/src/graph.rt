@@ -1,9 +1,6 @@
-//! The public calls of `tfpg_graph`: texts that are read or refused, the limits, and what the look-ups, copies, written
-//! texts and reaches of graphs are.
+//! The public calls of `tfpg_graph`: the limits of a graph, and what the look-ups, copies, written texts and reaches of graphs are.
 
 mod fault;
 mod limits;
-mod long_lines;
 mod look_ups;
 mod reach;
-mod texts;

@@ -1,4 +1,5 @@
-//! Tests of the public calls of the crates that hold the model and its texts, and of `tfpg_diff`, with a file for each crate.
+//! Tests of what no command shows: public calls of the crates that hold the model and its texts, and of `tfpg_diff`. There is a
+//! file for each crate.
 //!
 //! A crate with tests is proved again together with them. So tests stand apart, and the crates that they call are proved
 //! once. Those of the crates of evidence stand in `tfpg_tests`: the two are proved side by side.

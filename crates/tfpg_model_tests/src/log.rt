@@ -1,5 +1,4 @@
-//! The public calls of `tfpg_log`: lines that are accepted or refused, the limits, and what the look-ups and copies of
-//! logs are.
+//! The public calls of `tfpg_log`: which event a line is, and what the look-ups and copies of logs are.
 
 ghost use Rattle.std.specs.Prelude.{◌≡◌, IfOk};
 ghost use Rattle.tfpg_log.specs.Log.{IsLogOf};
@@ -8,190 +7,13 @@ use std::alloc::Global;
 use std::process::Abort;
 use std::test::Fail;
 use tfpg_graph::{Graph, read};
-use tfpg_log::{
-    Event, Log, MAX_EVENTS, MAX_MODE_CHANGES, Offered, Refusal, Span, Window, append_event,
-};
+use tfpg_log::{Event, Log, Offered, Span, Window, append_event};
 
 /// A failure mode, two monitored discrepancies and a hidden one, in two modes.
 const GRAPH: &[u8] =
     b"tfpg 1\nmode N\nmode D\nfailure F 1\nor A watch 0\nor B hidden\nor C watch 7\nedge F A 1 3 *\nedge F B 2 inf *\nedge B C 9 9 *\nend\n";
 
-/// Lines, with their names, that a log refuses whose last event is an alarm of A at 10: one for each refusal alone, and for
-/// each two that hold of one line, of which the first decides.
-const REFUSED: [(&str, &str, Refusal); 42] = [
-    ("no word", "", Refusal::BadLine),
-    ("a time alone", "11", Refusal::BadLine),
-    ("two spaces", "11  tick", Refusal::BadLine),
-    ("a space in front", " 11 tick", Refusal::BadLine),
-    ("a space at the end", "11 tick ", Refusal::BadLine),
-    ("an alarm of no node", "11 alarm", Refusal::BadLine),
-    ("a word with a capital", "11 Alarm C", Refusal::BadLine),
-    (
-        "more words than any line has",
-        "1 2 3 4 5 6 7 8 9 10",
-        Refusal::BadLine,
-    ),
-    (
-        "a word too many, and no number",
-        "eleven tick C",
-        Refusal::BadLine,
-    ),
-    (
-        "a word too many, and a time too large",
-        "1000000000001 tick C",
-        Refusal::BadLine,
-    ),
-    (
-        "a word too many, and a time that falls",
-        "9 tick C",
-        Refusal::BadLine,
-    ),
-    (
-        "a word too many, and an unknown name",
-        "11 alarm X X",
-        Refusal::BadLine,
-    ),
-    (
-        "a word too many, and a failure mode",
-        "11 alarm F F",
-        Refusal::BadLine,
-    ),
-    (
-        "a word too many, and no mode",
-        "11 mode B B",
-        Refusal::BadLine,
-    ),
-    (
-        "a word too many, and a second alarm",
-        "11 alarm A A",
-        Refusal::BadLine,
-    ),
-    (
-        "a word too many, and a silence after the alarm",
-        "11 silent A A",
-        Refusal::BadLine,
-    ),
-    ("a zero in front", "011 tick", Refusal::BadNumber),
-    (
-        "a zero before a time too large",
-        "01000000000001 tick",
-        Refusal::BadNumber,
-    ),
-    (
-        "a zero before a time that falls",
-        "09 tick",
-        Refusal::BadNumber,
-    ),
-    (
-        "a time in letters, and an unknown name",
-        "eleven alarm X",
-        Refusal::BadNumber,
-    ),
-    (
-        "a time with a dot, and a failure mode",
-        "11. alarm F",
-        Refusal::BadNumber,
-    ),
-    (
-        "a time with a plus, and no mode",
-        "+11 mode B",
-        Refusal::BadNumber,
-    ),
-    (
-        "a time with a minus, and a second alarm",
-        "-11 alarm A",
-        Refusal::BadNumber,
-    ),
-    (
-        "a time of base 16, and a silence after the alarm",
-        "0x11 silent A",
-        Refusal::BadNumber,
-    ),
-    (
-        "a time one too large",
-        "1000000000001 tick",
-        Refusal::TimeTooLarge,
-    ),
-    (
-        "a time of 20 digits, and an unknown name",
-        "99999999999999999999 alarm X",
-        Refusal::TimeTooLarge,
-    ),
-    (
-        "a time too large, and a hidden node",
-        "1000000000001 silent B",
-        Refusal::TimeTooLarge,
-    ),
-    (
-        "a time too large, and no mode",
-        "1000000000001 mode B",
-        Refusal::TimeTooLarge,
-    ),
-    (
-        "a time too large, and a second alarm",
-        "1000000000001 alarm A",
-        Refusal::TimeTooLarge,
-    ),
-    (
-        "a time too large, and a silence after the alarm",
-        "1000000000001 silent A",
-        Refusal::TimeTooLarge,
-    ),
-    (
-        "a time that falls",
-        "9 tick",
-        Refusal::TimeBack { last: 10 },
-    ),
-    (
-        "a time that falls, and an unknown name",
-        "9 alarm X",
-        Refusal::TimeBack { last: 10 },
-    ),
-    (
-        "a time that falls, and a hidden node",
-        "9 silent B",
-        Refusal::TimeBack { last: 10 },
-    ),
-    (
-        "a time that falls, and no mode",
-        "9 mode B",
-        Refusal::TimeBack { last: 10 },
-    ),
-    (
-        "a time that falls, and a second alarm",
-        "9 alarm A",
-        Refusal::TimeBack { last: 10 },
-    ),
-    (
-        "a time that falls, and a silence after the alarm",
-        "9 silent A",
-        Refusal::TimeBack { last: 10 },
-    ),
-    ("an unknown name", "11 silent X", Refusal::UnknownName),
-    (
-        "an alarm of a failure mode",
-        "11 alarm F",
-        Refusal::NotMonitored,
-    ),
-    (
-        "a silence of a hidden node",
-        "11 silent B",
-        Refusal::NotMonitored,
-    ),
-    ("a node in place of a mode", "11 mode B", Refusal::NotAMode),
-    (
-        "a second alarm",
-        "11 alarm A",
-        Refusal::SecondAlarm { first: 10 },
-    ),
-    (
-        "a silence after the alarm",
-        "11 silent A",
-        Refusal::SilentAfterAlarm { first: 10 },
-    ),
-];
-
-/// Lines that it accepts.
+/// Lines that a log accepts whose last event is an alarm of A at 10.
 const ACCEPTED: [(&str, &str, Event); 5] = [
     (
         "a tick at the last time",
@@ -219,71 +41,6 @@ const ACCEPTED: [(&str, &str, Event); 5] = [
     ),
 ];
 
-/// Lines that a log refuses that takes no further change of mode, and whose last event is an alarm of A at 10.
-const REFUSED_WITH_ALL_MODES: [(&str, &str, Refusal); 6] = [
-    (
-        "a mode with a word too many",
-        "11 mode D D",
-        Refusal::BadLine,
-    ),
-    (
-        "a mode with a zero in front",
-        "011 mode D",
-        Refusal::BadNumber,
-    ),
-    (
-        "a mode at a time too large",
-        "1000000000001 mode D",
-        Refusal::TimeTooLarge,
-    ),
-    (
-        "a mode at a time that falls",
-        "9 mode D",
-        Refusal::TimeBack { last: 10 },
-    ),
-    (
-        "a node in place of a last mode",
-        "11 mode B",
-        Refusal::NotAMode,
-    ),
-    ("a change of mode too many", "11 mode D", Refusal::ModesFull),
-];
-
-/// Lines that a full log refuses with such an alarm, and as many changes of mode.
-const REFUSED_WHEN_FULL: [(&str, &str, Refusal); 11] = [
-    ("a word too many", "11 tick C", Refusal::BadLine),
-    ("a zero in front", "011 tick", Refusal::BadNumber),
-    (
-        "a time too large",
-        "1000000000001 tick",
-        Refusal::TimeTooLarge,
-    ),
-    (
-        "a time that falls",
-        "9 tick",
-        Refusal::TimeBack { last: 10 },
-    ),
-    ("an unknown name", "11 silent X", Refusal::UnknownName),
-    (
-        "an alarm of a failure mode",
-        "11 alarm F",
-        Refusal::NotMonitored,
-    ),
-    ("a node in place of a mode", "11 mode B", Refusal::NotAMode),
-    (
-        "a second alarm",
-        "11 alarm A",
-        Refusal::SecondAlarm { first: 10 },
-    ),
-    (
-        "a silence after the alarm",
-        "11 silent A",
-        Refusal::SilentAfterAlarm { first: 10 },
-    ),
-    ("a change of mode", "11 mode D", Refusal::LogFull),
-    ("a tick", "11 tick", Refusal::LogFull),
-];
-
 /// The log of the lines.
 pub(crate) fn log_of(alloc: Global, graph: &Graph, lines: &[&[u8]]) -> Result<Log, Fail>
     ensures { IfOk result (IsLogOf graph.now) }
@@ -295,34 +52,6 @@ pub(crate) fn log_of(alloc: Global, graph: &Graph, lines: &[&[u8]]) -> Result<Lo
     Ok(log)
 }
 
-/// Offers the line so many times.
-fn offer_often(log: &mut Log, graph: &Graph, line: &[u8], count: u32) -> Result<(), Fail>
-    requires { IsLogOf graph.now log.old }
-    ensures { IsLogOf graph.now log.new }
-{
-    for _turn in 0..count {
-        log.offer(graph, line)?;
-    }
-    Ok(())
-}
-
-/// Asserts that the log refuses the line of each row so.
-fn assert_refused(
-    rt: &impl Abort,
-    log: &mut Log,
-    graph: &Graph,
-    rows: &[(&'static str, &'static str, Refusal)],
-) -> Result<(), Fail>
-    requires { IsLogOf graph.now log.old }
-    ensures { IsLogOf graph.now log.new }
-{
-    for (row, line, refusal) in rows {
-        let offered = log.offer(graph, line.as_bytes())?;
-        assert_eq!(rt; offered, Offered::Refused(*refusal), "{row}");
-    }
-    Ok(())
-}
-
 /// What becomes of the line that is offered to a copy of the log.
 fn offered_to_copy(log: &Log, graph: &Graph, line: &[u8]) -> Result<Offered, Fail>
     requires { IsLogOf graph.now log.now }
@@ -332,36 +61,13 @@ fn offered_to_copy(log: &Log, graph: &Graph, line: &[u8]) -> Result<Offered, Fai
 }
 
 #[test]
-fn accepts_and_refuses_each_line(rt: HostRuntime) -> Result<(), Fail> {
+fn accepts_each_kind_of_line(rt: HostRuntime) -> Result<(), Fail> {
     let graph = read(rt.alloc(), GRAPH)?;
-    let mut log = log_of(rt.alloc(), &graph, &[b"10 alarm A"])?;
-    assert_refused(&rt, &mut log, &graph, &REFUSED)?;
-    assert_eq!(rt; log.len(), 1);
-    assert_eq!(rt; log.now(), 10);
+    let log = log_of(rt.alloc(), &graph, &[b"10 alarm A"])?;
     for (row, line, event) in &ACCEPTED {
         let offered = offered_to_copy(&log, &graph, line.as_bytes())?;
         assert_eq!(rt; offered, Offered::Accepted(*event), "{row}");
     }
-    Ok(())
-}
-
-#[test]
-fn takes_no_more_than_its_limits(rt: HostRuntime) -> Result<(), Fail> {
-    let graph = read(rt.alloc(), GRAPH)?;
-    let mut log = Log::new(rt.alloc());
-    offer_often(&mut log, &graph, b"0 mode D", MAX_MODE_CHANGES)?;
-    offer_often(&mut log, &graph, b"10 alarm A", 1)?;
-    assert_eq!(rt; log.len(), MAX_MODE_CHANGES + 1);
-    assert_refused(&rt, &mut log, &graph, &REFUSED_WITH_ALL_MODES)?;
-    offer_often(
-        &mut log,
-        &graph,
-        b"10 tick",
-        MAX_EVENTS - MAX_MODE_CHANGES - 1,
-    )?;
-    assert_eq!(rt; log.len(), MAX_EVENTS);
-    assert_refused(&rt, &mut log, &graph, &REFUSED_WHEN_FULL)?;
-    assert_eq!(rt; log.len(), MAX_EVENTS);
     Ok(())
 }
 

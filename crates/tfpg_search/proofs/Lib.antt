@@ -1,32 +1,14 @@
--- The tags of the system of a leaf.
-mod Tagging
-mod Stating
-mod Conflicts
-mod Calls
-mod Fresh
+-- The reasons of the system of a leaf.
+pub mod stated_system
 -- The facts of a log.
-mod StatedBounds
-mod FactsAdded
--- Trees: steps that lead on, and what they come to for all steps before.
-mod PathAfter
-mod Names
-mod Lifted
-mod Growing
+pub mod facts
+-- Steps that lead on, and what they come to for all steps before.
+pub mod steps
 -- The picks of a path, and what moves do to the system.
-mod Picking
-mod Standing
-mod Closed
-mod Latest
-mod Carried
-mod Moving
+pub mod leaves
 -- Calls of a search.
-mod CutTimes
-mod Loading
-mod Rounds
-pub mod Beginning
+pub mod calls
 -- The budget that is always enough.
-mod Measure
-mod Horizons
-mod Enough
-mod AllNames
-mod MaximumIncoming
+pub mod budget
+-- The one latest solution at a leaf, and the clause that it violates first.
+pub mod solutions

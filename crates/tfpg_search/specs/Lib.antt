@@ -4,10 +4,11 @@ pub use Rattle.tfpg_log.specs.Explains
 -- What the public contracts say.
 pub mod Solutions
 pub mod Live
-pub mod Leaf
-pub mod Picks
 pub mod Enough
 pub mod SearchState
+pub mod Represents
 pub mod Searched
--- What the code and its proofs need besides. No public clause reaches it.
+pub mod Laws
+-- What the code and its proofs need besides. No public clause reaches it, but through what a search keeps and what ties that to
+-- its steps, which need no belief.
 pub mod inside

@@ -12,7 +12,8 @@ use Rattle.tfpg_clause.specs.Paths.{with_steps}
 use Rattle.tfpg_search.specs.declared.found.Found.{Found}
 use Rattle.tfpg_search.specs.declared.found.Found.TheVariants.{Shown, Closed, Spent}
 use Rattle.tfpg_search.specs.Live.{IsLive, IsUnsettled, IsSimpleAfter, HasNoNameTwice}
-use Rattle.tfpg_search.specs.SearchState.{SearchState, SearchRepresents, case_of_search}
+use Rattle.tfpg_search.specs.SearchState.{SearchState, case_of_search}
+use Rattle.tfpg_search.specs.Represents.{SearchRepresents}
 
 -- After these steps a split is live, in a cycle no left side stands twice, and no subtree is reused.
 abbrev pub IsSearchStep : Case → List Judged → Step → Type 0

@@ -10,8 +10,7 @@ ghost use Rattle.tfpg_clause.specs.Case.{case_of};
 ghost use Rattle.tfpg_clause.specs.Facts.{fact};
 ghost use Rattle.tfpg_diff.specs.Solution.{IsSolution};
 ghost use Rattle.tfpg_diff.specs.SystemState.{with_floor, with_ceiling};
-ghost use Rattle.tfpg_search.specs.Leaf.{pick_reasons, IsStated};
-ghost use Rattle.tfpg_search.specs.inside.Closing.{Closes};
+ghost use Rattle.tfpg_search.specs.inside.LeafCalls.{AddsFact, AddsFacts};
 
 use crate::add_fault::AddFault;
 use crate::clause_laws::clause_laws;
@@ -34,18 +33,8 @@ impl LeafSystem {
     ) -> Result<(), AddFault>
         requires of { IsLogOf graph.now log.now }
         requires nodes { length self.old.demands.bounds ≡ length graph.now.nodes }
-        ensures facts { OnOk result ((reason : Reason) (constraint : Constraint) →
-            fact (case_of graph.now log.now reach.now) reason ≡ Some constraint →
-            (times : List ℕ) → IsSolution self.new.demands times → Meets times constraint) }
+        ensures adds { AddsFacts (fact (case_of graph.now log.now reach.now)) self.old self.new result }
         ensures picks { self.new.demands.picks ≡ self.old.demands.picks }
-        ensures reasons { pick_reasons self.new ≡ pick_reasons self.old }
-        ensures nodes { length self.new.demands.bounds ≡ length self.old.demands.bounds }
-        ensures stated { (stated : Reason → Option Constraint) →
-            IsStated (fact (case_of graph.now log.now reach.now)) stated self.old →
-            IsStated (fact (case_of graph.now log.now reach.now)) stated self.new }
-        ensures closes { (stated : Reason → Option Constraint) →
-            IsStated (fact (case_of graph.now log.now reach.now)) stated self.old →
-            IfErr result (Closes stated) }
         ensures steps { work.new ≤ work.old + 2 * length graph.now.nodes }
     {
         clause_laws();
@@ -65,13 +54,7 @@ impl LeafSystem {
     ) -> Result<(), AddFault>
         requires { node < length self.old.demands.bounds }
         ensures ok { OnOk result (self.new.demands ≡ with_floor self.old.demands node low.time node) }
-        ensures err { OnErr result (self.new ≡ self.old) }
-        ensures nodes { length self.new.demands.bounds ≡ length self.old.demands.bounds }
-        ensures reasons { pick_reasons self.new ≡ pick_reasons self.old }
-        ensures stated { (fact stated : Reason → Option Constraint) → IsStated fact stated self.old →
-            fact low.reason ≡ Some (at_least node low.time) → IsStated fact stated self.new }
-        ensures closes { (fact stated : Reason → Option Constraint) → IsStated fact stated self.old →
-            fact low.reason ≡ Some (at_least node low.time) → IfErr result (Closes stated) }
+        ensures adds { AddsFact low.reason (at_least node low.time) self.old self.new result }
         ensures steps { work.new ≤ work.old + 1 }
     {
         if low.time <= self.bounds(node).floor {
@@ -90,13 +73,7 @@ impl LeafSystem {
         requires { node < length self.old.demands.bounds }
         ensures ok { OnOk result (self.new.demands ≡
             with_ceiling self.old.demands node high.time (length self.old.demands.bounds + node)) }
-        ensures err { OnErr result (self.new ≡ self.old) }
-        ensures nodes { length self.new.demands.bounds ≡ length self.old.demands.bounds }
-        ensures reasons { pick_reasons self.new ≡ pick_reasons self.old }
-        ensures stated { (fact stated : Reason → Option Constraint) → IsStated fact stated self.old →
-            fact high.reason ≡ Some (at_most node (pos high.time)) → IsStated fact stated self.new }
-        ensures closes { (fact stated : Reason → Option Constraint) → IsStated fact stated self.old →
-            fact high.reason ≡ Some (at_most node (pos high.time)) → IfErr result (Closes stated) }
+        ensures adds { AddsFact high.reason (at_most node (pos high.time)) self.old self.new result }
         ensures steps { work.new ≤ work.old + 1 }
     {
         if self.bounds(node).ceiling <= high.time {

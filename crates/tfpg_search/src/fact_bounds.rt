@@ -50,7 +50,7 @@ pub(crate) fn high(graph: &Graph, log: &Log, node: u32) -> Bound
         fact (case_of graph.now log.now reach) other ≡ Some (at_most node (pos bound)) → result.time ≤ bound }
     ensures in_range { result.time ≤ NEVER }
 {
-    let _ordered = log.len();
+    log.is_always_ordered();
     match log.alarm_event(node) {
         Some(event) => Bound {
             time: log.event(event).time(),
@@ -71,7 +71,7 @@ fn after_now(log: &Log, node: u32) -> Bound
         fact (case_of graph log.now reach) other ≡ Some (at_least node bound) → bound ≤ result.time }
     ensures in_range { result.time ≤ NEVER }
 {
-    let _ordered = log.len();
+    log.is_always_ordered();
     let now = log.now();
     Bound {
         time: now + 1,
@@ -88,7 +88,7 @@ fn after_alarm(graph: &Graph, log: &Log, node: u32) -> Bound
         time - lag_or_zero graph.now node ≤ result.time }
     ensures in_range { result.time ≤ NEVER }
 {
-    let _ordered = log.len();
+    log.is_always_ordered();
     match log.alarm_event(node) {
         Some(event) => {
             let lag = graph.lag_or_zero(node);
@@ -110,7 +110,7 @@ fn after_silence(graph: &Graph, log: &Log, node: u32) -> Bound
         time + 1 ≤ result.time }
     ensures in_range { result.time ≤ NEVER }
 {
-    let _ordered = log.len();
+    log.is_always_ordered();
     match log.last_quiet(graph, node) {
         Some(event) => Bound {
             time: log.event(event).time() + 1,

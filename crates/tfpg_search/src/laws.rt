@@ -5,10 +5,25 @@ ghost use Rattle.tfpg_graph.specs.Graph.{Tfpg};
 ghost use Rattle.tfpg_log.specs.Log.{Logbook};
 ghost use Rattle.tfpg_evidence.specs.declared.clause_name.ClauseName.{ClauseName};
 ghost use Rattle.tfpg_search.specs.Enough.{AreNamesAt, IsMaximumIncoming};
+ghost use Rattle.tfpg_search.specs.Laws.{SolvedLeavesHaveALatestSolution, LatestSolutionsAreAlone, TreesAreUnsettledWhereTheLatestSolutionViolates};
 
 /// There is a budget that is always enough, for each graph and log: the clause names of a log can be listed, and some node has
 /// the greatest number of edges into it.
 pub fn there_is_a_budget_that_is_enough()
     ensures names { (graph : Tfpg) (log : Logbook) → (names : List ClauseName) × AreNamesAt graph log names }
     ensures incoming { (graph : Tfpg) → (maximum : ℕ) × IsMaximumIncoming graph maximum }
+{}
+
+/// Where times solve what holds at the leaf of a path, exactly one solution there is the latest: `there` says that there is one,
+/// and `only_one` that there is no other.
+pub fn a_solved_leaf_has_one_latest_solution()
+    ensures there { SolvedLeavesHaveALatestSolution }
+    ensures only_one { LatestSolutionsAreAlone }
+{}
+
+/// A tree is unsettled exactly where its present leaf has a latest solution and that violates some allowed clause with the
+/// horizon now. So it is settled where no times solve its present leaf, and where the latest solution there meets each of these
+/// clauses.
+pub fn a_tree_is_unsettled_where_its_latest_solution_violates()
+    ensures { TreesAreUnsettledWhereTheLatestSolutionViolates }
 {}

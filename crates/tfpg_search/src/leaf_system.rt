@@ -11,8 +11,9 @@ ghost use Rattle.tfpg_diff.specs.declared.bounds.Bounds.{Bounds};
 ghost use Rattle.tfpg_diff.specs.Demands.{Bounded};
 ghost use Rattle.tfpg_diff.specs.Solution.{IsLatest};
 ghost use Rattle.tfpg_diff.specs.SystemState.{with_floor, with_ceiling, with_pick, popped_to};
-ghost use Rattle.tfpg_search.specs.Leaf.{pick_reasons, IsStated};
-ghost use Rattle.tfpg_search.specs.inside.Closing.{Closes, IsFaultOf};
+ghost use Rattle.tfpg_search.specs.inside.Leaf.{pick_reasons, IsStated};
+ghost use Rattle.tfpg_search.specs.inside.Closing.{IsFaultOf};
+ghost use Rattle.tfpg_search.specs.inside.LeafCalls.{AddsFact, AddsPick};
 ghost use Rattle.tfpg_search.specs.inside.Tags.{HasReason, reason_of};
 
 use crate::add_fault::AddFault;
@@ -37,7 +38,7 @@ pub(crate) struct LeafSystem {
 }
 
 impl Model for LeafSystem {
-    ghost use Rattle.tfpg_search.specs.Leaf.{Leaf};
+    ghost use Rattle.tfpg_search.specs.inside.Leaf.{Leaf};
     ghost use Rattle.tfpg_search.specs.inside.Tags.{IsTagged};
 
     ghost Value = { Leaf };
@@ -94,6 +95,13 @@ impl LeafSystem {
         self.system.pick_count() as usize
     }
 
+    /// Does nothing: brings into a proof that each pick has its reason.
+    pub(crate) fn has_a_reason_for_each_pick(&self)
+        ensures { length self.now.demands.picks ≡ length (pick_reasons self.now) }
+    {
+        let _count = self.pick_count();
+    }
+
     /// The node is active at that time at the earliest, which is tighter than its lower bound.
     pub(crate) fn raise<L: Ledger>(
         &mut self,
@@ -105,13 +113,7 @@ impl LeafSystem {
         requires node { node < length self.old.demands.bounds }
         requires tighter { (bounds : Bounds) → Bounded self.old.demands node bounds → bounds.floor < least }
         ensures ok { OnOk result (self.new.demands ≡ with_floor self.old.demands node least node) }
-        ensures err { OnErr result (self.new ≡ self.old) }
-        ensures nodes { length self.new.demands.bounds ≡ length self.old.demands.bounds }
-        ensures reasons { pick_reasons self.new ≡ pick_reasons self.old }
-        ensures stated { (fact stated : Reason → Option Constraint) → IsStated fact stated self.old →
-            fact reason ≡ Some (at_least node least) → IsStated fact stated self.new }
-        ensures closes { (fact stated : Reason → Option Constraint) → IsStated fact stated self.old →
-            fact reason ≡ Some (at_least node least) → IfErr result (Closes stated) }
+        ensures adds { AddsFact reason (at_least node least) self.old self.new result }
         ensures step { work.new ≡ work.old + 1 }
     {
         let index = node as usize;
@@ -136,13 +138,7 @@ impl LeafSystem {
         ensures ok { OnOk result
             (self.new.demands ≡ with_ceiling self.old.demands node ceiling
             (length self.old.demands.bounds + node)) }
-        ensures err { OnErr result (self.new ≡ self.old) }
-        ensures nodes { length self.new.demands.bounds ≡ length self.old.demands.bounds }
-        ensures reasons { pick_reasons self.new ≡ pick_reasons self.old }
-        ensures stated { (fact stated : Reason → Option Constraint) → IsStated fact stated self.old →
-            fact reason ≡ Some (at_most node (pos ceiling)) → IsStated fact stated self.new }
-        ensures closes { (fact stated : Reason → Option Constraint) → IsStated fact stated self.old →
-            fact reason ≡ Some (at_most node (pos ceiling)) → IfErr result (Closes stated) }
+        ensures adds { AddsFact reason (at_most node (pos ceiling)) self.old self.new result }
         ensures step { work.new ≡ work.old + 1 }
     {
         let tag = u64::from(self.system.variable_count()) + u64::from(node);
@@ -165,13 +161,7 @@ impl LeafSystem {
         requires right { constraint.right ≤ length self.old.demands.bounds }
         ensures ok { OnOk result (self.new.demands ≡ with_pick self.old.demands constraint
             (2 * length self.old.demands.bounds + length self.old.demands.picks)) }
-        ensures bounds { self.new.demands.bounds ≡ self.old.demands.bounds }
-        ensures reasons { OnOk result (pick_reasons self.new ≡ pick_reasons self.old ++ reason ∷ []) }
-        ensures err { OnErr result (self.new ≡ self.old) }
-        ensures stated { (fact stated : Reason → Option Constraint) → IsStated fact stated self.old →
-            stated reason ≡ Some constraint → IsStated fact stated self.new }
-        ensures closes { (fact stated : Reason → Option Constraint) → IsStated fact stated self.old →
-            stated reason ≡ Some constraint → IfErr result (Closes stated) }
+        ensures adds { AddsPick reason constraint self.old self.new result }
         ensures step { work.new ≤ work.old + 1 }
     {
         self.system.reserve(1)?;

@@ -4,7 +4,8 @@ ghost use Rattle.std.specs.Prelude.{◌≡◌, ◌≤◌, ◌<◌, [], All, IfOk
 ghost use Rattle.tfpg_graph.specs.Graph.{failures};
 ghost use Rattle.tfpg_graph.specs.Reach.{IsReach};
 ghost use Rattle.tfpg_log.specs.Log.{Logbook, IsLogOf, IsOrdered, first_events};
-ghost use Rattle.tfpg_search.specs.SearchState.{SearchRepresents, RepresentsSome, IsAtItsLeaf};
+ghost use Rattle.tfpg_search.specs.Represents.{SearchRepresents, RepresentsSome};
+ghost use Rattle.tfpg_search.specs.inside.AtItsLeaf.{IsAtItsLeaf};
 ghost use Rattle.tfpg_search.specs.Enough.{IsEnough};
 ghost use Rattle.tfpg_search.specs.Searched.{IsSearched, call_of};
 ghost use Rattle.tfpg_search.specs.inside.Moves.{KeepsSet, SearchesOn};

@@ -44,7 +44,7 @@ fn draw_delays(alloc: Global, graph: &Graph, state: &mut Lcg64Xsh32) -> Result<V
     ensures after { OnOk result (state.new ≡ after_edges state.old graph.now.edges) }
 {
     let mut delays = Vec::new(alloc);
-    let _valid = graph.node_count();
+    graph.is_always_valid();
     for number in 0..graph.edge_count() {
         delays.push(draw_delay(graph.edge(number), state))?;
     }

@@ -25,7 +25,7 @@ pub(crate) fn read_script(alloc: Global, graph: &Graph, text: &[u8]) -> Result<V
     ensures script { IfOk result (λ entries. IsScript graph.now entries.items) }
     ensures fault { IfErr result (IsSimFault graph.now text.now) }
 {
-    let _valid = graph.node_count();
+    graph.is_always_valid();
     if text.is_empty() {
         return Err(SimFault::BadScript { line: 1 });
     }

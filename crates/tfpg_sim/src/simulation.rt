@@ -37,7 +37,7 @@ pub fn simulate(
         Explains graph.now (log_of_lines graph.now (lines_of simulated.log)) simulated.set simulated.trace) }
     ensures fault { IfErr result (IsSimFault graph.now script.now) }
 {
-    let _few = graph.node_count();
+    graph.is_always_valid();
     let entries = read_script(alloc, graph, script)?;
     let draws = draw_all(alloc, graph, number)?;
     let trace = trace_of(alloc, graph, &entries, &draws.delays)?;

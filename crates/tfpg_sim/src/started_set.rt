@@ -42,6 +42,6 @@ fn position_of(graph: &Graph, node: u32) -> Option<u32>
     ensures position { result ≡ position_of_failure graph.now node }
     ensures small { IfSome result (λ position. position < MAX_MEMBERS) }
 {
-    let _few = graph.node_count();
+    graph.is_always_valid();
     graph.place_of(node)
 }

@@ -44,13 +44,13 @@ pub(crate) fn trace_of(
         delays,
     };
     let mut trace = started(alloc, entries)?;
-    let _few = graph.node_count();
+    graph.is_always_valid();
     let mut candidates = first_candidates(alloc, &delayed, &trace)?;
     while let Some((node, time)) = earliest(&candidates) {
         trace.set(node, time)?;
         candidates = candidates_after(alloc, &delayed, &trace, node, &candidates)?;
     }
-    let _rising = trace.as_slice();
+    trace.is_always_rising();
     Ok(trace)
 }
 

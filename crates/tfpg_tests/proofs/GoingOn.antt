@@ -5,13 +5,14 @@ use Rattle.std.proofs.lemmas.Bool.{false≢true}
 use Rattle.tfpg_graph.specs.Graph.{Tfpg}
 use Rattle.tfpg_log.specs.declared.event.Event.{Event}
 use Rattle.tfpg_log.specs.Log.{Logbook, first_events, with_event}
-use Rattle.tfpg_log.proofs.Events.{whole_log}
-use Rattle.tfpg_log.proofs.PastKept.{first_events_kept}
+use Rattle.tfpg_log.proofs.events.Events.{whole_log}
+use Rattle.tfpg_log.proofs.events.PastKept.{first_events_kept}
 use Rattle.tfpg_evidence.specs.declared.step.Step.{Step}
 use Rattle.tfpg_clause.specs.Trees.{Judged}
 use Rattle.tfpg_search.specs.declared.found.Found.{Found}
 use Rattle.tfpg_search.specs.declared.found.Found.TheVariants.{Shown, Closed, Spent}
-use Rattle.tfpg_search.specs.SearchState.{SearchState, SearchRepresents, RepresentsSome}
+use Rattle.tfpg_search.specs.SearchState.{SearchState}
+use Rattle.tfpg_search.specs.Represents.{SearchRepresents, RepresentsSome}
 use Rattle.tfpg_clause.specs.Paths.{with_steps}
 use Rattle.tfpg_search.specs.Searched.{IsSearched, call_of}
 

@@ -1,4 +1,4 @@
-//! Tests of the public calls of the crates of evidence, of the simulator and of the words. There is a file for each
+//! Tests of what no command shows: public calls of the crates of evidence and of the simulator. There is a file for each
 //! crate.
 //!
 //! A crate with tests is proved again together with them. So tests stand apart, and the crates that they call are proved
@@ -7,10 +7,6 @@
 
 #[cfg(test)]
 mod clause;
-#[cfg(test)]
-mod clause_path;
-#[cfg(test)]
-mod engine;
 #[cfg(test)]
 mod evidence;
 #[cfg(test)]
@@ -23,5 +19,3 @@ mod kernel;
 mod search;
 #[cfg(test)]
 mod sim;
-#[cfg(test)]
-mod words;

@@ -4,7 +4,7 @@
 ghost use Rattle.std.specs.Prelude.{◌≡◌, ◌⊎◌, ◌<◌, ◌≤◌, [], length, All, IsTrue, IfOk, IfSome};
 ghost use Rattle.tfpg_graph.specs.Graph.{failures};
 ghost use Rattle.tfpg_log.specs.Log.{IsLogOf, Logbook, first_events};
-ghost use Rattle.tfpg_search.specs.SearchState.{SearchRepresents, RepresentsSome};
+ghost use Rattle.tfpg_search.specs.Represents.{SearchRepresents, RepresentsSome};
 
 use crate::given::{ONE, TWO, accept};
 use std::alloc::Global;

@@ -10,8 +10,8 @@ use Rattle.tfpg_log.specs.declared.span.Window.{Window}
 use Rattle.tfpg_log.specs.Log.{Logbook, now_of}
 use Rattle.tfpg_log.specs.Rules.{HasAge}
 use Rattle.tfpg_log.specs.Spans.{span_number, window_of}
-use Rattle.tfpg_log.proofs.WindowInstants.{inside}
-use Rattle.tfpg_log.proofs.WindowAges.{exactly, at_least}
+use Rattle.tfpg_log.proofs.instants.WindowInstants.{inside}
+use Rattle.tfpg_log.proofs.ages.WindowAges.{exactly, at_least}
 
 module _ (log : Logbook) (trace : List Activation) (instant age : ℕ) (by_now : instant ≤ now_of log) (span : ℕ)
     (number : Some span ≡ cond (nat_le instant (now_of log)) (Some (span_number log instant)) None) where

@@ -10,8 +10,8 @@ use Rattle.tfpg_log.specs.declared.span.Span.{Span}
 use Rattle.tfpg_log.specs.Log.{Logbook, now_of, is_active_at}
 use Rattle.tfpg_log.specs.Rules.{IsDue}
 use Rattle.tfpg_log.specs.Spans.{span_number, span_at}
-use Rattle.tfpg_log.proofs.Ages.{age_since_start}
-use Rattle.tfpg_log.proofs.SpanRuns.{number_rises, lies_inside}
+use Rattle.tfpg_log.proofs.ages.Ages.{age_since_start}
+use Rattle.tfpg_log.proofs.instants.SpanRuns.{number_rises, lies_inside}
 use Rattle.tfpg_trace.specs.inside.Due.{Begins, IsDueBy}
 use Rattle.tfpg_trace.specs.inside.Gaps.{IsGap, after_gap}
 use Rattle.tfpg_trace.proofs.Beginnings.{carried}

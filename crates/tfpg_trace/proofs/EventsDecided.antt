@@ -15,20 +15,8 @@ use Rattle.tfpg_log.specs.Explains.{IsActivatedIn, ShowsAlarm, ShowsSilence, Sho
 use Rattle.tfpg_trace.specs.declared.verdict.Verdict.{Verdict}
 use Rattle.tfpg_trace.specs.declared.verdict.Verdict.TheVariants as verdict
 use Rattle.tfpg_trace.specs.inside.Shown.{IsNotShown}
-use Rattle.tfpg_base.proofs.lists.Decided.{IsDecided, first_below, both_decided, same_decided, test_decided, le_decided, some_decided}
+use Rattle.tfpg_base.proofs.lists.Decided.{IsDecided, first_below, not_decided, both_decided, same_decided, test_decided, le_decided, some_decided, each_decided}
 use Rattle.tfpg_trace.proofs.RulesDecided.{active_decided}
-
--- what is said of the value of an option is decided, where it is of each value
-each_decided : {A : Type 0} (P : A → Type 0) (found : Option A) → ((x : A) → IsDecided (P x)) → IsDecided ((x : A) → found ≡ Some x → P x)
-each_decided P None decided = inl (λ x e. absurd cc)
-each_decided P (Some here) decided = elim (decided here) [
-  | inl holds ↦ inl (λ x e. (let same : here ≡ x = cc in subst P same holds))
-  | inr fails ↦ inr (λ all. fails (all here refl))
-]
-
-not_decided : (P : Type 0) → IsDecided P → IsDecided (P → ⊥)
-not_decided P (inl holds) = inr (λ fails. fails holds)
-not_decided P (inr fails) = inl fails
 
 module _ (graph : Tfpg) (trace : List Activation) where
   -- ---- alarms

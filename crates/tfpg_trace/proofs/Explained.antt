@@ -1,5 +1,5 @@
 -- A trace without a fault explains the log from the set, and a trace with one does not.
-use Rattle.std.proofs.Common.{◌≡◌, ℕ, ◌<◌, ◌≤◌, ◌&&◌, nat_eq, List, length, take, All, Some, refl, subst, arith}
+use Rattle.std.proofs.Common.{◌≡◌, ℕ, ◌<◌, ◌≤◌, ◌&&◌, nat_eq, List, length, All, Some, refl, subst, arith}
 use Rattle.std.specs.Prelude.{IsTrue, is_none, is_some}
 use Rattle.std.proofs.lemmas.Bool.{eqb-true, and_parts, not-true}
 use Rattle.std.proofs.lemmas.List.Elements.{All-contains}

@@ -6,7 +6,7 @@ use Rattle.tfpg_graph.specs.Graph.{Tfpg}
 use Rattle.tfpg_log.specs.Log.{Logbook, now_of}
 use Rattle.tfpg_log.specs.Rules.{IsActive, KeepsMust}
 use Rattle.tfpg_log.specs.Spans.{span_number}
-use Rattle.tfpg_log.proofs.SpanRuns.{number_rises}
+use Rattle.tfpg_log.proofs.instants.SpanRuns.{number_rises}
 use Rattle.tfpg_trace.specs.Broken.{FirstBreaksMust}
 use Rattle.tfpg_trace.specs.inside.FirstFaultIn.{IsFirstMustFault}
 use Rattle.tfpg_trace.specs.inside.FirstFaultIn.{FirstBreaksIn, IsFirstFaultIn}

@@ -9,7 +9,7 @@ use Rattle.tfpg_graph.specs.Graph.{Tfpg, incoming, is_active_in}
 use Rattle.tfpg_log.specs.declared.span.Span.{Span}
 use Rattle.tfpg_log.specs.Log.{Logbook, now_of, is_active_at}
 use Rattle.tfpg_log.specs.Spans.{span_number, span_at}
-use Rattle.tfpg_log.proofs.SpanRuns.{number_rises, lies_inside}
+use Rattle.tfpg_log.proofs.instants.SpanRuns.{number_rises, lies_inside}
 use Rattle.tfpg_trace.specs.inside.Gaps.{IsGap, IsGapOf, AreGaps, gap_after}
 use Rattle.tfpg_trace.proofs.SpanOrder.{none_inside, numbered, in_mode, in_order}
 

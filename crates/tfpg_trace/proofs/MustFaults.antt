@@ -10,7 +10,7 @@ use Rattle.tfpg_log.specs.declared.span.Span.{Span}
 use Rattle.tfpg_log.specs.Log.{Logbook, now_of}
 use Rattle.tfpg_log.specs.Rules.{IsActive, KeepsMust}
 use Rattle.tfpg_log.specs.Spans.{span_at}
-use Rattle.tfpg_log.proofs.SpanRuns.{lies_inside}
+use Rattle.tfpg_log.proofs.instants.SpanRuns.{lies_inside}
 use Rattle.tfpg_trace.specs.inside.Due.{Begins, SomeDue, AllDue, MustBeActive}
 use Rattle.tfpg_trace.specs.inside.FirstFaultIn.{IsFirstFaultIn}
 use Rattle.tfpg_trace.proofs.Beginnings.{carried}

@@ -1,5 +1,5 @@
 -- A trace has at most one verdict.
-use Rattle.std.proofs.Common.{◌≡◌, ℕ, List, take, Some, sym, ap, subst, ◌∙◌}
+use Rattle.std.proofs.Common.{◌≡◌, ℕ, List, Some, sym, ap, subst, ◌∙◌}
 use Rattle.std.proofs.lemmas.Option.{same_Some}
 use Rattle.tfpg_base.proofs.lists.Sequences.{same_from_neither}
 use Rattle.tfpg_base.specs.declared.activation.Activation.{Activation}
@@ -8,7 +8,7 @@ use Rattle.tfpg_graph.specs.Graph.{Tfpg}
 use Rattle.tfpg_log.specs.declared.event.Event.TheVariants.{Alarm}
 use Rattle.tfpg_log.specs.Log.{Logbook, first_events, silence_time}
 use Rattle.tfpg_log.specs.Explains.{Shows, ShowsSilence}
-use Rattle.tfpg_log.proofs.SilenceTimes.{silence_time_is}
+use Rattle.tfpg_log.proofs.events.SilenceTimes.{silence_time_is}
 use Rattle.tfpg_trace.specs.declared.verdict.Verdict.{Verdict}
 use Rattle.tfpg_trace.specs.declared.verdict.Verdict.TheVariants as verdict
 use Rattle.tfpg_trace.specs.Broken.{BreaksMay, FirstBreaksMust}

@@ -3,7 +3,7 @@ use Rattle.std.proofs.Common.{◌≡◌, ℕ, ◌≤◌, Some, None, subst, arit
 use Rattle.tfpg_log.specs.declared.span.Span.{Span}
 use Rattle.tfpg_log.specs.Log.{Logbook, now_of, mode_at}
 use Rattle.tfpg_log.specs.Spans.{span_number, span_at}
-use Rattle.tfpg_log.proofs.SpanRuns.{is_span, has_span}
+use Rattle.tfpg_log.proofs.instants.SpanRuns.{is_span, has_span}
 
 module _ (log : Logbook) where
   module _ (number : ℕ) where

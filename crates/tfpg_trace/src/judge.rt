@@ -35,8 +35,7 @@ fn first_fault(graph: &Graph, log: &Log, set: Set, trace: &Trace) -> Verdict
     requires nodes { All (λ activation. activation.node < length graph.now.nodes) trace.now }
     ensures { IsVerdict graph.now log.now set trace.now result }
 {
-    // The activations come with what holds of each trace: they stand by rising nodes.
-    let _rising = trace.as_slice();
+    trace.is_always_rising();
     if let Some((node, time)) = first_late(graph, log, trace) {
         return Verdict::Late { node, time };
     }

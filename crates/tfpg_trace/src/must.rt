@@ -22,8 +22,8 @@ pub(crate) fn first_must_fault(graph: &Graph, log: &Log, trace: &Trace, node: u3
     requires { node < length graph.now.nodes }
     ensures { IsFirstMustFault graph.now log.now trace.now node result }
 {
-    // With the count comes that the graph is valid: there are gaps enough for the edges into any node.
-    let _nodes = graph.node_count();
+    // A valid graph has few edges into a node: there are gaps enough for them.
+    graph.is_always_valid();
     let last = log.span_of(last_to_try(log, trace, node))?;
     let mut gaps: [Option<u64>; MAX_INCOMING] = [None; MAX_INCOMING];
     for number in 0..=last {

@@ -3,8 +3,8 @@ use Rattle.std.specs.Prelude.{ℕ, ◌&&◌, Bool, List, [], ◌∷◌, Option, 
 use Rattle.std.specs.Prelude.{bytes_eq, codes, if◌then◌else◌, is_some, nat_le, find}
 use Rattle.tfpg_base.specs.declared.terms.Terms.{Terms}
 use Rattle.tfpg_base.specs.Words.{number_of}
-use Rattle.tfpg_base.specs.declared.limits.TheConstants.{MAX_CASE_SIZE}
-use Rattle.tfpg_words.specs.declared.limits.TheConstants.{MAX_K, MAX_BUDGET, MAX_DRAW, DEFAULT_K, DEFAULT_BUDGET, DEFAULT_DRAW, DEFAULT_SIZE}
+use Rattle.tfpg_base.specs.declared.limits.TheConstants.{MAX_K, MAX_BUDGET, MAX_CASE_SIZE}
+use Rattle.tfpg_words.specs.declared.limits.TheConstants.{MAX_DRAW, DEFAULT_K, DEFAULT_BUDGET, DEFAULT_DRAW, DEFAULT_SIZE}
 use Rattle.tfpg_words.specs.declared.usage_cause.UsageCause.{UsageCause}
 use Rattle.tfpg_words.specs.declared.usage_cause.UsageCause.TheVariants.{NoCommand, UnknownCommand, BadWords, BadNumber, OutOfRange, BadPanel}
 use Rattle.tfpg_words.specs.Words.{Form, Parts, Use, Word, parts_of_words}

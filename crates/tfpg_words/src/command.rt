@@ -6,8 +6,8 @@ use tfpg_base::Text;
 #[derive(Drop)]
 pub enum Command {
     /// `diagnose [--k N] [--budget N] GRAPH`: reports on a log, for the sets of at most `k` failure modes, with at most
-    /// `budget` splits for each set and round. `k` is at most [`MAX_K`](crate::MAX_K), [`DEFAULT_K`](crate::DEFAULT_K) by
-    /// default; `budget` is 1 to [`MAX_BUDGET`](crate::MAX_BUDGET), [`DEFAULT_BUDGET`](crate::DEFAULT_BUDGET) by default.
+    /// `budget` splits for each set and round. `k` is at most [`MAX_K`](tfpg_base::MAX_K), [`DEFAULT_K`](crate::DEFAULT_K) by
+    /// default; `budget` is 1 to [`MAX_BUDGET`](tfpg_base::MAX_BUDGET), [`DEFAULT_BUDGET`](crate::DEFAULT_BUDGET) by default.
     Diagnose {
         k: u32,
         budget: u64,

@@ -24,9 +24,7 @@ mod planning;
 mod usage_cause;
 
 pub use command::{Command, Planned};
-pub use limits::{
-    DEFAULT_BUDGET, DEFAULT_DRAW, DEFAULT_K, DEFAULT_SIZE, MAX_BUDGET, MAX_DRAW, MAX_K,
-};
+pub use limits::{DEFAULT_BUDGET, DEFAULT_DRAW, DEFAULT_K, DEFAULT_SIZE, MAX_DRAW};
 pub use plan_fault::PlanFault;
 pub use planning::plan;
 pub use usage_cause::UsageCause;

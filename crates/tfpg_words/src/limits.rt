@@ -1,13 +1,5 @@
 //! The limits of the numbers that the words give, and what the numbers are where the words give none.
 
-use tfpg_base::MAX_MEMBERS;
-
-/// The greatest `k`: a set of failure modes has no more members.
-pub const MAX_K: u64 = MAX_MEMBERS as u64;
-
-/// The greatest budget.
-pub const MAX_BUDGET: u64 = 1_000_000_000_000;
-
 /// The greatest number of a draw.
 pub const MAX_DRAW: u64 = 1_000_000_000_000;
 

@@ -11,15 +11,13 @@ ghost use Rattle.tfpg_words.specs.inside.Parts.{rows_in};
 
 use crate::command::{Command, Planned};
 use crate::form::Form;
-use crate::limits::{
-    DEFAULT_BUDGET, DEFAULT_DRAW, DEFAULT_K, DEFAULT_SIZE, MAX_BUDGET, MAX_DRAW, MAX_K,
-};
+use crate::limits::{DEFAULT_BUDGET, DEFAULT_DRAW, DEFAULT_K, DEFAULT_SIZE, MAX_DRAW};
 use crate::number::{NumberOption, both};
 use crate::parts::Parts;
 use crate::plan_fault::PlanFault;
 use crate::usage_cause::UsageCause;
 use std::alloc::Global;
-use tfpg_base::{MAX_CASE_SIZE, Text};
+use tfpg_base::{MAX_BUDGET, MAX_CASE_SIZE, MAX_K, Text};
 
 const K: NumberOption = NumberOption {
     name: "k",

@@ -2,15 +2,14 @@ ghost use Rattle.std.specs.Prelude.{◌≡◌, IfOk};
 
 use super::steady::{SteadyRead, SteadyWrite};
 use super::*;
-use crate::end::End;
 use crate::run_over;
-use crate::tests::words_of;
-use std::alloc::AllocError;
+use std::alloc::{AllocError, Global};
 use std::fs::File;
 use std::io::{Error, ErrorKind, PipeWriter, Read, Write};
 use std::test::Fail;
 use std::{fs, io};
 use tfpg_base::{Failed, Shelf, ShelfFault, Sink, Source};
+use tfpg_run::End;
 
 /// A file that opens and cannot be read, not even by root: the memory of this process, which has none at the address 0.
 const UNREADABLE_FILE: &str = "/proc/self/mem";
@@ -177,6 +176,15 @@ fn closed_pipe(rt: &HostRuntime) -> io::Result<PipeWriter> {
     Ok(writer)
 }
 
+/// The words as texts.
+fn words_of(alloc: Global, texts: &[&str]) -> Result<Vec<String>, AllocError> {
+    let mut words = Vec::new(alloc);
+    for text in texts {
+        words.push(String::from_str(alloc, text)?)?;
+    }
+    Ok(words)
+}
+
 /// How a run on the file of this name ends.
 fn run_on<S: Source, K: Sink>(
     rt: &HostRuntime,
@@ -184,7 +192,7 @@ fn run_on<S: Source, K: Sink>(
     input: &mut S,
     out: &mut K,
 ) -> Result<End, AllocError> {
-    let words = words_of(rt.alloc(), &["diagnose", name], &["--k", "0"])?;
+    let words = words_of(rt.alloc(), &["diagnose", "--k", "0", name])?;
     let mut shelf = FileShelf::new(rt);
     Ok(run_over(rt.alloc(), &words, &mut shelf, input, out))
 }

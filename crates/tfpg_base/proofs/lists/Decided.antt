@@ -1,4 +1,4 @@
--- What can be decided: of numbers below a limit, of the members of a list, and of what is made of two facts.
+-- What can be decided: of numbers below a limit, of the members of a list, and of what is made of other facts.
 use Rattle.std.proofs.Common.{◌≡◌, ℕ, zero, suc, ◌<◌, ◌≤◌, Bool, true, false, nat_eq, List, [], ◌∷◌, Option, Some, None, ◌⊎◌, inl, inr, refl, sym, subst, arith, below_more}
 use Rattle.std.specs.Prelude.{IsTrue, All, Contains}
 use Rattle.std.proofs.lemmas.Bool.{false≢true, cases_lt, eqb-true, eqb-false}
@@ -39,7 +39,12 @@ all_below P decided limit = elim (first_below (λ number. P number → ⊥) P (�
   | inr all ↦ inl all
 ]
 
--- ---- facts that are made of two
+-- ---- facts that are made of others
+
+-- whether a fact fails is decided where the fact is
+pub not_decided : (P : Type 0) → IsDecided P → IsDecided (P → ⊥)
+not_decided P (inl holds) = inr (λ fails. fails holds)
+not_decided P (inr fails) = inl fails
 
 -- whether both hold is decided where each is
 pub both_decided : (P Q : Type 0) → IsDecided P → IsDecided Q → IsDecided (P × Q)
@@ -78,6 +83,14 @@ some_decided P (Some number) decided = elim (decided number) [
   | inr fails ↦ inr (λ some. (let same : some.0 ≡ number = (let is = some.1 in cc) in fails (subst P same some.2)))
 ]
 
+-- what is said of the value of an option is decided, where it is of each value
+pub each_decided : {A : Type 0} (P : A → Type 0) (found : Option A) → ((x : A) → IsDecided (P x)) → IsDecided ((x : A) → found ≡ Some x → P x)
+each_decided P None decided = inl (λ x e. absurd cc)
+each_decided P (Some here) decided = elim (decided here) [
+  | inl holds ↦ inl (λ x e. (let same : here ≡ x = cc in subst P same holds))
+  | inr fails ↦ inr (λ all. fails (all here refl))
+]
+
 -- whether an option has a certain number is decided
 pub is_some_decided : (found : Option ℕ) (number : ℕ) → IsDecided (found ≡ Some number)
 is_some_decided None number = inr (λ e. absurd cc)
@@ -104,13 +117,6 @@ module _ {X : Type 0} (P : X → Type 0) (decided : (x : X) → IsDecided (P x))
   ]
 
 module _ {X : Type 0} (P : X → Type 0) (decided : (x : X) → IsDecided (P x)) where
-  -- whether a fact fails is decided where it is
-  fails_decided : (x : X) → IsDecided (P x → ⊥)
-  fails_decided x = elim (decided x) [
-    | inl holds ↦ inr (λ fails. fails holds)
-    | inr fails ↦ inl fails
-  ]
-
   -- a decided fact that cannot fail holds
   holds_where : (x : X) → ((P x → ⊥) → ⊥) → P x
   holds_where x never = elim (decided x) [
@@ -120,7 +126,7 @@ module _ {X : Type 0} (P : X → Type 0) (decided : (x : X) → IsDecided (P x))
 
   -- Whether all have it is decided too.
   pub all_members_decided : (xs : List X) → IsDecided (All P xs)
-  all_members_decided xs = elim (some_member_decided (λ x. P x → ⊥) fails_decided xs) [
+  all_members_decided xs = elim (some_member_decided (λ x. P x → ⊥) (λ x. not_decided (P x) (decided x)) xs) [
     | inl some ↦ inr (λ all. some.2 (All-contains P xs some.0 all some.1))
     | inr none ↦ inl (All-from_members P xs (λ x member. holds_where x (λ fails. none (x, member, fails))))
   ]

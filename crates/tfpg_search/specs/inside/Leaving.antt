@@ -10,8 +10,8 @@ use Rattle.tfpg_clause.specs.Case.{Case}
 use Rattle.tfpg_clause.specs.Trees.{stated}
 use Rattle.tfpg_clause.specs.declared.path.PathSplit.{PathSplit}
 use Rattle.tfpg_base.specs.Choice.{item_at}
-use Rattle.tfpg_search.specs.Leaf.{Leaf, IsStated, pick_reasons}
-use Rattle.tfpg_search.specs.Picks.{constraint_count}
+use Rattle.tfpg_search.specs.inside.Leaf.{Leaf, IsStated, pick_reasons}
+use Rattle.tfpg_search.specs.inside.Picks.{constraint_count}
 
 -- how many constraints were picked at the split of this number
 abbrev pub constraint_count_at : Tfpg → Logbook → List PathSplit → ℕ → ℕ

@@ -17,8 +17,9 @@ use Rattle.tfpg_base.specs.declared.no_memory.NoMemory.{NoMemory}
 use Rattle.tfpg_log.specs.Explains.{Explains}
 use Rattle.tfpg_diff.specs.Solution.{IsSolution}
 use Rattle.tfpg_search.specs.Live.{IsLiveAt, IsSimpleAt, HasNoNameTwice}
-use Rattle.tfpg_search.specs.Picks.{IsAllowed, AreInRange}
-use Rattle.tfpg_search.specs.SearchState.{SearchState, IsAtItsLeaf, HasEnteredAll, case_of_search}
+use Rattle.tfpg_search.specs.inside.Picks.{IsAllowed, AreInRange}
+use Rattle.tfpg_search.specs.SearchState.{SearchState, case_of_search}
+use Rattle.tfpg_search.specs.inside.AtItsLeaf.{IsAtItsLeaf, HasEnteredAll}
 use Rattle.tfpg_search.specs.Searched.{SearchCall}
 use Rattle.tfpg_search.specs.declared.found.Found.{Found}
 use Rattle.tfpg_search.specs.declared.found.Found.TheVariants.{Shown as FoundShown, Closed as FoundClosed, Spent}

@@ -5,9 +5,10 @@ ghost use Rattle.tfpg_evidence.specs.declared.reason.Reason.{Reason};
 ghost use Rattle.tfpg_evidence.specs.declared.reason.Reason.TheVariants.{Pick};
 ghost use Rattle.tfpg_clause.specs.Facts.{fact};
 ghost use Rattle.tfpg_clause.specs.Trees.{picked, stated};
-ghost use Rattle.tfpg_search.specs.Leaf.{pick_reasons, IsStated};
-ghost use Rattle.tfpg_search.specs.Picks.{picks_from};
-ghost use Rattle.tfpg_search.specs.SearchState.{IsAtItsLeaf, HasEnteredAll, case_of_search};
+ghost use Rattle.tfpg_search.specs.inside.Leaf.{pick_reasons, IsStated};
+ghost use Rattle.tfpg_search.specs.inside.Picks.{picks_from};
+ghost use Rattle.tfpg_search.specs.SearchState.{case_of_search};
+ghost use Rattle.tfpg_search.specs.inside.AtItsLeaf.{IsAtItsLeaf, HasEnteredAll};
 ghost use Rattle.tfpg_search.specs.inside.Closing.{Closes};
 ghost use Rattle.tfpg_search.specs.inside.Leaving.{constraint_count_at, Leaves, Pushing, PushesOne};
 ghost use Rattle.tfpg_search.specs.inside.Moves.{KeepsSet};
@@ -86,7 +87,7 @@ impl Search {
             (Closes (stated (case_of_search graph.now log.now self.old) self.old.path)) }
     {
         clause_laws();
-        let _valid = graph.node_count();
+        graph.is_always_valid();
         for before in 0..MAX_CONSTRAINTS {
             match self.push_one(graph, log, split, before + 1, work) {
                 Ok(true) => {}
@@ -120,7 +121,7 @@ impl Search {
             (Closes (stated (case_of_search graph.now log.now self.old) self.old.path)) }
     {
         clause_laws();
-        let _valid = graph.node_count();
+        graph.is_always_valid();
         let Some(constraint) = picked(graph, log, &self.path, split, number) else {
             return Ok(false);
         };
@@ -145,7 +146,7 @@ impl Search {
             ≡ record self.old { entered = take kept self.old.entered; leaf = self.new.leaf } }
         ensures leaf { Leaves (slice_get self.old.entered kept) self.old.leaf self.new.leaf }
     {
-        let _count = self.leaf.pick_count();
+        self.leaf.has_a_reason_for_each_pick();
         if kept < self.entered_count() {
             let before = self.entered[kept];
             self.leaf.pop_to(before);

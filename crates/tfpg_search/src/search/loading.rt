@@ -10,11 +10,13 @@ ghost use Rattle.tfpg_evidence.specs.declared.reason.Reason.{Reason};
 ghost use Rattle.tfpg_clause.specs.Facts.{fact};
 ghost use Rattle.tfpg_clause.specs.Trees.{stated};
 ghost use Rattle.tfpg_clause.specs.Paths.{next_leaf};
-ghost use Rattle.tfpg_search.specs.Leaf.{pick_reasons, IsStated};
-ghost use Rattle.tfpg_search.specs.SearchState.{IsAtItsLeaf, HasEnteredAll, case_of_search};
+ghost use Rattle.tfpg_search.specs.inside.Leaf.{pick_reasons, IsStated};
+ghost use Rattle.tfpg_search.specs.SearchState.{case_of_search};
+ghost use Rattle.tfpg_search.specs.inside.AtItsLeaf.{IsAtItsLeaf, HasEnteredAll};
 ghost use Rattle.tfpg_search.specs.Live.{IsLiveAt};
 ghost use Rattle.tfpg_search.specs.Searched.{call_of};
 ghost use Rattle.tfpg_search.specs.inside.Closing.{IsSimpleCycle, Closes};
+ghost use Rattle.tfpg_search.specs.inside.LeafCalls.{AddsFacts};
 ghost use Rattle.tfpg_search.specs.inside.Moves.{KeepsSet, IsLoaded, Closing, Loading, Sees, Looking, Splitting};
 
 use crate::add_fault::AddFault;
@@ -24,7 +26,7 @@ use crate::search::{Look, Search};
 use std::sync::ledger::Ledger;
 use tfpg_base::{NoMemory, Steps};
 use tfpg_clause::laws::numbers_that_meet_all_give_a_trace;
-use tfpg_clause::{PathSplit, advance, violated};
+use tfpg_clause::{PathSplit, backtrack, violated};
 use tfpg_evidence::{ClauseName, Reasons, Step, StepList};
 use tfpg_graph::Graph;
 use tfpg_log::Log;
@@ -62,11 +64,11 @@ impl Search {
         requires loaded { IsLoaded graph.now log.now self.now }
         ensures { IfOk result (Sees graph.now log.now self.now) }
     {
-        let _valid = graph.node_count();
-        let _ordered = log.len();
+        graph.is_always_valid();
+        log.is_always_ordered();
         clause_laws();
         numbers_that_meet_all_give_a_trace();
-        let _count = self.leaf.pick_count();
+        self.leaf.has_a_reason_for_each_pick();
         let times = self.leaf.solution();
         match violated(graph, log, times) {
             None => Ok(Look::Shown(cut(self.alloc, log.now(), times)?)),
@@ -131,17 +133,8 @@ impl Search {
         requires of { IsLogOf graph.now log.now }
         requires variables { length self.old.leaf.demands.bounds ≡ length graph.now.nodes }
         ensures same { self.new ≡ record self.old { leaf = self.new.leaf } }
-        ensures variables { length self.new.leaf.demands.bounds ≡ length self.old.leaf.demands.bounds }
-        ensures reasons { pick_reasons self.new.leaf ≡ pick_reasons self.old.leaf }
-        ensures stated { (stated : Reason → Option Constraint) →
-            IsStated (fact (case_of_search graph.now log.now self.old)) stated self.old.leaf →
-            IsStated (fact (case_of_search graph.now log.now self.old)) stated self.new.leaf }
-        ensures closes { (stated : Reason → Option Constraint) →
-            IsStated (fact (case_of_search graph.now log.now self.old)) stated self.old.leaf →
-            IfErr result (Closes stated) }
-        ensures facts { OnOk result ((reason : Reason) (constraint : Constraint) →
-            fact (case_of_search graph.now log.now self.old) reason ≡ Some constraint →
-            (times : List ℕ) → IsSolution self.new.leaf.demands times → Meets times constraint) }
+        ensures adds { AddsFacts (fact (case_of_search graph.now log.now self.old)) self.old.leaf self.new.leaf
+            result }
     {
         self.leaf.add_facts(graph, log, &self.reach, work)
     }
@@ -161,7 +154,7 @@ impl Search {
         ensures closing { Closing graph.now log.now (call_of self.old self.new steps.old steps.new) result }
     {
         steps.push(Step::Cycle(reasons))?;
-        if !self.advance() {
+        if !self.backtrack() {
             return Ok(false);
         }
         let kept = self.depth() - 1;
@@ -170,12 +163,12 @@ impl Search {
     }
 
     /// Moves the path to the next leaf. Returns whether there is one.
-    fn advance(&mut self) -> bool
+    fn backtrack(&mut self) -> bool
         ensures same { self.new ≡ record self.old { path = self.new.path } }
         ensures path { MatchBool result (next_leaf self.old.path ≡ Some self.new.path)
             ((next_leaf self.old.path ≡ None) × (self.new.path ≡ [])) }
     {
-        advance(&mut self.path)
+        backtrack(&mut self.path)
     }
 
     /// Splits the present leaf on a clause. Its first alternative is the present leaf then, and not yet entered.

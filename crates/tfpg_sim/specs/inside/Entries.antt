@@ -1,9 +1,8 @@
 -- What the code knows of the lines of a script, of draws and of events.
-use Rattle.std.specs.Prelude.{◌≡◌, ℕ, ◌≤◌, ◌<◌, List, length, take, All, IsTrue, true, Option, Some, IfSome, slice_get}
+use Rattle.std.specs.Prelude.{◌≡◌, ℕ, ◌≤◌, List, take, All, true, Option, Some, IfSome, slice_get}
 use Rattle.tfpg_base.specs.declared.limits.TheConstants.{MAX_TIME}
-use Rattle.tfpg_graph.specs.Graph.{Tfpg, is_kind_at, is_failure}
+use Rattle.tfpg_graph.specs.Graph.{Tfpg}
 use Rattle.tfpg_sim.specs.declared.entry.Entry.{Entry}
-use Rattle.tfpg_sim.specs.declared.entry.Entry.TheVariants.{Start, Mode, Sweep, Tick, Stop}
 use Rattle.tfpg_sim.specs.Script.{IsEntryOf}
 use Rattle.tfpg_sim.specs.inside.ScriptReading.{may_follow}
 

@@ -1,7 +1,7 @@
 use Rattle.std.proofs.Common.{Some, slice_get, IfSome, sym, subst}
 use Rattle.tfpg_clause.specs.inside.KnownWindows.{IsWindowOver}
-use Rattle.tfpg_clause.proofs.InRange.{small_window_if}
-use Rattle.tfpg_clause.proofs.KnownWindows.{window_again}
+use Rattle.tfpg_clause.proofs.logs.TimesInRange.{small_window_if}
+use Rattle.tfpg_clause.proofs.first_violated.WindowsKnown.{window_again}
 use Rattle.tfpg_clause.proofs.known_windows.window_over.Goals as goal
 
 pub returns-in-Some-clause-value : goal.returns-in-Some-clause-value
@@ -12,5 +12,5 @@ returns-in-Some-clause-value c =
 
 pub returns-in-Some-clause-small : goal.returns-in-Some-clause-small
 returns-in-Some-clause-small c =
-    small_window_if c.args.site.now.log.now (slice_get c.args.site.now.graph.now.edges c.args.edge) c.args.site.now.span c.args.site.now.horizon (Some c.in-Some.window) c.len-ordered.ensures.ordered
+    small_window_if c.args.site.now.log.now (slice_get c.args.site.now.graph.now.edges c.args.edge) c.args.site.now.span c.args.site.now.horizon (Some c.in-Some.window) c.is_always_ordered.ensures
     (returns-in-Some-clause-value c)

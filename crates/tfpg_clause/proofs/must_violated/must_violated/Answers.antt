@@ -2,9 +2,9 @@ use Rattle.std.proofs.Common.{◌≡◌, ap, sym, ◌∙◌, arith}
 use Rattle.tfpg_log.specs.Log.{now_of}
 use Rattle.tfpg_log.specs.Spans.{span_number}
 use Rattle.tfpg_clause.specs.inside.Musts.{musts_of}
-use Rattle.tfpg_clause.proofs.SpanNumbers.{numbered_so}
-use Rattle.tfpg_clause.proofs.MustSpans.{met_below}
-use Rattle.tfpg_clause.proofs.MustFamilies.{must_met_all}
+use Rattle.tfpg_clause.proofs.logs.SpanNumbers.{numbered_so}
+use Rattle.tfpg_clause.proofs.first_violated.MustSpans.{met_below}
+use Rattle.tfpg_clause.proofs.first_violated.MustsBySpan.{must_met_all}
 use Rattle.tfpg_clause.proofs.must_violated.must_violated.Goals as goal
 
 pub returns-then-until-last : goal.returns-then-until-last

@@ -1,5 +1,5 @@
 use Rattle.tfpg_base.specs.Hypothesis.{believing}
-use Rattle.tfpg_engine.proofs.Turning.{not_yet, none_at_all}
+use Rattle.tfpg_engine.proofs.NewFindingIsRight.{not_yet, none_at_all}
 use Rattle.tfpg_engine.proofs.covering.covering.Goals as goal
 
 pub loop-number-preserved : goal.loop-number-preserved

@@ -1,5 +1,5 @@
-use Rattle.tfpg_log.proofs.PastKept.{events_kept, alarms_kept, alarm_events_kept, silences_kept, now_kept, modes_kept, numbers_kept, spans_kept, windows_kept, joints_kept, ages_kept}
-use Rattle.tfpg_log.proofs.SilenceTimes.{last_never_falls}
+use Rattle.tfpg_log.proofs.events.PastKept.{events_kept, alarms_kept, alarm_events_kept, silences_kept, now_kept, modes_kept, numbers_kept, spans_kept, windows_kept, joints_kept, ages_kept}
+use Rattle.tfpg_log.proofs.events.SilenceTimes.{last_never_falls}
 use Rattle.tfpg_log.proofs.laws.a_log_that_goes_on_keeps_the_past.Goals as goal
 
 pub returns : goal.returns

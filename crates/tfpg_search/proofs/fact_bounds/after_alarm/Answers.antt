@@ -1,13 +1,12 @@
 -- The alarm says that the node became active at most its lag before.
 use Rattle.std.proofs.Common.{◌≡◌, ◌-◌, ℕ, Some, sym, ap, ◌∙◌, arith}
-use Rattle.std.specs.Prelude.{unwrap_or}
 use Rattle.tfpg_graph.specs.Graph.{lag_or_zero}
 use Rattle.tfpg_log.specs.Log.{time_of_event}
-use Rattle.tfpg_log.proofs.AlarmEvents.{alarm_event_within}
-use Rattle.tfpg_log.proofs.Order.{number_by_now}
+use Rattle.tfpg_log.proofs.events.AlarmEvents.{alarm_event_within}
+use Rattle.tfpg_log.proofs.events.Order.{number_by_now}
 use Rattle.tfpg_base.specs.Bounds.{at_least}
-use Rattle.tfpg_clause.proofs.InRange.{now_in_range}
-use Rattle.tfpg_search.proofs.StatedBounds.{from_stated}
+use Rattle.tfpg_clause.proofs.logs.TimesInRange.{now_in_range}
+use Rattle.tfpg_search.proofs.facts.StatedBounds.{from_stated}
 use Rattle.tfpg_search.proofs.fact_bounds.after_alarm.Goals as goal
 
 pub event-requires-clause-high : goal.event-requires-clause-high
@@ -26,6 +25,6 @@ returns-in-Some-clause-in_range c =
       arith,
       c.saturating_sub.ensures,
       c.time.ensures,
-      number_by_now c.args.log.now c.in-Some.event c.event.result c.len-ordered.ensures.ordered c.event.ensures,
-      now_in_range c.args.log.now c.len-ordered.ensures.ordered,
+      number_by_now c.args.log.now c.in-Some.event c.event.result c.is_always_ordered.ensures c.event.ensures,
+      now_in_range c.args.log.now c.is_always_ordered.ensures,
     )

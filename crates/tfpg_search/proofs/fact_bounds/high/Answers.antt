@@ -1,11 +1,11 @@
 -- The alarm says that the node was active by then.
 use Rattle.std.proofs.Common.{ℕ, Some, sym, ap, ◌∙◌, arith}
 use Rattle.std.specs.Prelude.{pos}
-use Rattle.tfpg_log.proofs.AlarmEvents.{alarm_event_within}
-use Rattle.tfpg_log.proofs.Order.{number_by_now}
+use Rattle.tfpg_log.proofs.events.AlarmEvents.{alarm_event_within}
+use Rattle.tfpg_log.proofs.events.Order.{number_by_now}
 use Rattle.tfpg_base.specs.Bounds.{at_most}
-use Rattle.tfpg_clause.proofs.InRange.{now_in_range}
-use Rattle.tfpg_search.proofs.StatedBounds.{upto_stated, high_of_event}
+use Rattle.tfpg_clause.proofs.logs.TimesInRange.{now_in_range}
+use Rattle.tfpg_search.proofs.facts.StatedBounds.{upto_stated, high_of_event}
 use Rattle.tfpg_search.proofs.fact_bounds.high.Goals as goal
 
 pub event-requires-clause-high : goal.event-requires-clause-high
@@ -22,7 +22,7 @@ returns-in-Some-clause-least c reach other bound is =
       arith,
       c.time.ensures,
       high_of_event c.args.log.now c.args.node c.in-Some.event c.event.result (sym c.in-Some.ensures.first) c.event.ensures
-          c.args.graph.now reach c.len-ordered.ensures.ordered c.in-Some.ensures.only other bound is,
+          c.args.graph.now reach c.is_always_ordered.ensures c.in-Some.ensures.only other bound is,
     )
 
 pub returns-in-Some-clause-in_range : goal.returns-in-Some-clause-in_range
@@ -30,6 +30,6 @@ returns-in-Some-clause-in_range c =
     omega (
       arith,
       c.time.ensures,
-      number_by_now c.args.log.now c.in-Some.event c.event.result c.len-ordered.ensures.ordered c.event.ensures,
-      now_in_range c.args.log.now c.len-ordered.ensures.ordered,
+      number_by_now c.args.log.now c.in-Some.event c.event.result c.is_always_ordered.ensures c.event.ensures,
+      now_in_range c.args.log.now c.is_always_ordered.ensures,
     )

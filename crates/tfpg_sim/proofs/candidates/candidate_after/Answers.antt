@@ -1,6 +1,6 @@
 use Rattle.std.proofs.Common.{◌≢◌, not, sym, ap, subst, ◌∙◌}
 use Rattle.tfpg_sim.specs.inside.Settling.{simulation_case, IsCandidate}
-use Rattle.tfpg_sim.proofs.SettledNodes.{keeps_candidate}
+use Rattle.tfpg_sim.proofs.simulations.SettledNodes.{keeps_candidate}
 use Rattle.tfpg_sim.proofs.candidates.candidate_after.Goals as goal
 use Rattle.tfpg_base.proofs.lists.Choices.{is_some-none}
 

@@ -2,7 +2,7 @@ use Rattle.std.proofs.Common.{All, length, subst, ◌++◌, ◌+◌, ◌%◌, �
 use Rattle.tfpg_graph.specs.Graph.{lag_of}
 use Rattle.tfpg_sim.specs.Draws.{drawn, after_lag}
 use Rattle.tfpg_sim.specs.inside.Entries.{IsLatenessInRange}
-use Rattle.tfpg_sim.proofs.DrawLists.{latenesses_from-more, after_nodes-more}
+use Rattle.tfpg_sim.proofs.simulations.DrawLists.{latenesses_from-more, after_nodes-more}
 use Rattle.tfpg_sim.proofs.draws.draw_latenesses.Goals as goal
 use Rattle.std.proofs.lemmas.List.{length_push}
 use Rattle.std.proofs.lemmas.List.Elements.{All-append, All-cons, All-nil}

@@ -8,7 +8,7 @@ use Rattle.tfpg_sim.specs.declared.entry.Entry.TheVariants.{Start}
 use Rattle.tfpg_sim.specs.Script.{time_of_entry}
 use Rattle.tfpg_sim.specs.Simulation.{script_log}
 use Rattle.tfpg_sim.specs.inside.ModeSpans.{AreSpans}
-use Rattle.tfpg_sim.proofs.SplitSpans.{IsSplit, split_next, split_last, split_past, small_more, small_after}
+use Rattle.tfpg_sim.proofs.flights.SplitSpans.{IsSplit, split_next, split_last, split_past, small_more, small_after}
 use Rattle.tfpg_sim.proofs.mode_spans.spans_of.Goals as goal
 use Rattle.tfpg_sim.proofs.mode_spans.spans_of.Goals.{then-current-stop+in_ok-push, else-current-stop}
 

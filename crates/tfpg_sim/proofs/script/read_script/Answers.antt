@@ -9,9 +9,9 @@ use Rattle.tfpg_sim.specs.Script.{has_stopped}
 use Rattle.tfpg_sim.specs.inside.ScriptReading.{next_entry}
 use Rattle.tfpg_sim.specs.inside.ScriptReading.{read_lines, with_next}
 use Rattle.tfpg_sim.specs.inside.Entries.{IsScript}
-use Rattle.tfpg_sim.proofs.SpelledScripts.{SpellsScript-read, IsScriptFault-read}
-use Rattle.tfpg_sim.proofs.ScriptLines.{script_push, script_none}
-use Rattle.tfpg_sim.proofs.ReadLines.{read_lines-push, script_of-empty, script_of-fault, script_of-stopped, script_of-missing}
+use Rattle.tfpg_sim.proofs.scripts.SpelledScripts.{SpellsScript-read, IsScriptFault-read}
+use Rattle.tfpg_sim.proofs.scripts.ScriptLines.{script_push, script_none}
+use Rattle.tfpg_sim.proofs.scripts.ReadLines.{read_lines-push, script_of-empty, script_of-fault, script_of-stopped, script_of-missing}
 use Rattle.tfpg_sim.proofs.script.read_script.Goals as goal
 use Rattle.tfpg_sim.proofs.script.read_script.Goals.{After-next, In-Some, In-None}
 
@@ -43,7 +43,7 @@ all_parts c =
 
 pub returns-then-is_empty-clause-fault : goal.returns-then-is_empty-clause-fault
 returns-then-is_empty-clause-fault c =
-    IsScriptFault-read c.args.graph.now c.node_count-valid.ensures.valid c.args.text.now 1
+    IsScriptFault-read c.args.graph.now c.is_always_valid.ensures.valid c.args.text.now 1
     (script_of-empty c.args.graph.now c.args.text.now
     (eqb-true (length c.args.text.now) 0 (sym c.is_empty.ensures ∙ c.if-is_empty.true)))
 
@@ -52,7 +52,7 @@ returns-in_default-clause-fault c =
     let at = goal.at.returns-in_default-clause-fault c in
     let none : next_entry c.args.graph.now c.loop-line.entries.items c.in-Some.line.now ≡ None =
     ap (λ before. next_entry c.args.graph.now before c.in-Some.line.now) (sym c.deref.ensures.value) ∙ sym c.next_entry.ensures ∙ c.in_default.is in
-    IsScriptFault-read c.args.graph.now c.node_count-valid.ensures.valid c.args.text.now (c.len.result + 1)
+    IsScriptFault-read c.args.graph.now c.is_always_valid.ensures.valid c.args.text.now (c.len.result + 1)
     (script_of-fault c.args.graph.now c.args.text.now c.without_last_line_end.result.now (map (λ line. line.now) c.loop-line.yielded)
     (drop (length c.loop-line.yielded + 1) (parts_of c.without_last_line_end.result.now)) c.in-Some.line.now c.loop-line.entries.items
     (same_lines at.After-next) (parts_round at.In-Some) c.loop-line.invariant.read none
@@ -62,7 +62,7 @@ pub returns-then-not-has_stopped-clause-fault : goal.returns-then-not-has_stoppe
 returns-then-not-has_stopped-clause-fault c =
     let at = goal.at.returns-then-not-has_stopped-clause-fault c in
     let stop : has_stopped c.loop-line.entries.items ≡ false = ap has_stopped (sym c.deref-2.ensures.value) ∙ sym c.has_stopped.ensures ∙ c.if-not-has_stopped.true in
-    IsScriptFault-read c.args.graph.now c.node_count-valid.ensures.valid c.args.text.now (c.len-then-not-has_stopped.result + 1)
+    IsScriptFault-read c.args.graph.now c.is_always_valid.ensures.valid c.args.text.now (c.len-then-not-has_stopped.result + 1)
     (script_of-missing c.args.graph.now c.args.text.now c.without_last_line_end.result.now (map (λ line. line.now) c.loop-line.yielded)
     c.loop-line.entries.items (same_lines at.After-next) (all_parts at.In-None) c.loop-line.invariant.read stop
     ∙ ap (λ n. Err (n + 1)) (ap length (sym c.deref-2.ensures.value) ∙ c.deref-2.ensures.len ∙ sym c.len-then-not-has_stopped.ensures))

@@ -3,12 +3,12 @@ use Rattle.tfpg_sim.specs.Script.{time_so_far}
 use Rattle.tfpg_sim.specs.Draws.{delays, latenesses}
 use Rattle.tfpg_sim.specs.Simulation.{IsSimulated}
 use Rattle.tfpg_sim.specs.SimulatedLog.{set_of, log_events, log_text}
-use Rattle.tfpg_sim.proofs.ExplainedLogs.{accepted, explained}
+use Rattle.tfpg_sim.proofs.logged.ExplainedLogs.{accepted, explained}
 use Rattle.tfpg_sim.proofs.simulation.simulate.Goals as goal
 
 pub log_events-requires-clause-few : goal.log_events-requires-clause-few
 log_events-requires-clause-few c =
-    let few = c.node_count-few.ensures.valid.so_far.few_nodes in
+    let few = c.is_always_valid.ensures.few in
     omega (arith, ap length c.deref-5.ensures.value, c.in_ok-draws.ensures.each_lateness)
 
 pub returns-clause-simulated : goal.returns-clause-simulated
@@ -30,7 +30,7 @@ returns-clause-simulated c =
     }
 
 pub returns-clause-accepted : goal.returns-clause-accepted
-returns-clause-accepted c = accepted c.args.graph.now c.args.script.now c.args.number _ c.node_count-few.ensures.valid (returns-clause-simulated c)
+returns-clause-accepted c = accepted c.args.graph.now c.args.script.now c.args.number _ c.is_always_valid.ensures.valid (returns-clause-simulated c)
 
 pub returns-clause-explained : goal.returns-clause-explained
-returns-clause-explained c = explained c.args.graph.now c.args.script.now c.args.number _ c.node_count-few.ensures.valid (returns-clause-simulated c)
+returns-clause-explained c = explained c.args.graph.now c.args.script.now c.args.number _ c.is_always_valid.ensures.valid (returns-clause-simulated c)

@@ -4,9 +4,9 @@ use Rattle.tfpg_sim.specs.Script.{time_of_entry}
 use Rattle.tfpg_sim.specs.Simulation.{script_log, start_of}
 use Rattle.tfpg_sim.specs.inside.Settling.{simulation_case, IsUnderWay, AreCandidates, IsEarliest, candidate_at, waiting_count}
 use Rattle.tfpg_sim.specs.inside.ModeSpans.{AreSpans}
-use Rattle.tfpg_sim.proofs.ScriptOrder.{in_order, all_by_last, small}
-use Rattle.tfpg_sim.proofs.SettledNodes.{is_absent}
-use Rattle.tfpg_sim.proofs.WholeRuns.{begins, goes_on, ends, times_after, waiting_less}
+use Rattle.tfpg_sim.proofs.scripts.ScriptOrder.{in_order, all_by_last, small}
+use Rattle.tfpg_sim.proofs.simulations.SettledNodes.{is_absent}
+use Rattle.tfpg_sim.proofs.simulations.WholeRuns.{begins, goes_on, ends, times_after, waiting_less}
 use Rattle.tfpg_sim.proofs.trace.trace_of.Goals as goal
 use Rattle.tfpg_sim.proofs.trace.trace_of.Goals.{In-Some}
 
@@ -81,7 +81,7 @@ pub returns-clause-simulated : goal.returns-clause-simulated
 returns-clause-simulated c =
     ends c.args.graph.now c.args.entries.now c.args.delays.now c.time_so_far-stop.result c.loop-node.trace c.loop-node.candidates.items c.loop-node.invariant
     (subst (λ candidates. (node : ℕ) → candidate_at candidates node ≡ None) c.deref-in-loop-node.ensures.value c.in_default.ensures)
-    c.as_slice-rising.ensures.rising c.time_so_far-stop.ensures
+    c.is_always_rising.ensures c.time_so_far-stop.ensures
 
 pub returns-clause-times : goal.returns-clause-times
 returns-clause-times c = λ k d within.

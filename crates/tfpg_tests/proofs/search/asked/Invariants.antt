@@ -1,5 +1,5 @@
 use Rattle.tfpg_log.specs.Log.{IsLogOf}
-use Rattle.tfpg_search.specs.SearchState.{RepresentsSome}
+use Rattle.tfpg_search.specs.Represents.{RepresentsSome}
 use Rattle.tfpg_tests.proofs.search.asked.Given as goal
 
 abbrev pub invariant-loop-line : goal.invariant-loop-line

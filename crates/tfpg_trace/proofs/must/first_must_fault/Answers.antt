@@ -7,7 +7,7 @@ use Rattle.tfpg_trace.proofs.must.first_must_fault.Goals as goal
 
 pub loop-number-init : goal.loop-number-init
 loop-number-init c =
-    let few : length (incoming c.args.graph.now c.args.node) ≤ MAX_INCOMING = c.node_count-nodes.ensures.valid.so_far.few_incoming c.args.node in
+    let few : length (incoming c.args.graph.now c.args.node) ≤ MAX_INCOMING = c.is_always_valid.ensures.valid.so_far.few_incoming c.args.node in
     record {
       keeps = λ instant within before. absurd (omega (arith, before));
       gaps = no_gaps c.args.graph.now c.args.log.now c.args.node MAX_INCOMING few;

@@ -10,7 +10,9 @@ within : (words : List Word) (means : Meaning) → meaning words ≡ Ok means �
 within words means is = subst (λ (r : Result Meaning UsageCause). IfOk r AreInLimits) is (meaning_within words)
 
 pub returns-clause-diagnose : goal.returns-clause-diagnose
-returns-clause-diagnose c words terms graph is = let are = within words (Diagnose terms graph) is in (are.0.high, are.1.low, are.1.high)
+returns-clause-diagnose c words terms graph is =
+    let are = within words (Diagnose terms graph) is in
+    record { few_members = are.0.high; some_splits = are.1.low; few_splits = are.1.high }
 
 pub returns-clause-simulate : goal.returns-clause-simulate
 returns-clause-simulate c words draw trace graph script is = (within words (Simulate draw trace graph script) is).high

@@ -4,7 +4,7 @@ use Rattle.tfpg_log.specs.LogOfLines.{log_after_reply}
 use Rattle.std.specs.Prelude.{Ok}
 use Rattle.tfpg_engine.specs.declared.told.Told.TheVariants as told
 use Rattle.tfpg_engine.specs.EngineState.{EngineRepresents}
-use Rattle.tfpg_engine.proofs.Eventing.{of_graph, same_refusal, lent_go_on, engine_now, gives_from}
+use Rattle.tfpg_engine.proofs.EventBringsRound.{of_graph, same_refusal, lent_go_on, engine_now, gives_from}
 use Rattle.tfpg_engine.proofs.engine.Engine.event.Goals as goal
 
 pub make-requires-clause-table : goal.make-requires-clause-table
@@ -13,18 +13,18 @@ make-requires-clause-table g c = of_graph c.self.inside.graph c.self.inside.term
 pub make-requires-clause-go_on : goal.make-requires-clause-go_on
 make-requires-clause-go_on g c =
     lent_go_on c.tree_laws.ensures _ c.self.invariant c.if-self.false c.in-Ok-Accepted.field-0-0 c.offer.new.self (c.in-Ok-Accepted.ensures.log ∙ ap (log_after_reply c.self.inside.log) c.in-Ok-Accepted.field-0-is)
-    c.len-ordered.ensures.ordered c.deref_mut.result.now c.deref_mut.ensures.value
+    c.is_always_ordered.ensures c.deref_mut.result.now c.deref_mut.ensures.value
 
 pub invariant_of-self-in-Ok : goal.invariant_of-self-in-Ok
 invariant_of-self-in-Ok g c =
     engine_now c.tree_laws.ensures _ c.self.invariant c.if-self.false c.in-Ok-Accepted.field-0-0 c.offer.new.self (c.in-Ok-Accepted.ensures.log ∙ ap (log_after_reply c.self.inside.log) c.in-Ok-Accepted.field-0-is)
-    c.len-ordered.ensures.ordered c.deref_mut.result.now c.deref_mut.ensures.value c.args.line c.in-Ok.round c.make.new.slots _ c.in-Ok.ensures.round c.make.ensures.one_each
+    c.is_always_ordered.ensures c.deref_mut.result.now c.deref_mut.ensures.value c.args.line c.in-Ok.round c.make.new.slots _ c.in-Ok.ensures.round c.make.ensures.one_each
     (take_at c.make.new.slots (drop (length c.make.new.slots) c.self.inside.slots.items) c.self.inside.slots.len (c.make.ensures.one_each ∙ c.deref_mut.ensures.len)) c.offer.ensures.of
 
 pub returns-in-Ok-clause-brings : goal.returns-in-Ok-clause-brings
 returns-in-Ok-clause-brings g c rounds represented =
     gives_from c.tree_laws.ensures _ c.self.invariant c.if-self.false c.in-Ok-Accepted.field-0-0 c.offer.new.self (c.in-Ok-Accepted.ensures.log ∙ ap (log_after_reply c.self.inside.log) c.in-Ok-Accepted.field-0-is)
-    c.len-ordered.ensures.ordered c.deref_mut.result.now c.deref_mut.ensures.value c.args.line c.in-Ok.round c.make.new.slots _ c.in-Ok.ensures.round c.make.ensures.one_each
+    c.is_always_ordered.ensures c.deref_mut.result.now c.deref_mut.ensures.value c.args.line c.in-Ok.round c.make.new.slots _ c.in-Ok.ensures.round c.make.ensures.one_each
     (take_at c.make.new.slots (drop (length c.make.new.slots) c.self.inside.slots.items) c.self.inside.slots.len (c.make.ensures.one_each ∙ c.deref_mut.ensures.len))
     c.subsets_stand_before_their_supersets.ensures.before c.args.text.now (sym c.in-Ok-Accepted.ensures.reply ∙ c.in-Ok-Accepted.field-0-is) rounds
     (subst (λ e. EngineRepresents e rounds) (sym c.self.view_is) represented) c.args.self.now c.self.view_is

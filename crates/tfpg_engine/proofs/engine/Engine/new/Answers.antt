@@ -1,6 +1,6 @@
 use Rattle.std.proofs.Common.{refl}
 use Rattle.std.proofs.lemmas.Result.{err_from_is_err_and}
-use Rattle.tfpg_engine.proofs.Eventing.{new_engine, new_represents, too_many_by, not_too_many}
+use Rattle.tfpg_engine.proofs.EventBringsRound.{new_engine, new_represents, too_many_by, not_too_many}
 use Rattle.tfpg_base.proofs.lists.Choices.{ok-err}
 use Rattle.tfpg_engine.proofs.engine.Engine.new.Goals as goal
 

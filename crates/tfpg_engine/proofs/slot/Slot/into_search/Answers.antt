@@ -1,4 +1,4 @@
-use Rattle.tfpg_engine.proofs.Going.{begins_untouched}
+use Rattle.tfpg_engine.proofs.KeptStaysRight.{begins_untouched}
 use Rattle.tfpg_engine.proofs.slot.Slot.into_search.Goals as goal
 
 pub returns-in-Untouched : goal.returns-in-Untouched

@@ -2,7 +2,7 @@ use Rattle.std.proofs.Common.{rules, ◌≡◌, None, refl, sym, ◌∙◌}
 use Rattle.std.proofs.lemmas.Result.{err_from_is_err_and}
 use Rattle.tfpg_base.specs.Choice.{first_of}
 use Rattle.tfpg_graph.specs.inside.reading.LineCauses.{edge_name_causes, end_causes}
-use Rattle.tfpg_graph.proofs.lemmas.reading.LineJudged.{edge_cause-name, edge_cause-unknown, edge_cause-delay, edge_cause-end, edge_cause-room}
+use Rattle.tfpg_graph.proofs.lemmas.reading.causes.LineJudged.{edge_cause-name, edge_cause-unknown, edge_cause-delay, edge_cause-end, edge_cause-room}
 use Rattle.tfpg_graph.proofs.reading.check_edge.read_edge.Goals as goal
 
 pub returns-in-Some-clause-first : goal.returns-in-Some-clause-first

@@ -1,8 +1,8 @@
 use Rattle.std.proofs.Common.{sym, ◌∙◌}
 use Rattle.std.proofs.lemmas.Result.{err_from_is_err_and}
 use Rattle.tfpg_graph.specs.inside.reading.StatementSeen.{node_words_of}
-use Rattle.tfpg_graph.proofs.lemmas.reading.Judged.{ReadAs-err, ReadAs-ok}
-use Rattle.tfpg_graph.proofs.lemmas.reading.LineJudged.{node_cause-name, node_cause-number, node_cause-room}
+use Rattle.tfpg_graph.proofs.lemmas.reading.causes.Judged.{ReadAs-err, ReadAs-ok}
+use Rattle.tfpg_graph.proofs.lemmas.reading.causes.LineJudged.{node_cause-name, node_cause-number, node_cause-room}
 use Rattle.tfpg_graph.proofs.reading.check_node.read_node.Goals as goal
 
 pub returns-in-Some-clause-first : goal.returns-in-Some-clause-first

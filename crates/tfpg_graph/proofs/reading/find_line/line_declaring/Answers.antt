@@ -5,8 +5,8 @@ use Rattle.std.proofs.lemmas.Iterator.Splits.{YieldsList-from_slice_split}
 use Rattle.tfpg_base.specs.Lines.{parts_of}
 use Rattle.tfpg_graph.specs.inside.reading.StatementSeen.{test_of}
 use Rattle.tfpg_graph.specs.Faults.{says, IsLineSaying}
-use Rattle.tfpg_graph.proofs.lemmas.reading.LinesSaying.{count-says_all}
-use Rattle.tfpg_graph.proofs.lemmas.reading.LinesCounted.{line_here, counted_yes, counted_no}
+use Rattle.tfpg_graph.proofs.lemmas.reading.saying.LinesSaying.{count-says_all}
+use Rattle.tfpg_graph.proofs.lemmas.reading.saying.LinesCounted.{line_here, counted_yes, counted_no}
 use Rattle.tfpg_graph.proofs.reading.find_line.line_declaring.Goals as goal
 use Rattle.tfpg_graph.proofs.reading.find_line.line_declaring.Goals.{In-Some}
 

@@ -1,6 +1,6 @@
 use Rattle.std.proofs.Common.{rules, ◌≡◌, ◌∷◌, false, map, ℕ, sym, ap, ◌∙◌}
 use Rattle.tfpg_graph.specs.Causes.{has_twice}
-use Rattle.tfpg_graph.proofs.lemmas.reading.NamedModes.{named_more, worth_more}
+use Rattle.tfpg_graph.proofs.lemmas.reading.causes.NamedModes.{named_more, worth_more}
 use Rattle.tfpg_graph.proofs.reading.list_modes.+named_modes.Goals as goal
 use Rattle.tfpg_graph.proofs.reading.list_modes.+named_modes.Goals.{After-with_named}
 

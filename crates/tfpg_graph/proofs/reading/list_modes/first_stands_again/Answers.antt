@@ -1,5 +1,5 @@
 use Rattle.std.proofs.Common.{rules, ◌≡◌, ◌∷◌, sym, ◌∙◌}
-use Rattle.tfpg_graph.proofs.lemmas.reading.Names.{has_twice-first, has_twice-later}
+use Rattle.tfpg_graph.proofs.lemmas.reading.causes.Names.{has_twice-first, has_twice-later}
 use Rattle.tfpg_graph.proofs.reading.list_modes.first_stands_again.Goals as goal
 
 pub returns-in-Some : goal.returns-in-Some

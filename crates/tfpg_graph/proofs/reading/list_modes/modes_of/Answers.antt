@@ -4,7 +4,7 @@ use Rattle.std.specs.Option.{is_none}
 use Rattle.std.proofs.lemmas.Nat.{pow_below}
 use Rattle.tfpg_graph.specs.Graph.{mode_named}
 use Rattle.tfpg_graph.specs.Declares.{modes_listed}
-use Rattle.tfpg_graph.proofs.lemmas.reading.NamedModes.{some_named, members_within}
+use Rattle.tfpg_graph.proofs.lemmas.reading.causes.NamedModes.{some_named, members_within}
 use Rattle.tfpg_graph.proofs.reading.list_modes.modes_of.Goals as goal
 use Rattle.tfpg_base.proofs.Sets.{bits_of-below, bits_of-some}
 

@@ -5,7 +5,7 @@ use Rattle.tfpg_base.specs.Choice.{first_of}
 use Rattle.tfpg_graph.specs.Declares.{delays_of_words}
 use Rattle.tfpg_graph.specs.inside.reading.LineCauses.{delay_causes}
 use Rattle.tfpg_graph.specs.inside.reading.Turns.{ReadAs}
-use Rattle.tfpg_graph.proofs.lemmas.reading.NumberCauses.{delays-no_greatest, delays-values}
+use Rattle.tfpg_graph.proofs.lemmas.reading.causes.NumberCauses.{delays-no_greatest, delays-values}
 use Rattle.tfpg_graph.proofs.reading.read_numbers.read_delays.Goals as goal
 
 pub returns-in_err-least-clause-delays : goal.returns-in_err-least-clause-delays

@@ -2,7 +2,7 @@ use Rattle.std.proofs.Common.{◌≡◌, false, nat_lt, length, sym, ap, ◌∙�
 use Rattle.std.proofs.lemmas.Bool.Decides.{nat_tests}
 use Rattle.tfpg_base.specs.declared.limits.TheConstants.{LONGEST_LINE}
 use Rattle.tfpg_graph.specs.Statements.{statement_in}
-use Rattle.tfpg_graph.proofs.lemmas.reading.StatementLines.{statement_of-words}
+use Rattle.tfpg_graph.proofs.lemmas.reading.saying.StatementLines.{statement_of-words}
 use Rattle.tfpg_graph.proofs.reading.statement.statement_of.Goals as goal
 
 pub returns : goal.returns

@@ -15,5 +15,5 @@ returns-clause-represents c = λ earlier steps goes_on represents. (c.take_step.
 
 pub returns-clause-no_trace : goal.returns-clause-no_trace
 returns-clause-no_trace c = λ earlier later steps set goes_on represents closed is_reach later_on of ordered.
-    c.a_refutation_leaves_no_trace.ensures c.args.graph.now c.args.log.now later set c.args.self.now.reach (with_step steps c.args.log.now c.args.step.now) c.node_count-valid.ensures.valid of
+    c.a_refutation_leaves_no_trace.ensures c.args.graph.now c.args.log.now later set c.args.self.now.reach (with_step steps c.args.log.now c.args.step.now) c.is_always_valid.ensures.valid of
     ordered is_reach later_on ((c.take_step.ensures.result earlier steps goes_on represents).closed.0 closed)

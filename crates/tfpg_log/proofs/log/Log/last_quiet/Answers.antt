@@ -1,6 +1,6 @@
 use Rattle.std.proofs.Common.{subst, sym}
 use Rattle.tfpg_log.specs.Quiet.{IsLastQuiet}
-use Rattle.tfpg_log.proofs.LastQuiets.{last_quiet_is}
+use Rattle.tfpg_log.proofs.events.LastQuiets.{last_quiet_is}
 use Rattle.tfpg_log.proofs.log.Log.last_quiet.Goals as goal
 
 pub returns : goal.returns

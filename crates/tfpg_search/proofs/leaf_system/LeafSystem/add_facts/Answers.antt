@@ -6,33 +6,46 @@ use Rattle.tfpg_diff.specs.Demands.{Demands}
 use Rattle.tfpg_diff.specs.SystemState.{with_floor, with_ceiling}
 use Rattle.tfpg_search.specs.inside.Closing.{Closes}
 use Rattle.tfpg_search.specs.inside.Facts.{AreFactsIn}
-use Rattle.tfpg_search.proofs.FactsAdded.{facts_met, facts-tightened, facts-kept}
+use Rattle.tfpg_search.proofs.facts.FactsAdded.{facts_met, facts-tightened, facts-kept}
 use Rattle.tfpg_search.proofs.leaf_system.LeafSystem.add_facts.Goals as goal
 use Rattle.tfpg_clause.specs.Case.{case_of}
 
-pub returns-in_err-raise_to-clause-stated : goal.returns-in_err-raise_to-clause-stated
-returns-in_err-raise_to-clause-stated g c stated before =
-    c.raise_to.ensures.stated (fact (case_of c.args.graph.now c.args.log.now c.args.reach.now)) stated (c.loop-node.invariant.stated stated before) c.low.ensures.stated
-
-pub returns-in_err-raise_to-clause-closes : goal.returns-in_err-raise_to-clause-closes
-returns-in_err-raise_to-clause-closes g c stated before =
+pub returns-in_err-raise_to-clause-adds : goal.returns-in_err-raise_to-clause-adds
+returns-in_err-raise_to-clause-adds g c =
     let F = fact (case_of c.args.graph.now c.args.log.now c.args.reach.now) in
-    let p = err_from_is_err_and c.from_residual.result c.from_residual.ensures.1 in
-    rw p.1 (subst (Closes stated) (sym p.2) (c.in_err-raise_to.ensures.closes F stated (c.loop-node.invariant.stated stated before) c.low.ensures.stated))
+    let error = err_from_is_err_and c.from_residual.result c.from_residual.ensures.1 in
+    let added = c.raise_to.ensures.adds in
+    rw error.1
+    (record {
+      nodes = added.nodes ∙ c.loop-node.invariant.nodes;
+      reasons = added.reasons ∙ c.loop-node.invariant.reasons;
+      stated = λ stated begun.
+          let still = c.loop-node.invariant.stated stated begun in
+          record {
+            still = (added.stated F stated still c.low.ensures.stated).still;
+            closes = subst (Closes stated) (sym error.2) (c.in_err-raise_to.ensures.adds.stated F stated still c.low.ensures.stated).closes;
+          };
+      met = tt;
+    })
 
-pub returns-in_err-lower_to-clause-stated : goal.returns-in_err-lower_to-clause-stated
-returns-in_err-lower_to-clause-stated g c stated before =
+pub returns-in_err-lower_to-clause-adds : goal.returns-in_err-lower_to-clause-adds
+returns-in_err-lower_to-clause-adds g c =
     let F = fact (case_of c.args.graph.now c.args.log.now c.args.reach.now) in
-    c.lower_to.ensures.stated F stated (c.raise_to.ensures.stated F stated (c.loop-node.invariant.stated stated before) c.low.ensures.stated)
-    (c.high.ensures.stated c.args.reach.now)
-
-pub returns-in_err-lower_to-clause-closes : goal.returns-in_err-lower_to-clause-closes
-returns-in_err-lower_to-clause-closes g c stated before =
-    let F = fact (case_of c.args.graph.now c.args.log.now c.args.reach.now) in
-    let p = err_from_is_err_and c.from_residual-in_err-lower_to.result c.from_residual-in_err-lower_to.ensures.1 in
-    rw p.1 (subst (Closes stated) (sym p.2)
-    (c.in_err-lower_to.ensures.closes F stated (c.raise_to.ensures.stated F stated (c.loop-node.invariant.stated stated before) c.low.ensures.stated)
-    (c.high.ensures.stated c.args.reach.now)))
+    let error = err_from_is_err_and c.from_residual-in_err-lower_to.result c.from_residual-in_err-lower_to.ensures.1 in
+    let raised = c.raise_to.ensures.adds in
+    let added = c.lower_to.ensures.adds in
+    rw error.1
+    (record {
+      nodes = added.nodes ∙ raised.nodes ∙ c.loop-node.invariant.nodes;
+      reasons = added.reasons ∙ raised.reasons ∙ c.loop-node.invariant.reasons;
+      stated = λ stated begun.
+          let still = (raised.stated F stated (c.loop-node.invariant.stated stated begun) c.low.ensures.stated).still in
+          record {
+            still = (added.stated F stated still (c.high.ensures.stated c.args.reach.now)).still;
+            closes = subst (Closes stated) (sym error.2) (c.in_err-lower_to.ensures.adds.stated F stated still (c.high.ensures.stated c.args.reach.now)).closes;
+          };
+      met = tt;
+    })
 
 pub loop-node-preserved : goal.loop-node-preserved
 loop-node-preserved g c =
@@ -44,11 +57,12 @@ loop-node-preserved g c =
     c.in_ok-lower_to.ensures.ok ∙ ap (λ (d : Demands). with_ceiling d v c.high.result.time tag) c.in_ok-raise_to.ensures.ok in
     record {
       picks = ap (λ (d : Demands). d.picks) is ∙ c.loop-node.invariant.picks;
-      reasons = c.lower_to.ensures.reasons ∙ c.raise_to.ensures.reasons ∙ c.loop-node.invariant.reasons;
-      nodes = c.lower_to.ensures.nodes ∙ c.raise_to.ensures.nodes ∙ c.loop-node.invariant.nodes;
-      stated = λ stated begun. c.lower_to.ensures.stated F stated
-          (c.raise_to.ensures.stated F stated (c.loop-node.invariant.stated stated begun) c.low.ensures.stated)
-          (c.high.ensures.stated c.args.reach.now);
+      reasons = c.lower_to.ensures.adds.reasons ∙ c.raise_to.ensures.adds.reasons ∙ c.loop-node.invariant.reasons;
+      nodes = c.lower_to.ensures.adds.nodes ∙ c.raise_to.ensures.adds.nodes ∙ c.loop-node.invariant.nodes;
+      stated = λ stated begun.
+          (c.lower_to.ensures.adds.stated F stated
+          (c.raise_to.ensures.adds.stated F stated (c.loop-node.invariant.stated stated begun) c.low.ensures.stated).still
+          (c.high.ensures.stated c.args.reach.now)).still;
       facts = below_more (AreFactsIn F c.lower_to.new.self.demands) v
           (λ u below. subst (λ (d : Demands). AreFactsIn F d u) (sym is)
           (facts-kept F before v u c.low.result.time c.high.result.time v tag (c.loop-node.invariant.facts u below)))
@@ -57,10 +71,15 @@ loop-node-preserved g c =
       steps = (let one = c.raise_to.ensures.steps in let other = c.lower_to.ensures.steps in let so_far = c.loop-node.invariant.steps in omega arith);
     }
 
-pub returns-clause-facts : goal.returns-clause-facts
-returns-clause-facts g c =
+pub returns-clause-adds : goal.returns-clause-adds
+returns-clause-adds g c =
     let count = c.node_count-node-end.ensures.count in
     let ended = c.loop-node-test.false in
-    facts_met c.args.graph.now c.args.log.now c.requires.of c.clause_laws.ensures c.args.reach.now c.loop-node.self.demands
-    (c.loop-node.invariant.nodes ∙ c.requires.nodes)
-    (λ node within. c.loop-node.invariant.facts node (omega arith))
+    record {
+      nodes = c.loop-node.invariant.nodes;
+      reasons = c.loop-node.invariant.reasons;
+      stated = λ stated begun. record { still = c.loop-node.invariant.stated stated begun; closes = tt };
+      met = facts_met c.args.graph.now c.args.log.now c.requires.of c.clause_laws.ensures c.args.reach.now c.loop-node.self.demands
+          (c.loop-node.invariant.nodes ∙ c.requires.nodes)
+          (λ node within. c.loop-node.invariant.facts node (omega arith));
+    }

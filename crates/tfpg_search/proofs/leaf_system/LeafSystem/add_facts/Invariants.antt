@@ -3,7 +3,7 @@ use Rattle.std.proofs.Common.{◌≡◌, ℕ, ◌+◌, ◌*◌, ◌<◌, ◌≤�
 use Rattle.tfpg_base.specs.declared.constraint.Constraint.{Constraint}
 use Rattle.tfpg_evidence.specs.declared.reason.Reason.{Reason}
 use Rattle.tfpg_clause.specs.Facts.{fact}
-use Rattle.tfpg_search.specs.Leaf.{pick_reasons, IsStated}
+use Rattle.tfpg_search.specs.inside.Leaf.{pick_reasons, IsStated}
 use Rattle.tfpg_search.specs.inside.Facts.{AreFactsIn}
 use Rattle.tfpg_search.proofs.leaf_system.LeafSystem.add_facts.Given as goal
 use Rattle.tfpg_clause.specs.Case.{case_of}

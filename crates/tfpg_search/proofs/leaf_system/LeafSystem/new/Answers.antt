@@ -1,6 +1,6 @@
 -- Nothing is known but that times lie in range.
 use Rattle.std.proofs.Common.{arith}
-use Rattle.tfpg_search.proofs.Fresh.{IsTagged-new, IsStated-new}
+use Rattle.tfpg_search.proofs.stated_system.NewSystemStated.{IsTagged-new, IsStated-new}
 use Rattle.tfpg_search.proofs.leaf_system.LeafSystem.new.Goals as goal
 
 pub invariant_of-result : goal.invariant_of-result

@@ -1,7 +1,7 @@
 -- The last reasons go with the last picks.
 use Rattle.std.proofs.Common.{◌≡◌, ◌+◌, ◌-◌, ◌*◌, length, arith, ap}
-use Rattle.tfpg_search.specs.Leaf.{Leaf}
-use Rattle.tfpg_search.proofs.Calls.{popped_stated, popped_reasons}
+use Rattle.tfpg_search.specs.inside.Leaf.{Leaf}
+use Rattle.tfpg_search.proofs.stated_system.CallsKeepReasons.{popped_stated, popped_reasons}
 use Rattle.tfpg_search.proofs.leaf_system.LeafSystem.pop_to.Goals as goal
 use Rattle.tfpg_search.proofs.leaf_system.LeafSystem.pop_to.Goals.{After-truncate}
 

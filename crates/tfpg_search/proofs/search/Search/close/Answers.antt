@@ -4,7 +4,7 @@ use Rattle.std.proofs.lemmas.Result.{err_from_is_err_and}
 use Rattle.tfpg_evidence.specs.declared.step.Step.{Step}
 use Rattle.tfpg_search.specs.inside.Moves.{GrowsAnyhow}
 use Rattle.tfpg_search.specs.Searched.{call_of}
-use Rattle.tfpg_search.proofs.Moving.{nothing, close_counted, close_some, close_ok}
+use Rattle.tfpg_search.proofs.leaves.MovesStayAtLeaf.{nothing, close_counted, close_some, close_ok}
 use Rattle.tfpg_search.proofs.search.Search.close.Goals as goal
 
 pub returns-in_err-push-clause-closing : goal.returns-in_err-push-clause-closing
@@ -20,18 +20,18 @@ overflow_sub-kept c =
       arith,
       pos_of_ne-zero {n = c.depth-kept.result}
           (λ none.
-          close_some c.args.graph.now c.args.log.now c.args.self.now c.requires.stands c.args.steps.now c.push.new.self c.args.reasons c.requires.cycle c.in_ok-push.ensures.ok c.advance.new.self
-          c.if-not-advance.ensures.same c.if-not-advance.ensures.path (sym c.depth-kept.ensures ∙ none)),
+          close_some c.args.graph.now c.args.log.now c.args.self.now c.requires.stands c.args.steps.now c.push.new.self c.args.reasons c.requires.cycle c.in_ok-push.ensures.ok c.backtrack.new.self
+          c.if-not-backtrack.ensures.same c.if-not-backtrack.ensures.path (sym c.depth-kept.ensures ∙ none)),
     )
 
 pub leave-requires : goal.leave-requires
 leave-requires c = record {
   counted = λ number there.
-      close_counted c.args.graph.now c.args.log.now c.args.self.now c.requires.stands c.args.steps.now c.push.new.self c.args.reasons c.requires.cycle c.in_ok-push.ensures.ok c.advance.new.self
-      c.if-not-advance.ensures.same c.if-not-advance.ensures.path (c.depth-kept.result - 1) number there;
+      close_counted c.args.graph.now c.args.log.now c.args.self.now c.requires.stands c.args.steps.now c.push.new.self c.args.reasons c.requires.cycle c.in_ok-push.ensures.ok c.backtrack.new.self
+      c.if-not-backtrack.ensures.same c.if-not-backtrack.ensures.path (c.depth-kept.result - 1) number there;
 }
 
 pub returns-clause-closing : goal.returns-clause-closing
 returns-clause-closing c =
-    close_ok c.args.graph.now c.args.log.now c.args.self.now c.requires.stands c.args.steps.now c.push.new.self c.args.reasons c.requires.cycle c.in_ok-push.ensures.ok c.advance.new.self
-    c.if-not-advance.ensures.same c.if-not-advance.ensures.path c.leave.new.self (c.depth-kept.result - 1) (ap (λ (n : ℕ). n - 1) c.depth-kept.ensures) c.leave.ensures.same c.leave.ensures.leaf
+    close_ok c.args.graph.now c.args.log.now c.args.self.now c.requires.stands c.args.steps.now c.push.new.self c.args.reasons c.requires.cycle c.in_ok-push.ensures.ok c.backtrack.new.self
+    c.if-not-backtrack.ensures.same c.if-not-backtrack.ensures.path c.leave.new.self (c.depth-kept.result - 1) (ap (λ (n : ℕ). n - 1) c.depth-kept.ensures) c.leave.ensures.same c.leave.ensures.leaf

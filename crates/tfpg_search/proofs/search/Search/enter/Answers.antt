@@ -1,5 +1,5 @@
 use Rattle.std.proofs.Common.{refl, sym, ◌∙◌, ◌+◌}
-use Rattle.tfpg_search.proofs.Moving.{marked_stated, marked_closes, left_counted, entered_stands, left_stands}
+use Rattle.tfpg_search.proofs.leaves.MovesStayAtLeaf.{marked_stated, marked_closes, left_counted, entered_stands, left_stands}
 use Rattle.tfpg_search.proofs.search.Search.enter.Goals as goal
 
 pub push_all-requires-clause-stated : goal.push_all-requires-clause-stated

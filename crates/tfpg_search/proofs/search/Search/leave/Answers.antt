@@ -1,7 +1,7 @@
 use Rattle.std.proofs.Common.{ap, sym, length, ◌∙◌}
 use Rattle.std.proofs.lemmas.Option.{slice_get_read}
 use Rattle.tfpg_search.specs.SearchState.{SearchState}
-use Rattle.tfpg_search.proofs.Moving.{leaves_some, leaves_none}
+use Rattle.tfpg_search.proofs.leaves.AlternativePushed.{leaves_some, leaves_none}
 use Rattle.tfpg_search.proofs.search.Search.leave.Goals as goal
 
 pub returns-then-kept-entered_count-clause-leaf : goal.returns-then-kept-entered_count-clause-leaf

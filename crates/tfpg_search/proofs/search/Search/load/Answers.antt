@@ -1,8 +1,8 @@
 use Rattle.std.proofs.Common.{subst, Bool, Some, None}
 use Rattle.std.specs.Prelude.{Ok}
 use Rattle.tfpg_search.specs.inside.Moves.{Closing}
-use Rattle.tfpg_search.proofs.Loading.{keeps_on}
-use Rattle.tfpg_search.proofs.Growing.{grows_on}
+use Rattle.tfpg_search.proofs.calls.FoundInTurn.{keeps_on}
+use Rattle.tfpg_search.proofs.steps.StepsAppended.{grows_on}
 use Rattle.tfpg_search.specs.Searched.{call_of}
 use Rattle.tfpg_search.proofs.search.Search.load.Goals as goal
 

@@ -1,5 +1,5 @@
 use Rattle.std.proofs.Common.{Some}
-use Rattle.tfpg_search.specs.SearchState.{IsAtItsLeaf}
+use Rattle.tfpg_search.specs.inside.AtItsLeaf.{IsAtItsLeaf}
 use Rattle.tfpg_search.specs.Searched.{call_of}
 use Rattle.tfpg_search.specs.inside.Moves.{KeepsSet, Grows, untaken}
 use Rattle.tfpg_search.proofs.search.Search.load.Given as goal

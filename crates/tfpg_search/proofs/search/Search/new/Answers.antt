@@ -1,7 +1,7 @@
 use Rattle.std.proofs.Common.{refl, subst, ◌∙◌, ◌<◌, ℕ}
 use Rattle.tfpg_log.specs.Log.{first_events}
 use Rattle.tfpg_clause.specs.Facts.{fact}
-use Rattle.tfpg_search.proofs.Beginning.{zero_is, top_is, new_represents}
+use Rattle.tfpg_search.proofs.calls.NewSearch.{zero_is, top_is, new_represents}
 use Rattle.tfpg_search.proofs.search.Search.new.Goals as goal
 use Rattle.tfpg_clause.specs.Case.{case_of}
 

@@ -1,7 +1,7 @@
 use Rattle.std.proofs.Common.{subst, ◌+◌, Bool}
 use Rattle.tfpg_evidence.specs.declared.reason.Reason.TheVariants.{Pick}
 use Rattle.tfpg_search.specs.inside.Leaving.{PushesOne}
-use Rattle.tfpg_search.proofs.Moving.{loop_stated, loop_closes, step_same, step_pushing, step_last, step_picks, step_within, all_pushed}
+use Rattle.tfpg_search.proofs.leaves.AlternativePushed.{loop_stated, loop_closes, step_same, step_pushing, step_last, step_picks, step_within, all_pushed}
 use Rattle.tfpg_search.proofs.search.Search.push_all.Goals as goal
 use Rattle.tfpg_clause.specs.Trees.{picked}
 
@@ -54,5 +54,5 @@ loop-before-preserved g c =
 
 pub returns-clause-ok : goal.returns-clause-ok
 returns-clause-ok g c =
-    all_pushed c.clause_laws.ensures c.args.graph.now c.args.log.now c.node_count-valid.ensures.valid c.args.self.now c.loop-before.self.leaf c.args.split c.loop-before.before c.loop-before-test.false
+    all_pushed c.clause_laws.ensures c.args.graph.now c.args.log.now c.is_always_valid.ensures.valid c.args.self.now c.loop-before.self.leaf c.args.split c.loop-before.before c.loop-before-test.false
     c.loop-before.invariant.within c.loop-before.invariant.picks

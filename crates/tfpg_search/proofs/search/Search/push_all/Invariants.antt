@@ -1,6 +1,6 @@
 use Rattle.std.proofs.Common.{◌≡◌, ◌≤◌, ◌++◌}
-use Rattle.tfpg_search.specs.Leaf.{pick_reasons}
-use Rattle.tfpg_search.specs.Picks.{picks_from}
+use Rattle.tfpg_search.specs.inside.Leaf.{pick_reasons}
+use Rattle.tfpg_search.specs.inside.Picks.{picks_from}
 use Rattle.tfpg_search.specs.inside.Leaving.{constraint_count_at}
 use Rattle.tfpg_search.specs.inside.Leaving.{Pushing}
 use Rattle.tfpg_search.proofs.search.Search.push_all.Given as goal

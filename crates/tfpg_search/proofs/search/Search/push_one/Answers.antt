@@ -2,10 +2,10 @@ use Rattle.std.proofs.Common.{subst, sym, ap, ◌∙◌, ◌≡◌, ◌≤◌, �
 use Rattle.tfpg_evidence.specs.declared.reason.Reason.TheVariants.{Pick}
 use Rattle.tfpg_clause.specs.Facts.{fact}
 use Rattle.tfpg_clause.specs.declared.path.PathSplit.{PathSplit}
-use Rattle.tfpg_search.specs.Leaf.{Leaf, IsStated}
+use Rattle.tfpg_search.specs.inside.Leaf.{Leaf, IsStated}
 use Rattle.tfpg_search.specs.SearchState.{SearchState}
 use Rattle.tfpg_search.specs.inside.Leaving.{Pushing}
-use Rattle.tfpg_search.proofs.Moving.{picked_small, pushing_by}
+use Rattle.tfpg_search.proofs.leaves.AlternativePushed.{picked_small, pushing_by}
 use Rattle.tfpg_search.proofs.search.Search.push_one.Goals.{in-Ok, in-Err}
 use Rattle.tfpg_search.proofs.search.Search.push_one.Goals as goal
 use Rattle.tfpg_clause.specs.Trees.{picked, stated}
@@ -16,7 +16,7 @@ push-requires-clause-left g c =
     let path = c.deref.ensures.value ∙ ap (λ (s : SearchState). s.path) c.self.view_is in
     let states : picked c.args.graph.now c.args.log.now c.args.self.now.path c.args.split c.args.number ≡ Some c.in-Some.constraint =
     sym (c.in-Some.ensures ∙ ap (λ (fs : List PathSplit). picked c.args.graph.now c.args.log.now fs c.args.split c.args.number) path) in
-    let small = picked_small c.clause_laws.ensures c.args.graph.now c.args.log.now c.node_count-valid.ensures.valid c.args.self.now.path c.args.split c.args.number c.in-Some.constraint states in
+    let small = picked_small c.clause_laws.ensures c.args.graph.now c.args.log.now c.is_always_valid.ensures.valid c.args.self.now.path c.args.split c.args.number c.in-Some.constraint states in
     subst (λ (n : ℕ). c.in-Some.constraint.left ≤ n) (sym (ap (λ (s : SearchState). length s.leaf.demands.bounds) c.self.view_is ∙ c.requires.variables)) small.left
 
 pub push-requires-clause-right : goal.push-requires-clause-right
@@ -24,7 +24,7 @@ push-requires-clause-right g c =
     let path = c.deref.ensures.value ∙ ap (λ (s : SearchState). s.path) c.self.view_is in
     let states : picked c.args.graph.now c.args.log.now c.args.self.now.path c.args.split c.args.number ≡ Some c.in-Some.constraint =
     sym (c.in-Some.ensures ∙ ap (λ (fs : List PathSplit). picked c.args.graph.now c.args.log.now fs c.args.split c.args.number) path) in
-    let small = picked_small c.clause_laws.ensures c.args.graph.now c.args.log.now c.node_count-valid.ensures.valid c.args.self.now.path c.args.split c.args.number c.in-Some.constraint states in
+    let small = picked_small c.clause_laws.ensures c.args.graph.now c.args.log.now c.is_always_valid.ensures.valid c.args.self.now.path c.args.split c.args.number c.in-Some.constraint states in
     subst (λ (n : ℕ). c.in-Some.constraint.right ≤ n) (sym (ap (λ (s : SearchState). length s.leaf.demands.bounds) c.self.view_is ∙ c.requires.variables)) small.right
 
 pub returns-clause-pushing : goal.returns-clause-pushing
@@ -37,7 +37,7 @@ returns-clause-pushing g c =
     (pushing_by (case_of c.args.graph.now c.args.log.now c.args.self.now.reach) c.args.self.now.path c.self.inside.leaf c.push.new.self (Pick c.args.split c.args.number) c.in-Some.constraint c.push.result
     (subst (λ (l : Leaf). IsStated (fact (case_of c.args.graph.now c.args.log.now c.args.self.now.reach)) (stated (case_of c.args.graph.now c.args.log.now c.args.self.now.reach) c.args.self.now.path) l) (sym leaf)
     c.requires.stated)
-    c.push.ensures.bounds c.push.ensures.stated c.push.ensures.reasons c.push.ensures.err states)
+    c.push.ensures.adds.bounds (λ facts others before there. (c.push.ensures.adds.stated facts others before there).still) c.push.ensures.adds.reasons c.push.ensures.adds.err states)
 
 pub returns-clause-closes : goal.returns-clause-closes
 returns-clause-closes g c =
@@ -51,5 +51,5 @@ returns-clause-closes g c =
     elim c.match-push.branch [
       | in-Ok w ↦ rw w.result-is tt
       | in-Err w ↦ rw w.result-is
-          (w.in-Err.ensures.closes (fact (case_of c.args.graph.now c.args.log.now c.args.self.now.reach)) (stated (case_of c.args.graph.now c.args.log.now c.args.self.now.reach) c.args.self.now.path) is_stated states)
+          (w.in-Err.ensures.adds.stated (fact (case_of c.args.graph.now c.args.log.now c.args.self.now.reach)) (stated (case_of c.args.graph.now c.args.log.now c.args.self.now.reach) c.args.self.now.path) is_stated states).closes
     ]

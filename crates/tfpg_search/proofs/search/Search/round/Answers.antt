@@ -1,4 +1,4 @@
-use Rattle.tfpg_search.proofs.Rounds.{seen_stands, searched, never_spent}
+use Rattle.tfpg_search.proofs.calls.RoundSearched.{seen_stands, searched, never_spent}
 use Rattle.tfpg_search.proofs.search.Search.round.Goals as goal
 
 pub search_on-requires-clause-stands : goal.search_on-requires-clause-stands

@@ -2,9 +2,9 @@ use Rattle.std.proofs.Common.{◌≢◌, ℕ, ◌<◌, Some, IfSome, subst, arit
 use Rattle.tfpg_base.specs.Lines.{parts_of}
 use Rattle.tfpg_graph.specs.inside.reading.Turns.{ReaderRepresents}
 use Rattle.tfpg_graph.specs.ZeroCycle.{HasZeroOrder, LiesOnZeroCycle}
-use Rattle.tfpg_graph.proofs.lemmas.reading.LinesSaying.{count-node_lines, count-edge_lines}
-use Rattle.tfpg_graph.proofs.lemmas.reading.SpelledBy.{has_mode}
-use Rattle.tfpg_graph.proofs.lemmas.reading.Ending.{edge_within, IsValid-whole, IsEndRefusal-cycle, IsEndRefusal-unended}
+use Rattle.tfpg_graph.proofs.lemmas.reading.saying.LinesSaying.{count-node_lines, count-edge_lines}
+use Rattle.tfpg_graph.proofs.lemmas.reading.spelling.SpelledBy.{has_mode}
+use Rattle.tfpg_graph.proofs.lemmas.reading.graphs.ValidGraphs.{edge_within, IsValid-whole, IsEndRefusal-cycle, IsEndRefusal-unended}
 use Rattle.tfpg_graph.proofs.reading.reader.Reader.end.Goals as goal
 use Rattle.tfpg_graph.proofs.reading.reader.Reader.end.Goals.{After-without_incoming, In_ok-edge, In-Some-2}
 use Rattle.tfpg_base.proofs.lists.Choices.{none-from_never}

@@ -5,7 +5,7 @@ use Rattle.tfpg_graph.specs.declared.reading.reader.Part.TheVariants.{Declaratio
 use Rattle.tfpg_graph.specs.Graph.{Tfpg}
 use Rattle.tfpg_graph.specs.inside.declaring.Indexes.{with_edge}
 use Rattle.tfpg_graph.specs.declared.reading.reader.Reader.{Reader}
-use Rattle.tfpg_graph.proofs.lemmas.reading.Judged.{cause_or_value-caused, cause_or_value-valued}
+use Rattle.tfpg_graph.proofs.lemmas.reading.causes.Judged.{cause_or_value-caused, cause_or_value-valued}
 use Rattle.tfpg_graph.proofs.reading.reader.Reader.with_edge.Goals as goal
 
 pub returns-in_err-edge : goal.returns-in_err-edge

@@ -1,5 +1,5 @@
 use Rattle.std.proofs.Common.{sym, ◌∙◌}
-use Rattle.tfpg_graph.proofs.lemmas.reading.Judged.{cause_or_value-caused}
+use Rattle.tfpg_graph.proofs.lemmas.reading.causes.Judged.{cause_or_value-caused}
 use Rattle.tfpg_graph.proofs.reading.reader.Reader.with_mode.Goals as goal
 
 pub returns-in-Some : goal.returns-in-Some

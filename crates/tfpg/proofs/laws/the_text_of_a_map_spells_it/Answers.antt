@@ -1,5 +1,0 @@
-use Rattle.tfpg.proofs.WrittenMaps.{written_map}
-use Rattle.tfpg.proofs.laws.the_text_of_a_map_spells_it.Goals as goal
-
-pub returns : goal.returns
-returns c = written_map

@@ -1,0 +1,122 @@
+-- Clauses of windows by their spans: only the first span of a window has one.
+use Rattle.std.proofs.Common.{◌≡◌, ℕ, ◌+◌, ◌<◌, ◌≤◌, Bool, true, leb, cond, List, Option, Some, None, refl, sym, ap, subst, ◌∙◌, inl, inr, arith}
+use Rattle.std.specs.Prelude.{◌↔◌}
+use Rattle.std.proofs.lemmas.Bool.{cases_lt, cases_eq, le-leb}
+use Rattle.tfpg_base.specs.declared.constraint.Constraint.{Constraint}
+use Rattle.tfpg_log.specs.declared.span.Window.{Window}
+use Rattle.tfpg_log.specs.Log.{Logbook, now_of}
+use Rattle.tfpg_log.specs.Spans.{span_number}
+use Rattle.tfpg_log.specs.Runs.{IsWindowRound}
+use Rattle.tfpg_log.proofs.instants.SpanRuns.{is_span, number_rises}
+use Rattle.tfpg_log.proofs.instants.WindowInstants.{round_each}
+use Rattle.tfpg_clause.specs.Clauses.{MeetsClause}
+use Rattle.tfpg_clause.specs.inside.FirstSpan.{MeetsIfAny, IsViolated, MeetsEach, MeetsUpTo}
+
+-- Times violate a clause that they do not meet, if there is one.
+pub violated_from : (times : List ℕ) (clause : Option (List (List Constraint))) → (MeetsIfAny times clause → ⊥) → IsViolated times clause
+violated_from times None not_met = absurd (not_met (λ all at. absurd cc))
+violated_from times (Some all) not_met = record {
+  all = all;
+  there = refl;
+  not_met = λ met. not_met (λ other at. let same : all ≡ other = cc in subst (λ (clause : List (List Constraint)). MeetsClause times clause) same met);
+}
+
+module _ (log : Logbook) (times : List ℕ) (passes : ℕ → Bool) (windows : ℕ → Option Window) (clauses : ℕ → Option (List (List Constraint)))
+    (found : (number : ℕ) (window : Window) → (windows number ≡ Some window) ↔ IsWindowRound log passes number (now_of log) window)
+    (begins : (number : ℕ) (all : List (List Constraint)) → clauses number ≡ Some all → (window : Window) × (windows number ≡ Some window) × (window.first ≡ number)) where
+  -- an instant of the span lies in its window
+  around : (number : ℕ) (window : Window) → windows number ≡ Some window
+      → (instant : ℕ) × (span_number log instant ≡ number) × (window.lo ≤ instant) × (instant ≤ window.hi) × (window.hi ≤ now_of log)
+  around number window at =
+      let is = (found number window).0 at in
+      let span = is_span log number (now_of log) is.round.0 is.round.1 in (
+        is.round.0.lo,
+        span.numbered is.round.0.lo (omega arith) span.run.in_order,
+        is.round.2.0,
+        omega (arith, span.run.in_order, is.round.2.1),
+        is.run.in_range,
+      )
+
+  -- A window is that of the span of each of its instants.
+  throughout : (number instant : ℕ) (window : Window) → windows number ≡ Some window → window.lo ≤ instant → instant ≤ window.hi → windows (span_number log instant) ≡ Some window
+  throughout number instant window at from till =
+      (found (span_number log instant) window).1 (round_each log passes number (now_of log) instant window ((found number window).0 at) from till)
+
+  -- So a later span of the window has no clause,
+  none_later : (number other : ℕ) (window : Window) → windows number ≡ Some window → number < other → other ≤ span_number log window.hi → (all : List (List Constraint))
+      → clauses other ≡ Some all → ⊥
+  none_later number other window at after till all there =
+      let own = begins other all there in
+      let here = around number window at in
+      let inside = around other own.0 own.1 in
+      elim (cases_lt window.hi inside.0) [
+        | inl past ↦ (
+            let last : span_number log window.hi ≡ other = omega (arith, till, number_rises log window.hi inside.0 (omega (arith, past)), inside.1) in
+            not_first own window.hi last (omega (arith, here.2, here.3)) (omega arith) here
+            )
+        | inr within ↦ elim (cases_lt inside.0 here.0) [
+          | inl before ↦ omega (arith, number_rises log inside.0 here.0 (omega (arith, before)), inside.1, here.1, after)
+          | inr since ↦ not_first own inside.0 inside.1 (omega (arith, here.2, since)) within here
+        ]
+      ]
+    where
+      not_first : (own : (w : Window) × (windows other ≡ Some w) × (w.first ≡ other)) → (instant : ℕ) → span_number log instant ≡ other → window.lo ≤ instant → instant ≤ window.hi
+          → (x : ℕ) × (span_number log x ≡ number) × (window.lo ≤ x) × (x ≤ window.hi) × (window.hi ≤ now_of log) → ⊥
+      not_first own instant numbered from upto here =
+          let round : windows other ≡ Some window = subst (λ n. windows n ≡ Some window) numbered (throughout number instant window at from upto) in
+          let same : own.0 ≡ window = cc (own.1, round) in
+          let first : own.0.first ≡ window.first = ap (λ (w : Window). w.first) same in
+          omega (arith, own.2, first, ((found number window).0 at).first_span, number_rises log window.lo here.0 here.2, here.1, after)
+
+  -- and none has one after the span of now.
+  none_past : (other : ℕ) → span_number log (now_of log) < other → (all : List (List Constraint)) → clauses other ≡ Some all → ⊥
+  none_past other after all there =
+      let own = begins other all there in
+      let inside = around other own.0 own.1 in
+      omega (arith, number_rises log inside.0 (now_of log) (omega (arith, inside.3, inside.4)), inside.1, after)
+
+  -- Where there is no window, there is no clause.
+  pub met_without : (number : ℕ) → None ≡ windows number → MeetsUpTo times clauses number (Some number)
+  met_without number none = (
+    omega arith,
+    λ other from till all at.
+        let same : other ≡ number = omega (arith, from, till) in
+        let own = begins other all at in
+        let there : windows number ≡ Some own.0 = subst (λ n. windows n ≡ Some own.0) same own.1 in
+        absurd cc,
+  )
+
+  -- Where the clause is met, so are those up to the end of the window.
+  pub met_within : (number : ℕ) (window : Window) (result : Option ℕ) → windows number ≡ Some window → MeetsIfAny times (clauses number)
+      → result ≡ cond (leb window.hi (now_of log)) (Some (span_number log window.hi)) None → MeetsUpTo times clauses number result
+  met_within number window result at here is =
+      let inside = around number window at in
+      let test : leb window.hi (now_of log) ≡ true = le-leb window.hi (now_of log) inside.4 in
+      let some : Some (span_number log window.hi) ≡ result = sym (is ∙ ap (λ (b : Bool). cond b (Some (span_number log window.hi)) None) test) in
+      subst (MeetsUpTo times clauses number) some (
+        omega (arith, number_rises log inside.0 window.hi inside.3, inside.1),
+        λ other from till all there.
+            elim (cases_eq other number) [
+              | inl same ↦ here all (subst (λ n. clauses n ≡ Some all) same there)
+              | inr apart ↦ absurd (none_later number other window at (omega (arith, from, apart)) till all there)
+            ],
+      )
+
+  -- The clauses are met that are met up to the span of now.
+  pub met_all : (number until : ℕ) → span_number log (now_of log) ≤ until → ((other : ℕ) → other < number → MeetsIfAny times (clauses other))
+      → ((other : ℕ) → number ≤ other → other ≤ until → MeetsIfAny times (clauses other)) → MeetsEach times clauses
+  met_all number until last before here other = elim (cases_lt other number) [
+    | inl below ↦ before other below
+    | inr from ↦ elim (cases_lt until other) [
+      | inl past ↦ (λ all at. absurd (none_past other (omega (arith, last, past)) all at))
+      | inr till ↦ here other from till
+    ]
+  ]
+
+-- the clauses met so far, and those up to a span
+pub met_below : (times : List ℕ) (clauses : ℕ → Option (List (List Constraint))) (number until : ℕ) → ((other : ℕ) → other < number → MeetsIfAny times (clauses other))
+    → ((other : ℕ) → number ≤ other → other ≤ until → MeetsIfAny times (clauses other)) → (other : ℕ) → other < until + 1 → MeetsIfAny times (clauses other)
+met_below times clauses number until before here other below = elim (cases_lt other number) [
+  | inl earlier ↦ before other earlier
+  | inr from ↦ here other from (omega arith)
+]

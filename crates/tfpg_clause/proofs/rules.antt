@@ -1,0 +1,5 @@
+-- Clauses and the propagation rules.
+pub mod MayClauses
+pub mod MustClauses
+pub mod LastDue
+pub mod RulesMet

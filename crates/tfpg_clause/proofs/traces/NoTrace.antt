@@ -1,0 +1,185 @@
+-- Where steps are a refutation, no trace explains the log: its numbers meet some alternative at each split, and so they lead down the
+-- tree to a leaf all of whose constraints they meet, which cannot be.
+use Rattle.std.proofs.Common.{◌≡◌, ℕ, zero, suc, ◌+◌, ◌<◌, List, [], ◌∷◌, ◌++◌, length, Option, Some, None, refl, sym, ap, subst, ◌∙◌, inl, inr, arith}
+use Rattle.std.specs.Prelude.{All, Contains, slice_get, option_map, option_and_then}
+use Rattle.std.proofs.lemmas.Int.{ints}
+use Rattle.std.proofs.lemmas.Option.{option_and_then_some}
+use Rattle.std.proofs.lemmas.List.Elements.{All-head, All-tail}
+use Rattle.tfpg_base.specs.Choice.{item_at}
+use Rattle.tfpg_base.specs.declared.constraint.Constraint.{Constraint}
+use Rattle.tfpg_base.specs.declared.activation.Activation.{Activation}
+use Rattle.tfpg_graph.specs.Graph.{Tfpg}
+use Rattle.tfpg_graph.specs.Reach.{IsReach}
+use Rattle.tfpg_graph.specs.Valid.{IsValid}
+use Rattle.tfpg_graph.proofs.lemmas.zero_cycle.ZeroRanks.{HasZeroOrder-valid}
+use Rattle.tfpg_log.specs.Log.{Logbook, GoesOn, IsLogOf, IsOrdered, now_of, first_events}
+use Rattle.tfpg_log.specs.Explains.{Explains, Fits}
+use Rattle.tfpg_evidence.specs.declared.clause_name.ClauseName.{ClauseName}
+use Rattle.tfpg_evidence.specs.declared.reason.Reason.{Reason}
+use Rattle.tfpg_evidence.specs.declared.reason.Reason.TheVariants.{Zero, Top, Unreached, From, Upto, Quiet, Pick}
+use Rattle.tfpg_base.specs.Constraint.{Meets}
+use Rattle.tfpg_base.proofs.lists.Choices.{Contains-each_of_only}
+use Rattle.tfpg_base.proofs.lists.Elements.{All-at, All-front, All-back, All-from_members, slice_get-contains}
+use Rattle.tfpg_base.proofs.lists.Written.{slice_get-push_cases}
+use Rattle.tfpg_clause.specs.Facts.{fact}
+use Rattle.tfpg_clause.specs.Clauses.{alternatives, count_of, constraint_at, MeetsClause}
+use Rattle.tfpg_clause.specs.Case.{Case, case_of, case_at}
+use Rattle.tfpg_clause.specs.Trees.{Judged, Tree, Leaf, Branch, Subtrees, NoMore, Next, StepPlace, how_many, leaf_place, branch_place, new_split, next_alternative, places, places_from, picked, stated, IsClosedLeaf, IsRight, IsRefutation}
+use Rattle.tfpg_clause.specs.declared.path.PathSplit.{PathSplit}
+use Rattle.tfpg_clause.proofs.traces.TraceAgrees.{of_trace}
+use Rattle.tfpg_clause.proofs.constraints.CycleNotNegative.{not_negative}
+use Rattle.tfpg_clause.proofs.traces.FactsMet.{fact_is_met}
+use Rattle.tfpg_clause.proofs.rules.RulesMet.{clause_is_met}
+use Rattle.tfpg_clause.proofs.logs.StaysAllowed.{fact_stays}
+use Rattle.tfpg_clause.proofs.trees.TreesStay.{first_to_whole, count_stays, picked_stays, refutation_stays}
+use Rattle.tfpg_clause.proofs.traces.NumbersOfTrace.{numbers_of_trace}
+
+module _ (case : Case) (ordered : IsOrdered case.log) (numbers : List ℕ)
+    (facts : (reason : Reason) (constraint : Constraint) → fact case reason ≡ Some constraint → Meets numbers constraint) where
+  -- the numbers meet each constraint that is picked on the path
+  abbrev MeetsPath : List PathSplit → Type 0
+  MeetsPath path = (split number : ℕ) (constraint : Constraint) → picked case.graph case.log path split number ≡ Some constraint → Meets numbers constraint
+
+  -- the numbers meet each constraint that a pick among the reasons states
+  abbrev MeetsCited : List PathSplit → List Reason → Type 0
+  MeetsCited path reasons =
+      (split number : ℕ) (constraint : Constraint) → Contains reasons (Pick split number) → picked case.graph case.log path split number ≡ Some constraint → Meets numbers constraint
+
+  module _ (path : List PathSplit) (seen : ℕ) (reasons : List Reason) (cited : MeetsCited path reasons) where
+    fact_met : (reason : Reason) (constraint : Constraint) → fact (case_at case seen) reason ≡ Some constraint → Meets numbers constraint
+    fact_met reason constraint is =
+        facts reason constraint (fact_stays case.graph (first_events case.log seen) case.log ordered (first_to_whole case.log seen) case.reach reason constraint is)
+
+    stated_met : (reason : Reason) (constraint : Constraint) → Contains reasons reason → stated (case_at case seen) path reason ≡ Some constraint → Meets numbers constraint
+    stated_met (Pick split number) constraint member is =
+        cited split number constraint member (picked_stays (case_at case seen) case.log ordered (first_to_whole case.log seen) path split number constraint is)
+    stated_met (Zero node) constraint member is = fact_met (Zero node) constraint is
+    stated_met (Top node) constraint member is = fact_met (Top node) constraint is
+    stated_met (Unreached node horizon) constraint member is = fact_met (Unreached node horizon) constraint is
+    stated_met (From event) constraint member is = fact_met (From event) constraint is
+    stated_met (Upto event) constraint member is = fact_met (Upto event) constraint is
+    stated_met (Quiet event node) constraint member is = fact_met (Quiet event node) constraint is
+
+    -- Numbers that meet all facts and all that its reasons pick close no leaf.
+    pub no_cited_leaf : IsClosedLeaf (case_at case seen) path reasons → ⊥
+    no_cited_leaf closed =
+        let all : All (Meets numbers) closed.constraints =
+        All-from_members (Meets numbers) closed.constraints
+        (λ constraint member.
+        let from = Contains-each_of_only (stated (case_at case seen) path) reasons closed.constraints constraint closed.hold member in
+        stated_met from.0 constraint from.1 from.2) in
+        let most = not_negative numbers closed.constraints closed.negative_cycle.chained all in
+        let least = closed.negative_cycle.negative in
+        omega (arith, ints)
+
+  -- Numbers that meet all facts and all that is picked on its path close no leaf.
+  pub no_leaf : (path : List PathSplit) (seen : ℕ) (reasons : List Reason) → MeetsPath path → IsClosedLeaf (case_at case seen) path reasons → ⊥
+  no_leaf path seen reasons met closed = no_cited_leaf path seen reasons (λ split number constraint member is. met split number constraint is) closed
+
+  module _ (clauses : (name : ClauseName) (clause : List (List Constraint)) → alternatives case.graph case.log name ≡ Some clause → MeetsClause numbers clause) where
+    -- the numbers meet the alternative that is taken at one more split
+    meets_more : (path : List PathSplit) (split : PathSplit) (clause : List (List Constraint)) (k : ℕ) (alternative : List Constraint) → MeetsPath path
+        → alternatives case.graph case.log split.name ≡ Some clause → split.alternative ≡ suc k → slice_get clause k ≡ Some alternative → All (Meets numbers) alternative
+        → MeetsPath (path ++ split ∷ [])
+    meets_more path split clause k alternative met is alternative_is at all zero number constraint pick = cc
+    meets_more path split clause k alternative met is alternative_is at all (suc i) number constraint pick =
+        option_and_then_some
+        (λ (taken : PathSplit). option_and_then (λ c. constraint_at c taken.alternative number) (alternatives case.graph case.log taken.name))
+        (slice_get (path ++ split ∷ []) i) constraint pick
+        (λ taken there rest.
+        elim (slice_get-push_cases path split i taken there) [
+          | inl before ↦
+              met (suc i) number constraint
+              (ap (option_and_then (λ (t : PathSplit). option_and_then (λ c. constraint_at c t.alternative number) (alternatives case.graph case.log t.name))) before ∙ rest)
+          | inr last ↦
+              own number constraint
+              (subst (λ (t : PathSplit). option_and_then (λ c. constraint_at c t.alternative number) (alternatives case.graph case.log t.name) ≡ Some constraint) (sym last.1) rest)
+        ])
+      where
+        of_alternative : (number : ℕ) (constraint : Constraint) → item_at alternative number ≡ Some constraint → Meets numbers constraint
+        of_alternative zero constraint here = cc
+        of_alternative (suc j) constraint here = All-at (Meets numbers) alternative j constraint all here
+
+        own : (number : ℕ) (constraint : Constraint) → option_and_then (λ c. constraint_at c split.alternative number) (alternatives case.graph case.log split.name) ≡ Some constraint → Meets numbers constraint
+        own number constraint pick =
+            let of_clause : constraint_at clause split.alternative number ≡ Some constraint = sym (ap (option_and_then (λ c. constraint_at c split.alternative number)) is) ∙ pick in
+            let in_alternative : item_at alternative number ≡ Some constraint =
+            sym (ap (λ (n : ℕ). constraint_at clause n number) alternative_is ∙ ap (option_and_then (λ a. item_at a number)) at) ∙ of_clause in
+            of_alternative number constraint in_alternative
+
+    -- the alternative of a clause that they meet
+    record MetAlternative (clause : List (List Constraint)) : Type 0 where
+      k : ℕ
+      alternative : List Constraint
+      within : k < length clause
+      at : slice_get clause k ≡ Some alternative
+      met : All (Meets numbers) alternative
+
+    met_alternative : (clause : List (List Constraint)) → MeetsClause numbers clause → MetAlternative clause
+    met_alternative clause meets =
+        let there = meets.1 in
+        record {
+          k = there.0;
+          alternative = meets.0;
+          within = there.1;
+          at = slice_get-contains clause meets.0 there;
+          met = meets.2;
+        }
+
+    record Allowed (name : ClauseName) (count : ℕ) : Type 0 where
+      clause : List (List Constraint)
+      is : alternatives case.graph case.log name ≡ Some clause
+      many : length clause ≡ count
+
+    allowed_of : (seen : ℕ) (name : ClauseName) (count : ℕ) → count_of case.graph (first_events case.log seen) name ≡ Some count → Allowed name count
+    allowed_of seen name count counted =
+        by (alternatives case.graph case.log name) refl (count_stays (case_at case seen) case.log ordered (first_to_whole case.log seen) name count counted)
+      where
+        by : (found : Option (List (List Constraint))) → alternatives case.graph case.log name ≡ found → option_map length found ≡ Some count → Allowed name count
+        by None is many = cc
+        by (Some clause) is many = let same : length clause ≡ count = cc in record { clause = clause; is = is; many = same }
+
+    mutual
+      no_tree : (path : List PathSplit) (tree : Tree) → All (IsRight case) (places path tree) → MeetsPath path → ⊥
+      no_tree path (Leaf seen reasons) right met = no_leaf path seen reasons met (All-head (IsRight case) (leaf_place path seen reasons) [] right)
+      no_tree path (Branch seen name subtrees) right met =
+          let first : StepPlace = branch_place path seen name (how_many subtrees) in
+          let split : PathSplit = new_split name (how_many subtrees) in
+          let allowed = allowed_of seen name (how_many subtrees) (All-head (IsRight case) first (places_from path split subtrees) right) in
+          let meets = met_alternative allowed.clause (clauses name allowed.clause allowed.is) in
+          no_subtrees path split subtrees meets.k (omega (arith, meets.within, allowed.many)) (All-tail (IsRight case) first (places_from path split subtrees) right)
+          (meets_more path (record split { alternative = 1 + meets.k }) allowed.clause meets.k meets.alternative met allowed.is (omega arith) meets.at meets.met)
+
+      no_subtrees : (path : List PathSplit) (split : PathSplit) (subtrees : Subtrees) (k : ℕ) → k < how_many subtrees → All (IsRight case) (places_from path split subtrees)
+          → MeetsPath (path ++ record split { alternative = split.alternative + k } ∷ []) → ⊥
+      no_subtrees path split NoMore k within right met = omega arith
+      no_subtrees path split (Next tree others) zero within right met =
+          let own : List PathSplit = path ++ split ∷ [] in
+          let same : split.alternative + 0 ≡ split.alternative = omega arith in
+          no_tree own tree (All-front (IsRight case) (places own tree) (places_from path (next_alternative split) others) right)
+          (subst (λ (n : ℕ). MeetsPath (path ++ record split { alternative = n } ∷ [])) same met)
+      no_subtrees path split (Next tree others) (suc k) within right met =
+          let own : List PathSplit = path ++ split ∷ [] in
+          let same : split.alternative + suc k ≡ split.alternative + 1 + k = omega arith in
+          no_subtrees path (next_alternative split) others k (omega arith) (All-back (IsRight case) (places own tree) (places_from path (next_alternative split) others) right)
+          (subst (λ (n : ℕ). MeetsPath (path ++ record split { alternative = n } ∷ [])) same met)
+
+    -- So no steps are a refutation.
+    pub no_refutation : (steps : List Judged) → IsRefutation case steps → ⊥
+    no_refutation steps refutation = no_tree [] refutation.tree refutation.right (λ split number constraint pick. none number constraint split pick)
+      where
+        none : (number : ℕ) (constraint : Constraint) (split : ℕ) → picked case.graph case.log [] split number ≡ Some constraint → Meets numbers constraint
+        none number constraint zero pick = cc
+        none number constraint (suc k) pick = cc
+
+-- Where steps are a refutation at a log, no trace explains a log that goes on from it.
+pub no_trace : (graph : Tfpg) (earlier log : Logbook) (set reach : List ℕ) (steps : List Judged) → IsValid graph → IsLogOf graph log → IsOrdered log → IsReach graph set reach
+    → GoesOn earlier log → IsRefutation (case_of graph earlier reach) steps → Fits graph log set → ⊥
+no_trace graph earlier log set reach steps valid of ordered is_reach goes_on refutation fits =
+    let trace : List Activation = fits.0 in
+    let explains : Explains graph log set trace = fits.1 in
+    let numbers = numbers_of_trace graph log set trace ordered explains in
+    no_refutation (case_of graph log reach) ordered numbers.0
+    (λ reason constraint is. fact_is_met graph log set reach is_reach of ordered trace numbers.0 (HasZeroOrder-valid graph valid) explains numbers.1 reason constraint is)
+    (λ name clause is. clause_is_met graph log trace numbers.0 valid (of_trace graph (now_of log) trace numbers.0 explains.by_now numbers.1) explains.rules name clause is)
+    steps (refutation_stays (case_of graph earlier reach) log ordered goes_on steps refutation)

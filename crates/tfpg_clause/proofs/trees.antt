@@ -1,0 +1,9 @@
+-- Trees, their places, and the path of the present leaf.
+pub mod LeafPaths
+pub mod TreeWalk
+pub mod Grafts
+pub mod PresentLeaf
+pub mod TreeSteps
+pub mod LeafSteps
+pub mod TreeFronts
+pub mod TreesStay

@@ -1,0 +1,82 @@
+-- Going through the places of a tree, the path of the present leaf is that of the next place.
+use Rattle.std.proofs.Common.{◌≡◌, ℕ, suc, ◌+◌, ◌<◌, List, [], ◌∷◌, ◌++◌, Option, Some, sym, ap, subst, ◌∙◌, inl, inr, arith}
+use Rattle.std.specs.Prelude.{All, map, option_map}
+use Rattle.std.proofs.lemmas.List.Elements.{All-head, All-tail}
+use Rattle.std.proofs.lemmas.List.{map-append, append-nil}
+use Rattle.tfpg_base.proofs.lists.Cuts.{cut_twice}
+use Rattle.tfpg_base.proofs.lists.Elements.{All-front, All-back}
+use Rattle.tfpg_log.specs.Log.{first_events}
+use Rattle.tfpg_clause.specs.Case.{Case}
+use Rattle.tfpg_clause.specs.Clauses.{count_of}
+use Rattle.tfpg_clause.specs.Trees.{Judged, Tree, Leaf, Branch, Subtrees, NoMore, Next, StepPlace, how_many, leaf_place, branch_place, new_split, next_alternative, places, places_from, IsRight}
+use Rattle.tfpg_clause.specs.declared.path.PathSplit.{PathSplit}
+use Rattle.tfpg_clause.proofs.trees.LeafPaths.{leaf_next, leaf_after, after_both, closed_more, closed_last}
+use Rattle.tfpg_clause.proofs.alternatives.SomeAlternative.{some_alternative}
+use Rattle.tfpg_clause.specs.Paths.{next_leaf}
+
+-- the steps of some places
+abbrev pub steps_of_places : List StepPlace → List Judged
+steps_of_places all = map (λ (place : StepPlace). place.step) all
+
+-- the path of the first place, and else this one
+abbrev pub first_path : Option (List PathSplit) → List StepPlace → Option (List PathSplit)
+first_path end [] = end
+first_path end (place ∷ others) = Some place.path
+
+module _ (case : Case) where
+  abbrev after : Option (List PathSplit) → List Judged → Option (List PathSplit)
+  after leaf steps = leaf_after case leaf steps
+
+  -- after the subtree of an alternative: on to the next, if there is one
+  past_first : (path : List PathSplit) (split : PathSplit) (others : Subtrees) (mid back : List StepPlace) → split.alternative + suc (how_many others) ≡ split.alternatives + 1
+      → places_from path (next_alternative split) others ≡ mid ++ back
+      → (0 < how_many others → after (Some (path ++ next_alternative split ∷ [])) (steps_of_places mid) ≡ first_path (next_leaf path) back)
+      → after (next_leaf (path ++ split ∷ [])) (steps_of_places mid) ≡ first_path (next_leaf path) back
+  past_first path split NoMore [] [] last same next = closed_last path split (omega arith)
+  past_first path split NoMore [] (b ∷ back) last same next = absurd cc
+  past_first path split NoMore (m ∷ mid) back last same next = absurd cc
+  past_first path split (Next tree others) mid back last same next =
+      ap (λ (leaf : Option (List PathSplit)). after leaf (steps_of_places mid)) (closed_more path split (omega arith)) ∙ next (omega arith)
+
+  mutual
+    -- Where the places of a tree are cut in two, the steps of the front lead to the path of the first place of the back.
+    pub walk_tree : (path : List PathSplit) (tree : Tree) (front back : List StepPlace) → places path tree ≡ front ++ back → All (IsRight case) front
+        → after (Some path) (steps_of_places front) ≡ first_path (next_leaf path) back
+    walk_tree path (Leaf seen reasons) [] back same right = ap (first_path (next_leaf path)) same
+    walk_tree path (Leaf seen reasons) (f ∷ []) [] same right =
+        let head : leaf_place path seen reasons ≡ f = cc in
+        ap (λ (p : StepPlace). leaf_next case path p.step.seen p.step.step) (sym head)
+    walk_tree path (Leaf seen reasons) (f ∷ []) (b ∷ back) same right = absurd cc
+    walk_tree path (Leaf seen reasons) (f ∷ g ∷ front) back same right = absurd cc
+    walk_tree path (Branch seen name subtrees) [] back same right = ap (first_path (next_leaf path)) same
+    walk_tree path (Branch seen name subtrees) (f ∷ front) back same right =
+        let head : f ≡ branch_place path seen name (how_many subtrees) = cc in
+        let split : PathSplit = new_split name (how_many subtrees) in
+        let tail : places_from path split subtrees ≡ front ++ back = cc in
+        let count : count_of case.graph (first_events case.log seen) name ≡ Some (how_many subtrees) = subst (IsRight case) head (All-head (IsRight case) f front right) in
+        ap (λ (p : StepPlace). after (leaf_next case path p.step.seen p.step.step) (steps_of_places front)) head
+        ∙ ap (λ (c : Option ℕ). after (option_map (λ (n : ℕ). path ++ new_split name n ∷ []) c) (steps_of_places front)) count
+        ∙ walk_from path split subtrees front back tail (All-tail (IsRight case) f front right) (omega arith) (some_alternative case.graph (first_events case.log seen) name (how_many subtrees) count)
+
+    walk_from : (path : List PathSplit) (split : PathSplit) (subtrees : Subtrees) (front back : List StepPlace)
+        → places_from path split subtrees ≡ front ++ back → All (IsRight case) front
+        → split.alternative + how_many subtrees ≡ split.alternatives + 1 → 0 < how_many subtrees
+        → after (Some (path ++ split ∷ [])) (steps_of_places front) ≡ first_path (next_leaf path) back
+    walk_from path split NoMore front back same right last some = absurd (omega arith)
+    walk_from path split (Next tree others) front back same right last some =
+        let own : List PathSplit = path ++ split ∷ [] in
+        elim (cut_twice (places own tree) (places_from path (next_alternative split) others) front back same) [
+          | inl past ↦
+              let split_right : All (IsRight case) (places own tree ++ past.mid) = subst (All (IsRight case)) past.front_is right in
+              let own_right : All (IsRight case) (places own tree) = All-front (IsRight case) (places own tree) past.mid split_right in
+              ap (λ (f : List StepPlace). after (Some own) (steps_of_places f)) past.front_is
+              ∙ ap (after (Some own)) (map-append (λ (place : StepPlace). place.step) (places own tree) past.mid)
+              ∙ after_both case (Some own) (steps_of_places (places own tree)) (steps_of_places past.mid)
+              ∙ ap (λ (leaf : Option (List PathSplit)). after leaf (steps_of_places past.mid)) (walk_tree own tree (places own tree) [] (sym (append-nil (places own tree))) own_right)
+              ∙ past_first path split others past.mid back (omega arith) past.rest_is
+              (λ more. walk_from path (next_alternative split) others past.mid back past.rest_is
+              (All-back (IsRight case) (places own tree) past.mid split_right) (omega arith) more)
+          | inr within ↦
+              walk_tree own tree front (within.here ∷ within.mid) within.xs_is right
+              ∙ sym (ap (first_path (next_leaf path)) within.back_is)
+        ]

@@ -1,0 +1,285 @@
+-- What a round finds of one hypothesis.
+use Rattle.std.proofs.Common.{◌≡◌, ℕ, ◌+◌, ◌<◌, ◌≤◌, ◌⊎◌, inl, inr, ◌↔◌, Bool, true, false, cond, List, [], ◌∷◌, ◌++◌, length, get_or, take, set as set_at, refl, sym, ap, subst, ◌∙◌, arith}
+use Rattle.std.proofs.Math.Arith.{lt_of_le-ne}
+use Rattle.std.specs.Prelude.{IsTrue, ◌==◌, Ok, Some, slice_get}
+use Rattle.std.proofs.lemmas.List.{append-nil, length-append, length-set, take-append-le, take_at}
+use Rattle.std.proofs.lemmas.Option.{slice_get-get_or, slice_get_within, get_or_from_slice_get, same_Some}
+use Rattle.tfpg_base.proofs.lists.Sequences.{below_or_last}
+use Rattle.tfpg_base.proofs.lists.Written.{slice_get-set_same, slice_get-set_other, slice_get-push_before, slice_get-push_at}
+use Rattle.tfpg_base.specs.Hypothesis.{Hypothesis, IsProperPart, believing}
+use Rattle.std.proofs.lemmas.Bool.Decides.{nat_tests}
+use Rattle.tfpg_base.proofs.lists.Cuts.{append_cons-not_nil}
+use Rattle.tfpg_graph.specs.Graph.{Tfpg}
+use Rattle.tfpg_log.specs.Log.{Logbook, IsOrdered, first_events}
+use Rattle.tfpg_log.proofs.events.Events.{whole_log}
+use Rattle.tfpg_evidence.specs.declared.finding.Finding.{Finding}
+use Rattle.tfpg_evidence.specs.declared.finding.Status.{Status}
+use Rattle.tfpg_evidence.specs.declared.finding.Status.TheVariants as status
+use Rattle.tfpg_evidence.specs.declared.step.Step.{Step}
+use Rattle.tfpg_evidence.specs.RoundOf.{is_ranked, is_open}
+use Rattle.tfpg_evidence.specs.Findings.{hypothesis_of}
+use Rattle.tfpg_clause.specs.Case.{Case, case_of}
+use Rattle.tfpg_clause.specs.Trees.{Judged, IsPartial, IsRefutation, split_count}
+use Rattle.tfpg_hyp.specs.Hypotheses.{Hypotheses, Row, IsRowOf}
+use Rattle.tfpg_hyp.specs.declared.ranking_key.Fraction.{Fraction}
+use Rattle.tfpg_hyp.specs.Ranking.{cost_of, robustness_of, monitored_in, alarmed_in}
+use Rattle.tfpg_hyp.specs.Rounds.{Inquiry, IsRankedPart, HasRankedPart, IsLeastPart}
+use Rattle.tfpg_log.specs.Explains.{Explains}
+use Rattle.tfpg_search.specs.Enough.{IsEnough}
+use Rattle.tfpg_search.specs.Live.{HasNoNameTwice, IsUnsettled}
+use Rattle.tfpg_search.specs.SearchState.{SearchState}
+use Rattle.tfpg_search.specs.Represents.{SearchRepresents}
+use Rattle.tfpg_clause.specs.Paths.{with_steps}
+use Rattle.tfpg_search.specs.Searched.{AreSearchSteps, Finds, IsSearched}
+use Rattle.tfpg_search.specs.declared.found.Found.{Found}
+use Rattle.tfpg_search.specs.declared.found.Found.TheVariants.{Shown, Closed, Spent}
+use Rattle.tfpg_engine.specs.declared.slot.Slot.{Slot}
+use Rattle.tfpg_engine.specs.declared.slot.Slot.TheVariants.{Untouched, Searched, Rejected}
+use Rattle.tfpg_engine.specs.Earned.{IsEarned}
+use Rattle.tfpg_engine.specs.EngineState.{SlotRepresents}
+use Rattle.tfpg_engine.specs.inside.TreeLaws.{TreeLaws}
+use Rattle.tfpg_engine.specs.inside.NewFindings.{is_rejected_slot, kept, status_by, RanksByFraction, GoesOnFrom, IsNewFinding, AreFirstFindings}
+use Rattle.tfpg_engine.proofs.KeptStaysRight.{slot_partial}
+
+-- ---- the robustness of a set is a fraction
+
+fraction_by : (monitored alarmed : ℕ) (b : Bool) → (monitored == 0) ≡ b → 1 ≤ (cond {A = Fraction} b (record { alarmed = 1; monitored = 1 }) (record { alarmed = alarmed; monitored = monitored })).monitored
+fraction_by monitored alarmed true is = omega arith
+fraction_by monitored alarmed false is = grind (arith, nat_tests)
+
+fraction_of : (graph : Tfpg) (log : Logbook) (reach : List ℕ) → 1 ≤ (robustness_of graph log reach).monitored
+fraction_of graph log reach = fraction_by (monitored_in graph reach) (alarmed_in graph log reach) (monitored_in graph reach == 0) refl
+
+module _ (inquiry : Inquiry) (set reach : List ℕ) (number : ℕ) (findings : List Finding) (ordered : IsOrdered inquiry.log) where
+  abbrev graph : Tfpg
+  graph = inquiry.graph
+
+  abbrev log : Logbook
+  log = inquiry.log
+
+  abbrev budget : ℕ
+  budget = inquiry.terms.budget
+
+  abbrev case : Case
+  case = case_of graph log reach
+
+  abbrev row : Row
+  row = record { number = number; hypothesis = believing set; reach = reach }
+
+  -- ---- a hypothesis that is not searched
+
+  no_steps : (earlier : List Judged) → with_steps earlier log [] ≡ earlier
+  no_steps earlier = append-nil earlier
+
+  abbrev passed : Status → Finding
+  passed s = record { number = number; set = set; doubts = []; steps = []; status = s }
+
+  earned_none : (earlier : List Judged) (s : Status) → is_open s ≡ false → HasNoNameTwice case earlier → IsEarned case budget earlier (passed s)
+  earned_none earlier s none_open names = record {
+    steps = record {
+      each = λ front step back is. absurd (append_cons-not_nil front step back is);
+      names = subst (HasNoNameTwice case) (sym (no_steps earlier)) names;
+    };
+    within = omega arith;
+    unsettled = λ holds. (let clash : true ≡ false = sym holds ∙ none_open in cc);
+  }
+
+  rejected_goes : (slot : Slot) → is_rejected_slot slot ≡ true → (earlier : List Judged) → SlotRepresents case (believing set) slot earlier
+      → GoesOnFrom inquiry row findings earlier slot (passed status.Rejected)
+  rejected_goes Untouched is earlier represents = cc
+  rejected_goes (Searched search) is earlier represents = cc
+  rejected_goes Rejected is earlier represents = record {
+    represents = subst (SlotRepresents case (believing set) Rejected) (sym (no_steps earlier)) represents;
+    evidence = subst (IsRefutation case) (sym (no_steps earlier)) represents.0;
+    earned = earned_none earlier status.Rejected refl represents.1;
+  }
+
+  -- A rejected hypothesis is passed over.
+  pub new_finding_rejected : (slot : Slot) → is_rejected_slot slot ≡ true → IsNewFinding inquiry row findings slot slot (passed status.Rejected)
+  new_finding_rejected slot is = record { number_is = refl; hypothesis_is = refl; whole = λ key key_is. cc; none_open = λ enough. refl; goes_on = rejected_goes slot is }
+
+  -- So is one with a ranked proper part.
+  pub new_finding_covered : TreeLaws → (slot : Slot) (by : ℕ) → is_rejected_slot slot ≡ false → IsLeastPart findings (believing set) by → IsNewFinding inquiry row findings slot slot (passed (status.Covered by))
+  new_finding_covered laws slot by open_yet least = record {
+    number_is = refl;
+    hypothesis_is = refl;
+    whole = λ key key_is. cc;
+    none_open = λ enough. refl;
+    goes_on = λ earlier represents.
+        let good = slot_partial laws case ordered (believing set) slot earlier open_yet represents in
+        record {
+          represents = subst (SlotRepresents case (believing set) slot) (sym (no_steps earlier)) represents;
+          evidence = (subst (IsPartial case) (sym (no_steps earlier)) good.partial, refl, least);
+          earned = earned_none earlier (status.Covered by) refl good.names;
+        };
+  }
+
+  -- ---- a hypothesis that is searched
+
+  module _ (old : Slot) (before new : SearchState) (steps : List Step) (none : HasRankedPart findings (believing set) → ⊥)
+      (begins : (earlier : List Judged) → SlotRepresents case (believing set) old earlier → SlotRepresents case (believing set) (Searched before) earlier)
+      (same_set : new.set ≡ before.set) (same_reach : new.reach ≡ before.reach) (seen : new.seen ≡ length log.events) where
+    abbrev searched_finding : Status → Finding
+    searched_finding s = record { number = number; set = set; doubts = []; steps = steps; status = s }
+
+    abbrev status_of : Found → Status
+    status_of found = status_by (cost_of graph (believing set)) (robustness_of graph log reach) found
+
+    whole_of : (found : Found) → RanksByFraction number (status_of found)
+    whole_of (Shown trace) key is =
+        let robust : (robustness_of graph log reach).monitored ≡ key.robust.monitored = cc in
+        subst (λ (n : ℕ). 1 ≤ n) robust (fraction_of graph log reach)
+    whole_of Closed key is = cc
+    whole_of Spent key is = cc
+
+    module _ (earlier : List Judged) (is_set : new.set ≡ set) (is_reach : new.reach ≡ reach) (within : split_count steps ≤ budget) (right : AreSearchSteps case earlier steps) where
+      abbrev all : List Judged
+      all = with_steps earlier log steps
+
+      still : SearchRepresents graph log new all → SlotRepresents case (believing set) (Searched new) all
+      still represents =
+          let at_seen : log ≡ first_events log new.seen = sym (ap (first_events log) seen ∙ whole_log log) in
+          (is_set, is_reach, subst (λ (l : Logbook). SearchRepresents graph l new all) at_seen represents)
+
+      partial_of : SearchRepresents graph log new all → IsPartial case all
+      partial_of represents = subst (λ (r : List ℕ). IsPartial (case_of graph log r) all) is_reach represents.leaf.partial
+
+      goes : (found : Found) → Finds (case_of graph log new.reach) budget steps all new found → GoesOnFrom inquiry row findings earlier (kept new found) (searched_finding (status_of found))
+      goes (Shown trace) finds = record {
+        represents = still finds.1;
+        evidence = (partial_of finds.1, subst (λ (s : List ℕ). Explains graph log s trace) is_set finds.0, none, refl, refl);
+        earned = record { steps = right; within = within; unsettled = λ holds. cc };
+      }
+      goes Closed finds =
+          let refutes : IsRefutation case all = subst (λ (r : List ℕ). IsRefutation (case_of graph log r) all) is_reach finds in
+          record {
+            represents = (refutes, right.names);
+            evidence = refutes;
+            earned = record { steps = right; within = within; unsettled = λ holds. cc };
+          }
+      goes Spent finds = record {
+        represents = still finds.2;
+        evidence = (partial_of finds.2, none, finds.0);
+        earned = record { steps = right; within = within; unsettled = λ holds. subst (λ (r : List ℕ). IsUnsettled (case_of graph log r) all) is_reach finds.1 };
+      }
+
+    -- with a budget that is enough it is not open
+    none_open_of : (found : Found) → (IsEnough graph log budget → found ≡ Spent → ⊥) → IsEnough graph log budget → is_open (status_of found) ≡ false
+    none_open_of (Shown trace) never enough = refl
+    none_open_of Closed never enough = refl
+    none_open_of Spent never enough = absurd (never enough refl)
+
+    -- The finding on a hypothesis that is searched on.
+    pub new_finding_searched : (found : Found) → (IsEnough graph log budget → found ≡ Spent → ⊥) → IsSearched graph log budget (record { old = before; new = new; before = []; after = steps }) (Ok found)
+        → IsNewFinding inquiry row findings old (kept new found) (searched_finding (status_of found))
+    new_finding_searched found never searched = record {
+      number_is = refl;
+      hypothesis_is = refl;
+      whole = whole_of found;
+      none_open = none_open_of found never;
+      goes_on = λ earlier represents.
+          let start = begins earlier represents in
+          let added : searched.added ≡ steps = sym searched.appended in
+          let right = subst (λ (r : List ℕ). AreSearchSteps (case_of graph log r) earlier steps) start.1
+          (subst (AreSearchSteps (case_of graph log before.reach) earlier) added (searched.right earlier start.2)) in
+          goes earlier (same_set ∙ start.0) (same_reach ∙ start.1) (subst (λ (s : List Step). split_count s ≤ budget) added searched.within) right found
+          (subst (λ (s : List Step). Finds (case_of graph log new.reach) budget s (with_steps earlier log s) new found) added (searched.found earlier start.2));
+    }
+
+-- ---- which ranked hypothesis covers one
+
+module _ (findings : List Finding) (hypothesis : Hypothesis) (number : ℕ) where
+  -- the finding of this number does not rank a proper part of the hypothesis
+  pub not_yet : (read : Finding) (covers : Bool) → read ≡ get_or findings number read → ((other : ℕ) → IsRankedPart findings hypothesis other → number ≤ other)
+      → IsTrue covers ↔ (IsTrue (is_ranked read.status) × IsProperPart (hypothesis_of read) hypothesis) → covers ≡ false → (other : ℕ) → IsRankedPart findings hypothesis other → number + 1 ≤ other
+  not_yet read covers is so_far test not_covering other part = omega (arith, lt_of_le-ne (so_far other part) (differs other part))
+    where
+      differs : (other : ℕ) → IsRankedPart findings hypothesis other → number ≡ other → ⊥
+      differs other part same =
+          let here : read ≡ part.finding = is ∙ get_or_from_slice_get findings number part.finding read (ap (slice_get findings) same ∙ part.numbered) in
+          let holds : IsTrue covers = test.1 (subst (λ (f : Finding). IsTrue (is_ranked f.status)) (sym here) part.ranked, subst (λ (f : Finding). IsProperPart (hypothesis_of f) hypothesis) (sym here) part.part) in
+          let clash : true ≡ false = sym holds ∙ not_covering in
+          cc
+
+  pub none_at_all : length findings ≤ number → ((other : ℕ) → IsRankedPart findings hypothesis other → number ≤ other) → HasRankedPart findings hypothesis → ⊥
+  none_at_all long so_far has = absurd (omega (arith, long, so_far has.0 has.1, slice_get_within findings has.0 has.1.finding has.1.numbered))
+
+-- ---- one hypothesis after the other
+
+same_new_finding : (inquiry : Inquiry) (row row' : Row) (fs fs' : List Finding) (a a' b b' : Slot) (f f' : Finding) → row ≡ row' → fs ≡ fs' → a ≡ a' → b ≡ b' → f ≡ f'
+    → IsNewFinding inquiry row fs a b f → IsNewFinding inquiry row' fs' a' b' f'
+same_new_finding inquiry row row' fs fs' a a' b b' f f' e1 e2 e3 e4 e5 is_new =
+    subst (λ (x : Row). IsNewFinding inquiry x fs' a' b' f') e1
+    (subst (λ (x : List Finding). IsNewFinding inquiry row x a' b' f') e2
+    (subst (λ (x : Slot). IsNewFinding inquiry row fs x b' f') e3
+    (subst (λ (x : Slot). IsNewFinding inquiry row fs a x f') e4
+    (subst (λ (x : Finding). IsNewFinding inquiry row fs a b x) e5 is_new))))
+
+-- rows of one table with one number are the same
+pub same_row : (table : Hypotheses) (one other : Row) → IsRowOf table one → IsRowOf table other → one.number ≡ other.number → one ≡ other
+same_row table one other is also same = λ i. record {
+  number = same i;
+  hypothesis = same_Some one.hypothesis other.hypothesis (sym is.hypothesis ∙ ap (slice_get table.hypotheses) same ∙ also.hypothesis) i;
+  reach = same_Some one.reach other.reach (sym is.reach ∙ ap (slice_get table.reaches) same ∙ also.reach) i;
+}
+
+pub none_found : (inquiry : Inquiry) (table : Hypotheses) (slots : List Slot) → AreFirstFindings inquiry table slots slots [] 0
+none_found inquiry table slots =
+    record { counted = refl; one_each = refl; each = λ row is before now finding at_before at_now at. cc; same = λ number least. refl }
+
+module _ (inquiry : Inquiry) (table : Hypotheses) (old slots : List Slot) (findings : List Finding) (row : Row) (so_far : AreFirstFindings inquiry table old slots findings row.number)
+    (before now : Slot) (finding : Finding) (at_row : IsRowOf table row)
+    (at_slot : slice_get slots row.number ≡ Some before) (is_new : IsNewFinding inquiry row findings before now finding) where
+  abbrev slots_now : List Slot
+  slots_now = set_at slots row.number now
+
+  abbrev findings_now : List Finding
+  findings_now = findings ++ finding ∷ []
+
+  -- one more finding
+  pub turned : AreFirstFindings inquiry table old slots_now findings_now (row.number + 1)
+  turned = record {
+    counted = omega (arith, length-append findings (finding ∷ []), so_far.counted);
+    one_each = length-set slots row.number now ∙ so_far.one_each;
+    each = λ other is b w f at_b at_w at_f.
+        by other is b w f at_b at_w at_f (below_or_last other.number row.number (omega (arith, slice_get_within findings_now other.number f at_f, length-append findings (finding ∷ []), so_far.counted)));
+    same = λ n least. slice_get-set_other slots row.number n now (λ same. omega (arith, same, least)) ∙ so_far.same n (omega (arith, least));
+  }
+    where
+      by : (other : Row) → IsRowOf table other → (b w : Slot) (f : Finding) → slice_get old other.number ≡ Some b → slice_get slots_now other.number ≡ Some w
+          → slice_get findings_now other.number ≡ Some f → (other.number < row.number) ⊎ (other.number ≡ row.number) → IsNewFinding inquiry other (take other.number findings_now) b w f
+      by other is b w f at_b at_w at_f (inl less) =
+          let within : other.number < length findings = omega (arith, less, so_far.counted) in
+          let front : take other.number findings_now ≡ take other.number findings = take-append-le other.number findings (finding ∷ []) (omega (arith, within)) in
+          subst (λ (fs : List Finding). IsNewFinding inquiry other fs b w f) (sym front)
+          (so_far.each other is b w f at_b (sym (slice_get-set_other slots row.number other.number now (λ same. omega (arith, same, less))) ∙ at_w)
+          (sym (slice_get-push_before findings finding other.number within) ∙ at_f))
+      by other is b w f at_b at_w at_f (inr same) =
+          let inside : row.number < length slots = slice_get_within slots row.number before at_slot in
+          same_new_finding inquiry row other findings (take other.number findings_now) before b now w finding f (same_row table row other at_row is (sym same))
+          (sym (ap (λ (m : ℕ). take m findings_now) same ∙ take_at findings (finding ∷ []) row.number so_far.counted))
+          (same_Some before b (sym at_slot ∙ so_far.same row.number (omega arith) ∙ ap (slice_get old) (sym same) ∙ at_b))
+          (same_Some now w (sym (slice_get-set_same slots row.number now inside) ∙ ap (slice_get slots_now) (sym same) ∙ at_w))
+          (same_Some finding f (sym (slice_get-push_at findings finding row.number (sym so_far.counted)) ∙ ap (slice_get findings_now) (sym same) ∙ at_f)) is_new
+
+-- ---- what a new finding takes
+
+module _ (inquiry : Inquiry) (table : Hypotheses) (old slots : List Slot) (findings : List Finding) (number : ℕ) (so_far : AreFirstFindings inquiry table old slots findings number)
+    (one_each : length old ≡ length table.hypotheses) (within : number < length table.hypotheses) where
+  -- what is kept of the hypothesis of this number is what was kept before
+  pub slot_there : (d : Slot) → slice_get slots number ≡ Some (get_or slots number d)
+  slot_there d = slice_get-get_or slots number d (omega (arith, so_far.one_each, one_each, within))
+
+  pub slot_before : (d : Slot) → slice_get old number ≡ Some (get_or slots number d)
+  slot_before d = sym (so_far.same number (omega arith)) ∙ slot_there d
+
+  -- one more finding, as the code has them
+  pub found_by : (hypothesis : Hypothesis) (reach : List ℕ) (d now : Slot) (finding : Finding) (read after : List Finding) → slice_get table.hypotheses number ≡ Some hypothesis
+      → slice_get table.reaches number ≡ Some reach → read ≡ findings → after ≡ findings ++ finding ∷ []
+      → IsNewFinding inquiry (record { number = number; hypothesis = hypothesis; reach = reach }) read (get_or slots number d) now finding
+      → AreFirstFindings inquiry table old (set_at slots number now) after (number + 1)
+  found_by hypothesis reach d now finding read after at_hypothesis at_reach is_read is_after is_new =
+      let row : Row = record { number = number; hypothesis = hypothesis; reach = reach } in
+      subst (λ (fs : List Finding). AreFirstFindings inquiry table old (set_at slots number now) fs (number + 1)) (sym is_after)
+      (turned inquiry table old slots findings row so_far (get_or slots number d) now finding (record { hypothesis = at_hypothesis; reach = at_reach }) (slot_there d)
+      (subst (λ (fs : List Finding). IsNewFinding inquiry row fs (get_or slots number d) now finding) is_read is_new))

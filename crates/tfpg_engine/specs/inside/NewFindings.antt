@@ -1,0 +1,105 @@
+-- What a round finds of one hypothesis after the other, whatever the earlier rounds were.
+use Rattle.std.specs.Prelude.{◌≡◌, ℕ, ◌≤◌, List, length, take, All, Bool, true, false, Some, slice_get}
+use Rattle.tfpg_graph.specs.Graph.{Tfpg, AreFailures}
+use Rattle.tfpg_log.specs.Log.{now_of}
+use Rattle.tfpg_evidence.specs.declared.finding.Finding.{Finding}
+use Rattle.tfpg_evidence.specs.declared.finding.Status.{Status}
+use Rattle.tfpg_evidence.specs.declared.round.Round.{Round}
+use Rattle.tfpg_evidence.specs.declared.finding.Status.TheVariants as status
+use Rattle.tfpg_evidence.specs.RoundOf.{is_open}
+use Rattle.tfpg_evidence.specs.Findings.{hypothesis_of}
+use Rattle.tfpg_clause.specs.Trees.{Judged}
+use Rattle.tfpg_hyp.specs.Hypotheses.{Hypotheses, Row, IsRowOf, AreReaches}
+use Rattle.tfpg_hyp.specs.declared.ranking_key.Fraction.{Fraction}
+use Rattle.tfpg_hyp.specs.declared.ranking_key.RankingKey.{RankingKey}
+use Rattle.tfpg_hyp.specs.Rounds.{Inquiry, HasEvidence, IsOrder, counts_of, key_of_status}
+use Rattle.tfpg_search.specs.Enough.{IsEnough}
+use Rattle.tfpg_search.specs.SearchState.{SearchState}
+use Rattle.tfpg_clause.specs.Paths.{with_steps}
+use Rattle.tfpg_search.specs.declared.found.Found.{Found}
+use Rattle.tfpg_search.specs.declared.found.Found.TheVariants as found
+use Rattle.tfpg_engine.specs.declared.slot.Slot.{Slot}
+use Rattle.tfpg_engine.specs.declared.slot.Slot.TheVariants.{Untouched, Searched, Rejected}
+use Rattle.tfpg_engine.specs.EngineState.{SlotRepresents}
+use Rattle.tfpg_engine.specs.Earned.{IsEarned}
+use Rattle.tfpg_engine.specs.inside.Inquiries.{case_of_row}
+use Rattle.tfpg_engine.specs.inside.RankedKeys.{HasFraction}
+
+-- the test of a slot that is rejected
+abbrev pub is_rejected_slot : Slot → Bool
+is_rejected_slot Untouched = false
+is_rejected_slot (Searched search) = false
+is_rejected_slot Rejected = true
+
+-- what is kept of a search that found this
+abbrev pub kept : SearchState → Found → Slot
+kept search (found.Shown trace) = Searched search
+kept search found.Closed = Rejected
+kept search found.Spent = Searched search
+
+-- the status by the cost and the robustness of a set, and by what was found
+abbrev pub status_by : ℕ → Fraction → Found → Status
+status_by cost robust (found.Shown trace) = status.Ranked trace cost robust.alarmed robust.monitored
+status_by cost robust found.Closed = status.Rejected
+status_by cost robust found.Spent = status.Open
+
+-- Where the status ranks, its robustness is a fraction.
+abbrev pub RanksByFraction : ℕ → Status → Type 0
+RanksByFraction number status = (key : RankingKey) → key_of_status number status ≡ Some key → HasFraction key
+
+-- The finding goes on from these steps: what is kept represents the steps with those of the finding, which are its evidence
+-- and are earned.
+pub record GoesOnFrom (inquiry : Inquiry) (row : Row) (findings : List Finding) (earlier : List Judged)
+    (slot : Slot) (finding : Finding) : Type 0 where
+  pub represents : SlotRepresents (case_of_row inquiry row) row.hypothesis slot
+      (with_steps earlier inquiry.log finding.steps)
+  pub evidence : HasEvidence (case_of_row inquiry row) inquiry.terms.budget findings
+      (with_steps earlier inquiry.log finding.steps) finding finding.status
+  pub earned : IsEarned (case_of_row inquiry row) inquiry.terms.budget earlier finding
+
+-- The finding on the hypothesis of a row, after these findings, and what was kept of it before and is kept now.
+pub record IsNewFinding (inquiry : Inquiry) (row : Row) (findings : List Finding) (old new : Slot)
+    (finding : Finding) : Type 0 where
+  pub number_is : finding.number ≡ row.number
+  pub hypothesis_is : hypothesis_of finding ≡ row.hypothesis
+  pub whole : RanksByFraction row.number finding.status
+  pub none_open : IsEnough inquiry.graph inquiry.log inquiry.terms.budget → is_open finding.status ≡ false
+  pub goes_on : (earlier : List Judged)
+      → SlotRepresents (case_of_row inquiry row) row.hypothesis old earlier
+      → GoesOnFrom inquiry row findings earlier new finding
+
+-- The finding on a row is new after the findings before it.
+abbrev pub HasNewFinding : Inquiry → Row → List Slot → List Slot → List Finding → Type 0
+HasNewFinding inquiry row old new findings =
+    (before now : Slot) (finding : Finding) → slice_get old row.number ≡ Some before →
+    slice_get new row.number ≡ Some now → slice_get findings row.number ≡ Some finding →
+    IsNewFinding inquiry row (take row.number findings) before now finding
+
+-- These are the findings on the first hypotheses of the table, each after those before it.
+abbrev pub AreNewFindings : Inquiry → Hypotheses → List Slot → List Slot → List Finding → Type 0
+AreNewFindings inquiry table old new findings =
+    (row : Row) → IsRowOf table row → HasNewFinding inquiry row old new findings
+
+-- The same, where the slots of the hypotheses after those are as they were.
+pub record AreFirstFindings (inquiry : Inquiry) (table : Hypotheses) (old new : List Slot)
+    (findings : List Finding) (count : ℕ) : Type 0 where
+  pub counted : length findings ≡ count
+  pub one_each : length new ≡ length old
+  pub each : AreNewFindings inquiry table old new findings
+  pub same : (number : ℕ) → count ≤ number → slice_get new number ≡ slice_get old number
+
+-- a table of hypotheses of failure modes of the graph, with what each reaches
+pub record IsOfGraph (graph : Tfpg) (table : Hypotheses) : Type 0 where
+  pub members : All (λ hypothesis. AreFailures graph hypothesis.set) table.hypotheses
+  pub reached : AreReaches graph table.hypotheses table.reaches
+
+-- A finding on each hypothesis was made, they were put in order and counted.
+pub record MakesRound (inquiry : Inquiry) (table : Hypotheses) (old new : List Slot) (line : ℕ)
+    (round : Round) : Type 0 where
+  pub number : round.number ≡ length inquiry.log.events
+  pub line_is : round.line ≡ line
+  pub now_is : round.now ≡ now_of inquiry.log
+  pub complete : length round.findings ≡ length table.hypotheses
+  pub each : AreNewFindings inquiry table old new round.findings
+  pub order : IsOrder round.findings round.order
+  pub counts : round.counts ≡ counts_of round.findings

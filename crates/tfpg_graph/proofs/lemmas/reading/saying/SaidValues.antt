@@ -1,0 +1,122 @@
+-- A statement without a cause has a value, and its words are those of the value.
+use Rattle.std.proofs.Common.{◌≡◌, ℕ, Bool, true, false, nat_lt, cond, List, [], ◌∷◌, Option, Some, None, unwrap_or, codes, refl, ap, sym, ◌∙◌, arith}
+use Rattle.std.specs.Prelude.{decimal}
+use Rattle.std.specs.Str.{bytes_eq}
+use Rattle.std.specs.Str.Parse.{digits_value}
+use Rattle.std.specs.List.{list_all, list_any}
+use Rattle.std.specs.Option.{option_map, option_and_then}
+use Rattle.std.proofs.lemmas.Bool.{and_parts, or_parts, not-false}
+use Rattle.std.proofs.lemmas.Slice.Eq.{bytes_eq-Decides}
+use Rattle.tfpg_base.specs.Words.{line_of, is_number, number_of}
+use Rattle.tfpg_base.proofs.Numbers.{number_of-within}
+use Rattle.tfpg_base.proofs.lists.LookedUp.{found}
+use Rattle.tfpg_graph.specs.declared.kind.Kind.{Kind}
+use Rattle.tfpg_graph.specs.declared.kind.Lag.{Lag}
+use Rattle.tfpg_graph.specs.declared.kind.Kind.TheVariants.{Failure, Or, And}
+use Rattle.tfpg_graph.specs.declared.edge.Edge.{Edge}
+use Rattle.tfpg_graph.specs.Graph.{Tfpg, lag_up_to, name_word, node_named}
+use Rattle.tfpg_graph.specs.Text.{node_words, tmax_word, SpellsEdge}
+use Rattle.tfpg_graph.specs.inside.writing.Written.{watch_words}
+use Rattle.tfpg_base.specs.declared.limits.TheConstants.{MAX_TIME}
+use Rattle.tfpg_graph.specs.declared.limits.TheConstants.{MAX_RARITY}
+use Rattle.tfpg_graph.specs.Statements.{NodeWords, FailureWords, OrWords, AndWords, DeclaresNode, DeclaresEdge, words_of_watch, words_of_node, words_of_statement}
+use Rattle.tfpg_graph.specs.Declares.{lag_of_word, kind_of_words, tmax_of_word, delays_of_words, ends_named, edge_declared, modes_of_word}
+use Rattle.tfpg_graph.specs.Causes.{has_bad_number, has_large_number, lag_number, node_number}
+use Rattle.tfpg_graph.proofs.lemmas.declaring.Named.{named_found}
+use Rattle.tfpg_graph.proofs.lemmas.reading.causes.NoCause.{HasNoCause}
+use Rattle.tfpg_graph.proofs.lemmas.reading.saying.SaidModes.{SpellsModes-said}
+
+-- ---- numbers
+
+-- each of these words is a number
+abbrev are_numbers : List (List ℕ × ℕ) → Bool
+are_numbers numbers = list_all (λ number. is_number number.0) numbers
+
+-- one of these words is above the greatest that it may be
+abbrev has_large : List (List ℕ × ℕ) → Bool
+has_large numbers = list_any (λ number. nat_lt number.1 (digits_value 10 number.0)) numbers
+
+-- ---- nodes
+
+lag_said : (lag : Option (List ℕ)) → are_numbers (lag_number lag) ≡ true → has_large (lag_number lag) ≡ false
+    → (value : Option Lag) × (lag_of_word lag ≡ Some value) × (words_of_watch lag ≡ watch_words value)
+lag_said None numbers small = (None, refl, refl)
+lag_said (Some word) numbers small =
+    let is = number_of-within word MAX_TIME (omega arith) (and_parts (is_number word) true numbers).0 (or_parts _ false small).0 in
+    (Some (lag_up_to (digits_value 10 word)), ap (option_map (λ most. Some (lag_up_to most))) is.0, ap (λ lag. codes "watch" ∷ lag ∷ []) is.1)
+
+kind_said : (name : List ℕ) (words : NodeWords) → are_numbers (node_number words) ≡ true → has_large (node_number words) ≡ false
+    → (kind : Kind) × (kind_of_words words ≡ Some kind) × (words_of_node name words ≡ node_words name kind)
+kind_said name (FailureWords rarity) numbers small =
+    let is = number_of-within rarity MAX_RARITY (omega arith) (and_parts (is_number rarity) true numbers).0 (or_parts _ false small).0 in
+    (Failure (digits_value 10 rarity), ap (option_map Failure) is.0, ap (λ word. codes "failure" ∷ name ∷ word ∷ []) is.1)
+kind_said name (OrWords lag) numbers small =
+    let is = lag_said lag numbers small in
+    (Or is.0, ap (option_map Or) is.1, ap (λ words. codes "or" ∷ name ∷ words) is.2)
+kind_said name (AndWords lag) numbers small =
+    let is = lag_said lag numbers small in
+    (And is.0, ap (option_map And) is.1, ap (λ words. codes "and" ∷ name ∷ words) is.2)
+
+-- A node whose number has no cause is of a kind, and its words are those of this kind.
+pub node_from_words : (name : List ℕ) (words : NodeWords) → has_bad_number (DeclaresNode name words) ≡ false
+    → has_large_number (DeclaresNode name words) ≡ false
+    → (kind : Kind) × (kind_of_words words ≡ Some kind) × (words_of_statement (DeclaresNode name words) ≡ node_words name kind)
+node_from_words name words numbers small = kind_said name words (not-false (are_numbers (node_number words)) numbers) small
+
+-- ---- edges
+
+-- the greatest delay, as the test for `inf` comes out
+tmax_said : (tmax : List ℕ) (endless : Bool) → bytes_eq tmax (codes "inf") ≡ endless
+    → are_numbers (cond endless [] ((tmax, MAX_TIME) ∷ [])) ≡ true
+    → has_large (cond endless [] ((tmax, MAX_TIME) ∷ [])) ≡ false
+    → (greatest : Option ℕ) × (cond endless (Some None) (option_map Some (number_of tmax)) ≡ Some greatest) × (tmax ≡ tmax_word greatest)
+tmax_said tmax true is numbers small = (None, refl, (bytes_eq-Decides tmax (codes "inf")).0 is)
+tmax_said tmax false is numbers small =
+    let value = number_of-within tmax MAX_TIME (omega arith) (and_parts (is_number tmax) true numbers).0 (or_parts _ false small).0 in
+    (Some (digits_value 10 tmax), ap (option_map Some) value.0, value.1)
+
+-- the words for an edge's delays
+delays_said : (source target tmin tmax modes : List ℕ)
+    → has_bad_number (DeclaresEdge source target tmin tmax modes) ≡ false
+    → has_large_number (DeclaresEdge source target tmin tmax modes) ≡ false
+    → (least : ℕ) × (greatest : Option ℕ) × (delays_of_words tmin tmax ≡ Some (least, greatest)) × (tmin ≡ decimal least) × (tmax ≡ tmax_word greatest)
+delays_said source target tmin tmax modes numbers small =
+    let right = and_parts (is_number tmin) _ (not-false _ numbers) in
+    let within = or_parts _ _ small in
+    let first = number_of-within tmin MAX_TIME (omega arith) right.0 within.0 in
+    let second = tmax_said tmax (bytes_eq tmax (codes "inf")) refl right.1 within.1 in (
+      digits_value 10 tmin,
+      second.0,
+      ap (option_and_then (λ least. option_map (λ greatest. (least, greatest)) (tmax_of_word tmax))) first.0
+          ∙ ap (option_map (λ greatest. (digits_value 10 tmin, greatest))) second.1,
+      first.1,
+      second.2,
+    )
+
+-- An edge without a cause has its value, and its words spell it.
+pub edge_from_words : (graph : Tfpg) (out_of_order : Bool) (source target tmin tmax modes : List ℕ)
+    → HasNoCause out_of_order graph (DeclaresEdge source target tmin tmax modes)
+    → (edge : Edge) × (edge_declared graph (DeclaresEdge source target tmin tmax modes) ≡ Some edge)
+    × SpellsEdge graph edge (line_of (words_of_statement (DeclaresEdge source target tmin tmax modes)))
+edge_from_words graph out_of_order source target tmin tmax modes is =
+    let unknown = or_parts _ _ is.known in
+    let unknown_target = or_parts _ _ unknown.1 in
+    let from = found (node_named graph) source unknown.0 in
+    let to = found (node_named graph) target unknown_target.0 in
+    let delays = delays_said source target tmin tmax modes is.numbers is.small in
+    let edge : Edge = edge_with (from.0, to.0) (delays.0, delays.1) in
+    let ends : ends_named graph source target ≡ Some (from.0, to.0) =
+    ap (option_and_then (λ a. option_map (λ b. (a, b)) (node_named graph target))) from.1 ∙ ap (option_map (λ b. (from.0, b))) to.1 in
+    let source_word : name_word graph from.0 ≡ source = ap (λ o. unwrap_or o []) (named_found graph source from.0 from.1).1 in
+    let target_word : name_word graph to.0 ≡ target = ap (λ o. unwrap_or o []) (named_found graph target to.0 to.1).1 in (
+      edge,
+      (λ i. option_and_then (λ ends. option_map (edge_with ends) (delays.2 i)) (ends i)),
+      (
+        modes,
+        SpellsModes-said graph modes is.some_mode is.new unknown_target.1,
+        (λ i. line_of (codes "edge" ∷ sym source_word i ∷ sym target_word i ∷ delays.3 i ∷ delays.4 i ∷ modes ∷ [])),
+      ),
+    )
+  where
+    edge_with : ℕ × ℕ → ℕ × Option ℕ → Edge
+    edge_with ends delays = record { source = ends.0; target = ends.1; tmin = delays.0; tmax = delays.1; modes = modes_of_word graph modes }

@@ -1,0 +1,12 @@
+-- The events of a log, and the index that a log keeps of them.
+pub mod Events
+pub mod AlarmIndexes
+pub mod AlarmEvents
+pub mod FirstAlarms
+pub mod NodesEvents
+pub mod LastQuiets
+pub mod SilenceTimes
+pub mod SilentNodes
+pub mod Order
+pub mod Indexes
+pub mod PastKept

@@ -1,0 +1,117 @@
+//! The runs of a line `run`: in large pieces and in small ones, and with calls that fail in turn.
+
+use crate::answer::{append_failed, append_made};
+use crate::made::{Made, Outside, make_run};
+use crate::row::{InTurn, NamedFile, Row, Stream};
+use std::alloc::Global;
+use tfpg_base::NoMemory;
+
+/// How many bytes a call reads or writes at most where a row says nothing of it.
+const LARGE_ROOM: usize = 4096;
+
+/// Makes the runs on these words, over these files, and appends what came of them.
+pub(crate) fn append_runs(
+    alloc: Global,
+    words: &[String],
+    files: &[NamedFile],
+    row: &Row,
+    into: &mut Vec<u8>,
+) -> Result<(), NoMemory> {
+    let mut named = Vec::new(alloc);
+    for file in files {
+        named.push((file.name.as_str(), file.text.as_slice()))?;
+    }
+    append_runs_over(alloc, words, &outside_of(row, &named), row, into)
+}
+
+/// What a run of the row has besides its words, over these files.
+fn outside_of<'a>(row: &'a Row, files: &'a [(&'a str, &'a [u8])]) -> Outside<'a> {
+    Outside {
+        files,
+        input: &row.input,
+        room: row.room,
+        file_fails: &row.file_fails,
+        read_fails: &row.read_fails,
+        write_fails: &row.write_fails,
+    }
+}
+
+/// The same, over all that a run has besides its words.
+fn append_runs_over(
+    alloc: Global,
+    words: &[String],
+    outside: &Outside<'_>,
+    row: &Row,
+    into: &mut Vec<u8>,
+) -> Result<(), NoMemory> {
+    let room = if outside.room == 0 {
+        LARGE_ROOM
+    } else {
+        outside.room
+    };
+    let made = make_run(alloc, words, &Outside { room, ..*outside })?;
+    append_made(alloc, &made, &row.view, into)?;
+    if outside.room == 0 {
+        let again = make_run(
+            alloc,
+            words,
+            &Outside {
+                room: 1,
+                ..*outside
+            },
+        )?;
+        append_difference(alloc, &made, &again, row, into)?;
+    }
+    if let Some(in_turn) = row.in_turn {
+        append_in_turn(alloc, words, outside, in_turn, &made.written, into)?;
+    }
+    Ok(())
+}
+
+/// Appends what came of the run in pieces of one byte, where it is not the same.
+fn append_difference(
+    alloc: Global,
+    made: &Made,
+    again: &Made,
+    row: &Row,
+    into: &mut Vec<u8>,
+) -> Result<(), NoMemory> {
+    if made.end != again.end || made.written != again.written || made.asked != again.asked {
+        into.extend_from_slice(b"other in pieces of one byte:\n")?;
+        append_made(alloc, again, &row.view, into)?;
+    }
+    Ok(())
+}
+
+/// Makes the run with each of these calls failing in turn, and appends what came of each.
+fn append_in_turn(
+    alloc: Global,
+    words: &[String],
+    outside: &Outside<'_>,
+    in_turn: InTurn,
+    whole: &[u8],
+    into: &mut Vec<u8>,
+) -> Result<(), NoMemory> {
+    for call in 1..=in_turn.count {
+        let fails = [call];
+        let (name, failing) = match in_turn.stream {
+            Stream::Input => (
+                b"read ".as_slice(),
+                Outside {
+                    read_fails: &fails,
+                    ..*outside
+                },
+            ),
+            Stream::Output => (
+                b"write ".as_slice(),
+                Outside {
+                    write_fails: &fails,
+                    ..*outside
+                },
+            ),
+        };
+        let made = make_run(alloc, words, &failing)?;
+        append_failed(alloc, name, call, &made, whole, into)?;
+    }
+    Ok(())
+}

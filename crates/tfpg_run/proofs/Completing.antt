@@ -1,0 +1,219 @@
+-- A run ends well where nothing stands in its way.
+use Rattle.std.proofs.Common.{◌≡◌, ℕ, ◌+◌, ◌<◌, ◌≤◌, List, ◌++◌, length, take, drop, Option, Some, IfSome, Result, Ok, Err, refl, sym, ap, subst, ◌∙◌, inl, inr, ⊎_elim, arith}
+use Rattle.std.specs.Prelude.{OnOk, IfErr}
+use Rattle.std.proofs.lemmas.List.{length-append, take-append-drop}
+use Rattle.std.proofs.lemmas.Option.{same_Some}
+use Rattle.tfpg_base.specs.declared.terms.Terms.{Terms}
+use Rattle.tfpg_base.specs.declared.limits.TheConstants.{MAX_BYTES, LONGEST_FILE}
+use Rattle.tfpg_base.specs.Outside.{SourceState, ShelfState, Rose, Gives, Takes, file_of}
+use Rattle.tfpg_base.specs.Lines.{lines_of}
+use Rattle.tfpg_graph.specs.declared.cause.GraphFault.{GraphFault}
+use Rattle.tfpg_graph.specs.Graph.{Tfpg}
+use Rattle.tfpg_graph.specs.Text.{Spells}
+use Rattle.tfpg_graph.specs.Valid.{IsValid}
+use Rattle.tfpg_graph.specs.Faults.{IsFirstFault}
+use Rattle.tfpg_log.specs.Log.{Logbook}
+use Rattle.tfpg_sim.specs.Script.{IsScriptFault}
+use Rattle.tfpg_words.specs.declared.usage_cause.UsageCause.{UsageCause}
+use Rattle.tfpg_words.specs.Meaning.{Meaning, Diagnose, Explain, Simulate, Generate}
+use Rattle.tfpg_run.specs.declared.end.End.{End}
+use Rattle.tfpg_run.specs.declared.end.End.TheVariants as ends
+use Rattle.tfpg_run.specs.declared.fault.FetchFault.{FetchFault}
+use Rattle.tfpg_run.specs.declared.fault.FetchFault.TheVariants.{Failed, TooLong, Graph, NoMemory}
+use Rattle.tfpg_run.specs.declared.fault.StreamFault.{StreamFault}
+use Rattle.tfpg_run.specs.declared.fault.StreamFault.TheVariants as streams
+use Rattle.tfpg_run.specs.declared.fault.JudgeFault.{JudgeFault}
+use Rattle.tfpg_run.specs.declared.fault.JudgeFault.TheVariants as judge
+use Rattle.tfpg_run.specs.declared.fault.SimulateFault.{SimulateFault}
+use Rattle.tfpg_run.specs.declared.fault.SimulateFault.TheVariants as simulate
+use Rattle.tfpg_run.specs.declared.fault.GenerateFault.{GenerateFault}
+use Rattle.tfpg_run.specs.declared.fault.GenerateFault.TheVariants as generate
+use Rattle.tfpg_run.specs.Completeness.{CanDiagnose, CanExplain, CanSimulate, CanBeDone, NothingFails, IsShort, IsCompleted}
+use Rattle.tfpg_run.specs.EndsOf.{end_of_fetch_fault, end_of_stream_fault, end_of_judge_fault, end_of_simulate_fault, end_of_generate_fault, end_of_result}
+use Rattle.tfpg_run.specs.Fetch.{HasFile, IsTooLong, GivesGraph, HasFaultyGraph, IsFetchFault, IsFilesFault}
+use Rattle.tfpg_run.specs.generate.Generating.{GenerationEnds}
+use Rattle.tfpg_run.specs.explain.Judging.{ExplainEnds, JudgingEnds}
+use Rattle.tfpg_run.specs.map.Spelling.{HasMap, BeginsMap, IsMapFault}
+use Rattle.tfpg_run.specs.Outputs.{IsStreamFault, LineByLineEnds}
+use Rattle.tfpg_run.specs.Run.{CommandEnds, RunEnds}
+use Rattle.tfpg_run.specs.diagnose.Diagnosing.{DiagnoseEnds}
+use Rattle.tfpg_run.specs.diagnose.RightReport.{IsRightReport}
+use Rattle.tfpg_run.specs.simulate.Simulating.{HasSimulation, SimulateEnds, SimulationEnds}
+use Rattle.tfpg_run.specs.Streams.{HasLeft}
+use Rattle.tfpg_run.specs.World.{World, streams_of}
+
+-- no text of a valid graph has a fault
+abbrev NoFaultOfValid : Type 0
+NoFaultOfValid = (text : List ℕ) (graph : Tfpg) → Spells text graph → IsValid graph → (fault : GraphFault) → IsFirstFault text fault → ⊥
+
+-- ---- files that are there
+
+module _ (shelf : ShelfState) (files : List (List ℕ × List ℕ)) (known : shelf.files ≡ Some files) where
+  -- what a file gives is what it has
+  gives_is : (name text : List ℕ) → Gives shelf name text → file_of files name ≡ Some text
+  gives_is name text gives = subst (λ (fs : Option (List (List ℕ × List ℕ))). IfSome fs (λ them. file_of them name ≡ Some text)) known gives
+
+  -- a file that is short enough is not too long
+  not_too_long : (name text : List ℕ) → Gives shelf name text → length text ≤ LONGEST_FILE → IsTooLong shelf name → ⊥
+  not_too_long name text gives small long =
+      let front = long.0 in
+      let there = subst (λ (fs : Option (List (List ℕ × List ℕ))). IfSome fs (λ them. (more : List ℕ) × (0 < length more) × (file_of them name ≡ Some (front ++ more)))) known long.1.1 in
+      let same : text ≡ front ++ there.0 = same_Some _ _ (sym (gives_is name text gives) ∙ there.2) in
+      let long_is : length text ≡ length (front ++ there.0) = ap length same in
+      omega (arith, long_is, length-append front there.0, long.1.0, there.1, small)
+
+  module _ (law : NoFaultOfValid) (name : List ℕ) (graph : Tfpg) (gives : GivesGraph shelf name graph) where
+    -- a graph that is there has no fault
+    no_graph_fault : (fault : GraphFault) → HasFaultyGraph shelf name fault → ⊥
+    no_graph_fault fault faulty =
+        let same : faulty.text ≡ gives.text = same_Some _ _ (sym (gives_is name faulty.text faulty.file.gives) ∙ gives_is name gives.text gives.file.gives) in
+        law gives.text graph gives.spells gives.valid fault (subst (λ (t : List ℕ). IsFirstFault t fault) same faulty.first)
+
+    -- where it is not fetched, memory ran out
+    fetched : (now : ShelfState) (fault : FetchFault) → (Rose shelf.faults now.faults → ⊥) → IsFetchFault shelf now name fault → fault ≡ NoMemory
+    fetched now Failed calm is = absurd (calm is)
+    fetched now TooLong calm is = absurd (not_too_long name gives.text gives.file.gives gives.file.small is.0)
+    fetched now (Graph fault) calm is = absurd (no_graph_fault fault is.0)
+    fetched now NoMemory calm is = refl
+
+    -- so it is with two files
+    both_fetched : (now : ShelfState) (other text : List ℕ) → HasFile shelf other text → (fault : FetchFault) → (Rose shelf.faults now.faults → ⊥)
+        → IsFilesFault shelf now name other fault → fault ≡ NoMemory
+    both_fetched now other text file Failed calm is = absurd (calm is.0)
+    both_fetched now other text file TooLong calm is = ⊎_elim
+        (λ long. absurd (not_too_long name gives.text gives.file.gives gives.file.small long))
+        (λ long. absurd (not_too_long other text file.gives file.small long.2))
+        is.0
+    both_fetched now other text file (Graph fault) calm is = absurd (no_graph_fault fault is.1)
+    both_fetched now other text file NoMemory calm is = refl
+
+-- ---- input that is short
+
+-- what was taken of it is no more than it had
+few_taken : (before now : SourceState) (taken : List ℕ) → IsShort before → Takes before now taken → length taken ≤ MAX_BYTES
+few_taken before now taken short takes =
+    let there = subst (λ (left : Option (List ℕ)). IfSome left (λ had. (rest : List ℕ) × (now.left ≡ Some rest) × (had ≡ taken ++ rest))) short.left takes in
+    let same : length short.known ≡ length (taken ++ there.0) = ap length there.2 in
+    omega (arith, same, length-append taken there.0, short.few)
+
+-- it had what was taken and what is left
+all_of_input : (before now : SourceState) (known taken rest : List ℕ) → before.left ≡ Some known → Takes before now taken → HasLeft now rest → known ≡ taken ++ rest
+all_of_input before now known taken rest left takes has =
+    let there = subst (λ (l : Option (List ℕ)). IfSome l (λ had. (more : List ℕ) × (now.left ≡ Some more) × (had ≡ taken ++ more))) left takes in
+    let same : rest ≡ there.0 = subst (λ (l : Option (List ℕ)). IfSome l (λ more. rest ≡ more)) there.1 has in
+    there.2 ∙ ap (λ (more : List ℕ). taken ++ more) (sym same)
+
+-- ---- lines that spell a map
+
+-- each front of them begins one
+front_of_map : (graph : Tfpg) (lines : List (List ℕ)) (count : ℕ) → HasMap graph lines → BeginsMap graph (take count lines)
+front_of_map graph lines count map =
+    (drop count lines, subst (HasMap graph) (sym (take-append-drop count lines)) map)
+
+-- none of them is faulty
+no_map_fault : (graph : Tfpg) (lines : List (List ℕ)) (number : ℕ) → HasMap graph lines → IsMapFault graph lines number → ⊥
+no_map_fault graph lines number map (inl faulty) = faulty.with_it (front_of_map graph lines (faulty.index + 1) map)
+no_map_fault graph lines number map (inr none) = let some = sym none.0 ∙ map.2.spelled in cc
+
+-- ---- memory
+
+without_memory : (end : End) (fault : FetchFault) → fault ≡ NoMemory → end ≡ end_of_fetch_fault fault → end ≡ ends.NoMemory
+without_memory end fault is e = e ∙ ap end_of_fetch_fault is
+
+-- ---- each command
+
+module _ (law : NoFaultOfValid) (before now : World) (calm : NothingFails before now) where
+  -- a diagnosis has no fault but that memory ran out
+  no_stream_fault : IsShort before.input → (taken : List ℕ) → Takes before.input now.input taken → (fault : StreamFault) → IsStreamFault (streams_of before) (streams_of now) taken fault → fault ≡ streams.NoMemory
+  no_stream_fault short taken takes streams.ReadFault is = absurd (calm.input is.0)
+  no_stream_fault short taken takes streams.WriteFault is = absurd (calm.output is.0)
+  no_stream_fault short taken takes streams.TooMuchInput is =
+      let more : length taken ≡ MAX_BYTES + 1 = is.0 in
+      absurd (omega (arith, few_taken before.input now.input taken short takes, more))
+  no_stream_fault short taken takes streams.NoMemory is = refl
+
+  -- a diagnosis
+  diagnosed : IsShort before.input → (end : End) (terms : Terms) (name : List ℕ) → CanDiagnose before.shelf terms name → DiagnoseEnds terms name before now end
+      → IsCompleted end
+  diagnosed short end terms name can (inl lacks) =
+      inr (without_memory end lacks.fault (fetched before.shelf can.files can.known law name can.graph can.gives now.shelf lacks.fault calm.shelf lacks.is_fault) lacks.end_is)
+  diagnosed short end terms name can (inr (inl many)) = absurd (omega (arith, many.too_many, can.few many.graph many.count many.gives many.counted))
+  diagnosed short end terms name can (inr (inr file)) = go file.ends.result file.ends.works.ends file.ends.end_is
+    where
+      go : (result : Result (Unit {0}) StreamFault)
+          → LineByLineEnds (IsRightReport file.graph terms) (streams_of before) (streams_of now) file.ends.works.taken file.ends.works.written result
+          → end ≡ end_of_result end_of_stream_fault result → IsCompleted end
+      go (Ok done) is e = inl e
+      go (Err fault) is e = inr (e ∙ ap end_of_stream_fault (no_stream_fault short file.ends.works.taken file.ends.works.takes fault is.0))
+
+  -- a map that is judged
+  judged : (short : IsShort before.input) (graph : Tfpg) (log : Logbook) (taken : List ℕ) → HasMap graph (lines_of short.known) → Takes before.input now.input taken → (result : Result (Unit {0}) JudgeFault)
+      → JudgingEnds graph log (streams_of before) (streams_of now) taken result → IsCompleted (end_of_result end_of_judge_fault result)
+  judged short graph log taken map takes (Ok done) is = inl refl
+  judged short graph log taken map takes (Err (judge.BadMap line)) is =
+      let all : short.known ≡ taken ++ is.0.rest = all_of_input before.input now.input short.known taken is.0.rest short.left takes is.0.left in
+      absurd (no_map_fault graph (lines_of (taken ++ is.0.rest)) line (subst (λ (bytes : List ℕ). HasMap graph (lines_of bytes)) all map) is.0.fault)
+  judged short graph log taken map takes (Err (judge.Stream streams.ReadFault)) is = absurd (calm.input is.0)
+  judged short graph log taken map takes (Err (judge.Stream streams.WriteFault)) is = absurd (calm.output is.0.rose)
+  judged short graph log taken map takes (Err (judge.Stream streams.TooMuchInput)) is =
+      let more : length taken ≡ MAX_BYTES + 1 = is.0 in
+      absurd (omega (arith, few_taken before.input now.input taken short takes, more))
+  judged short graph log taken map takes (Err (judge.Stream streams.NoMemory)) is = inr refl
+
+  explained : (end : End) (graph_name log_name : List ℕ) → CanExplain before.shelf before.input graph_name log_name → ExplainEnds graph_name log_name before now end → IsCompleted end
+  explained end graph_name log_name can (inl lacks) =
+      let file : HasFile before.shelf log_name can.gives.text = can.gives.gives.file in
+      inr (without_memory end lacks.fault
+      (both_fetched before.shelf can.files can.known law graph_name can.graph can.gives.gives.of_graph now.shelf log_name can.gives.text file lacks.fault calm.shelf lacks.is_fault) lacks.end_is)
+  explained end graph_name log_name can (inr judges) =
+      let map : HasMap judges.graph (lines_of can.short.known) = can.map judges.graph judges.gives.gives.of_graph in
+      subst IsCompleted (sym judges.works.end_is)
+      (judged can.short judges.graph judges.other judges.works.works.taken map judges.works.works.takes judges.works.result judges.works.works.ends)
+
+  -- a script that is simulated
+  simulated : (IsRight : Tfpg → List ℕ → List ℕ → Type 0) (graph : Tfpg) (script : List ℕ) → ((line : ℕ) → IsScriptFault graph (lines_of script) line → ⊥) → (result : Result (Unit {0}) SimulateFault)
+      → SimulationEnds IsRight graph script before.output now.output result → IsCompleted (end_of_result end_of_simulate_fault result)
+  simulated IsRight graph script right (Ok done) is = inl refl
+  simulated IsRight graph script right (Err (simulate.BadScript line)) is = absurd (right line is.0)
+  simulated IsRight graph script right (Err simulate.WriteFault) is = absurd (calm.output is.rose)
+  simulated IsRight graph script right (Err simulate.NoMemory) is = inr refl
+
+  simulated_files : (end : End) (IsRight : Tfpg → List ℕ → List ℕ → Type 0) (graph_name script_name : List ℕ) → CanSimulate before.shelf graph_name script_name
+      → SimulateEnds IsRight graph_name script_name before now end → IsCompleted end
+  simulated_files end IsRight graph_name script_name can (inl lacks) =
+      inr (without_memory end lacks.fault
+      (both_fetched before.shelf can.files can.known law graph_name can.graph can.gives.of_graph now.shelf script_name can.script can.gives.file lacks.fault calm.shelf lacks.is_fault) lacks.end_is)
+  simulated_files end IsRight graph_name script_name can (inr simulates) =
+      subst IsCompleted (sym simulates.works.end_is)
+      (simulated IsRight simulates.graph simulates.other (λ line. can.right simulates.graph simulates.other line simulates.gives) simulates.works.result simulates.works.works)
+
+  -- what is drawn
+  drawn : (draw size : ℕ) (result : Result (Unit {0}) GenerateFault) → GenerationEnds draw size before.output now.output result
+      → IsCompleted (end_of_result end_of_generate_fault result)
+  drawn draw size (Ok done) is = inl refl
+  drawn draw size (Err generate.WriteFault) is = absurd (calm.output is.rose)
+  drawn draw size (Err generate.NoMemory) is = inr refl
+
+  completed : (meant : Meaning) (end : End) → CanBeDone meant before → CommandEnds (Ok meant) before now end → IsCompleted end
+  completed (Diagnose terms graph) end can is = diagnosed can.1 end terms graph can.0 is
+  completed (Explain graph log) end can is = explained end graph log can is
+  completed (Simulate draw trace graph script) end can is = simulated_files end (HasSimulation draw trace) graph script can is.0
+  completed (Generate draw size) end can is = subst IsCompleted (sym is.0.end_is) (drawn draw size is.0.result is.0.works)
+
+  -- the whole run
+  pub run_completes : (words : Result Meaning UsageCause) (meant : Meaning) (end : End) → words ≡ Ok meant → CanBeDone meant before → RunEnds words before now end
+      → IsCompleted end
+  run_completes words meant end e can is = go (subst (λ (w : Result Meaning UsageCause). RunEnds w before now end) e is)
+    where
+      go : RunEnds (Ok meant) before now end → IsCompleted end
+      go (inl does) = completed meant end can does
+      go (inr none) = inr none.1
+
+-- how a run ends whose work had this result
+pub by_work : (words : Result Meaning UsageCause) (meant : Meaning) (before now : World) (work : Result (Unit {0}) End) (end : End) → words ≡ Ok meant
+    → end ≡ end_of_result (λ (end : End). end) work → OnOk work (CommandEnds (Ok meant) before now ends.Done) → IfErr work (CommandEnds (Ok meant) before now)
+    → RunEnds words before now end
+by_work words meant before now (Ok done) end e f is stopped =
+    subst (λ (w : Result Meaning UsageCause). RunEnds w before now end) (sym e) (inl (subst (CommandEnds (Ok meant) before now) (sym f) is))
+by_work words meant before now (Err other) end e f is stopped =
+    subst (λ (w : Result Meaning UsageCause). RunEnds w before now end) (sym e) (inl (subst (CommandEnds (Ok meant) before now) (sym f) stopped))

@@ -1,0 +1,9 @@
+-- Lemmas that several commands need.
+pub mod Refused
+pub mod LogTexts
+pub mod Putting
+pub mod InputLines
+pub mod Stops
+pub mod Completing
+-- The lemmas of each room, in a folder named like that of the source.
+pub mod lemmas

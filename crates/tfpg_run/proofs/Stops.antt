@@ -1,0 +1,135 @@
+-- How a run on a file ends.
+use Rattle.std.proofs.Common.{◌≡◌, ℕ, ◌<◌, ◌≤◌, List, Result, Ok, Err, refl, sym, subst, subst₂, inl, inr, Bool}
+use Rattle.std.specs.Prelude.{◌↔◌, IsErrAnd, OnOk, IfErr}
+use Rattle.tfpg_base.specs.declared.terms.Terms.{Terms}
+use Rattle.tfpg_base.specs.Terms.{AreReportTerms}
+use Rattle.tfpg_graph.specs.Graph.{Tfpg}
+use Rattle.tfpg_check.specs.Report.{HasReports}
+use Rattle.tfpg_hyp.specs.Hypotheses.{HasHypotheses}
+use Rattle.tfpg_hyp.specs.declared.limits.TheConstants.{MAX_HYPOTHESES}
+use Rattle.tfpg_hyp.specs.declared.table.TableFault.{TableFault}
+use Rattle.tfpg_hyp.specs.declared.table.TableFault.TheVariants.{TooMany, NoMemory}
+use Rattle.tfpg_words.specs.Meaning.{Meaning, Explain, Simulate}
+use Rattle.tfpg_run.specs.declared.end.End.{End}
+use Rattle.tfpg_run.specs.declared.end.End.TheVariants as ends
+use Rattle.tfpg_run.specs.declared.end.End.TheVariants.{Done}
+use Rattle.tfpg_run.specs.declared.fault.FetchFault.{FetchFault}
+use Rattle.tfpg_run.specs.declared.fault.StreamFault.{StreamFault}
+use Rattle.tfpg_run.specs.declared.fault.StreamFault.TheVariants as faults
+use Rattle.tfpg_run.specs.inside.Faults.{end_of_table_fault}
+use Rattle.tfpg_base.proofs.lists.Choices.{IfErr-from}
+use Rattle.tfpg_run.proofs.lemmas.diagnose.NextBlocks.{begins_without_memory}
+use Rattle.tfpg_base.proofs.lists.Sequences.{not_above}
+use Rattle.tfpg_run.specs.EndsOf.{end_of_fetch_fault, end_of_stream_fault}
+use Rattle.tfpg_run.specs.Fetch.{GivesGraph, IsFetchFault}
+use Rattle.tfpg_run.specs.Run.{CommandEnds}
+use Rattle.tfpg_run.specs.diagnose.Diagnosing.{Diagnoses, DiagnoseEnds}
+use Rattle.tfpg_run.specs.explain.Judging.{ExplainEnds}
+use Rattle.tfpg_run.specs.simulate.Simulating.{HasSimulation, SimulateEnds}
+use Rattle.tfpg_run.specs.Streams.{Streams}
+use Rattle.tfpg_run.specs.World.{World, streams_of}
+
+-- what holds besides, where there is a value
+pub OnOk-with : {T E : Type 0} (result : Result T E) (P Q : Type 0) → OnOk result P → Q → OnOk result (P × Q)
+OnOk-with (Ok value) P Q is also = (is, also)
+OnOk-with (Err fault) P Q is also = tt
+
+-- what holds besides, where there is a fault
+pub IfErr-with : {T E : Type 0} (result : Result T E) (P : E → Type 0) (Q : Type 0) → IfErr result P → Q → IfErr result (λ fault. P fault × Q)
+IfErr-with (Ok value) P Q is also = tt
+IfErr-with (Err fault) P Q is also = (is, also)
+
+-- what the result of `Engine::new` says of the number of hypotheses
+abbrev CountsHypotheses : {X : Type 0} → Tfpg → Terms → Result X TableFault → Type 0
+CountsHypotheses graph terms result = (count : ℕ) → (result ≡ Err (TooMany count)) ↔ ((MAX_HYPOTHESES < count) × HasHypotheses graph terms count)
+
+-- where there is an engine, they are not too many
+pub not_too_many : {X : Type 0} (graph : Tfpg) (terms : Terms) (engine : X) → CountsHypotheses graph terms (Ok engine) → (count : ℕ) → HasHypotheses graph terms count → count ≤ MAX_HYPOTHESES
+not_too_many graph terms engine exact count counted = not_above count MAX_HYPOTHESES (λ many. let is = (exact count).1 (many, counted) in cc)
+
+-- so there are reports, where the terms are within their limits
+pub has_reports : {X : Type 0} (graph : Tfpg) (terms : Terms) (engine : X) (g : Tfpg) (other : Terms) → CountsHypotheses graph terms (Ok engine) → g ≡ graph → other ≡ terms → AreReportTerms terms → HasReports g other
+has_reports graph terms engine g other exact e f within =
+    subst₂ HasReports (sym e) (sym f) (record { within = within; few_hypotheses = not_too_many graph terms engine exact })
+
+-- nor where memory ran out
+without_memory : {X : Type 0} (graph : Tfpg) (terms : Terms) → CountsHypotheses {X = X} graph terms (Err NoMemory) → (count : ℕ) → HasHypotheses graph terms count → count ≤ MAX_HYPOTHESES
+without_memory graph terms exact count counted = not_above count MAX_HYPOTHESES (λ many. let is = (exact count).1 (many, counted) in cc)
+
+module _ {T : Type 0} (terms : Terms) (name : List ℕ) (before now : World) (result : Result T End) where
+  -- the end at the exit of a `?`
+  ends_by : (end : End) → IsErrAnd result (λ e. e ≡ end) → DiagnoseEnds terms name before now end → IfErr result (DiagnoseEnds terms name before now)
+  ends_by end err ends = IfErr-from (DiagnoseEnds terms name before now) result end err ends
+
+  -- there is no graph
+  pub stops_without_graph : (fault : FetchFault) → IsFetchFault before.shelf now.shelf name fault → streams_of now ≡ streams_of before → IsErrAnd result (λ end. end ≡ end_of_fetch_fault fault)
+      → IfErr result (DiagnoseEnds terms name before now)
+  stops_without_graph fault is untouched err =
+      ends_by (end_of_fetch_fault fault) err (inl (record { fault = fault; is_fault = is; end_is = refl; untouched = untouched }))
+
+  module _ (graph : Tfpg) (gives : GivesGraph before.shelf name graph) (no_fault : now.shelf.faults ≡ before.shelf.faults) where
+    -- there is no engine
+    pub stops_without_engine : {X : Type 0} (fault : TableFault) → CountsHypotheses {X = X} graph terms (Err fault)
+        → streams_of now ≡ streams_of before → IsErrAnd result (λ end. end ≡ end_of_table_fault fault) → IfErr result (DiagnoseEnds terms name before now)
+    stops_without_engine (TooMany count) exact untouched err =
+        let many = (exact count).0 refl in
+        ends_by (ends.TooManyHypotheses count) err (inr (inl (record {
+          graph = graph;
+          gives = gives;
+          no_fault = no_fault;
+          count = count;
+          counted = many.1;
+          too_many = many.0;
+          end_is = refl;
+          untouched = untouched;
+        })))
+    stops_without_engine NoMemory exact untouched err =
+        ends_by ends.NoMemory err (inr (inr (record {
+          graph = graph;
+          gives = gives;
+          no_fault = no_fault;
+          not_too_many = without_memory graph terms exact;
+          ends = record {
+            result = Err faults.NoMemory;
+            works = subst (λ (s : Streams). Diagnoses graph terms (streams_of before) s (Err faults.NoMemory)) (sym untouched) (begins_without_memory graph terms (streams_of before));
+            end_is = refl;
+          };
+        })))
+
+    -- the diagnosis was stopped
+    pub stops_diagnosis : ((count : ℕ) → HasHypotheses graph terms count → count ≤ MAX_HYPOTHESES) → (fault : StreamFault) → Diagnoses graph terms (streams_of before) (streams_of now) (Err fault)
+        → IsErrAnd result (λ end. end ≡ end_of_stream_fault fault) → IfErr result (DiagnoseEnds terms name before now)
+    stops_diagnosis few fault diagnoses err = ends_by (end_of_stream_fault fault) err
+        (inr (inr (record { graph = graph; gives = gives; no_fault = no_fault; not_too_many = few; ends = record { result = Err fault; works = diagnoses; end_is = refl } })))
+
+-- the diagnosis is done
+pub stops_when_done : (terms : Terms) (name : List ℕ) (before now : World) (graph : Tfpg) → GivesGraph before.shelf name graph → now.shelf.faults ≡ before.shelf.faults
+    → ((count : ℕ) → HasHypotheses graph terms count → count ≤ MAX_HYPOTHESES) → Diagnoses graph terms (streams_of before) (streams_of now) (Ok tt) → DiagnoseEnds terms name before now Done
+stops_when_done terms name before now graph gives no_fault few diagnoses =
+    inr (inr (record { graph = graph; gives = gives; no_fault = no_fault; not_too_many = few; ends = record { result = Ok tt; works = diagnoses; end_is = refl } }))
+
+-- what a diagnosis by an engine is, for the graph and the terms that it was made of
+pub diagnosed_for : (g graph : Tfpg) (other terms : Terms) (before now : Streams) (result : Result (Unit {0}) StreamFault) → g ≡ graph → other ≡ terms
+    → Diagnoses g other before now result → Diagnoses graph terms before now result
+diagnosed_for g graph other terms before now result e f diagnoses =
+    subst (λ (x : Terms). Diagnoses graph x before now result) f (subst (λ (x : Tfpg). Diagnoses x other before now result) e diagnoses)
+
+-- ---- commands that were stopped, as the words name their files
+
+module _ {T : Type 0} (result : Result T End) (meant : Meaning) (first second : List ℕ) (before now : World) where
+  -- a map was not judged
+  pub explain_stopped : (graph log : List ℕ) → meant ≡ Explain graph log → first ≡ graph → second ≡ log → IfErr result (ExplainEnds first second before now)
+      → IfErr result (CommandEnds (Ok meant) before now)
+  explain_stopped graph log means one other is =
+      subst (λ (m : Meaning). IfErr result (CommandEnds (Ok m) before now)) (sym means)
+      (subst (λ (name : List ℕ). IfErr result (ExplainEnds name log before now)) one
+      (subst (λ (name : List ℕ). IfErr result (ExplainEnds first name before now)) other is))
+
+  -- a script was not simulated
+  pub simulate_stopped : (draw : ℕ) (trace : Bool) (graph script : List ℕ) → meant ≡ Simulate draw trace graph script → first ≡ graph → second ≡ script → now.input ≡ before.input
+      → IfErr result (SimulateEnds (HasSimulation draw trace) first second before now) → IfErr result (CommandEnds (Ok meant) before now)
+  simulate_stopped draw trace graph script means one other same is =
+      subst (λ (m : Meaning). IfErr result (CommandEnds (Ok m) before now)) (sym means)
+      (IfErr-with result (SimulateEnds (HasSimulation draw trace) graph script before now) (now.input ≡ before.input)
+      (subst (λ (name : List ℕ). IfErr result (SimulateEnds (HasSimulation draw trace) name script before now)) one
+      (subst (λ (name : List ℕ). IfErr result (SimulateEnds (HasSimulation draw trace) first name before now)) other is)) same)

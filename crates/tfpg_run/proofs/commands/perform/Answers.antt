@@ -1,0 +1,29 @@
+use Rattle.std.proofs.Common.{◌≡◌, ap, rules, refl}
+use Rattle.tfpg_words.specs.Plans.{meaning_of}
+use Rattle.tfpg_run.specs.World.{world}
+use Rattle.tfpg_run.proofs.Stops.{OnOk-with, explain_stopped, simulate_stopped}
+use Rattle.tfpg_run.proofs.commands.perform.Goals as goal
+
+-- the input is untouched
+pub returns-in-Simulate-clause-done : goal.returns-in-Simulate-clause-done
+returns-in-Simulate-clause-done g c =
+    let input = g.S.Source.state c.args.input.now in
+    let done = OnOk-with c.simulate_files.result _ (input ≡ input) (c.simulate_files.ensures.done input) refl in
+    search (rules, done)
+
+-- nor is it where the work was stopped
+pub returns-in-Simulate-clause-stopped : goal.returns-in-Simulate-clause-stopped
+returns-in-Simulate-clause-stopped g c =
+    let input = g.S.Source.state c.args.input.now in
+    let before = world (g.F.Shelf.state c.args.shelf.now) input (g.K.Sink.state c.args.out.now) in
+    let now = world (g.F.Shelf.state c.simulate_files.new.shelf) input (g.K.Sink.state c.simulate_files.new.out) in
+    simulate_stopped c.simulate_files.result (meaning_of c.args.command.now) c.as_str-in-Simulate.result.now c.as_str-in-Simulate-2.result.now before now
+    c.in-Simulate.draw c.in-Simulate.trace c.in-Simulate.graph c.in-Simulate.script (ap meaning_of c.in-Simulate.is) c.as_str-in-Simulate.ensures c.as_str-in-Simulate-2.ensures refl
+    (c.simulate_files.ensures.stopped input)
+
+pub returns-in-Explain-clause-stopped : goal.returns-in-Explain-clause-stopped
+returns-in-Explain-clause-stopped g c =
+    let before = world (g.F.Shelf.state c.args.shelf.now) (g.S.Source.state c.args.input.now) (g.K.Sink.state c.args.out.now) in
+    let now = world (g.F.Shelf.state c.judge_by_files.new.shelf) (g.S.Source.state c.judge_by_files.new.input) (g.K.Sink.state c.judge_by_files.new.out) in
+    explain_stopped c.judge_by_files.result (meaning_of c.args.command.now) c.as_str-in-Explain.result.now c.as_str-in-Explain-2.result.now before now
+    c.in-Explain.graph c.in-Explain.log (ap meaning_of c.in-Explain.is) c.as_str-in-Explain.ensures c.as_str-in-Explain-2.ensures c.judge_by_files.ensures.stopped

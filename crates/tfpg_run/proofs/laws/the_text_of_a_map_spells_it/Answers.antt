@@ -1,0 +1,5 @@
+use Rattle.tfpg_run.proofs.lemmas.map.WrittenMaps.{written_map}
+use Rattle.tfpg_run.proofs.laws.the_text_of_a_map_spells_it.Goals as goal
+
+pub returns : goal.returns
+returns c = written_map

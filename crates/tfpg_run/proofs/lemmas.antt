@@ -1,0 +1,5 @@
+-- The lemmas on maps and of each command, in folders named like those of the source.
+pub mod map
+pub mod diagnose
+pub mod explain
+pub mod generate

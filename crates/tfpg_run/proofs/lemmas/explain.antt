@@ -1,0 +1,2 @@
+-- How judging ends.
+pub mod Judged

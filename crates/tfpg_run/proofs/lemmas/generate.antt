@@ -1,0 +1,4 @@
+-- The diagnosis of a drawn system, and what it says of the simulated set.
+pub mod Diagnosed
+pub mod FewHypotheses
+pub mod Truths

@@ -1,0 +1,15 @@
+-- Of 16 failure modes there are 137 sets of at most 2.
+use Rattle.std.proofs.Common.{◌≡◌, ℕ, ◌<◌, length, refl, sym, arith}
+use Rattle.tfpg_graph.specs.Graph.{Tfpg, failures}
+use Rattle.tfpg_hyp.specs.Hypotheses.{HasHypotheses}
+use Rattle.tfpg_hyp.specs.declared.limits.TheConstants.{MAX_HYPOTHESES}
+use Rattle.tfpg_hyp.proofs.Tables.{one_count, HasHypotheses-counted}
+use Rattle.tfpg_sim.specs.declared.limits.TheConstants.{FAILURE_COUNT}
+use Rattle.tfpg_run.specs.declared.limits.TheConstants.{GENERATED_K}
+use Rattle.tfpg_run.specs.generate.Diagnosed.{generated_terms}
+
+-- they are not too many
+pub few_hypotheses : (graph : Tfpg) (count : ℕ) → length (failures graph) ≡ FAILURE_COUNT → MAX_HYPOTHESES < count → HasHypotheses graph generated_terms count → ⊥
+few_hypotheses graph count failing many has =
+    let same : count ≡ 137 = one_count graph generated_terms count 137 has (HasHypotheses-counted graph generated_terms GENERATED_K refl FAILURE_COUNT 137 (sym failing) refl) in
+    omega (arith, same, many)

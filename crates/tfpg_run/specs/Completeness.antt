@@ -1,0 +1,72 @@
+-- When a run is done, or memory ran out: where the files, the input and the output serve what the words mean.
+use Rattle.std.specs.Prelude.{◌≡◌, ◌⊎◌, ℕ, ◌≤◌, List, length, Some}
+use Rattle.tfpg_base.specs.declared.limits.TheConstants.{MAX_BYTES}
+use Rattle.tfpg_base.specs.Outside.{SourceState, ShelfState, Rose}
+use Rattle.tfpg_base.specs.Lines.{lines_of}
+use Rattle.tfpg_graph.specs.Graph.{Tfpg}
+use Rattle.tfpg_log.specs.Log.{Logbook}
+use Rattle.tfpg_hyp.specs.Hypotheses.{HasHypotheses}
+use Rattle.tfpg_hyp.specs.declared.limits.TheConstants.{MAX_HYPOTHESES}
+use Rattle.tfpg_sim.specs.Script.{IsScriptFault}
+use Rattle.tfpg_words.specs.Meaning.{Meaning, Diagnose, Explain, Simulate, Generate}
+use Rattle.tfpg_base.specs.declared.terms.Terms.{Terms}
+use Rattle.tfpg_run.specs.declared.end.End.{End}
+use Rattle.tfpg_run.specs.declared.end.End.TheVariants.{Done, NoMemory}
+use Rattle.tfpg_run.specs.Fetch.{GivesGraph, GivesGraphAndLog, GivesGraphAndText}
+use Rattle.tfpg_run.specs.map.Spelling.{HasMap}
+use Rattle.tfpg_run.specs.World.{World}
+
+-- The input is known, and has at most 2^32 bytes left.
+pub record IsShort (input : SourceState) : Type 0 where
+  pub known : List ℕ
+  pub left : input.left ≡ Some known
+  pub few : length known ≤ MAX_BYTES
+
+-- The contents of the shelf are known, the file of this name spells a valid graph, and each graph that it gives has at
+-- most 4,096 hypotheses on these terms.
+pub record CanDiagnose (shelf : ShelfState) (terms : Terms) (name : List ℕ) : Type 0 where
+  pub files : List (List ℕ × List ℕ)
+  pub known : shelf.files ≡ Some files
+  pub graph : Tfpg
+  pub gives : GivesGraph shelf name graph
+  pub few : (other : Tfpg) (count : ℕ) → GivesGraph shelf name other → HasHypotheses other terms count
+      → count ≤ MAX_HYPOTHESES
+
+-- The contents of the shelf are known, the files of these names give a graph and a log, and the lines of the input spell
+-- a map of each graph that the file gives.
+pub record CanExplain (shelf : ShelfState) (input : SourceState) (graph_name log_name : List ℕ) : Type 0 where
+  pub files : List (List ℕ × List ℕ)
+  pub known : shelf.files ≡ Some files
+  pub graph : Tfpg
+  pub log : Logbook
+  pub gives : GivesGraphAndLog shelf graph_name log_name graph log
+  pub short : IsShort input
+  pub map : (other : Tfpg) → GivesGraph shelf graph_name other → HasMap other (lines_of short.known)
+
+-- The contents of the shelf are known, and the files of these names give a graph and a text, which is a right script.
+pub record CanSimulate (shelf : ShelfState) (graph_name script_name : List ℕ) : Type 0 where
+  pub files : List (List ℕ × List ℕ)
+  pub known : shelf.files ≡ Some files
+  pub graph : Tfpg
+  pub script : List ℕ
+  pub gives : GivesGraphAndText shelf graph_name script_name graph script
+  pub right : (other : Tfpg) (text : List ℕ) (line : ℕ) → GivesGraphAndText shelf graph_name script_name other text
+      → IsScriptFault other (lines_of text) line → ⊥
+
+-- The files serve what the words mean, and so does the input where it is read.
+abbrev pub CanBeDone : Meaning → World → Type 0
+CanBeDone (Diagnose terms graph) before =
+    CanDiagnose before.shelf terms graph × IsShort before.input
+CanBeDone (Explain graph log) before = CanExplain before.shelf before.input graph log
+CanBeDone (Simulate draw trace graph script) before = CanSimulate before.shelf graph script
+CanBeDone (Generate draw size) before = Unit {0}
+
+-- Neither the shelf, nor the input, nor the output failed.
+pub record NothingFails (before now : World) : Type 0 where
+  pub shelf : Rose before.shelf.faults now.shelf.faults → ⊥
+  pub input : Rose before.input.faults now.input.faults → ⊥
+  pub output : Rose before.output.faults now.output.faults → ⊥
+
+-- The run is done, or memory ran out.
+abbrev pub IsCompleted : End → Type 0
+IsCompleted end = (end ≡ Done) ⊎ (end ≡ NoMemory)

@@ -1,0 +1,56 @@
+-- The ends that the faults of a run, and the results of the work of each command, lead to.
+use Rattle.std.specs.Prelude.{◌≡◌, Result, Ok, Err}
+use Rattle.tfpg_run.specs.declared.fault.FetchFault.{FetchFault}
+use Rattle.tfpg_run.specs.declared.fault.FetchFault.TheVariants as fetch
+use Rattle.tfpg_run.specs.declared.fault.StreamFault.{StreamFault}
+use Rattle.tfpg_run.specs.declared.fault.StreamFault.TheVariants as streams
+use Rattle.tfpg_run.specs.declared.fault.JudgeFault.{JudgeFault}
+use Rattle.tfpg_run.specs.declared.fault.JudgeFault.TheVariants as judge
+use Rattle.tfpg_run.specs.declared.fault.SimulateFault.{SimulateFault}
+use Rattle.tfpg_run.specs.declared.fault.SimulateFault.TheVariants as simulate
+use Rattle.tfpg_run.specs.declared.fault.GenerateFault.{GenerateFault}
+use Rattle.tfpg_run.specs.declared.fault.GenerateFault.TheVariants as generate
+use Rattle.tfpg_check.specs.declared.cause.CheckCause.TheVariants.{BadMap, BadScript}
+use Rattle.tfpg_run.specs.declared.end.End.{End}
+use Rattle.tfpg_run.specs.declared.end.End.TheVariants as ends
+
+-- the end of a run that has no graph
+abbrev pub end_of_fetch_fault : FetchFault → End
+end_of_fetch_fault fetch.Failed = ends.ReadFault
+end_of_fetch_fault fetch.TooLong = ends.TooMuchInput
+end_of_fetch_fault (fetch.Graph fault) = ends.Graph fault.line fault.cause
+end_of_fetch_fault fetch.NoMemory = ends.NoMemory
+
+-- the end of a run whose streams failed
+abbrev pub end_of_stream_fault : StreamFault → End
+end_of_stream_fault streams.ReadFault = ends.ReadFault
+end_of_stream_fault streams.WriteFault = ends.WriteFault
+end_of_stream_fault streams.TooMuchInput = ends.TooMuchInput
+end_of_stream_fault streams.NoMemory = ends.NoMemory
+
+-- the end of a run whose map was not judged
+abbrev pub end_of_judge_fault : JudgeFault → End
+end_of_judge_fault (judge.BadMap line) = ends.NotAccepted line BadMap
+end_of_judge_fault (judge.Stream fault) = end_of_stream_fault fault
+
+-- the end of a run whose script was not simulated
+abbrev pub end_of_simulate_fault : SimulateFault → End
+end_of_simulate_fault (simulate.BadScript line) = ends.NotAccepted line BadScript
+end_of_simulate_fault simulate.WriteFault = ends.WriteFault
+end_of_simulate_fault simulate.NoMemory = ends.NoMemory
+
+-- the end of a run whose summary was not written
+abbrev pub end_of_generate_fault : GenerateFault → End
+end_of_generate_fault generate.WriteFault = ends.WriteFault
+end_of_generate_fault generate.NoMemory = ends.NoMemory
+
+-- the end of a run whose work has this result, by the ends that its faults lead to
+abbrev pub end_of_result : {E : Type 0} → (E → End) → Result (Unit {0}) E → End
+end_of_result end_of (Ok done) = ends.Done
+end_of_result end_of (Err fault) = end_of fault
+
+-- The work has a result of which this holds, and the run ends as the result says.
+pub record EndsBy {E : Type 0} (Works : Result (Unit {0}) E → Type 0) (end_of : E → End) (end : End) : Type 0 where
+  pub result : Result (Unit {0}) E
+  pub works : Works result
+  pub end_is : end ≡ end_of_result end_of result

@@ -1,0 +1,17 @@
+-- What the public contracts say of every command.
+pub mod World
+pub mod Streams
+pub mod Outputs
+pub mod Fetch
+pub mod Ends
+pub mod EndsOf
+pub mod Run
+pub mod Completeness
+-- What they say of maps, and of each command, in folders named like those of the source.
+pub mod map
+pub mod diagnose
+pub mod explain
+pub mod simulate
+pub mod generate
+-- What the code and its proofs need besides. No public clause reaches it.
+pub mod inside

@@ -1,0 +1,48 @@
+-- What `generate` does: it draws a graph and a script, simulates the script, diagnoses the log, and writes what became
+-- of the truth.
+use Rattle.std.specs.Prelude.{◌≡◌, ℕ, List, [], ◌∷◌, ◌++◌, length, Contains, false, Result, Ok, Err}
+use Rattle.tfpg_base.specs.Lines.{lines_of}
+use Rattle.tfpg_base.specs.Outside.{SinkState}
+use Rattle.tfpg_evidence.specs.declared.finding.Finding.{Finding}
+use Rattle.tfpg_evidence.specs.declared.round.Round.{Round}
+use Rattle.tfpg_evidence.specs.RoundOf.{is_rejected}
+use Rattle.tfpg_sim.specs.declared.simulated.Simulated.{Simulated}
+use Rattle.tfpg_sim.specs.Generated.{generated_graph, generated_script}
+use Rattle.tfpg_sim.specs.Simulated.{IsSimulationOf}
+use Rattle.tfpg_run.specs.declared.end.End.{End}
+use Rattle.tfpg_run.specs.declared.fault.GenerateFault.{GenerateFault}
+use Rattle.tfpg_run.specs.declared.fault.GenerateFault.TheVariants.{WriteFault, NoMemory}
+use Rattle.tfpg_run.specs.EndsOf.{EndsBy, end_of_generate_fault}
+use Rattle.tfpg_run.specs.generate.Diagnosed.{AreRoundsOf, generated_terms}
+use Rattle.tfpg_run.specs.Outputs.{WritesText, BeginsText}
+use Rattle.tfpg_run.specs.generate.Summary.{drawing, summary_text}
+use Rattle.tfpg_run.specs.World.{World}
+
+-- The text says what was drawn by the number and the size, and what the last of the rounds of the simulated log says:
+-- how many sets have each status, and the status of the simulated set, which is never rejected. A set has at most
+-- `GENERATED_K` failure modes, and at most `GENERATED_BUDGET` splits in a round.
+pub record HasSummary (number size : ℕ) (text : List ℕ) : Type 0 where
+  pub simulated : Simulated
+  pub simulation : IsSimulationOf (generated_graph number size) (generated_script number size) number simulated
+  pub earlier : List Round
+  pub last : Round
+  pub rounds : AreRoundsOf (generated_graph number size) generated_terms (lines_of simulated.log) (earlier ++ last ∷ [])
+  pub truth : Finding
+  pub found : Contains last.findings truth
+  pub of_set : truth.set ≡ simulated.set
+  pub not_rejected : is_rejected truth.status ≡ false
+  pub text_is : text ≡ summary_text
+      (drawing number size (generated_graph number size) (length (lines_of simulated.log)))
+      (length (earlier ++ last ∷ [])) last.counts simulated.set truth.status
+
+-- How drawing and diagnosing ends. Before the whole text is known, nothing is written.
+abbrev pub GenerationEnds : ℕ → ℕ → SinkState → SinkState → Result (Unit {0}) GenerateFault → Type 0
+GenerationEnds number size before now (Ok done) = WritesText (HasSummary number size) before now
+GenerationEnds number size before now (Err WriteFault) = BeginsText (HasSummary number size) before now
+GenerationEnds number size before now (Err NoMemory) = now ≡ before
+
+-- How `generate` ends, which asks for no file and takes nothing from the input.
+abbrev pub GenerateEnds : ℕ → ℕ → World → World → End → Type 0
+GenerateEnds number size before now end =
+    EndsBy (GenerationEnds number size before.output now.output) end_of_generate_fault end
+    × (now.input ≡ before.input) × (now.shelf ≡ before.shelf)

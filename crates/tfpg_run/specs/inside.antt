@@ -1,0 +1,7 @@
+-- The faults of the layers below and the limits of numbers, and then the rooms of the source.
+pub mod Faults
+pub mod Plans
+pub mod map
+pub mod diagnose
+pub mod explain
+pub mod generate

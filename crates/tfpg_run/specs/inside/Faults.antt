@@ -1,0 +1,72 @@
+-- How the faults of the layers below become those of fetching, of the streams and of a run.
+use Rattle.std.specs.Prelude.{◌≡◌, ℕ, List}
+use Rattle.tfpg_base.specs.Outside.{ShelfState, Rose, NotesName}
+use Rattle.tfpg_base.specs.declared.line.LineFault.{LineFault}
+use Rattle.tfpg_base.specs.declared.line.LineFault.TheVariants as lines
+use Rattle.tfpg_base.specs.declared.outside.ShelfFault.{ShelfFault}
+use Rattle.tfpg_base.specs.declared.outside.ShelfFault.TheVariants as shelf
+use Rattle.tfpg_graph.specs.declared.cause.GraphRefusal.{GraphRefusal}
+use Rattle.tfpg_graph.specs.declared.cause.GraphRefusal.TheVariants as refusal
+use Rattle.tfpg_words.specs.declared.plan_fault.PlanFault.{PlanFault}
+use Rattle.tfpg_words.specs.declared.plan_fault.PlanFault.TheVariants as plan
+use Rattle.tfpg_hyp.specs.declared.table.TableFault.{TableFault}
+use Rattle.tfpg_hyp.specs.declared.table.TableFault.TheVariants as table
+use Rattle.tfpg_run.specs.declared.fault.FetchFault.{FetchFault}
+use Rattle.tfpg_run.specs.declared.fault.FetchFault.TheVariants as fetch
+use Rattle.tfpg_run.specs.declared.fault.StreamFault.{StreamFault}
+use Rattle.tfpg_run.specs.declared.fault.StreamFault.TheVariants as streams
+use Rattle.tfpg_run.specs.Fetch.{IsTooLong}
+use Rattle.tfpg_sim.specs.declared.fault.SimFault.{SimFault}
+use Rattle.tfpg_sim.specs.declared.fault.SimFault.TheVariants as sim
+use Rattle.tfpg_run.specs.declared.fault.JudgeFault.{JudgeFault}
+use Rattle.tfpg_run.specs.declared.fault.JudgeFault.TheVariants as judge
+use Rattle.tfpg_run.specs.declared.fault.SimulateFault.{SimulateFault}
+use Rattle.tfpg_run.specs.declared.fault.SimulateFault.TheVariants as simulate
+use Rattle.tfpg_run.specs.declared.end.End.{End}
+use Rattle.tfpg_run.specs.declared.end.End.TheVariants as ends
+use Rattle.tfpg_run.specs.declared.map.NoMap.{NoMap}
+use Rattle.tfpg_run.specs.declared.map.NoMap.TheVariants as maps
+
+-- the fault of fetching that a fault of the shelf is
+abbrev pub fetch_fault_of_shelf : ShelfFault → FetchFault
+fetch_fault_of_shelf shelf.Failed = fetch.Failed
+fetch_fault_of_shelf shelf.TooLong = fetch.TooLong
+fetch_fault_of_shelf shelf.NoMemory = fetch.NoMemory
+
+-- the fault of fetching that a refusal of the reader of graphs is
+abbrev pub fetch_fault_of_refusal : GraphRefusal → FetchFault
+fetch_fault_of_refusal (refusal.Fault fault) = fetch.Graph fault
+fetch_fault_of_refusal refusal.NoMemory = fetch.NoMemory
+
+-- the fault of the streams that a fault of the reader of lines is
+abbrev pub stream_fault_of_lines : LineFault → StreamFault
+stream_fault_of_lines lines.ReadFault = streams.ReadFault
+stream_fault_of_lines lines.TooMuchInput = streams.TooMuchInput
+
+-- why a map is not judged whose input gives none
+abbrev pub judge_fault_of_no_map : NoMap → JudgeFault
+judge_fault_of_no_map (maps.Refused line) = judge.BadMap line
+judge_fault_of_no_map (maps.Lines fault) = judge.Stream (stream_fault_of_lines fault)
+judge_fault_of_no_map maps.NoMemory = judge.Stream streams.NoMemory
+
+-- the end of a run that has no table of hypotheses
+abbrev pub end_of_table_fault : TableFault → End
+end_of_table_fault (table.TooMany count) = ends.TooManyHypotheses count
+end_of_table_fault table.NoMemory = ends.NoMemory
+
+-- the end of a run that has no plan
+abbrev pub end_of_plan_fault : PlanFault → End
+end_of_plan_fault (plan.Usage cause) = ends.Usage cause
+end_of_plan_fault plan.NoMemory = ends.NoMemory
+
+-- why a script is not simulated
+abbrev pub simulate_fault_of_sim : SimFault → SimulateFault
+simulate_fault_of_sim (sim.BadScript line) = simulate.BadScript line
+simulate_fault_of_sim sim.NoMemory = simulate.NoMemory
+
+-- Why the file of this name was not fetched: the shelf was asked for it, and failed; or it did not fail, and the file has
+-- more than 2^24 bytes, or memory ran out.
+abbrev pub IsFileFault : ShelfState → ShelfState → List ℕ → ShelfFault → Type 0
+IsFileFault before now name shelf.Failed = Rose before.faults now.faults × NotesName before now name
+IsFileFault before now name shelf.TooLong = IsTooLong before name × (now.faults ≡ before.faults)
+IsFileFault before now name shelf.NoMemory = now.faults ≡ before.faults

@@ -1,0 +1,3 @@
+-- The blocks of lines, and a diagnosis under way.
+pub mod LineBlocks
+pub mod UnderWay

@@ -1,0 +1,43 @@
+-- What the engine of a diagnosis represents, and the block of a line that it was given.
+use Rattle.std.specs.Prelude.{◌≡◌, ℕ, List}
+use Rattle.tfpg_graph.specs.Graph.{Tfpg}
+use Rattle.tfpg_graph.specs.Valid.{IsValid}
+use Rattle.tfpg_evidence.specs.declared.round.Round.{Round}
+use Rattle.tfpg_engine.specs.EngineState.{EngineState, EngineRepresents}
+use Rattle.tfpg_report.specs.Blocks.{Block, block_text}
+use Rattle.tfpg_check.specs.Report.{Progress, IsBlock, progress_after}
+use Rattle.tfpg_base.specs.declared.terms.Terms.{Terms}
+use Rattle.tfpg_run.specs.diagnose.ForNow.{LosesNone}
+use Rattle.tfpg_run.specs.diagnose.RightReport.{BlockSays}
+
+-- a line of the input with its number
+pub record NumberedLine : Type 0 where
+  pub number : ℕ
+  pub text : List ℕ
+
+-- the line of this number and text
+abbrev pub numbered : ℕ → List ℕ → NumberedLine
+numbered number text = record { number = number; text = text }
+
+-- The engine is of this graph and of these terms. It has the log of this progress, and has returned its rounds.
+pub record EngineReports (graph : Tfpg) (terms : Terms) (engine : EngineState) (progress : Progress) : Type 0 where
+  pub graph_is : engine.graph ≡ graph
+  pub terms_is : engine.terms ≡ terms
+  pub log_is : engine.log ≡ progress.log
+  pub represents : EngineRepresents engine progress.rounds
+
+-- the engine is of a valid graph, and represents some rounds
+pub record IsEngineReady (engine : EngineState) : Type 0 where
+  pub valid : IsValid engine.graph
+  pub rounds : List Round
+  pub represents : EngineRepresents engine rounds
+
+-- The bytes are the block of a line, and the engine represents the progress after it.
+pub record HasBlock (graph : Tfpg) (terms : Terms) (before : Progress) (line : NumberedLine) (bytes : List ℕ)
+    (engine : EngineState) : Type 0 where
+  pub block : Block
+  pub is_block : IsBlock graph terms before line.number line.text block
+  pub no_losses : LosesNone block
+  pub says : BlockSays graph terms before line.text block
+  pub text : bytes ≡ block_text graph block
+  pub reports : EngineReports graph terms engine (progress_after graph before line.text block)

@@ -1,0 +1,78 @@
+-- Reading the map of the input, under way and ended.
+use Rattle.std.specs.Prelude.{◌≡◌, ◌⊎◌, ℕ, ◌+◌, ◌<◌, ◌≤◌, List, length, take, Some, None, Result, Ok, Err}
+use Rattle.tfpg_base.specs.declared.line.Line.TheVariants as line
+use Rattle.tfpg_base.specs.Lines.{Reading, LinesState, LinesRepresent, lines_of, whole_lines}
+use Rattle.tfpg_base.specs.declared.limits.TheConstants.{MAX_BYTES}
+use Rattle.tfpg_base.specs.Outside.{SourceState, Rose, Takes, IsAtEnd}
+use Rattle.tfpg_graph.specs.Graph.{Tfpg}
+use Rattle.tfpg_run.specs.map.InputMap.{GivesMap, RefusesMap}
+use Rattle.tfpg_run.specs.map.Spelling.{BeginsMap}
+use Rattle.tfpg_run.specs.declared.map.Map.{Map}
+use Rattle.tfpg_run.specs.declared.map.MapReader.{MapReader}
+use Rattle.tfpg_run.specs.declared.map.NoMap.{NoMap}
+use Rattle.tfpg_run.specs.declared.map.NoMap.TheVariants.{Refused, Lines, NoMemory}
+use Rattle.tfpg_base.specs.declared.line.LineFault.TheVariants.{ReadFault, TooMuchInput}
+use Rattle.tfpg_run.specs.declared.map.reading.NextLine.{NextLine}
+use Rattle.tfpg_run.specs.declared.map.reading.NextLine.TheVariants.{Read, Ended}
+use Rattle.tfpg_run.specs.inside.map.Lines.{MapRepresents}
+
+-- the reading of a map at one moment: the input, the reader of lines and the reader of the map
+pub record MapReadingState : Type 0 where
+  pub input : SourceState
+  pub lines : LinesState
+  pub map : MapReader
+
+-- the reading of a map with these
+abbrev pub map_reading_at : SourceState → LinesState → MapReader → MapReadingState
+map_reading_at input lines map = record { input = input; lines = lines; map = map }
+
+-- Reading that began with this input has come to this: each line that was returned is read, and nothing has failed.
+pub record IsReadingMap (graph : Tfpg) (before : SourceState) (now : MapReadingState) : Type 0 where
+  pub reading : Reading
+  pub takes : Takes before now.input reading.taken
+  pub few : length reading.taken ≤ MAX_BYTES
+  pub represents : LinesRepresent now.lines reading
+  pub goes_on : (reading.ended ≡ None) ⊎ ((reading.ended ≡ Some (Ok line.End)) × IsAtEnd now.input)
+  pub front : take (length reading.given) (lines_of reading.taken) ≡ reading.given
+  pub read : MapRepresents graph now.map reading.given
+  pub no_fault : now.input.faults ≡ before.faults
+
+-- The whole input was taken, and each of its lines is read.
+pub record HasReadAll (graph : Tfpg) (before now : SourceState) (map : MapReader) : Type 0 where
+  pub taken : List ℕ
+  pub takes : Takes before now taken
+  pub few : length taken ≤ MAX_BYTES
+  pub at_end : IsAtEnd now
+  pub read : MapRepresents graph map (lines_of taken)
+  pub no_fault : now.faults ≡ before.faults
+
+-- What reading the line after that of this number leads to: reading is under way still, one line on; or all is read.
+abbrev pub ReadsOn : Tfpg → SourceState → ℕ → MapReadingState → NextLine → Type 0
+ReadsOn graph before number now Read = IsReadingMap graph before now × (now.lines.number ≡ number + 1)
+ReadsOn graph before number now Ended = HasReadAll graph before now.input now.map
+
+-- The lines of the whole input spell this map.
+pub record ReadsMap (graph : Tfpg) (before now : SourceState) (map : Map) : Type 0 where
+  pub taken : List ℕ
+  pub takes : Takes before now taken
+  pub gives : GivesMap graph now taken map.set map.trace
+  pub no_fault : now.faults ≡ before.faults
+
+-- what a reader that has read all lines gives: its map, or that there is no line
+abbrev pub ReturnsMap : MapReader → Result Map NoMap → Type 0
+ReturnsMap reader (Ok map) = (reader.set ≡ Some map.set) × (reader.trace ≡ map.trace)
+ReturnsMap reader (Err fault) = (reader.set ≡ None) × (fault ≡ Refused 1)
+
+-- what shows why there is no map, where these bytes were taken
+abbrev pub ShowsNoMap : Tfpg → SourceState → SourceState → List ℕ → NoMap → Type 0
+ShowsNoMap graph before now taken (Refused number) = RefusesMap graph before now taken number
+ShowsNoMap graph before now taken (Lines ReadFault) = Rose before.faults now.faults × BeginsMap graph (whole_lines taken)
+ShowsNoMap graph before now taken (Lines TooMuchInput) =
+    (length taken ≡ MAX_BYTES + 1) × BeginsMap graph (whole_lines (take MAX_BYTES taken)) × (now.faults ≡ before.faults)
+ShowsNoMap graph before now taken NoMemory = now.faults ≡ before.faults
+
+-- The input gives no map, with this cause.
+pub record LacksMap (graph : Tfpg) (before now : SourceState) (fault : NoMap) : Type 0 where
+  pub taken : List ℕ
+  pub takes : Takes before now taken
+  pub shown : ShowsNoMap graph before now taken fault

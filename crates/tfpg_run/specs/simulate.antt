@@ -1,0 +1,2 @@
+-- How `simulate` ends.
+pub mod Simulating

@@ -1,0 +1,118 @@
+//! The top call: from the words and the bytes of the outside to the bytes of a report, or of a verdict.
+
+ghost use Rattle.std.specs.Prelude.{◌≡◌, map, string_bytes, OnOk, IfErr, Ok};
+ghost use Rattle.tfpg_words.specs.Meaning.{Meaning, meaning};
+ghost use Rattle.tfpg_run.specs.Completeness.{CanBeDone, IsCompleted, NothingFails};
+ghost use Rattle.tfpg_words.specs.Plans.{meaning_of};
+ghost use Rattle.tfpg_run.specs.inside.Plans.{AreWithinLimits};
+ghost use Rattle.tfpg_run.specs.EndsOf.{end_of_result};
+ghost use Rattle.tfpg_run.specs.Fetch.{AsksOnly};
+ghost use Rattle.tfpg_run.specs.Run.{RunEnds, CommandEnds};
+ghost use Rattle.tfpg_run.specs.World.{world};
+
+use crate::diagnose::diagnose_file;
+use crate::end::End;
+use crate::explain::judge_by_files;
+use crate::generate::generate_summary;
+use crate::simulate::simulate_files;
+use std::alloc::Global;
+use std::sync::ledger::Ledger;
+use tfpg_base::{Shelf, Sink, Source, Steps, Terms};
+use tfpg_graph::laws::a_text_has_at_most_one_first_fault;
+use tfpg_words::laws::numbers_are_within_their_limits;
+use tfpg_words::{Command, plan};
+
+/// Does what the words say. To diagnose it reads the graph that they name, then takes the input line by line, and writes the
+/// block of each line before the next one is taken. To explain it reads the graph and the log that they name, then the map of
+/// the input, and then writes the verdict on it. To simulate it reads the graph and the script that they name, and writes the log
+/// or the map of what happens. To generate it draws a graph and a script, diagnoses the log, and writes what became of
+/// the truth. Searches count their steps on `work`.
+pub fn run<F: Shelf, S: Source, K: Sink, L: Ledger>(
+    alloc: Global,
+    words: &[String],
+    shelf: &mut F,
+    input: &mut S,
+    out: &mut K,
+    work: &mut Steps<L>,
+) -> End
+    // Each end has its cause, and what was written by then is right.
+    ensures ends { RunEnds (meaning (map string_bytes words.now))
+        (world (F.state shelf.old) (S.state input.old) (K.state out.old))
+        (world (F.state shelf.new) (S.state input.new) (K.state out.new)) result }
+
+    // Where the words are right, the files and the input serve them and nothing fails, it is done, or memory ran out.
+    ensures completes { (meant : Meaning) → meaning (map string_bytes words.now) ≡ Ok meant →
+        CanBeDone meant (world (F.state shelf.old) (S.state input.old) (K.state out.old)) →
+        NothingFails (world (F.state shelf.old) (S.state input.old) (K.state out.old))
+        (world (F.state shelf.new) (S.state input.new) (K.state out.new)) →
+        IsCompleted result }
+
+    // No file is asked for but those that the words name.
+    ensures asks { AsksOnly (meaning (map string_bytes words.now)) (F.state shelf.old).asked
+        (F.state shelf.new).asked }
+{
+    numbers_are_within_their_limits();
+    a_text_has_at_most_one_first_fault();
+    match plan(alloc, words) {
+        Ok(planned) => end_of(perform(alloc, &planned.command, shelf, input, out, work)),
+        Err(fault) => End::from(fault),
+    }
+}
+
+/// Does what a command asks for.
+fn perform<F: Shelf, S: Source, K: Sink, L: Ledger>(
+    alloc: Global,
+    command: &Command,
+    shelf: &mut F,
+    input: &mut S,
+    out: &mut K,
+    work: &mut Steps<L>,
+) -> Result<(), End>
+    requires { AreWithinLimits (meaning_of command.now) }
+    ensures done { OnOk result (CommandEnds (Ok (meaning_of command.now))
+        (world (F.state shelf.old) (S.state input.old) (K.state out.old))
+        (world (F.state shelf.new) (S.state input.new) (K.state out.new)) End.Done) }
+    ensures stopped { IfErr result (CommandEnds (Ok (meaning_of command.now))
+        (world (F.state shelf.old) (S.state input.old) (K.state out.old))
+        (world (F.state shelf.new) (S.state input.new) (K.state out.new))) }
+    ensures asks { AsksOnly (Ok (meaning_of command.now)) (F.state shelf.old).asked
+        (F.state shelf.new).asked }
+{
+    match command {
+        Command::Diagnose { k, budget, graph } => {
+            let terms = Terms {
+                k: *k,
+                budget: *budget,
+            };
+            diagnose_file(alloc, terms, graph.as_str(), shelf, input, out, work)
+        }
+        Command::Explain { graph, log } => {
+            judge_by_files(alloc, graph.as_str(), log.as_str(), shelf, input, out)
+        }
+        Command::Simulate {
+            draw,
+            trace,
+            graph,
+            script,
+        } => simulate_files(
+            alloc,
+            graph.as_str(),
+            script.as_str(),
+            *draw,
+            *trace,
+            shelf,
+            out,
+        ),
+        Command::Generate { draw, size } => generate_summary(alloc, *draw, *size, out, work),
+    }
+}
+
+/// How a run ends whose work has this result.
+fn end_of(work: Result<(), End>) -> End
+    ensures { result ≡ end_of_result (λ end. end) work }
+{
+    match work {
+        Ok(()) => End::Done,
+        Err(end) => end,
+    }
+}

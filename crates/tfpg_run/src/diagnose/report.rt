@@ -1,0 +1,116 @@
+//! The report of a diagnosis: line by line, each with its block written before the next is taken.
+
+ghost use Rattle.std.specs.Prelude.{◌≡◌, ◌++◌, [], ℕ, List, IfOk, IfErr, OnErr, Err};
+ghost use Rattle.tfpg_base.specs.Outside.{Rose, Puts};
+ghost use Rattle.tfpg_graph.specs.Graph.{Tfpg};
+ghost use Rattle.tfpg_graph.specs.Valid.{IsValid};
+ghost use Rattle.tfpg_log.specs.LogOfLines.{new_log};
+ghost use Rattle.tfpg_engine.specs.EngineState.{EngineRepresents};
+ghost use Rattle.tfpg_report.specs.Blocks.{head_text};
+ghost use Rattle.tfpg_check.specs.Report.{HasReports};
+ghost use Rattle.tfpg_run.specs.diagnose.Diagnosing.{Diagnoses};
+ghost use Rattle.tfpg_run.specs.Streams.{Streams, streams};
+ghost use Rattle.tfpg_run.specs.inside.diagnose.LineBlocks.{IsEngineReady};
+ghost use Rattle.tfpg_run.specs.inside.diagnose.UnderWay.{IsDiagnosing, ComesTo, diagnosis_at};
+
+use super::line_blocks::{line_block, refused_block};
+use crate::fault::StreamFault;
+use crate::output::write_all;
+use std::alloc::Global;
+use std::sync::ledger::Ledger;
+use tfpg_base::{Line, Lines, NoMemory, Sink, Source, Steps, Terms};
+use tfpg_check::laws::a_report_goes_on_block_by_block;
+use tfpg_engine::Engine;
+use tfpg_report::{RefusedLine, head};
+
+/// Whether the block of one more line is written, or the input has ended.
+#[derive(Clone, Copy)]
+pub(super) enum NextBlock {
+    Written,
+    Ended,
+}
+
+/// Diagnoses the lines of the input by a new engine, and writes the report.
+pub(super) fn write_report<S: Source, K: Sink, L: Ledger>(
+    alloc: Global,
+    engine: &mut Engine,
+    input: &mut S,
+    out: &mut K,
+    work: &mut Steps<L>,
+) -> Result<(), StreamFault>
+    requires valid { IsValid engine.old.graph }
+    requires unread { engine.old.log ≡ new_log }
+    requires new { EngineRepresents engine.old [] }
+    requires has_reports { HasReports engine.old.graph engine.old.terms }
+    ensures { Diagnoses engine.old.graph engine.old.terms
+        (streams (S.state input.old) (K.state out.old))
+        (streams (S.state input.new) (K.state out.new)) result }
+{
+    let mut lines = Lines::new(alloc)?;
+    let head = first_line(alloc, engine.terms())?;
+    write_all(out, &head)?;
+    loop {
+        match write_next_block(alloc, engine, &mut lines, input, out, work)? {
+            NextBlock::Written => {}
+            NextBlock::Ended => return Ok(()),
+        }
+    }
+}
+
+/// The first line of the report.
+fn first_line(alloc: Global, terms: Terms) -> Result<Vec<u8>, NoMemory>
+    ensures { IfOk result (λ line. line.items ≡ head_text terms) }
+{
+    let mut line = Vec::new(alloc);
+    head(terms.k, terms.budget, &mut line)?;
+    Ok(line)
+}
+
+/// Takes the next line, and writes its block.
+fn write_next_block<S: Source, K: Sink, L: Ledger>(
+    alloc: Global,
+    engine: &mut Engine,
+    lines: &mut Lines,
+    input: &mut S,
+    out: &mut K,
+    work: &mut Steps<L>,
+) -> Result<NextBlock, StreamFault>
+    requires { IsEngineReady engine.old }
+    ensures comes_to { (graph : Tfpg) (terms : Terms) (before : Streams)
+        → IsDiagnosing graph terms before
+        (diagnosis_at (streams (S.state input.old) (K.state out.old)) lines.old engine.old)
+        → IfOk result (ComesTo graph terms before lines.old.number
+        (diagnosis_at (streams (S.state input.new) (K.state out.new)) lines.new engine.new)) }
+    ensures stopped { (graph : Tfpg) (terms : Terms) (before : Streams)
+        → IsDiagnosing graph terms before
+        (diagnosis_at (streams (S.state input.old) (K.state out.old)) lines.old engine.old)
+        → IfErr result (λ fault. Diagnoses graph terms before
+        (streams (S.state input.new) (K.state out.new)) (Err fault)) }
+{
+    a_report_goes_on_block_by_block();
+    match lines.next(input)? {
+        Line::End => Ok(NextBlock::Ended),
+        Line::TooLong => {
+            let block = refused_block(alloc, lines.number(), RefusedLine::TooLong)?;
+            write_block(out, &block)
+        }
+        Line::Text => {
+            let block = line_block(alloc, engine, lines.number(), lines.text(), work)?;
+            write_block(out, &block)
+        }
+    }
+}
+
+/// Writes a whole block.
+fn write_block<K: Sink>(out: &mut K, block: &[u8]) -> Result<NextBlock, StreamFault>
+    ensures put { IfOk result (λ next. (next ≡ NextBlock.Written) ×
+        Puts (K.state out.old) (K.state out.new) block.now
+        × ((K.state out.new).faults ≡ (K.state out.old).faults)) }
+    ensures cause { IfErr result (λ fault. fault ≡ StreamFault.WriteFault) }
+    ensures front { OnErr result ((front rest : List ℕ) × (block.now ≡ front ++ rest) ×
+        Puts (K.state out.old) (K.state out.new) front) }
+    ensures failed { OnErr result (Rose (K.state out.old).faults (K.state out.new).faults) }
+{
+    write_all(out, block)?;
+    Ok(NextBlock::Written)
+}

@@ -1,0 +1,313 @@
+//! How a run of the program ends.
+
+ghost use Rattle.std.specs.Prelude.{◌≡◌, ◌∷◌, [], codes, decimal};
+ghost use Rattle.std.specs.Process.{exit_status};
+ghost use Rattle.tfpg_base.specs.Append.{Appends};
+ghost use Rattle.tfpg_base.specs.Words.{line_of};
+ghost use Rattle.tfpg_run.specs.Ends.{check_cause_name, graph_cause_name, line_of_end, status_of, usage_name};
+ghost use Rattle.tfpg_run.specs.EndsOf.{end_of_fetch_fault, end_of_generate_fault, end_of_judge_fault, end_of_simulate_fault, end_of_stream_fault};
+ghost use Rattle.tfpg_run.specs.inside.Faults.{end_of_plan_fault, end_of_table_fault};
+
+use crate::fault::{FetchFault, GenerateFault, JudgeFault, SimulateFault, StreamFault};
+use itoa::Buffer;
+use std::process::ExitCode;
+use tfpg_base::{NoMemory, append_words};
+use tfpg_check::CheckCause;
+use tfpg_graph::GraphCause;
+use tfpg_hyp::TableFault;
+use tfpg_words::{PlanFault, UsageCause};
+
+/// How a run ends. Of several that would hold, the first in the order of the work decides: the words, the files in their order,
+/// the graph, the script, the number of sets, and then input and output line by line.
+#[derive(Clone, Copy, Debug, PartialEq, Eq)]
+pub enum End {
+    /// All was written, and where the input is read, it was read to its end.
+    Done,
+    /// This line of the input or of the script is refused.
+    NotAccepted { line: u64, cause: CheckCause },
+    /// The words are refused.
+    Usage { cause: UsageCause },
+    /// The graph file has this fault in this line.
+    Graph { line: u64, cause: GraphCause },
+    /// There are more than [`MAX_HYPOTHESES`](tfpg_hyp::MAX_HYPOTHESES) sets of at most `k` failure modes, exactly this many.
+    TooManyHypotheses { count: u128 },
+    /// The shelf of files or the input failed.
+    ReadFault,
+    /// The output failed.
+    WriteFault,
+    /// The input has more than [`MAX_BYTES`](tfpg_base::MAX_BYTES) bytes, or a file more than
+    /// [`LONGEST_FILE`](tfpg_base::LONGEST_FILE).
+    TooMuchInput,
+    /// Out of memory.
+    NoMemory,
+}
+
+impl End {
+    /// The status with which the program exits.
+    pub fn status(&self) -> u8
+        ensures { result ≡ status_of self.now }
+    {
+        match self {
+            End::Done => 0,
+            End::NotAccepted { .. } => 1,
+            End::Usage { .. } => 2,
+            End::Graph { .. } => 3,
+            End::TooManyHypotheses { .. } => 4,
+            End::ReadFault => 5,
+            End::WriteFault => 6,
+            End::TooMuchInput => 7,
+            End::NoMemory => 8,
+        }
+    }
+
+    /// The exit code of the process.
+    pub fn code(&self) -> ExitCode
+        ensures { exit_status result ≡ status_of self.now }
+    {
+        ExitCode::from(self.status())
+    }
+
+    /// Appends what is said of the end, without a line end: nothing where all went well.
+    pub fn line(&self, into: &mut Vec<u8>) -> Result<(), NoMemory>
+        ensures { Appends result into.old.items into.new.items (line_of_end self.now) }
+    {
+        match self {
+            End::Done => Ok(()),
+            End::NotAccepted { line, cause } => append_not_accepted(*line, *cause, into),
+            End::Usage { cause } => append_usage(*cause, into),
+            End::Graph { line, cause } => append_graph(*line, *cause, into),
+            End::TooManyHypotheses { count } => append_too_many(*count, into),
+            End::ReadFault => append_text(b"read fault", into),
+            End::WriteFault => append_text(b"write fault", into),
+            End::TooMuchInput => append_text(b"too much input", into),
+            End::NoMemory => append_text(b"no memory", into),
+        }
+    }
+}
+
+impl From<FetchFault> for End {
+    ghost from_gives = { λ fault e. e ≡ end_of_fetch_fault fault };
+
+    fn from(fault: FetchFault) -> End {
+        match fault {
+            FetchFault::Failed => End::ReadFault,
+            FetchFault::TooLong => End::TooMuchInput,
+            FetchFault::Graph(fault) => End::Graph {
+                line: fault.line,
+                cause: fault.cause,
+            },
+            FetchFault::NoMemory => End::NoMemory,
+        }
+    }
+}
+
+impl From<PlanFault> for End {
+    ghost from_gives = { λ fault e. e ≡ end_of_plan_fault fault };
+
+    fn from(fault: PlanFault) -> End {
+        match fault {
+            PlanFault::Usage(cause) => End::Usage { cause },
+            PlanFault::NoMemory => End::NoMemory,
+        }
+    }
+}
+
+impl From<TableFault> for End {
+    ghost from_gives = { λ fault e. e ≡ end_of_table_fault fault };
+
+    fn from(fault: TableFault) -> End {
+        match fault {
+            TableFault::TooMany { count } => End::TooManyHypotheses { count },
+            TableFault::NoMemory => End::NoMemory,
+        }
+    }
+}
+
+impl From<StreamFault> for End {
+    ghost from_gives = { λ fault e. e ≡ end_of_stream_fault fault };
+
+    fn from(fault: StreamFault) -> End {
+        match fault {
+            StreamFault::ReadFault => End::ReadFault,
+            StreamFault::WriteFault => End::WriteFault,
+            StreamFault::TooMuchInput => End::TooMuchInput,
+            StreamFault::NoMemory => End::NoMemory,
+        }
+    }
+}
+
+impl From<JudgeFault> for End {
+    ghost from_gives = { λ fault e. e ≡ end_of_judge_fault fault };
+
+    fn from(fault: JudgeFault) -> End {
+        match fault {
+            JudgeFault::BadMap { line } => End::NotAccepted {
+                line,
+                cause: CheckCause::BadMap,
+            },
+            JudgeFault::Stream(fault) => End::from(fault),
+        }
+    }
+}
+
+impl From<SimulateFault> for End {
+    ghost from_gives = { λ fault e. e ≡ end_of_simulate_fault fault };
+
+    fn from(fault: SimulateFault) -> End {
+        match fault {
+            SimulateFault::BadScript { line } => End::NotAccepted {
+                line,
+                cause: CheckCause::BadScript,
+            },
+            SimulateFault::WriteFault => End::WriteFault,
+            SimulateFault::NoMemory => End::NoMemory,
+        }
+    }
+}
+
+impl From<GenerateFault> for End {
+    ghost from_gives = { λ fault e. e ≡ end_of_generate_fault fault };
+
+    fn from(fault: GenerateFault) -> End {
+        match fault {
+            GenerateFault::WriteFault => End::WriteFault,
+            GenerateFault::NoMemory => End::NoMemory,
+        }
+    }
+}
+
+/// Appends what is said of a line that is refused.
+fn append_not_accepted(line: u64, cause: CheckCause, into: &mut Vec<u8>) -> Result<(), NoMemory>
+    ensures { Appends result into.old.items into.new.items
+        (line_of (codes "not" ∷ codes "accepted" ∷ decimal line ∷ check_cause_name cause ∷ [])) }
+{
+    let mut digits = Buffer::new();
+    append_words(
+        into,
+        &[
+            b"not",
+            b"accepted",
+            digits.format(line).as_bytes(),
+            check_cause_word(cause),
+        ],
+    )
+}
+
+/// Appends what is said of words that are refused.
+fn append_usage(cause: UsageCause, into: &mut Vec<u8>) -> Result<(), NoMemory>
+    ensures { Appends result into.old.items into.new.items (line_of (codes "usage" ∷ usage_name cause ∷ [])) }
+{
+    append_words(into, &[b"usage", usage_cause_word(cause)])
+}
+
+/// Appends what is said of a graph that is refused.
+fn append_graph(line: u64, cause: GraphCause, into: &mut Vec<u8>) -> Result<(), NoMemory>
+    ensures { Appends result into.old.items into.new.items
+        (line_of (codes "graph" ∷ decimal line ∷ graph_cause_name cause ∷ [])) }
+{
+    let mut digits = Buffer::new();
+    append_words(
+        into,
+        &[
+            b"graph",
+            digits.format(line).as_bytes(),
+            graph_cause_word(cause),
+        ],
+    )
+}
+
+/// Appends what is said of a graph that has too many hypotheses.
+fn append_too_many(count: u128, into: &mut Vec<u8>) -> Result<(), NoMemory>
+    ensures { Appends result into.old.items into.new.items
+        (line_of (codes "too" ∷ codes "many" ∷ codes "hypotheses" ∷ decimal count ∷ [])) }
+{
+    let mut digits = Buffer::new();
+    append_words(
+        into,
+        &[
+            b"too",
+            b"many",
+            b"hypotheses",
+            digits.format(count).as_bytes(),
+        ],
+    )
+}
+
+/// Appends a text.
+fn append_text(text: &[u8], into: &mut Vec<u8>) -> Result<(), NoMemory>
+    ensures { Appends result into.old.items into.new.items text.now }
+{
+    into.extend_from_slice(text)?;
+    Ok(())
+}
+
+/// The name of why a line is refused.
+fn check_cause_word(cause: CheckCause) -> &'static [u8]
+    ensures { result.now ≡ check_cause_name cause }
+{
+    match cause {
+        CheckCause::AfterClosed => b"AfterClosed",
+        CheckCause::NotReusable => b"NotReusable",
+        CheckCause::NotAClause => b"NotAClause",
+        CheckCause::NotAFact => b"NotAFact",
+        CheckCause::NotOnPath => b"NotOnPath",
+        CheckCause::Unchained => b"Unchained",
+        CheckCause::NotNegative => b"NotNegative",
+        CheckCause::BadReport => b"BadReport",
+        CheckCause::Surplus => b"Surplus",
+        CheckCause::WrongRound => b"WrongRound",
+        CheckCause::WrongHypothesis => b"WrongHypothesis",
+        CheckCause::WrongRanked => b"WrongRanked",
+        CheckCause::NotATrace => b"NotATrace",
+        CheckCause::WrongOpen => b"WrongOpen",
+        CheckCause::WrongRejected => b"WrongRejected",
+        CheckCause::WrongStatus => b"WrongStatus",
+        CheckCause::WrongCounts => b"WrongCounts",
+        CheckCause::EndsEarly => b"EndsEarly",
+        CheckCause::BadMap => b"BadMap",
+        CheckCause::BadScript => b"BadScript",
+    }
+}
+
+/// The name of why words are refused.
+fn usage_cause_word(cause: UsageCause) -> &'static [u8]
+    ensures { result.now ≡ usage_name cause }
+{
+    match cause {
+        UsageCause::NoCommand => b"NoCommand",
+        UsageCause::UnknownCommand => b"UnknownCommand",
+        UsageCause::BadWords => b"BadWords",
+        UsageCause::BadNumber => b"BadNumber",
+        UsageCause::OutOfRange => b"OutOfRange",
+        UsageCause::BadPanel => b"BadPanel",
+    }
+}
+
+/// The name of what is wrong with a graph.
+fn graph_cause_word(cause: GraphCause) -> &'static [u8]
+    ensures { result.now ≡ graph_cause_name cause }
+{
+    match cause {
+        GraphCause::BadHeader => b"BadHeader",
+        GraphCause::BadLine => b"BadLine",
+        GraphCause::BadName => b"BadName",
+        GraphCause::DuplicateName => b"DuplicateName",
+        GraphCause::UnknownName => b"UnknownName",
+        GraphCause::BadNumber => b"BadNumber",
+        GraphCause::NumberTooLarge => b"NumberTooLarge",
+        GraphCause::MinOverMax => b"MinOverMax",
+        GraphCause::EdgeIntoFailure => b"EdgeIntoFailure",
+        GraphCause::SelfEdge => b"SelfEdge",
+        GraphCause::DuplicateEdge => b"DuplicateEdge",
+        GraphCause::NoModes => b"NoModes",
+        GraphCause::NoIncoming => b"NoIncoming",
+        GraphCause::ZeroCycle => b"ZeroCycle",
+        GraphCause::TooManyNodes => b"TooManyNodes",
+        GraphCause::TooManyFailures => b"TooManyFailures",
+        GraphCause::TooManyEdges => b"TooManyEdges",
+        GraphCause::TooManyModes => b"TooManyModes",
+        GraphCause::TooManyIncoming => b"TooManyIncoming",
+        GraphCause::MissingEnd => b"MissingEnd",
+        GraphCause::AfterEnd => b"AfterEnd",
+    }
+}

@@ -1,0 +1,67 @@
+//! The command `explain`: from the names of a graph file and a log file to the verdict on the map of the input.
+
+ghost use Rattle.std.specs.Prelude.{◌∷◌, [], IfErr, OnOk, Ok, Err};
+ghost use Rattle.tfpg_log.specs.Log.{IsLogOf};
+ghost use Rattle.tfpg_run.specs.Fetch.{AsksInOrder};
+ghost use Rattle.tfpg_run.specs.Streams.{streams};
+ghost use Rattle.tfpg_run.specs.World.{world};
+ghost use Rattle.tfpg_run.specs.explain.Judging.{ExplainEnds, JudgesMap};
+
+mod verdicts;
+
+use crate::end::End;
+use crate::fault::JudgeFault;
+use crate::fetching::fetch_graph_and_log;
+use crate::map::read_map;
+use crate::output::write_all;
+use std::alloc::Global;
+use tfpg_base::{Shelf, Sink, Source};
+use tfpg_graph::Graph;
+use tfpg_log::Log;
+use tfpg_trace::explains;
+use verdicts::verdict_line;
+
+/// Judges the map of the input by the graph and the log of the files of these names.
+pub(crate) fn judge_by_files<F: Shelf, S: Source, K: Sink>(
+    alloc: Global,
+    graph_name: &str,
+    log_name: &str,
+    shelf: &mut F,
+    input: &mut S,
+    out: &mut K,
+) -> Result<(), End>
+    ensures done { OnOk result (ExplainEnds graph_name.now log_name.now
+        (world (F.state shelf.old) (S.state input.old) (K.state out.old))
+        (world (F.state shelf.new) (S.state input.new) (K.state out.new)) End.Done) }
+    ensures stopped { IfErr result (ExplainEnds graph_name.now log_name.now
+        (world (F.state shelf.old) (S.state input.old) (K.state out.old))
+        (world (F.state shelf.new) (S.state input.new) (K.state out.new))) }
+    ensures asks { AsksInOrder (graph_name.now ∷ log_name.now ∷ []) (F.state shelf.old).asked
+        (F.state shelf.new).asked }
+{
+    let (graph, log) = fetch_graph_and_log(alloc, shelf, graph_name, log_name)?;
+    Ok(judge_map(alloc, &graph, &log, input, out)?)
+}
+
+/// Reads the map of the input, judges it by the graph and the log, and writes the verdict.
+fn judge_map<S: Source, K: Sink>(
+    alloc: Global,
+    graph: &Graph,
+    log: &Log,
+    input: &mut S,
+    out: &mut K,
+) -> Result<(), JudgeFault>
+    requires { IsLogOf graph.now log.now }
+    ensures done { OnOk result (JudgesMap graph.now log.now
+        (streams (S.state input.old) (K.state out.old))
+        (streams (S.state input.new) (K.state out.new)) (Ok tt)) }
+    ensures stopped { IfErr result (λ fault. JudgesMap graph.now log.now
+        (streams (S.state input.old) (K.state out.old))
+        (streams (S.state input.new) (K.state out.new)) (Err fault)) }
+{
+    let map = read_map(alloc, graph, input)?;
+    let verdict = explains(graph, log, map.set, &map.trace);
+    let line = verdict_line(alloc, graph, verdict)?;
+    write_all(out, &line)?;
+    Ok(())
+}

@@ -1,0 +1,190 @@
+//! What ends the parts of a run early: fetching files, the streams of a diagnosis, and the work of the other commands.
+
+ghost use Rattle.std.specs.Prelude.{◌≡◌};
+ghost use Rattle.tfpg_run.specs.inside.Faults.{fetch_fault_of_shelf, fetch_fault_of_refusal, judge_fault_of_no_map, simulate_fault_of_sim, stream_fault_of_lines};
+ghost use Rattle.tfpg_run.specs.declared.fault.FetchFault.TheVariants as fetch;
+ghost use Rattle.tfpg_run.specs.declared.fault.StreamFault.TheVariants as streams;
+ghost use Rattle.tfpg_run.specs.declared.fault.JudgeFault.TheVariants as judge;
+ghost use Rattle.tfpg_run.specs.declared.fault.SimulateFault.TheVariants as simulate;
+ghost use Rattle.tfpg_run.specs.declared.fault.GenerateFault.TheVariants as generate;
+
+use crate::map::NoMap;
+use tfpg_base::{Failed, LineFault, NoMemory, ShelfFault};
+use tfpg_graph::{GraphFault, GraphRefusal};
+use tfpg_sim::SimFault;
+
+/// Why there is no graph of a file.
+#[derive(Clone, Copy, Debug, PartialEq, Eq)]
+pub(crate) enum FetchFault {
+    /// The shelf of files failed.
+    Failed,
+    /// The file has more than [`LONGEST_FILE`](tfpg_base::LONGEST_FILE) bytes.
+    TooLong,
+    /// This is the first fault of its text.
+    Graph(GraphFault),
+    /// Out of memory.
+    NoMemory,
+}
+
+impl From<ShelfFault> for FetchFault {
+    ghost from_gives = { λ fault e. e ≡ fetch_fault_of_shelf fault };
+
+    fn from(fault: ShelfFault) -> FetchFault {
+        match fault {
+            ShelfFault::Failed => FetchFault::Failed,
+            ShelfFault::TooLong => FetchFault::TooLong,
+            ShelfFault::NoMemory => FetchFault::NoMemory,
+        }
+    }
+}
+
+impl From<GraphRefusal> for FetchFault {
+    ghost from_gives = { λ refusal e. e ≡ fetch_fault_of_refusal refusal };
+
+    fn from(refusal: GraphRefusal) -> FetchFault {
+        match refusal {
+            GraphRefusal::Fault(fault) => FetchFault::Graph(fault),
+            GraphRefusal::NoMemory => FetchFault::NoMemory,
+        }
+    }
+}
+
+impl From<NoMemory> for FetchFault {
+    ghost from_gives = { λ _ e. e ≡ fetch.NoMemory };
+
+    fn from(_e: NoMemory) -> FetchFault {
+        FetchFault::NoMemory
+    }
+}
+
+/// Why the input was not read to its end, or the output not written.
+#[derive(Clone, Copy, Debug, PartialEq, Eq)]
+pub(crate) enum StreamFault {
+    /// The input failed.
+    ReadFault,
+    /// The output failed.
+    WriteFault,
+    /// The input has more than [`MAX_BYTES`](tfpg_base::MAX_BYTES) bytes.
+    TooMuchInput,
+    /// Out of memory.
+    NoMemory,
+}
+
+impl From<LineFault> for StreamFault {
+    ghost from_gives = { λ fault e. e ≡ stream_fault_of_lines fault };
+
+    fn from(fault: LineFault) -> StreamFault {
+        match fault {
+            LineFault::ReadFault => StreamFault::ReadFault,
+            LineFault::TooMuchInput => StreamFault::TooMuchInput,
+        }
+    }
+}
+
+impl From<NoMemory> for StreamFault {
+    ghost from_gives = { λ _ e. e ≡ streams.NoMemory };
+
+    fn from(_e: NoMemory) -> StreamFault {
+        StreamFault::NoMemory
+    }
+}
+
+impl From<Failed> for StreamFault {
+    ghost from_gives = { λ _ e. e ≡ streams.WriteFault };
+
+    fn from(_e: Failed) -> StreamFault {
+        StreamFault::WriteFault
+    }
+}
+
+/// Why the map of the input was not judged, or the verdict not written.
+#[derive(Clone, Copy, Debug, PartialEq, Eq)]
+pub(crate) enum JudgeFault {
+    /// No map begins with the lines up to this one.
+    BadMap { line: u64 },
+    /// The input was not read to its end, or the output not written.
+    Stream(StreamFault),
+}
+
+impl From<NoMap> for JudgeFault {
+    ghost from_gives = { λ fault e. e ≡ judge_fault_of_no_map fault };
+
+    fn from(fault: NoMap) -> JudgeFault {
+        match fault {
+            NoMap::Refused { line } => JudgeFault::BadMap { line },
+            NoMap::Lines(fault) => JudgeFault::Stream(StreamFault::from(fault)),
+            NoMap::NoMemory => JudgeFault::Stream(StreamFault::NoMemory),
+        }
+    }
+}
+
+impl From<NoMemory> for JudgeFault {
+    ghost from_gives = { λ _ e. e ≡ judge.Stream streams.NoMemory };
+
+    fn from(_e: NoMemory) -> JudgeFault {
+        JudgeFault::Stream(StreamFault::NoMemory)
+    }
+}
+
+impl From<Failed> for JudgeFault {
+    ghost from_gives = { λ _ e. e ≡ judge.Stream streams.WriteFault };
+
+    fn from(_e: Failed) -> JudgeFault {
+        JudgeFault::Stream(StreamFault::WriteFault)
+    }
+}
+
+/// Why a script was not simulated, or its simulation not written.
+#[derive(Clone, Copy, Debug, PartialEq, Eq)]
+pub(crate) enum SimulateFault {
+    /// The first line of the script that is at fault.
+    BadScript { line: u64 },
+    /// The output failed.
+    WriteFault,
+    /// Out of memory.
+    NoMemory,
+}
+
+impl From<SimFault> for SimulateFault {
+    ghost from_gives = { λ fault e. e ≡ simulate_fault_of_sim fault };
+
+    fn from(fault: SimFault) -> SimulateFault {
+        match fault {
+            SimFault::BadScript { line } => SimulateFault::BadScript { line },
+            SimFault::NoMemory => SimulateFault::NoMemory,
+        }
+    }
+}
+
+impl From<Failed> for SimulateFault {
+    ghost from_gives = { λ _ e. e ≡ simulate.WriteFault };
+
+    fn from(_e: Failed) -> SimulateFault {
+        SimulateFault::WriteFault
+    }
+}
+
+/// Why the summary of a generated system was not written.
+#[derive(Clone, Copy, Debug, PartialEq, Eq)]
+pub(crate) enum GenerateFault {
+    /// The output failed.
+    WriteFault,
+    /// Out of memory.
+    NoMemory,
+}
+
+impl From<NoMemory> for GenerateFault {
+    ghost from_gives = { λ _ e. e ≡ generate.NoMemory };
+
+    fn from(_e: NoMemory) -> GenerateFault {
+        GenerateFault::NoMemory
+    }
+}
+
+impl From<Failed> for GenerateFault {
+    ghost from_gives = { λ _ e. e ≡ generate.WriteFault };
+
+    fn from(_e: Failed) -> GenerateFault {
+        GenerateFault::WriteFault
+    }
+}

@@ -1,0 +1,74 @@
+//! What the definitions of maps and of reports come to, as functions that do nothing: each says its laws in its clauses.
+
+ghost use Rattle.std.specs.Prelude.{◌≡◌, ◌<◌, ℕ, List, [], All, Contains, Some, false, slice_get};
+ghost use Rattle.tfpg_base.specs.declared.activation.Activation.{Activation};
+ghost use Rattle.tfpg_base.specs.declared.terms.Terms.{Terms};
+ghost use Rattle.tfpg_base.specs.Hypothesis.{believing};
+ghost use Rattle.tfpg_base.specs.Lines.{lines_of};
+ghost use Rattle.tfpg_base.specs.Trace.{IsRisingByNode};
+ghost use Rattle.tfpg_graph.specs.Graph.{Tfpg, IsSetOf};
+ghost use Rattle.tfpg_graph.specs.Valid.{IsValid};
+ghost use Rattle.tfpg_evidence.specs.declared.finding.Finding.{Finding};
+ghost use Rattle.tfpg_evidence.specs.declared.finding.Status.TheVariants.{Rejected};
+ghost use Rattle.tfpg_evidence.specs.declared.round.Round.{Round};
+ghost use Rattle.tfpg_evidence.specs.Findings.{hypothesis_of};
+ghost use Rattle.tfpg_evidence.specs.RoundOf.{is_rejected};
+ghost use Rattle.tfpg_report.specs.Blocks.{Block, Loss, RoundBlock};
+ghost use Rattle.tfpg_check.specs.Report.{AreBlocks};
+ghost use Rattle.tfpg_sim.specs.declared.simulated.Simulated.{Simulated};
+ghost use Rattle.tfpg_sim.specs.Simulated.{IsSimulationOf};
+ghost use Rattle.tfpg_run.specs.diagnose.BlockFindings.{HasFindingInBlock};
+ghost use Rattle.tfpg_run.specs.map.Spelling.{IsActivationOf, SpellsMap};
+ghost use Rattle.tfpg_run.specs.map.MapText.{map_text};
+
+use tfpg_clause::laws::{
+    a_refutation_is_finished, a_refutation_leaves_no_trace, a_tree_stays,
+    the_front_of_a_tree_is_a_partial_tree,
+};
+use tfpg_sim::laws::a_simulated_log_is_accepted_and_explained;
+
+/// Lines spell at most one map of a valid graph. So a verdict on a map that they spell is the verdict on theirs.
+pub fn lines_spell_at_most_one_map()
+    ensures { (graph : Tfpg) (lines : List (List ℕ)) (set other : List ℕ) (trace more : List Activation) →
+        IsValid graph → SpellsMap graph lines set trace → SpellsMap graph lines other more →
+        (set ≡ other) × (trace ≡ more) }
+{}
+
+/// The text of a map spells it, and so what `simulate` writes with `--trace` is a map that `explain` reads.
+pub fn the_text_of_a_map_spells_it()
+    ensures { (graph : Tfpg) (set : List ℕ) (trace : List Activation) →
+        IsValid graph → IsSetOf graph set → All (IsActivationOf graph) trace → IsRisingByNode trace →
+        SpellsMap graph (lines_of (map_text graph set trace)) set trace }
+{}
+
+/// In the blocks of a diagnosis of a simulated log, on any terms, no round rejects the simulated set.
+pub fn a_simulated_set_is_rejected_in_no_round()
+    ensures { (graph : Tfpg) (script : List ℕ) (draw : ℕ) (simulated : Simulated) (terms : Terms)
+        (blocks : List Block) → IsValid graph → IsSimulationOf graph script draw simulated →
+        AreBlocks graph terms (lines_of simulated.log) blocks →
+        (index : ℕ) (round : Round) (losses : List Loss) →
+        slice_get blocks index ≡ Some (RoundBlock round losses) →
+        (finding : Finding) → Contains round.findings finding →
+        hypothesis_of finding ≡ believing simulated.set → is_rejected finding.status ≡ false }
+{
+    a_refutation_leaves_no_trace();
+    a_simulated_log_is_accepted_and_explained();
+}
+
+/// In the blocks of a diagnosis what one round rejects has no step in a later round, and is rejected there.
+pub fn a_rejected_set_stays_rejected()
+    ensures rejected { (graph : Tfpg) (terms : Terms) (lines : List (List ℕ)) (blocks : List Block) →
+        AreBlocks graph terms lines blocks → (earlier later : ℕ) → earlier < later →
+        (number : ℕ) (first second : Finding) →
+        HasFindingInBlock blocks earlier number first → HasFindingInBlock blocks later number second →
+        first.status ≡ Rejected → second.status ≡ Rejected }
+    ensures no_steps { (graph : Tfpg) (terms : Terms) (lines : List (List ℕ)) (blocks : List Block) →
+        AreBlocks graph terms lines blocks → (earlier later : ℕ) → earlier < later →
+        (number : ℕ) (first second : Finding) →
+        HasFindingInBlock blocks earlier number first → HasFindingInBlock blocks later number second →
+        first.status ≡ Rejected → second.steps ≡ [] }
+{
+    a_refutation_is_finished();
+    the_front_of_a_tree_is_a_partial_tree();
+    a_tree_stays();
+}

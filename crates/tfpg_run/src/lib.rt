@@ -1,0 +1,28 @@
+//! A run of the diagnoser, from the words of the command line to its end, over any shelf of files, input and output.
+//!
+//! [`run`] is the call that the program makes. It says how it ended by an [`End`], which has an exit code and a line.
+//! [`laws`] says that lines spell at most one map, that the text of a map spells it, that a simulated set is rejected in no
+//! round, and that a rejected set stays rejected.
+//!
+//! ```
+//! // The words `diagnose pump.tfpg`, over a shelf that has the graph, and an input that has a log of it.
+//! let end = run(alloc, &words, &mut shelf, &mut input, &mut out, &mut work);
+//! ```
+#![tactic(auto)]
+
+mod commands;
+mod diagnose;
+mod end;
+mod explain;
+mod fault;
+mod fetching;
+mod generate;
+pub mod laws;
+mod limits;
+mod map;
+mod output;
+mod simulate;
+
+pub use commands::run;
+pub use end::End;
+pub use limits::{GENERATED_BUDGET, GENERATED_K};

@@ -1,0 +1,133 @@
+//! Maps: a set of failure modes, and a trace. `explain` reads one, and `simulate` writes one.
+
+ghost use Rattle.std.specs.Prelude.{◌≡◌, ◌≤◌, ◌++◌, ◌∷◌, [], ℕ, List, length, OnOk, IsErrOf};
+ghost use Rattle.tfpg_base.specs.declared.limits.TheConstants.{LONGEST_LINE};
+ghost use Rattle.tfpg_graph.specs.Graph.{Tfpg};
+ghost use Rattle.tfpg_run.specs.map.Spelling.{BeginsMap};
+ghost use Rattle.tfpg_run.specs.inside.map.Lines.{MapRepresents, TakesActivation, IsNoActivation};
+
+mod lines;
+mod reading;
+mod text;
+
+use lines::{read_activation, read_set_line};
+pub(crate) use reading::read_map;
+use std::alloc::Global;
+pub(crate) use text::map_text;
+use tfpg_base::{LineFault, NoMemory, Set, Trace};
+use tfpg_graph::Graph;
+
+/// Why a line is not taken.
+#[derive(Clone, Copy, Debug, PartialEq, Eq)]
+pub(crate) enum MapFault {
+    /// No map begins with the lines so far and this one.
+    BadMap,
+    /// Out of memory.
+    NoMemory,
+}
+
+/// Why the input gives no map.
+#[derive(Clone, Copy, Debug, PartialEq, Eq)]
+pub(crate) enum NoMap {
+    /// The line of this number is the first faulty one.
+    Refused { line: u64 },
+    /// The input was not read to its end.
+    Lines(LineFault),
+    /// Out of memory.
+    NoMemory,
+}
+
+/// A set of failure modes, and a trace.
+#[derive(Drop)]
+pub(crate) struct Map {
+    pub(crate) set: Set,
+    pub(crate) trace: Trace,
+}
+
+/// Reads the lines of a map one by one.
+#[derive(Drop)]
+pub(crate) struct MapReader {
+    pub(crate) alloc: Global,
+    /// The set, once its line was read.
+    pub(crate) set: Option<Set>,
+    /// The activations so far.
+    pub(crate) trace: Trace,
+}
+
+impl MapReader {
+    /// A reader that has read no line.
+    pub(crate) fn new(alloc: Global) -> MapReader
+        ensures { (graph : Tfpg) → MapRepresents graph result [] }
+    {
+        MapReader {
+            alloc,
+            set: None,
+            trace: Trace::new(alloc),
+        }
+    }
+
+    /// Reads one more line. A reader whose line was not taken is of no further use.
+    pub(crate) fn take(&mut self, graph: &Graph, line: &[u8]) -> Result<(), MapFault>
+        ensures taken { (lines : List (List ℕ)) → MapRepresents graph.now self.old lines →
+            length line.now ≤ LONGEST_LINE
+            → OnOk result (MapRepresents graph.now self.new (lines ++ line.now ∷ [])) }
+        ensures bad { (lines : List (List ℕ)) → MapRepresents graph.now self.old lines →
+            IsErrOf result MapFault.BadMap
+            → BeginsMap graph.now (lines ++ line.now ∷ []) → ⊥ }
+    {
+        graph.is_always_valid();
+        match self.set {
+            None => {
+                self.set = Some(read_set_line(self.alloc, graph, line)?);
+                Ok(())
+            }
+            Some(_) => self.take_activation(graph, line),
+        }
+    }
+
+    /// Reads the line of one more activation.
+    fn take_activation(&mut self, graph: &Graph, line: &[u8]) -> Result<(), MapFault>
+        ensures set { self.new.set ≡ self.old.set }
+        ensures taken { OnOk result (TakesActivation graph.now self.old.trace line.now self.new.trace) }
+        ensures bad { IsErrOf result MapFault.BadMap → IsNoActivation graph.now self.old.trace line.now }
+    {
+        graph.is_always_valid();
+        let Some(activation) = read_activation(graph, line) else {
+            return Err(MapFault::BadMap);
+        };
+        if self.trace.at(activation.node).is_some() {
+            return Err(MapFault::BadMap);
+        }
+        Ok(self.trace.set(activation.node, activation.time)?)
+    }
+}
+
+impl From<LineFault> for NoMap {
+    ghost use Rattle.tfpg_run.specs.declared.map.NoMap.TheVariants as none;
+
+    ghost from_gives = { λ fault e. e ≡ none.Lines fault };
+
+    fn from(fault: LineFault) -> NoMap {
+        NoMap::Lines(fault)
+    }
+}
+
+impl From<NoMemory> for NoMap {
+    ghost use Rattle.tfpg_run.specs.declared.map.NoMap.TheVariants as none;
+
+    ghost from_gives = { λ _ e. e ≡ none.NoMemory };
+
+    fn from(_e: NoMemory) -> NoMap {
+        NoMap::NoMemory
+    }
+}
+
+impl From<NoMemory> for MapFault {
+    ghost use Rattle.tfpg_run.specs.declared.map.MapFault.TheVariants as fault;
+
+    ghost from_gives = { λ _ e. e ≡ fault.NoMemory };
+
+    fn from(_e: NoMemory) -> MapFault {
+        MapFault::NoMemory
+    }
+}

@@ -1,0 +1,5 @@
+-- What a call of a search finds.
+pub mod CutTimes
+pub mod FoundInTurn
+pub mod NewSearch
+pub mod RoundSearched

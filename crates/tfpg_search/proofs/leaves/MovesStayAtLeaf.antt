@@ -1,0 +1,176 @@
+-- After each move the search stands at its leaf, and its steps lead there.
+use Rattle.std.proofs.Common.{◌≡◌, ℕ, ◌+◌, ◌-◌, ◌<◌, ◌≤◌, List, [], ◌∷◌, ◌++◌, length, take, Option, Some, None, sym, ap, subst, ◌∙◌, arith, length-append}
+use Rattle.std.specs.Prelude.{slice_get, Result, Ok, Err, OnOk, IfErr}
+use Rattle.std.proofs.lemmas.Option.{same_Some}
+use Rattle.tfpg_base.specs.declared.constraint.Constraint.{Constraint}
+use Rattle.tfpg_graph.specs.Graph.{Tfpg}
+use Rattle.tfpg_log.specs.Log.{Logbook}
+use Rattle.tfpg_evidence.specs.declared.clause_name.ClauseName.{ClauseName}
+use Rattle.tfpg_evidence.specs.declared.reason.Reason.{Reason}
+use Rattle.tfpg_evidence.specs.declared.step.Step.{Step}
+use Rattle.tfpg_evidence.specs.declared.step.Step.TheVariants.{Split, Cycle}
+use Rattle.tfpg_clause.specs.Facts.{fact}
+use Rattle.tfpg_clause.specs.Clauses.{count_of}
+use Rattle.tfpg_search.specs.declared.add_fault.AddFault.{AddFault}
+use Rattle.tfpg_search.specs.inside.Closing.{Closes, IsSimpleCycle}
+use Rattle.tfpg_clause.specs.Paths.{next_leaf}
+use Rattle.tfpg_clause.specs.declared.path.PathSplit.{PathSplit}
+use Rattle.tfpg_diff.specs.Solution.{IsSolution}
+use Rattle.tfpg_base.specs.Constraint.{Meets}
+use Rattle.tfpg_search.specs.inside.Leaf.{Leaf, pick_reasons, IsStated}
+use Rattle.tfpg_search.specs.inside.Picks.{picks_from}
+use Rattle.tfpg_search.specs.inside.Leaving.{constraint_count_at, Leaves, Pushing}
+use Rattle.tfpg_search.specs.SearchState.{SearchState, case_of_search}
+use Rattle.tfpg_search.specs.inside.AtItsLeaf.{IsAtItsLeaf, HasEnteredAll}
+use Rattle.tfpg_search.specs.inside.Moves.{Grows, GrowsAnyhow, KeepsSet, IsLoaded, untaken}
+use Rattle.tfpg_search.proofs.steps.StepsAppended.{grows_none, grows_one}
+use Rattle.tfpg_search.proofs.leaves.AlternativePushed.{at_other}
+use Rattle.tfpg_search.proofs.leaves.AtItsLeaf.{leaf_stands, split_stands, enter_stands, left_again}
+use Rattle.tfpg_base.proofs.lists.Written.{slice_get-push_last}
+use Rattle.tfpg_search.proofs.leaves.NextLeaf.{counted, next_stands, next_some, next_fewer}
+use Rattle.tfpg_clause.specs.Trees.{stated, new_split}
+use Rattle.tfpg_clause.specs.Case.{case_of}
+use Rattle.tfpg_search.specs.Live.{IsLiveAt}
+use Rattle.tfpg_search.specs.Searched.{call_of}
+
+module _ (graph : Tfpg) (log : Logbook) (old : SearchState) (at : IsAtItsLeaf graph log old) (before : List Step) where
+  -- nothing happened
+  pub nothing : (new : SearchState) → GrowsAnyhow graph log (call_of old new before before)
+  nothing new = (Some old.path, grows_none graph log old new before)
+
+  -- ---- a split
+
+  pub split_ok : (new : SearchState) (after : List Step) (name : ClauseName) (count : ℕ) → HasEnteredAll old → IsLiveAt (case_of_search graph log old) old.path name
+      → count_of graph log name ≡ Some count → 0 < count → new ≡ record old { path = old.path ++ new_split name count ∷ [] } → after ≡ before ++ Split name ∷ []
+      → IsAtItsLeaf graph log new × Grows graph log (call_of old new before after) 1 (Some new.path)
+  split_ok new after name count all live counted some same appended = (
+    subst (IsAtItsLeaf graph log) (sym same) (split_stands graph log old at name count all counted some),
+    grows_one graph log old new before after (Split name) (Some new.path) appended (count, counted, ap (λ (s : SearchState). Some s.path) same) live,
+  )
+
+  -- ---- a closed leaf
+
+  module _ (after : List Step) (reasons : List Reason) (cycle : IsSimpleCycle (stated (case_of_search graph log old) old.path) reasons) (appended : after ≡ before ++ Cycle reasons ∷ []) where
+    closes_to : (new : SearchState) (end : Option (List PathSplit)) → next_leaf old.path ≡ end → Grows graph log (call_of old new before after) 0 end
+    closes_to new end is =
+        grows_one graph log old new before after (Cycle reasons) end appended
+        (record { constraints = cycle.0; hold = cycle.1.are_named; negative_cycle = cycle.1.negative_cycle }, sym is)
+        (record { constraints = cycle.0; hold = cycle.1.are_named; simple = cycle.1.simple })
+
+    -- no leaf is left
+    pub close_last : (new : SearchState) → next_leaf old.path ≡ None → Grows graph log (call_of old new before after) 0 None
+    close_last new none = closes_to new None none
+
+    module _ (middle : SearchState) (same : middle ≡ record old { path = middle.path }) (is : next_leaf old.path ≡ Some middle.path) where
+      pub close_counted : (kept number : ℕ) → slice_get middle.entered kept ≡ Some number → number ≤ length (pick_reasons middle.leaf)
+      close_counted kept number there =
+          subst (λ (l : Leaf). number ≤ length (pick_reasons l)) (sym (ap (λ (s : SearchState). s.leaf) same))
+          (counted graph log old at kept number (ap (λ (s : SearchState). slice_get s.entered kept) (sym same) ∙ there))
+
+      pub close_some : length middle.path ≡ 0 → ⊥
+      close_some = next_some graph log old at middle.path is
+
+      pub close_ok : (new : SearchState) (kept : ℕ) → kept ≡ length middle.path - 1 → new ≡ record middle { entered = take kept middle.entered; leaf = new.leaf }
+          → Leaves (slice_get middle.entered kept) middle.leaf new.leaf
+          → IsAtItsLeaf graph log new × Grows graph log (call_of old new before after) 0 (Some new.path) × (untaken new.path < untaken old.path)
+      close_ok new kept number new_is leaves =
+          let path_is : new.path ≡ middle.path = ap (λ (s : SearchState). s.path) new_is in
+          let entered_is : middle.entered ≡ old.entered = ap (λ (s : SearchState). s.entered) same in
+          let leaf_is : middle.leaf ≡ old.leaf = ap (λ (s : SearchState). s.leaf) same in
+          let left : Leaves (slice_get old.entered kept) old.leaf new.leaf =
+          subst (λ (l : Leaf). Leaves (slice_get old.entered kept) l new.leaf) leaf_is (subst (λ (es : List ℕ). Leaves (slice_get es kept) middle.leaf new.leaf) entered_is leaves) in
+          let stands : IsAtItsLeaf graph log (record old { path = middle.path; entered = take kept old.entered; leaf = new.leaf }) =
+          next_stands graph log old at middle.path is kept number new.leaf left in
+          let all : new ≡ record old { path = middle.path; entered = take kept old.entered; leaf = new.leaf } =
+          new_is ∙ ap (λ (s : SearchState). record s { path = middle.path; entered = take kept s.entered; leaf = new.leaf }) same in (
+            subst (IsAtItsLeaf graph log) (sym all) stands,
+            closes_to new (Some new.path) (is ∙ ap (λ (fs : List PathSplit). Some fs) (sym path_is)),
+            subst (λ (fs : List PathSplit). untaken fs < untaken old.path) (sym path_is) (next_fewer graph log old at middle.path is),
+          )
+
+-- ---- entering
+
+module _ (graph : Tfpg) (log : Logbook) (old : SearchState) (at : IsAtItsLeaf graph log old) where
+  module _ (marked : SearchState) (marked_is : marked ≡ record old { entered = old.entered ++ length (pick_reasons old.leaf) ∷ [] }) where
+    pub marked_stated : IsStated (fact (case_of graph log marked.reach)) (stated (case_of graph log marked.reach) marked.path) marked.leaf
+    marked_stated =
+        subst (λ (s : SearchState). IsStated (fact (case_of graph log s.reach)) (stated (case_of graph log s.reach) s.path) s.leaf) (sym marked_is) at.stated
+
+    pub marked_closes : (fault : AddFault) → Closes (stated (case_of graph log marked.reach) marked.path) fault → Closes (stated (case_of graph log old.reach) old.path) fault
+    marked_closes fault closes = subst (λ (s : SearchState). Closes (stated (case_of graph log s.reach) s.path) fault) marked_is closes
+
+    module _ (pushed : SearchState) (pushed_is : pushed ≡ record marked { leaf = pushed.leaf }) (pushing : Pushing (case_of graph log marked.reach) marked.path marked.leaf pushed.leaf) where
+      whole : pushed ≡ record old { entered = old.entered ++ length (pick_reasons old.leaf) ∷ []; leaf = pushed.leaf }
+      whole = pushed_is ∙ ap (λ (s : SearchState). record s { leaf = pushed.leaf }) marked_is
+
+      pushing_old : Pushing (case_of graph log old.reach) old.path old.leaf pushed.leaf
+      pushing_old = subst (λ (s : SearchState). Pushing (case_of graph log s.reach) s.path s.leaf pushed.leaf) marked_is pushing
+
+      module _ (count : ℕ) (count_is : count ≡ length old.entered) where
+        module _ (not_all : count ≡ length old.path → ⊥) (split : ℕ) (split_is : split ≡ count + 1)
+            (picks : pick_reasons pushed.leaf ≡ pick_reasons marked.leaf ++ picks_from split 1 (constraint_count_at graph log marked.path split)) where
+          left_out : HasEnteredAll old → ⊥
+          left_out all = not_all (count_is ∙ all)
+
+          pub entered_stands : IsAtItsLeaf graph log pushed
+          entered_stands =
+              let number : split ≡ length old.entered + 1 = split_is ∙ ap (λ (n : ℕ). n + 1) count_is in
+              let picks_old : pick_reasons pushed.leaf ≡ pick_reasons old.leaf ++ picks_from split 1 (constraint_count_at graph log old.path split) =
+              subst (λ (s : SearchState). pick_reasons pushed.leaf ≡ pick_reasons s.leaf ++ picks_from split 1 (constraint_count_at graph log s.path split)) marked_is picks in
+              let picks_there : pick_reasons pushed.leaf ≡ pick_reasons old.leaf ++ picks_from (length old.entered + 1) 1 (constraint_count_at graph log old.path (length old.entered + 1)) =
+              subst (λ (n : ℕ). pick_reasons pushed.leaf ≡ pick_reasons old.leaf ++ picks_from n 1 (constraint_count_at graph log old.path n)) number picks_old in
+              subst (IsAtItsLeaf graph log) (sym whole) (enter_stands graph log old at left_out pushed.leaf pushing_old picks_there)
+
+        pub left_counted : (number : ℕ) → slice_get pushed.entered count ≡ Some number → number ≤ length (pick_reasons pushed.leaf)
+        left_counted number there =
+            let entered_is : pushed.entered ≡ old.entered ++ length (pick_reasons old.leaf) ∷ [] = ap (λ (s : SearchState). s.entered) whole in
+            let here : slice_get (old.entered ++ length (pick_reasons old.leaf) ∷ []) (length old.entered) ≡ Some number =
+            ap (λ (es : List ℕ). slice_get es (length old.entered)) (sym entered_is) ∙ ap (λ (n : ℕ). slice_get pushed.entered n) (sym count_is) ∙ there in
+            let same : length (pick_reasons old.leaf) ≡ number =
+            same_Some (length (pick_reasons old.leaf)) number (sym (slice_get-push_last old.entered (length (pick_reasons old.leaf))) ∙ here) in
+            let long : length (pick_reasons pushed.leaf) ≡ length (pick_reasons old.leaf) + length pushing_old.more.0 =
+            ap (λ (rs : List Reason). length rs) pushing_old.more.1 ∙ length-append (pick_reasons old.leaf) pushing_old.more.0 in
+            omega arith
+
+        pub left_stands : (new : SearchState) → new ≡ record pushed { entered = take count pushed.entered; leaf = new.leaf }
+            → Leaves (slice_get pushed.entered count) pushed.leaf new.leaf → IsAtItsLeaf graph log new × KeepsSet old new × (new.path ≡ old.path)
+        left_stands new new_is leaves =
+            let marks : List ℕ = old.entered ++ length (pick_reasons old.leaf) ∷ [] in
+            let entered_is : pushed.entered ≡ old.entered ++ length (pick_reasons old.leaf) ∷ [] = ap (λ (s : SearchState). s.entered) whole in
+            let left : Leaves (slice_get (old.entered ++ length (pick_reasons old.leaf) ∷ []) (length old.entered)) pushed.leaf new.leaf =
+            subst (λ (n : ℕ). Leaves (slice_get (old.entered ++ length (pick_reasons old.leaf) ∷ []) n) pushed.leaf new.leaf) count_is
+            (subst (λ (es : List ℕ). Leaves (slice_get es count) pushed.leaf new.leaf) entered_is leaves) in
+            let all : new ≡ record old { entered = take (length old.entered) (old.entered ++ length (pick_reasons old.leaf) ∷ []); leaf = new.leaf } =
+            new_is
+            ∙ ap (λ (s : SearchState). record s { entered = take count s.entered; leaf = new.leaf }) whole
+            ∙ ap (λ (n : ℕ). record old { entered = take n (old.entered ++ length (pick_reasons old.leaf) ∷ []); leaf = new.leaf }) count_is in (
+              subst (IsAtItsLeaf graph log) (sym all) (left_again graph log old at pushed.leaf new.leaf pushing_old left),
+              record { set = ap (λ (s : SearchState). s.set) all; reach = ap (λ (s : SearchState). s.reach) all; seen = ap (λ (s : SearchState). s.seen) all },
+              ap (λ (s : SearchState). s.path) all,
+            )
+
+  -- ---- the facts are added
+
+  pub facts_stand : (new : SearchState) → new ≡ record old { leaf = new.leaf } → length new.leaf.demands.bounds ≡ length old.leaf.demands.bounds
+      → pick_reasons new.leaf ≡ pick_reasons old.leaf
+      → ((stated : Reason → Option Constraint) → IsStated (fact (case_of graph log old.reach)) stated old.leaf → IsStated (fact (case_of graph log old.reach)) stated new.leaf)
+      → IsAtItsLeaf graph log new × KeepsSet old new × (new.path ≡ old.path)
+  facts_stand new new_is variables reasons keeps = (
+    subst (IsAtItsLeaf graph log) (sym new_is) (leaf_stands graph log old at new.leaf variables (keeps (stated (case_of graph log old.reach) old.path) at.stated) reasons),
+    record { set = ap (λ (s : SearchState). s.set) new_is; reach = ap (λ (s : SearchState). s.reach) new_is; seen = ap (λ (s : SearchState). s.seen) new_is },
+    ap (λ (s : SearchState). s.path) new_is,
+  )
+
+-- All facts are added where all alternatives were entered: the leaf is loaded.
+pub add_loaded : (graph : Tfpg) (log : Logbook) (middle new : SearchState) → new ≡ record middle { leaf = new.leaf } → HasEnteredAll middle → (result : Result (Unit {0}) AddFault)
+    → OnOk result ((reason : Reason) (constraint : Constraint) → fact (case_of graph log middle.reach) reason ≡ Some constraint → (times : List ℕ) → IsSolution new.leaf.demands times → Meets times constraint)
+    → OnOk result (IsLoaded graph log new)
+add_loaded graph log middle new same all (Ok done) facts =
+    subst (λ (s : SearchState). IsLoaded graph log s) (sym same)
+    (record { all_entered = all; facts = λ times solution reason constraint is. facts reason constraint is times solution })
+add_loaded graph log middle new same all (Err fault) facts = tt
+
+pub add_closes : (graph : Tfpg) (log : Logbook) (old middle : SearchState) → KeepsSet old middle → middle.path ≡ old.path → (result : Result (Unit {0}) AddFault)
+    → IfErr result (Closes (stated (case_of graph log middle.reach) middle.path)) → IfErr result (Closes (stated (case_of graph log old.reach) old.path))
+add_closes graph log old middle keeps path result closes =
+    at_other old middle keeps.reach path (λ (r : List ℕ) (fs : List PathSplit). IfErr result (Closes (stated (case_of graph log r) fs))) closes

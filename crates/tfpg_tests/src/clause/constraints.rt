@@ -1,0 +1,365 @@
+//! The constraints of each kind of clause, by alternative and number.
+
+use super::{CUT, GRAPH, ONE_SPAN};
+use crate::given::log_of;
+use std::test::Fail;
+use tfpg_base::Constraint;
+use tfpg_clause::{NotAClause, constraint, count};
+use tfpg_evidence::ClauseName;
+use tfpg_graph::read;
+
+/// A must of an OR node by an edge whose greatest delay is 20, in a window from 0 to 30.
+const OR_MUST: ClauseName = ClauseName::OrMust {
+    edge: 0,
+    span: 0,
+    horizon: 30,
+};
+
+/// Its constraints by alternative and number.
+const OR_MUST_BOUNDS: [(&str, u32, u32, Option<Constraint>); 6] = [
+    (
+        "F1 starts late",
+        1,
+        1,
+        Some(Constraint {
+            left: 0,
+            right: 1,
+            bound: -11,
+        }),
+    ),
+    (
+        "A follows F1 in time",
+        2,
+        1,
+        Some(Constraint {
+            left: 3,
+            right: 1,
+            bound: 20,
+        }),
+    ),
+    (
+        "A is active by 20",
+        3,
+        1,
+        Some(Constraint {
+            left: 3,
+            right: 0,
+            bound: 20,
+        }),
+    ),
+    ("there is no fourth alternative", 4, 1, None),
+    ("there is no alternative 0", 0, 1, None),
+    ("there is no second constraint", 3, 2, None),
+];
+
+#[test]
+fn three_alternatives_of_a_must(rt: HostRuntime) -> Result<(), Fail> {
+    let graph = read(rt.alloc(), GRAPH)?;
+    let log = log_of(rt.alloc(), &graph, &ONE_SPAN)?;
+    assert_eq!(rt; count(&graph, &log, OR_MUST), Ok(3));
+    for (row, alternative, number, expected) in &OR_MUST_BOUNDS {
+        assert_eq!(rt;
+            constraint(&graph, &log, OR_MUST, *alternative, *number),
+            Ok(*expected),
+            "{row}"
+        );
+    }
+    let without_end = ClauseName::OrMust {
+        edge: 2,
+        span: 0,
+        horizon: 30,
+    };
+    assert_eq!(rt;
+        constraint(&graph, &log, without_end, 1, 1),
+        Err(NotAClause)
+    );
+    Ok(())
+}
+
+/// Constraints of clauses at a log with cuts, by name, alternative and number.
+const BOUNDS: [(&str, ClauseName, u32, u32, Constraint); 18] = [
+    (
+        "A before the span",
+        ClauseName::OrMay {
+            node: 2,
+            span: 1,
+            horizon: 40,
+        },
+        1,
+        1,
+        Constraint {
+            left: 3,
+            right: 0,
+            bound: 20,
+        },
+    ),
+    (
+        "A after the span",
+        ClauseName::OrMay {
+            node: 2,
+            span: 1,
+            horizon: 40,
+        },
+        2,
+        1,
+        Constraint {
+            left: 0,
+            right: 3,
+            bound: -26,
+        },
+    ),
+    (
+        "A at least 10 after F1",
+        ClauseName::OrMay {
+            node: 2,
+            span: 1,
+            horizon: 40,
+        },
+        3,
+        1,
+        Constraint {
+            left: 1,
+            right: 3,
+            bound: -10,
+        },
+    ),
+    (
+        "A from the beginning of the span",
+        ClauseName::OrMay {
+            node: 2,
+            span: 1,
+            horizon: 40,
+        },
+        3,
+        2,
+        Constraint {
+            left: 0,
+            right: 3,
+            bound: -21,
+        },
+    ),
+    (
+        "A by the end of the span",
+        ClauseName::OrMay {
+            node: 2,
+            span: 1,
+            horizon: 40,
+        },
+        3,
+        3,
+        Constraint {
+            left: 3,
+            right: 0,
+            bound: 25,
+        },
+    ),
+    (
+        "A at least 5 after F2",
+        ClauseName::OrMay {
+            node: 2,
+            span: 2,
+            horizon: 40,
+        },
+        4,
+        1,
+        Constraint {
+            left: 2,
+            right: 3,
+            bound: -5,
+        },
+    ),
+    (
+        "A at least 5 after the cut",
+        ClauseName::OrMay {
+            node: 2,
+            span: 2,
+            horizon: 40,
+        },
+        4,
+        2,
+        Constraint {
+            left: 0,
+            right: 3,
+            bound: -31,
+        },
+    ),
+    (
+        "C at least 0 after A",
+        ClauseName::AndMay {
+            edge: 3,
+            span: 2,
+            horizon: 40,
+        },
+        3,
+        1,
+        Constraint {
+            left: 3,
+            right: 5,
+            bound: 0,
+        },
+    ),
+    (
+        "C from the beginning of the span",
+        ClauseName::AndMay {
+            edge: 3,
+            span: 2,
+            horizon: 40,
+        },
+        3,
+        2,
+        Constraint {
+            left: 0,
+            right: 5,
+            bound: -26,
+        },
+    ),
+    (
+        "F2 starts late before the cut",
+        ClauseName::OrMust {
+            edge: 1,
+            span: 0,
+            horizon: 40,
+        },
+        1,
+        1,
+        Constraint {
+            left: 0,
+            right: 2,
+            bound: -16,
+        },
+    ),
+    (
+        "F2 starts late before the end",
+        ClauseName::OrMust {
+            edge: 1,
+            span: 2,
+            horizon: 40,
+        },
+        1,
+        1,
+        Constraint {
+            left: 0,
+            right: 2,
+            bound: -36,
+        },
+    ),
+    (
+        "A follows F2 in time",
+        ClauseName::OrMust {
+            edge: 1,
+            span: 2,
+            horizon: 40,
+        },
+        2,
+        1,
+        Constraint {
+            left: 3,
+            right: 2,
+            bound: 5,
+        },
+    ),
+    (
+        "A is active 5 after the cut",
+        ClauseName::OrMust {
+            edge: 1,
+            span: 2,
+            horizon: 40,
+        },
+        3,
+        1,
+        Constraint {
+            left: 3,
+            right: 0,
+            bound: 31,
+        },
+    ),
+    (
+        "A starts late",
+        ClauseName::AndMust {
+            node: 4,
+            span: 0,
+            horizon: 40,
+        },
+        1,
+        1,
+        Constraint {
+            left: 0,
+            right: 3,
+            bound: -31,
+        },
+    ),
+    (
+        "B starts late",
+        ClauseName::AndMust {
+            node: 4,
+            span: 0,
+            horizon: 40,
+        },
+        2,
+        1,
+        Constraint {
+            left: 0,
+            right: 4,
+            bound: -31,
+        },
+    ),
+    (
+        "C follows A in time",
+        ClauseName::AndMust {
+            node: 4,
+            span: 0,
+            horizon: 40,
+        },
+        3,
+        1,
+        Constraint {
+            left: 5,
+            right: 3,
+            bound: 10,
+        },
+    ),
+    (
+        "C follows B in time",
+        ClauseName::AndMust {
+            node: 4,
+            span: 0,
+            horizon: 40,
+        },
+        4,
+        1,
+        Constraint {
+            left: 5,
+            right: 4,
+            bound: 10,
+        },
+    ),
+    (
+        "C is active by 10",
+        ClauseName::AndMust {
+            node: 4,
+            span: 0,
+            horizon: 40,
+        },
+        5,
+        1,
+        Constraint {
+            left: 5,
+            right: 0,
+            bound: 10,
+        },
+    ),
+];
+
+#[test]
+fn each_kind_of_clause_has_its_constraints(rt: HostRuntime) -> Result<(), Fail> {
+    let graph = read(rt.alloc(), GRAPH)?;
+    let log = log_of(rt.alloc(), &graph, &CUT)?;
+    for (row, name, alternative, number, expected) in &BOUNDS {
+        assert_eq!(rt;
+            constraint(&graph, &log, *name, *alternative, *number),
+            Ok(Some(*expected)),
+            "{row}"
+        );
+    }
+    Ok(())
+}

@@ -1,0 +1,152 @@
+//! Which reasons state facts, and which.
+
+use super::GRAPH;
+use crate::given::{log_of, reach_of_first};
+use std::test::Fail;
+use tfpg_base::Constraint;
+use tfpg_clause::{NotAFact, fact};
+use tfpg_evidence::Reason;
+use tfpg_graph::read;
+
+/// Two silences, an alarm, and a sweep after it.
+const SILENCES: [&[u8]; 4] = [b"5 silent A", b"7 sweep", b"30 alarm A", b"40 sweep"];
+
+/// What reasons state of the set of F1, which reaches all nodes but F2, at a log with silences and an alarm.
+const FACTS: [(&str, Reason, Result<Constraint, NotAFact>); 18] = [
+    (
+        "no time before 0",
+        Reason::Zero { node: 2 },
+        Ok(Constraint {
+            left: 0,
+            right: 3,
+            bound: 0,
+        }),
+    ),
+    ("zero of no node", Reason::Zero { node: 5 }, Err(NotAFact)),
+    (
+        "no time after never",
+        Reason::Top { node: 2 },
+        Ok(Constraint {
+            left: 3,
+            right: 0,
+            bound: 1_000_000_000_001,
+        }),
+    ),
+    ("top of no node", Reason::Top { node: 5 }, Err(NotAFact)),
+    (
+        "a node that is not reached",
+        Reason::Unreached {
+            node: 1,
+            horizon: 40,
+        },
+        Ok(Constraint {
+            left: 0,
+            right: 2,
+            bound: -41,
+        }),
+    ),
+    (
+        "the same at 0",
+        Reason::Unreached {
+            node: 1,
+            horizon: 0,
+        },
+        Ok(Constraint {
+            left: 0,
+            right: 2,
+            bound: -1,
+        }),
+    ),
+    (
+        "the same after now",
+        Reason::Unreached {
+            node: 1,
+            horizon: 41,
+        },
+        Err(NotAFact),
+    ),
+    (
+        "a node that is reached",
+        Reason::Unreached {
+            node: 2,
+            horizon: 40,
+        },
+        Err(NotAFact),
+    ),
+    (
+        "an alarm by its lag",
+        Reason::From { event: 3 },
+        Ok(Constraint {
+            left: 0,
+            right: 3,
+            bound: -28,
+        }),
+    ),
+    (
+        "an alarm",
+        Reason::Upto { event: 3 },
+        Ok(Constraint {
+            left: 3,
+            right: 0,
+            bound: 30,
+        }),
+    ),
+    (
+        "a silence is no alarm",
+        Reason::From { event: 1 },
+        Err(NotAFact),
+    ),
+    ("event 0", Reason::Upto { event: 0 }, Err(NotAFact)),
+    (
+        "an event past the end",
+        Reason::Upto { event: 5 },
+        Err(NotAFact),
+    ),
+    (
+        "a silence",
+        Reason::Quiet { event: 1, node: 2 },
+        Ok(Constraint {
+            left: 0,
+            right: 3,
+            bound: -6,
+        }),
+    ),
+    (
+        "a silence of another node",
+        Reason::Quiet { event: 1, node: 4 },
+        Err(NotAFact),
+    ),
+    (
+        "a sweep",
+        Reason::Quiet { event: 2, node: 4 },
+        Ok(Constraint {
+            left: 0,
+            right: 5,
+            bound: -8,
+        }),
+    ),
+    (
+        "a sweep after the alarm",
+        Reason::Quiet { event: 4, node: 2 },
+        Err(NotAFact),
+    ),
+    (
+        "a pick",
+        Reason::Pick {
+            split: 1,
+            constraint: 1,
+        },
+        Err(NotAFact),
+    ),
+];
+
+#[test]
+fn reasons_state_facts(rt: HostRuntime) -> Result<(), Fail> {
+    let graph = read(rt.alloc(), GRAPH)?;
+    let log = log_of(rt.alloc(), &graph, &SILENCES)?;
+    let reach = reach_of_first(&graph)?;
+    for (row, reason, expected) in &FACTS {
+        assert_eq!(rt; fact(&graph, &log, &reach, *reason), *expected, "{row}");
+    }
+    Ok(())
+}
