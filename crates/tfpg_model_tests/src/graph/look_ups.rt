@@ -1,5 +1,7 @@
 //! What the look-ups of a graph and of its copy return, and its written text.
 
+ghost use Rattle.std.specs.Prelude.{◌<◌, length};
+
 use std::alloc::Global;
 use std::test::Fail;
 use tfpg_graph::{Edge, Graph, Kind, append_edge_start, read, write};
@@ -25,40 +27,59 @@ const THREE_MODES_SEEN: &str = "node 0 And { lag: None } false 0 Some(0) None [0
     failure 0 2\nfailure 1 3\n\
     absent None None\n";
 
+/// What the look-ups of a node return, as a line.
+fn node_line(alloc: Global, graph: &Graph, node: u32) -> Result<String, Fail>
+    requires { node < length graph.now.nodes }
+{
+    let kind = graph.kind(node);
+    let is_monitored = graph.is_monitored(node);
+    let lag = graph.lag_or_zero(node);
+    let found = graph.find(graph.name(node));
+    let position = graph.place_of(node);
+    let incoming = graph.incoming(node);
+    let line = format!(in alloc;
+        "node {node} {kind:?} {is_monitored} {lag} {found:?} {position:?} {incoming:?}\n"
+    )?;
+    Ok(line)
+}
+
+/// What the look-ups of a mode return, as a line.
+fn mode_line(alloc: Global, graph: &Graph, mode: u32) -> Result<String, Fail>
+    requires { mode < length graph.now.modes }
+{
+    let found = graph.find_mode(graph.mode_name(mode));
+    let line = format!(in alloc; "mode {mode} {found:?}\n")?;
+    Ok(line)
+}
+
+/// What the look-ups of words return that name nothing, as a line.
+fn absent_line(alloc: Global, graph: &Graph) -> Result<String, Fail> {
+    let line = format!(in alloc;
+        "absent {:?} {:?}\n",
+        graph.find(b"N"),
+        graph.find_mode(b"A")
+    )?;
+    Ok(line)
+}
+
 /// What all look-ups of the graph return, as lines.
 fn look_ups(alloc: Global, graph: &Graph) -> Result<String, Fail> {
     let mut seen = String::new(alloc);
     for node in 0..graph.node_count() {
-        let kind = graph.kind(node);
-        let is_monitored = graph.is_monitored(node);
-        let lag = graph.lag_or_zero(node);
-        let found = graph.find(graph.name(node));
-        let position = graph.place_of(node);
-        let incoming = graph.incoming(node);
-        let line = format!(in alloc;
-            "node {node} {kind:?} {is_monitored} {lag} {found:?} {position:?} {incoming:?}\n"
-        )?;
-        seen.push_str(line.as_str())?;
+        seen.push_str(node_line(alloc, graph, node)?.as_str())?;
     }
     for number in 0..graph.edge_count() {
         let line = format!(in alloc; "edge {number} {:?}\n", graph.edge(number))?;
         seen.push_str(line.as_str())?;
     }
     for mode in 0..graph.mode_count() {
-        let found = graph.find_mode(graph.mode_name(mode));
-        let line = format!(in alloc; "mode {mode} {found:?}\n")?;
-        seen.push_str(line.as_str())?;
+        seen.push_str(mode_line(alloc, graph, mode)?.as_str())?;
     }
     for position in 0..graph.failure_count() {
         let line = format!(in alloc; "failure {position} {}\n", graph.failure_node(position))?;
         seen.push_str(line.as_str())?;
     }
-    let absent = format!(in alloc;
-        "absent {:?} {:?}\n",
-        graph.find(b"N"),
-        graph.find_mode(b"A")
-    )?;
-    seen.push_str(absent.as_str())?;
+    seen.push_str(absent_line(alloc, graph)?.as_str())?;
     Ok(seen)
 }
 
