@@ -5,7 +5,8 @@
 
 - "two faults": 64 failure modes, 512 nodes, 2,048 edges, two modes, and the log of a script that starts two failure modes.
 - "many pairs": 64 failure modes, of which 1,020 pairs explain the log and none alone; so each round writes 1,020 traces.
-- "long log": 16,384 ticks over a small graph, after no alarm and after one.
+- "long log": 65,536 ticks over a small graph, after no alarm and after one.
+- "chatter": an alarm, and then 16,383 ticks, or 16,383 alarms of the same monitor, which has a lag that allows them all.
 - "generated": `generate` with the sizes 10, 30 and 100, ten numbers each.
 """
 
@@ -117,10 +118,15 @@ def main():
         for k in (1, 2):
             report, seconds, peak = run(["diagnose", "--k", str(k), str(top / "large")], log)
             show(f"two faults, k {k}", log.count(b"\n"), seconds, peak, report)
-        ticks = "".join(f"{at} tick\n" for at in range(6, 16389)).encode()
+        ticks = "".join(f"{at} tick\n" for at in range(6, 65541)).encode()
         for name, first in (("no alarm", b"5 tick\n"), ("an alarm", b"5 alarm A\n")):
             report, seconds, peak = run(["diagnose", str(top / "small")], first + ticks)
-            show(f"long log, {name}", 16384, seconds, peak, report)
+            show(f"long log, {name}", 65536, seconds, peak, report)
+        (top / "chatter").write_text(TWO_MODES.replace("or A watch 0", "or A watch 100000"))
+        for name, what in (("ticks", "tick"), ("alarms", "alarm A")):
+            events = "".join(f"{at} {what}\n" for at in range(6, 16389)).encode()
+            report, seconds, peak = run(["diagnose", str(top / "chatter")], b"5 alarm A\n" + events)
+            show(f"chatter, {name}", 16384, seconds, peak, report)
         pairs = "100 alarm A\n110 alarm B\n" + "".join(f"{at} tick\n" for at in range(111, 409))
         report, seconds, peak = run(["diagnose", str(top / "pairs")], pairs.encode())
         show("many pairs", 300, seconds, peak, report)

@@ -3,7 +3,7 @@
 
     bench/explain.py [FOLDER]
 
-It writes a graph of 512 nodes and 2,048 edges, a log of 16,384 events of which 1,024 change the mode, and a map of all nodes
+It writes a graph of 512 nodes and 2,048 edges, a log of 65,536 events of which 1,024 change the mode, and a map of all nodes
 into the folder, or into a temporary one, and prints the shortest of five runs.
 
 The verdict is yes, so that nothing is left out: each edge is active in one of two modes, and the mode changes before a failure
@@ -26,7 +26,7 @@ FAILURES = 64
 EFFECTS = 448
 EDGES = 2048
 CHANGES = 1024
-EVENTS = 16384
+EVENTS = 65536
 STEP = 10  # milliseconds from one change of mode to the next
 RUNS = 5
 

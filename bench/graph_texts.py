@@ -99,7 +99,7 @@ def timed(folder):
         path = folder / f"{name}.tfpg"
         path.write_text(text)
         program, put = shortest([PROGRAM, "diagnose", "--k", "0", path])
-        if put != b"report 1 k 0 budget 1000\n":
+        if put != b"report 2 k 0 doubt 0 budget 1000\n":
             raise SystemExit(f"{name} was not read: {put!r}")
         counted, _ = shortest(["wc", "-l", path])
         split, _ = shortest([sys.executable, "-c", SPLIT, path])

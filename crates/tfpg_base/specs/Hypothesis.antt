@@ -2,7 +2,7 @@
 use Rattle.std.specs.Prelude.{◌≢◌, ℕ, List, []}
 use Rattle.tfpg_base.specs.Set.{IsSubset}
 
--- a hypothesis: failure modes by their positions, and monitors that are not believed by their nodes
+-- a hypothesis: failure modes, by their positions, and monitors that it doubts, by their nodes
 pub record Hypothesis : Type 0 where
   pub set : List ℕ
   pub doubts : List ℕ

@@ -12,7 +12,8 @@
 //! - [`Set`] is a set of failure modes, [`Doubts`] one of monitors that may be wrong; [`NodeNumbers`] is what sets of nodes
 //!   stand on. [`Trace`] says when which node became active, with an [`Activation`] for each.
 //!   [`Constraint`] is a difference constraint over the times of nodes.
-//! - [`Terms`] are what a diagnosis is asked with: the greatest size of its hypotheses, and the budget of a round.
+//! - [`Terms`] are what a diagnosis is asked with: the greatest size of its hypotheses, how many monitors each may doubt, and
+//!   the budget of a round.
 //! - [`MAX_TIME`] and the other limits say how long or how large things may be.
 //! - [`Items`] is a list that contracts see as one; [`Bytes`], [`NumberList`] and [`LineList`] are such lists, and a crate
 //!   names one of its own items by `pub type StepList = Items<Step>;`. [`Text`] is a text that is kept.
@@ -69,8 +70,8 @@ pub use items::{Bytes, Items, LineList, NumberList};
 pub use last_line_end::without_last_line_end;
 pub use limits::{
     BUFFER_SIZE, LONGEST_FILE, LONGEST_LINE, LONGEST_NAME, MAX_BUDGET, MAX_BYTES, MAX_CASE_SIZE,
-    MAX_K, MAX_LINE_NUMBER, MAX_MEMBERS, MAX_NODE_NUMBERS, MAX_PANEL_NUMBER, MAX_TIME, MAX_WORDS,
-    NEVER,
+    MAX_DOUBT, MAX_K, MAX_LINE_NUMBER, MAX_MEMBERS, MAX_NODE_NUMBERS, MAX_PANEL_NUMBER, MAX_TIME,
+    MAX_WORDS, NEVER,
 };
 pub use line::{Line, LineFault};
 pub use lines::Lines;

@@ -18,8 +18,11 @@ pub const LONGEST_NAME: usize = 32;
 /// How many members a set of failure modes has at most: their positions are below this.
 pub const MAX_MEMBERS: u32 = 64;
 
-/// The greatest `k` of a diagnosis: a set of failure modes has no more members.
+/// The greatest `k` of a diagnosis: a hypothesis has no more members.
 pub const MAX_K: u64 = MAX_MEMBERS as u64;
+
+/// The greatest `doubt` of a diagnosis: a hypothesis doubts no more monitors.
+pub const MAX_DOUBT: u64 = 4;
 
 /// The greatest budget of a diagnosis.
 pub const MAX_BUDGET: u64 = 1_000_000_000_000;

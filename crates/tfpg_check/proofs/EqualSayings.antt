@@ -1,24 +1,20 @@
 -- Equal reports of one graph and one list of lines say the same.
-use Rattle.std.proofs.Common.{◌≡◌, ℕ, ◌+◌, ◌<◌, ◌≤◌, ◌^◌, Bool, true, false, List, [], ◌∷◌, length, map, take, drop, get_or, All, Contains, Some, Result, Ok, Err, codes, slice_get, refl, sym, ap, subst, subst₂, ◌∙◌, arith}
+use Rattle.std.proofs.Common.{◌≡◌, ℕ, ◌+◌, ◌<◌, ◌^◌, Bool, true, false, List, [], ◌∷◌, length, map, take, drop, get_or, All, Contains, Some, Result, Ok, Err, codes, slice_get, refl, sym, ap, subst, subst₂, ◌∙◌, arith}
 use Rattle.std.specs.Prelude.{◌==◌, flat_map, decimal, option_and_then}
-use Rattle.std.proofs.lemmas.Fmt.{decimal_injective}
 use Rattle.std.proofs.lemmas.List.Concat.{flat_map_single}
 use Rattle.std.proofs.lemmas.List.Elements.{All-map, All-contains, All-nil}
 use Rattle.std.proofs.lemmas.Option.{same_Some, slice_get_within}
 use Rattle.tfpg_base.specs.declared.activation.Activation.{Activation}
 use Rattle.tfpg_base.specs.declared.terms.Terms.{Terms}
-use Rattle.tfpg_base.specs.declared.limits.TheConstants.{MAX_TIME}
-use Rattle.tfpg_base.specs.Words.{line_of, words_of}
-use Rattle.tfpg_base.proofs.Separators.{name_lacks}
+use Rattle.tfpg_base.specs.Words.{line_of}
 use Rattle.tfpg_base.proofs.lists.Elements.{All-from_members, slice_get-contains, slice_get-there}
 use Rattle.tfpg_base.proofs.lists.FirstFound.{find-passes}
 use Rattle.tfpg_base.proofs.lists.Groups.{group, AreGroups, same_groups}
-use Rattle.tfpg_base.proofs.lists.Images.{Contains-map, Contains-map_only, flat_map-same, map-injective}
-use Rattle.tfpg_base.proofs.lists.Lacking.{slice_split-join, lacks_checked}
+use Rattle.tfpg_base.proofs.lists.Images.{Contains-map, Contains-map_only, flat_map-same}
+use Rattle.tfpg_base.proofs.lists.Lacking.{lacks_checked}
 use Rattle.tfpg_base.proofs.lists.Passing.{Contains-filter, Contains-filter_only, Contains-filter_map, Contains-filter_map_only}
-use Rattle.tfpg_graph.specs.Graph.{Tfpg, sizes_of, name_word, node_named}
+use Rattle.tfpg_graph.specs.Graph.{Tfpg, sizes_of}
 use Rattle.tfpg_graph.specs.Valid.{IsValid}
-use Rattle.tfpg_graph.proofs.lemmas.reading.spelling.SpelledEdges.{node_named-name_word, is_name-name_word}
 use Rattle.tfpg_log.specs.declared.event.Event.{Event}
 use Rattle.tfpg_log.specs.Log.{Logbook, IsLogOf, IsOrdered}
 use Rattle.tfpg_log.specs.LogOfLines.{log_of_lines}
@@ -29,15 +25,17 @@ use Rattle.tfpg_evidence.specs.declared.finding.Status.{Status}
 use Rattle.tfpg_evidence.specs.declared.finding.Status.TheVariants.{Ranked, Covered, Rejected, Open}
 use Rattle.tfpg_evidence.specs.declared.round.Round.{Round}
 use Rattle.tfpg_evidence.specs.RoundOf.{IsRoundOf, IsRankedIn, is_ranked, is_open, finding_numbered}
-use Rattle.tfpg_evidence.specs.Findings.{ranked_in_order, open_in}
+use Rattle.tfpg_evidence.specs.Findings.{hypothesis_of, ranked_in_order, open_in}
 use Rattle.tfpg_evidence.proofs.FindingsByNumber.{finding_numbered-first}
 use Rattle.tfpg_hyp.specs.Fitting.{SayWhichSetsFit}
 use Rattle.tfpg_hyp.specs.Rounds.{IsRound, key_of_status}
 use Rattle.tfpg_hyp.specs.declared.ranking_key.RankingKey.{RankingKey}
 use Rattle.tfpg_hyp.proofs.FindingsOfRound.{HasFindingAt, evidence}
 use Rattle.tfpg_report.specs.declared.refused_line.RefusedLine.{RefusedLine}
-use Rattle.tfpg_report.specs.Blocks.{Block, Loss, RoundBlock, activation_line, set_word, robustness_word}
-use Rattle.tfpg_report.proofs.BlockLines.{is_ranked_line, open_line, ranked_words, lines_of_trace, open_lines_of, trace_lines_of, number_lacks}
+use Rattle.tfpg_report.specs.SetText.{set_word}
+use Rattle.tfpg_report.specs.Blocks.{Block, Loss, RoundBlock, activation_line, robustness_word}
+use Rattle.tfpg_report.proofs.ActivationLines.{IsInRange, one_trace}
+use Rattle.tfpg_report.proofs.BlockLines.{is_ranked_line, open_line, ranked_words, lines_of_trace, open_lines_of, trace_lines_of}
 use Rattle.tfpg_report.proofs.EqualTexts.{HaveSameLines, one_head, same_lines, same_number}
 use Rattle.tfpg_check.specs.Report.{Progress, HasReports, AreBlocks, IsBlockOf, event_of_line, progress_of, report_text, rounds_of}
 use Rattle.tfpg_check.specs.EqualReports.{HaveSameStatuses, SayTheSame, EqualReportsSayTheSame}
@@ -65,33 +63,6 @@ pub record RoundLaws : Type 0 where
 -- ---- traces by their lines
 
 module _ (graph : Tfpg) (valid : IsValid graph) where
-  -- an activation of a node of the graph, at a time in range
-  pub record IsInRange (activation : Activation) : Type 0 where
-    pub node : activation.node < length graph.nodes
-    pub time : activation.time ≤ MAX_TIME
-
-  activation_words : (activation : Activation) → IsInRange activation
-      → words_of (activation_line graph activation) ≡ codes "at" ∷ name_word graph activation.node ∷ decimal activation.time ∷ []
-  activation_words activation is =
-      slice_split-join 32 (codes "at" ∷ name_word graph activation.node ∷ decimal activation.time ∷ []) (omega arith) (
-        lacks_checked 32 (codes "at") refl,
-        (name_lacks 32 (name_word graph activation.node) refl (is_name-name_word graph activation.node is.node valid.so_far.node_names), (number_lacks 32 activation.time (omega arith), tt)),
-      )
-
-  one_activation : (one other : Activation) → IsInRange one → IsInRange other → activation_line graph one ≡ activation_line graph other → one ≡ other
-  one_activation one other is too same =
-      let words = sym (activation_words one is) ∙ ap words_of same ∙ activation_words other too in
-      let node : one.node ≡ other.node =
-      same_Some one.node other.node
-      (sym (node_named-name_word graph one.node is.node valid.so_far.nodes_differ) ∙ ap (λ (ws : List (List ℕ)). node_named graph (get_or ws 1 [])) words
-      ∙ node_named-name_word graph other.node too.node valid.so_far.nodes_differ) in
-      let time : one.time ≡ other.time =
-      decimal_injective one.time other.time (omega (arith, is.time)) (omega (arith, too.time)) (ap (λ (ws : List (List ℕ)). get_or ws 2 []) words) in
-      λ i. record { node = node i; time = time i }
-
-  same_trace : (one other : List Activation) → All IsInRange one → All IsInRange other → map (activation_line graph) one ≡ map (activation_line graph) other → one ≡ other
-  same_trace = map-injective IsInRange (activation_line graph) one_activation
-
   -- ---- the lines of a ranked finding
 
   abbrev first_line : Finding → Status → List ℕ
@@ -153,13 +124,13 @@ module _ (graph : Tfpg) (valid : IsValid graph) where
       same_number (codes "ranked") (rest finding cost alarmed monitored) (rest found c a m) finding.number found.number (lacks_checked 32 (codes "ranked") refl) small also same
     where
       rest : Finding → ℕ → ℕ → ℕ → List ℕ
-      rest f e b n = line_of (codes "cost" ∷ decimal e ∷ codes "robust" ∷ robustness_word b n ∷ codes "set" ∷ set_word graph f.set ∷ [])
+      rest f e b n = line_of (codes "cost" ∷ decimal e ∷ codes "robust" ∷ robustness_word b n ∷ codes "set" ∷ set_word graph (hypothesis_of f) ∷ [])
   first_number finding found _ _ ranked too small also same = cc
 
   -- the number in the line of an open one
   open_number : (finding found : Finding) → finding.number < 2 ^ 64 → found.number < 2 ^ 64 → open_line graph finding ≡ open_line graph found → finding.number ≡ found.number
   open_number finding found small also same =
-      same_number (codes "open") (line_of (codes "set" ∷ set_word graph finding.set ∷ [])) (line_of (codes "set" ∷ set_word graph found.set ∷ []))
+      same_number (codes "open") (line_of (codes "set" ∷ set_word graph (hypothesis_of finding) ∷ [])) (line_of (codes "set" ∷ set_word graph (hypothesis_of found) ∷ []))
       finding.number found.number (lacks_checked 32 (codes "open") refl) small also same
 
 -- a status that does not rank has no trace
@@ -269,7 +240,7 @@ module _ (laws : RoundLaws) (graph : Tfpg) (valid : IsValid graph) (terms : Term
         first_number graph valid other.0 finding other.0.status finding.status there.2 ranked (small two is_two there.0 other.0 there.1) (small one is_one number finding at)
         (ap (λ (ls : List (List ℕ)). get_or ls 0 []) other.2) in
         let is_found : other.0 ≡ found = one_of_number two is_two number there.0 found other.0 also there.1 (number_same ∙ number_is one is_one number finding at) in
-        sym (same_trace graph valid (trace_in other.0.status) (trace_in finding.status) (trace_in_range two is_two there.0 other.0 there.1) (trace_in_range one is_one number finding at)
+        sym (one_trace graph valid (trace_in other.0.status) (trace_in finding.status) (trace_in_range two is_two there.0 other.0 there.1) (trace_in_range one is_one number finding at)
         (ap (drop 1) other.2))
         ∙ ap (λ (g : Finding). trace_in g.status) is_found
 

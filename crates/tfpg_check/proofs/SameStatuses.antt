@@ -212,12 +212,13 @@ module _ (parts_first : PartsStandBefore) (graph : Tfpg) (terms : Terms) (log : 
       abbrev Hypotheses : hypothesis_of finding ≡ hypothesis_of found
       Hypotheses = same_hypothesis one two is_one is_two number finding found at also
 
-      same_robustness : robustness_of graph log (Reached one is_one number finding at) ≡ robustness_of graph log (Reached two is_two number found also)
+      same_robustness : robustness_of graph log (Reached one is_one number finding at) finding.doubts ≡ robustness_of graph log (Reached two is_two number found also) found.doubts
       same_robustness =
-          ap (robustness_of graph log)
+          ap (λ (reach : List ℕ). robustness_of graph log reach finding.doubts)
           (reach_is_one graph (hypothesis_of found).set (Reached one is_one number finding at)
           (subst (λ (h : Hypothesis). IsReach graph h.set (Reached one is_one number finding at)) Hypotheses (reach_is one is_one number finding at))
           (Reached two is_two number found also) (reach_is two is_two number found also))
+          ∙ ap (λ (h : Hypothesis). robustness_of graph log (Reached two is_two number found also) h.doubts) Hypotheses
 
       -- no covering hypothesis has a greater number than that of the other round
       no_later : (by other : ℕ) → IsLeastPart one.findings (hypothesis_of finding) by → IsLeastPart two.findings (hypothesis_of found) other → by ≤ other

@@ -8,7 +8,7 @@
 //! A report of one line, which has none of the shapes of a line of a log:
 //!
 //! ```text
-//! report 1 k 2 budget 1000
+//! report 2 k 2 doubt 0 budget 1000
 //! refused 1 BadLine
 //! ```
 #![tactic(auto)]

@@ -1,4 +1,5 @@
 -- Trees, their places, and the path of the present leaf.
+pub mod Marks
 pub mod LeafPaths
 pub mod TreeWalk
 pub mod Grafts

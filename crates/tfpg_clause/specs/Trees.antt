@@ -1,7 +1,8 @@
 -- Refutations: trees of clauses, each leaf of which is closed by a cycle of constraints that cannot all hold. One walk
 -- over a tree gives its places in the order of the steps, and what is said of trees is said of these.
-use Rattle.std.specs.Prelude.{◌≡◌, ℕ, suc, ◌+◌, ◌<◌, List, [], ◌∷◌, ◌++◌, length, take, map, count_by, All, Bool, true, false, Option, Some, option_map, option_and_then, slice_get}
-use Rattle.tfpg_base.specs.Choice.{each_of, item_at}
+use Rattle.std.specs.Prelude.{◌≡◌, ℕ, suc, ◌+◌, ◌<◌, List, [], ◌∷◌, ◌++◌, length, take, map, count_by, All, Bool, true, false, not, ◌||◌, ◌==◌, IsTrue, IsSomeAnd, Option, Some, option_map, option_and_then, slice_get}
+use Rattle.std.specs.List.{list_any}
+use Rattle.tfpg_base.specs.Choice.{each_of, item_at, last_of}
 use Rattle.tfpg_base.specs.ConstraintCycle.{IsNegativeCycle}
 use Rattle.tfpg_base.specs.declared.constraint.Constraint.{Constraint}
 use Rattle.tfpg_graph.specs.Graph.{Tfpg}
@@ -38,23 +39,66 @@ mutual
     Leaf : (seen : ℕ) (reasons : List Reason) → Tree
     Branch : (seen : ℕ) (name : ClauseName) (subtrees : Subtrees) → Tree
 
-  -- trees one after the other
+  -- trees one after the other; at the end the last of them may be reused for one alternative and so many others
   pub data Subtrees : Type 0 where
     NoMore : Subtrees
     Next : (tree : Tree) (others : Subtrees) → Subtrees
+    Reused : (seen : ℕ) (others : ℕ) → Subtrees
 
--- how many subtrees there are
+-- how many subtrees there are, where a tree counts once for each alternative that it closes
 abbrev pub how_many : Subtrees → ℕ
 how_many NoMore = 0
 how_many (Next tree others) = suc (how_many others)
+how_many (Reused seen others) = suc others
 
--- a new split on a clause with so many alternatives, in its first alternative
+-- the reasons of all cycles of a tree
+abbrev mutual
+  pub reasons_in : Tree → List Reason
+  reasons_in (Leaf seen reasons) = reasons
+  reasons_in (Branch seen name subtrees) = reasons_in_all subtrees
+
+  -- those of subtrees
+  pub reasons_in_all : Subtrees → List Reason
+  reasons_in_all NoMore = []
+  reasons_in_all (Next tree others) = reasons_in tree ++ reasons_in_all others
+  reasons_in_all (Reused seen others) = []
+
+-- the test of a reason that is a pick of the split with this number
+abbrev pub is_pick_of : ℕ → Reason → Bool
+is_pick_of number (Pick split constraint) = split == number
+is_pick_of number (Zero node) = false
+is_pick_of number (Top node) = false
+is_pick_of number (Unreached node horizon) = false
+is_pick_of number (From event) = false
+is_pick_of number (Upto event) = false
+is_pick_of number (Quiet event node) = false
+
+-- whether some of the reasons is a pick of the split with this number
+abbrev pub cites : List Reason → ℕ → Bool
+cites reasons number = list_any (is_pick_of number) reasons
+
+-- a new split on a clause with so many alternatives, in its first alternative: nothing cited it, and no alternative is before
 abbrev pub new_split : ClauseName → ℕ → PathSplit
-new_split name count = record { name = name; alternative = 1; alternatives = count }
+new_split name count = record { name = name; alternative = 1; alternatives = count; cited = false; reusable = false }
 
--- the split in its next alternative
+-- the split, cited also if this is so
+abbrev pub also_cited : Bool → PathSplit → PathSplit
+also_cited cited split = record split { cited = split.cited || cited }
+
+-- The split in its next alternative: the subtree of the one before is reusable if it did not cite the split.
 abbrev pub next_alternative : PathSplit → PathSplit
-next_alternative split = record split { alternative = split.alternative + 1 }
+next_alternative split =
+    record split { alternative = split.alternative + 1; cited = false; reusable = not split.cited }
+
+-- the splits, the first of which has this number, where those that the reasons cite are marked so
+abbrev pub cited_from : ℕ → List Reason → List PathSplit → List PathSplit
+cited_from number reasons [] = []
+cited_from number reasons (split ∷ deeper) =
+    also_cited (cites reasons number) split ∷ cited_from (number + 1) reasons deeper
+
+-- the path, where the splits that the reasons cite are marked so
+abbrev pub cited_by : List Reason → List PathSplit → List PathSplit
+cited_by reasons path = cited_from 1 reasons path
 
 -- a step in its place in a tree: the splits from the root to it, the step, and how many subtrees it has
 pub record StepPlace : Type 0 where
@@ -72,6 +116,14 @@ abbrev pub branch_place : List PathSplit → ℕ → ClauseName → ℕ → Step
 branch_place path seen name subtrees =
     record { path = path; step = record { seen = seen; step = Split name }; subtrees = subtrees }
 
+-- the place of a step that reuses a subtree
+abbrev pub again_place : List PathSplit → ℕ → StepPlace
+again_place path seen = record { path = path; step = record { seen = seen; step = Again }; subtrees = 0 }
+
+-- the split of this number after a subtree in whose cycles these are the reasons
+abbrev pub after_subtree : ℕ → List Reason → PathSplit → PathSplit
+after_subtree number reasons split = next_alternative (also_cited (cites reasons number) split)
+
 -- The places of a tree, in the order of the steps: a split, and then its subtrees one after the other.
 abbrev mutual
   pub places : List PathSplit → Tree → List StepPlace
@@ -83,7 +135,9 @@ abbrev mutual
   pub places_from : List PathSplit → PathSplit → Subtrees → List StepPlace
   places_from path split NoMore = []
   places_from path split (Next tree others) =
-      places (path ++ split ∷ []) tree ++ places_from path (next_alternative split) others
+      places (path ++ split ∷ []) tree
+      ++ places_from (cited_by (reasons_in tree) path) (after_subtree (length path + 1) (reasons_in tree) split) others
+  places_from path split (Reused seen others) = again_place (path ++ split ∷ []) seen ∷ []
 
 -- the places of a whole tree
 abbrev pub places_of : Tree → List StepPlace
@@ -128,12 +182,16 @@ pub record IsClosedBy (stated : Reason → Option Constraint) (reasons : List Re
 abbrev pub IsClosedLeaf : Case → List PathSplit → List Reason → Type 0
 IsClosedLeaf case path reasons = IsClosedBy (stated case path) reasons
 
+-- At the leaf of this path the subtree of the alternative before is reusable.
+abbrev pub IsReusable : List PathSplit → Type 0
+IsReusable path = IsSomeAnd (last_of path) (λ split. IsTrue split.reusable)
+
 -- The step, with so many subtrees, is right at the leaf of this path: a split has an allowed name, and one subtree for each
--- alternative; a cycle closes the leaf; and no subtree is reused yet.
+-- alternative; a cycle closes the leaf; and a subtree is reused where one is reusable.
 abbrev pub IsRightStep : Case → List PathSplit → ℕ → Step → Type 0
 IsRightStep case path subtrees (Split name) = count_of case.graph case.log name ≡ Some subtrees
 IsRightStep case path subtrees (Cycle reasons) = IsClosedLeaf case path reasons
-IsRightStep case path subtrees Again = ⊥
+IsRightStep case path subtrees Again = IsReusable path
 
 -- The step of a place is right there, judged by the first events of the log that judged it.
 abbrev pub IsRight : Case → StepPlace → Type 0

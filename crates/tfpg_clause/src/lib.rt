@@ -6,8 +6,9 @@
 //! - [`MAX_CONSTRAINTS`] says how many constraints an alternative has at most.
 //! - [`violated`] is the first clause with the horizon now that some times violate.
 //! - [`PathSplit`] is a split on the path to the present leaf of a partial tree. [`PathSplit::on_clause`] splits the leaf,
-//!   [`backtrack`] moves the path to the next leaf once this one is closed, and [`stated`] and [`picked`] look up what a
-//!   reason states there.
+//!   [`cite`] marks what the cycle cites that closed it, and [`backtrack`] moves the path to the next leaf then.
+//!   [`is_reusable`] says whether the subtree of the alternative before may be reused there, and [`reuse`] does so.
+//!   [`stated`] and [`picked`] look up what a reason states.
 //! - [`laws`] ties facts, clauses and refutations to the traces that explain a log, and says how trees grow.
 //!
 //! Its definitions, in `specs/`, say which constraints are facts of a log and a reach, which clauses every trace meets,
@@ -46,4 +47,4 @@ pub use clauses::{NotAClause, constraint, count};
 pub use facts::{NotAFact, fact};
 pub use first_clause::violated;
 pub use limits::MAX_CONSTRAINTS;
-pub use path::{PathSplit, backtrack, picked, stated};
+pub use path::{PathSplit, backtrack, cite, is_reusable, picked, reuse, stated};

@@ -1,12 +1,13 @@
 //! The path to the present leaf of a partial tree, as a program keeps it.
 
-ghost use Rattle.std.specs.Prelude.{◌≡◌, ◌≤◌, ◌<◌, ◌-◌, take, length, vec_len, vec_capacity, option_map, [], Some, None};
+ghost use Rattle.std.specs.Prelude.{◌≡◌, ℕ, ◌≤◌, ◌<◌, ◌-◌, ◌↔◌, IsTrue, take, length, vec_len, vec_capacity, option_map, [], ◌∷◌, Some, None};
 ghost use Rattle.std.specs.Bool.{MatchBool};
 ghost use Rattle.tfpg_log.specs.Log.{IsLogOf};
+ghost use Rattle.tfpg_evidence.specs.declared.reason.Reason.TheVariants.{Pick};
 ghost use Rattle.tfpg_clause.specs.Clauses.{count_of};
 ghost use Rattle.tfpg_clause.specs.Case.{case_of};
-ghost use Rattle.tfpg_clause.specs.Trees.{new_split, picked, stated};
-ghost use Rattle.tfpg_clause.specs.Paths.{next_leaf};
+ghost use Rattle.tfpg_clause.specs.Trees.{new_split, cited_by, picked, stated, IsReusable};
+ghost use Rattle.tfpg_clause.specs.Paths.{next_leaf, above_last};
 ghost use Rattle.tfpg_clause.specs.inside.UnfinishedSplits.{HasNext};
 
 use crate::clauses::{constraint, count};
@@ -17,12 +18,15 @@ use tfpg_graph::{Graph, NodeSet};
 use tfpg_log::Log;
 
 /// A split on a path, with the number of the alternative in whose subtree one stands, counted from 1, and how many
-/// alternatives it has.
+/// alternatives it has. It is cited where some cycle in that subtree picks from it, so far. It is reusable where there is
+/// an alternative before, in whose subtree no cycle picks from it.
 #[derive(Clone, Copy, Debug, PartialEq, Eq, Drop)]
 pub struct PathSplit {
     pub name: ClauseName,
     pub alternative: u32,
     pub alternatives: u32,
+    pub cited: bool,
+    pub reusable: bool,
 }
 
 impl PathSplit {
@@ -36,6 +40,8 @@ impl PathSplit {
             name,
             alternative: 1,
             alternatives,
+            cited: false,
+            reusable: false,
         })
     }
 }
@@ -59,7 +65,70 @@ pub fn backtrack(path: &mut Vec<PathSplit>) -> bool
     // It is read so that the proof knows that it fits.
     let _alternatives = deepest.alternatives;
     deepest.alternative += 1;
+    deepest.reusable = !deepest.cited;
+    deepest.cited = false;
     true
+}
+
+/// Whether the subtree of the alternative before is reusable at the leaf of this path.
+pub fn is_reusable(path: &[PathSplit]) -> bool
+    ensures { IsTrue result ↔ IsReusable path.now }
+{
+    match path.last() {
+        Some(deepest) => deepest.reusable,
+        None => false,
+    }
+}
+
+/// Backtracks from a leaf at which a subtree is reused: drops the deepest split, whose alternatives are all closed, and
+/// then moves the path as [`backtrack`] does, and with the same result.
+pub fn reuse(path: &mut Vec<PathSplit>) -> bool
+    ensures moved { MatchBool result
+        (next_leaf (above_last path.old.items) ≡ Some path.new.items)
+        ((next_leaf (above_last path.old.items) ≡ None) × (path.new.items ≡ [])) }
+    ensures shorter { vec_len path.new ≤ vec_len path.old }
+    ensures capacity { vec_capacity path.new ≡ vec_capacity path.old }
+{
+    let _deepest = path.pop();
+    backtrack(path)
+}
+
+/// Marks the splits of the path that the reasons cite.
+pub fn cite(path: &mut Vec<PathSplit>, reasons: &[Reason])
+    ensures marked { path.new.items ≡ cited_by reasons.now path.old.items }
+    ensures length { vec_len path.new ≡ vec_len path.old }
+    ensures capacity { vec_capacity path.new ≡ vec_capacity path.old }
+{
+    cite_each(path, reasons);
+}
+
+/// Marks the splits that each of the reasons cites.
+fn cite_each(path: &mut [PathSplit], reasons: &[Reason])
+    ensures { path.new ≡ cited_by reasons.now path.old }
+{
+    for reason in reasons {
+        cite_one(path, *reason);
+    }
+}
+
+/// Marks the split of the path that the reason cites, where it is a pick.
+fn cite_one(path: &mut [PathSplit], reason: Reason)
+    ensures { path.new ≡ cited_by (reason ∷ []) path.old }
+{
+    match reason {
+        Reason::Pick { split, .. } => cite_split(path, split),
+        _ => {}
+    }
+}
+
+/// Marks the split of this number, where there is one. They are numbered from 1.
+fn cite_split(path: &mut [PathSplit], number: u64)
+    ensures { (constraint : ℕ) → path.new ≡ cited_by (Pick number constraint ∷ []) path.old }
+{
+    if number == 0 || number > path.len() as u64 {
+        return;
+    }
+    path[(number - 1) as usize].cited = true;
 }
 
 /// How many splits there are up to the deepest that has an alternative left.

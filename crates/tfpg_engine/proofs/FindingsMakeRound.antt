@@ -1,6 +1,6 @@
 -- The findings of a round, whatever the earlier rounds were, are a round for all rounds that the engine represents.
 use Rattle.std.proofs.Common.{◌≡◌, ℕ, ◌<◌, List, [], ◌∷◌, ◌++◌, length, take, Option, Some, None, refl, sym, ap, subst, ◌∙◌, false}
-use Rattle.std.specs.Prelude.{slice_get, option_and_then}
+use Rattle.std.specs.Prelude.{slice_get, sum_by, option_and_then}
 use Rattle.std.proofs.lemmas.List.Folds.{list_any_none}
 use Rattle.std.proofs.lemmas.Option.{same_Some}
 use Rattle.tfpg_base.specs.declared.terms.Terms.{Terms}
@@ -28,12 +28,16 @@ use Rattle.tfpg_search.specs.Enough.{IsEnough}
 use Rattle.tfpg_clause.specs.Paths.{with_steps}
 use Rattle.tfpg_engine.specs.declared.slot.Slot.{Slot}
 use Rattle.tfpg_engine.specs.Earned.{IsEarned, AreEarned}
-use Rattle.tfpg_engine.specs.EngineState.{SlotRepresents}
+use Rattle.tfpg_engine.specs.EngineState.{SlotRepresents, IsWorkedOn}
+use Rattle.tfpg_engine.specs.Work.{was_rejected, last_worked_on, is_worked_on, IsLimitWhere, IsFindingLimit, IsRoundWithin}
+use Rattle.tfpg_engine.specs.inside.SlotWork.{IsLimitBySlots, AreSlotsWithin}
+use Rattle.tfpg_engine.proofs.RoundWork.{worked_on_still, limit_by_rounds}
+use Rattle.tfpg_engine.proofs.FindingWork.{within_others}
 use Rattle.tfpg_engine.specs.inside.Slots.{AllCanGoOn}
 use Rattle.tfpg_engine.specs.inside.RankedKeys.{HasFraction}
 use Rattle.tfpg_engine.specs.inside.TreeLaws.{TreeLaws}
 use Rattle.tfpg_engine.specs.inside.NewFindings.{GoesOnFrom, IsNewFinding, AreNewFindings, MakesRound}
-use Rattle.tfpg_engine.proofs.KeptStaysRight.{slot_stays}
+use Rattle.tfpg_engine.proofs.KeptStaysRight.{stays_for}
 
 -- ---- one new finding
 
@@ -93,7 +97,7 @@ pub can_go_on : TreeLaws → (graph : Tfpg) (earlier later : Logbook) → IsOrde
     → AllCanGoOn graph later table slots
 can_go_on laws graph earlier later ordered goes_on table slots can row slot is at_slot =
     let some = can row slot is at_slot in
-    (some.0, slot_stays laws (case_for graph earlier row.hypothesis row.reach) later ordered goes_on row.hypothesis slot some.0 some.1)
+    (some.0, stays_for laws graph earlier later ordered goes_on row.hypothesis row.reach slot some.0 some.1)
 
 -- ---- the round
 
@@ -107,7 +111,8 @@ module _ (laws : TreeLaws) (stand_before : StandBefore) (inquiry : Inquiry) (lin
     (is_table : IsTableOf inquiry.graph inquiry.terms table) (ordered : IsOrdered inquiry.log) (goes_on : GoesOn old_log inquiry.log) (made : MakesRound inquiry table old new line round)
     (old_each : length old ≡ length table.hypotheses) (new_each : length new ≡ length old)
     (represented : (row : Row) (slot : Slot) → IsRowOf table row → slice_get old row.number ≡ Some slot
-    → SlotRepresents (case_for inquiry.graph old_log row.hypothesis row.reach) row.hypothesis slot (steps_so_far row.number rounds)) where
+    → SlotRepresents (case_for inquiry.graph old_log row.hypothesis row.reach) row.hypothesis slot (steps_so_far row.number rounds))
+    (worked : (row : Row) (slot : Slot) → IsRowOf table row → slice_get old row.number ≡ Some slot → IsWorkedOn row.number rounds slot) where
   abbrev findings : List Finding
   findings = round.findings
 
@@ -145,7 +150,7 @@ module _ (laws : TreeLaws) (stand_before : StandBefore) (inquiry : Inquiry) (lin
       → slice_get findings row.number ≡ Some finding → GoesOnFrom inquiry row (take row.number findings) (steps_so_far row.number rounds) now finding
   goes_at row before now finding is at_before at_now at =
       (made.each row is before now finding at_before at_now at).goes_on (steps_so_far row.number rounds)
-      (slot_stays laws (case_for inquiry.graph old_log row.hypothesis row.reach) inquiry.log ordered goes_on row.hypothesis before (steps_so_far row.number rounds) (represented row before is at_before))
+      (stays_for laws inquiry.graph old_log inquiry.log ordered goes_on row.hypothesis row.reach before (steps_so_far row.number rounds) (represented row before is at_before))
 
   finding_is : (number : ℕ) (hypothesis : Hypothesis) (finding : Finding) → slice_get table.hypotheses number ≡ Some hypothesis → slice_get findings number ≡ Some finding
       → IsFinding inquiry (rounds ++ round ∷ []) findings number hypothesis finding
@@ -199,6 +204,34 @@ module _ (laws : TreeLaws) (stand_before : StandBefore) (inquiry : Inquiry) (lin
       subst (SlotRepresents (case_for inquiry.graph inquiry.log row.hypothesis row.reach) row.hypothesis slot)
       (sym (steps_so_far-push row.number rounds round (length inquiry.log.events) finding.0 made.number finding.1))
       (goes_at row before.0 slot finding.0 is before.1 at_slot finding.1).represents
+
+  -- what is kept is as it was worked on in the rounds
+  pub worked_on : (row : Row) (slot : Slot) → IsRowOf table row → slice_get new row.number ≡ Some slot → IsWorkedOn row.number (rounds ++ round ∷ []) slot
+  worked_on row slot is at_slot =
+      let finding = slice_get-same_length findings new row.number slot (new_each ∙ old_each ∙ sym made.complete) at_slot in
+      let before = slice_get-same_length old new row.number slot new_each at_slot in
+      worked_on_still row.number rounds round finding.0 finding.1 before.0 slot (length inquiry.log.events) made.number (worked row before.0 is before.1)
+      (made.each row is before.0 slot finding.0 before.1 at_slot finding.1).kept_is
+
+  finding_limit : (number : ℕ) (finding : Finding) (limit : ℕ) → slice_get findings number ≡ Some finding → IsLimitBySlots inquiry table old number finding limit
+      → IsFindingLimit inquiry.graph inquiry.log rounds number finding limit
+  finding_limit number finding limit at limited =
+      let own = at_number number finding at in
+      let same : own.hypothesis ≡ hypothesis_of finding = sym own.is_new.hypothesis_is in
+      record {
+        reach = own.reach;
+        reach_is = subst (λ (h : Hypothesis). IsReachOf inquiry.graph h own.reach) same (is_table.reached.exact number own.hypothesis own.reach own.at.hypothesis own.at.reach);
+        is = subst
+            (λ (h : Hypothesis). IsLimitWhere (is_worked_on (was_rejected number rounds) finding.status) (case_for inquiry.graph inquiry.log h own.reach) (last_worked_on number rounds) (length finding.steps) limit) same
+            (limit_by_rounds number rounds own.before own.now (length inquiry.log.events) (length finding.steps) limit (case_for inquiry.graph inquiry.log own.hypothesis own.reach)
+            (worked (row_with number own.hypothesis own.reach) own.before own.at own.at_before) finding.status own.is_new.kept_is (limited own.hypothesis own.reach own.before own.at own.at_before));
+      }
+
+  -- the round keeps within its limits
+  pub within : (before after : ℕ) → AreSlotsWithin inquiry table old findings before after → IsRoundWithin inquiry.graph inquiry.log rounds round before after
+  within before after is =
+      let by_rounds = within_others (IsLimitBySlots inquiry table old) (IsFindingLimit inquiry.graph inquiry.log rounds) findings before after finding_limit is in
+      (sum_by (λ (one : ℕ). one) by_rounds.limits, record { limits = by_rounds.limits; are = by_rounds.are; is = refl }, by_rounds.within)
 
 -- The findings as the code has them make a round.
 pub makes : (inquiry : Inquiry) (table : Hypotheses) (old new : List Slot) (line number now : ℕ) (found read listed : List Finding) (order : List ℕ) (counts : Counts)

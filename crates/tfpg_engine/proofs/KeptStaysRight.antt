@@ -1,14 +1,15 @@
 -- What is kept of a hypothesis stays right at a log that goes on.
-use Rattle.std.proofs.Common.{◌≡◌, ℕ, List, [], ◌∷◌, ◌++◌, sym, subst}
+use Rattle.std.proofs.Common.{◌≡◌, ℕ, List, [], ◌∷◌, ◌++◌, refl, sym, subst}
 use Rattle.std.specs.Prelude.{false, Result, Ok, Err, IfOk}
 use Rattle.std.proofs.lemmas.List.{append-nil}
 use Rattle.tfpg_log.specs.Log.{Logbook, GoesOn, IsOrdered, first_events}
 use Rattle.tfpg_base.specs.declared.no_memory.NoMemory.{NoMemory}
-use Rattle.tfpg_base.specs.Hypothesis.{Hypothesis, believing}
+use Rattle.tfpg_base.specs.Hypothesis.{Hypothesis}
 use Rattle.tfpg_graph.specs.Graph.{Tfpg}
 use Rattle.tfpg_clause.specs.Case.{Case, case_of, at_log}
 use Rattle.tfpg_clause.specs.Trees.{Judged, IsPartial, IsPresentLeaf, IsRefutation}
 use Rattle.tfpg_clause.specs.declared.path.PathSplit.{PathSplit}
+use Rattle.tfpg_hyp.specs.Views.{log_for, case_for}
 use Rattle.tfpg_search.specs.Live.{HasNoNameTwice}
 use Rattle.tfpg_search.specs.SearchState.{SearchState}
 use Rattle.tfpg_search.specs.Represents.{SearchRepresents}
@@ -16,9 +17,9 @@ use Rattle.tfpg_log.proofs.events.PastKept.{first_events_kept}
 use Rattle.tfpg_search.proofs.calls.NewSearch.{none_twice, names_stay, names_of_partial}
 use Rattle.tfpg_engine.specs.declared.slot.Slot.{Slot}
 use Rattle.tfpg_engine.specs.declared.slot.Slot.TheVariants.{Untouched, Searched, Rejected}
-use Rattle.tfpg_engine.specs.EngineState.{SlotRepresents}
+use Rattle.tfpg_engine.specs.EngineState.{SlotRepresents, is_rejected_slot}
 use Rattle.tfpg_engine.specs.inside.TreeLaws.{TreeLaws}
-use Rattle.tfpg_engine.specs.inside.NewFindings.{is_rejected_slot}
+use Rattle.tfpg_engine.proofs.Ignoring.{ordered_for}
 
 -- ---- names on paths
 
@@ -44,6 +45,13 @@ module _ (laws : TreeLaws) (case : Case) (later : Logbook) (ordered : IsOrdered 
       (is.0, is.1, subst (λ (log : Logbook). SearchRepresents case.graph log search steps) (first_events_kept case.log later goes_on search.seen is.2.seen) is.2)
   slot_stays hypothesis Rejected steps is = (laws.refutation_stays case later steps ordered goes_on is.0, names_of_refutation steps is.0 is.1)
 
+-- So it does at what a hypothesis sees of the later log.
+pub stays_for : TreeLaws → (graph : Tfpg) (earlier later : Logbook) → IsOrdered later → GoesOn earlier later → (hypothesis : Hypothesis) (reach : List ℕ) (slot : Slot) (steps : List Judged)
+    → SlotRepresents (case_for graph earlier hypothesis reach) hypothesis slot steps → SlotRepresents (case_for graph later hypothesis reach) hypothesis slot steps
+stays_for laws graph earlier later ordered goes_on hypothesis reach slot steps is =
+    slot_stays laws (case_for graph earlier hypothesis reach) (log_for later hypothesis) (ordered_for later hypothesis.doubts ordered)
+    (record { more = goes_on.more; events = goes_on.events; ignored = refl }) hypothesis slot steps is
+
 -- ---- what is kept of a hypothesis that is not rejected
 
 -- a partial tree, on no path of which a name stands twice
@@ -68,15 +76,15 @@ slot_partial laws case ordered hypothesis Rejected steps open_yet is = cc
 -- ---- a hypothesis that was never searched
 
 -- a new search represents the steps of a hypothesis that was never searched
-pub begins_untouched : (graph : Tfpg) (set reach : List ℕ) (slot : Slot) (result : Result SearchState NoMemory) → slot ≡ Untouched → IfOk result (λ search. search.set ≡ set) → IfOk result (λ search. search.reach ≡ reach)
-    → IfOk result (λ search. search.seen ≡ 0) → ((log : Logbook) → IfOk result (λ search. SearchRepresents graph (first_events log 0) search []))
-    → IfOk result (λ search. (log : Logbook) (steps : List Judged) → is_rejected_slot slot ≡ false → SlotRepresents (case_of graph log reach) (believing set) slot steps
-    → SlotRepresents (case_of graph log reach) (believing set) (Searched search) steps)
-begins_untouched graph set reach slot (Ok search) is set_is reach_is seen represents = λ log steps open_yet own.
-    let none : steps ≡ [] = subst (λ (s : Slot). SlotRepresents (case_of graph log reach) (believing set) s steps) is own in (
+pub begins_untouched : (graph : Tfpg) (hypothesis : Hypothesis) (reach : List ℕ) (slot : Slot) (result : Result SearchState NoMemory) → slot ≡ Untouched → IfOk result (λ search. search.set ≡ hypothesis.set)
+    → IfOk result (λ search. search.reach ≡ reach) → IfOk result (λ search. search.seen ≡ 0) → ((log : Logbook) → IfOk result (λ search. SearchRepresents graph (first_events log 0) search []))
+    → IfOk result (λ search. (log : Logbook) (steps : List Judged) → is_rejected_slot slot ≡ false → SlotRepresents (case_of graph log reach) hypothesis slot steps
+    → SlotRepresents (case_of graph log reach) hypothesis (Searched search) steps)
+begins_untouched graph hypothesis reach slot (Ok search) is set_is reach_is seen represents = λ log steps open_yet own.
+    let none : steps ≡ [] = subst (λ (s : Slot). SlotRepresents (case_of graph log reach) hypothesis s steps) is own in (
       set_is,
       reach_is,
       subst (λ (n : ℕ). SearchRepresents graph (first_events log n) search steps) (sym seen)
           (subst (λ (ss : List Judged). SearchRepresents graph (first_events log 0) search ss) (sym none) (represents log)),
     )
-begins_untouched graph set reach slot (Err no_memory) is set_is reach_is seen represents = tt
+begins_untouched graph hypothesis reach slot (Err no_memory) is set_is reach_is seen represents = tt

@@ -4,3 +4,7 @@ mod NewFindingIsRight
 mod FindingsMakeRound
 mod EventBringsRound
 mod Parts
+mod Ignoring
+mod EnoughIgnoring
+mod FindingWork
+mod RoundWork

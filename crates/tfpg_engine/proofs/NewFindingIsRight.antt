@@ -1,16 +1,17 @@
 -- What a round finds of one hypothesis.
-use Rattle.std.proofs.Common.{◌≡◌, ℕ, ◌+◌, ◌<◌, ◌≤◌, ◌⊎◌, inl, inr, ◌↔◌, Bool, true, false, cond, List, [], ◌∷◌, ◌++◌, length, get_or, take, set as set_at, refl, sym, ap, subst, ◌∙◌, arith}
+use Rattle.std.proofs.Common.{◌≡◌, ℕ, ◌+◌, ◌<◌, ◌≤◌, ◌⊎◌, inl, inr, ◌↔◌, Bool, true, false, cond, List, [], ◌∷◌, ◌++◌, length, get_or, take, Option, None, set as set_at, refl, sym, ap, subst, ◌∙◌, arith}
 use Rattle.std.proofs.Math.Arith.{lt_of_le-ne}
-use Rattle.std.specs.Prelude.{IsTrue, ◌==◌, Ok, Some, slice_get}
+use Rattle.std.specs.Prelude.{IsTrue, ◌==◌, ◌||◌, Result, Ok, Some, slice_get, option_map}
 use Rattle.std.proofs.lemmas.List.{append-nil, length-append, length-set, take-append-le, take_at}
 use Rattle.std.proofs.lemmas.Option.{slice_get-get_or, slice_get_within, get_or_from_slice_get, same_Some}
 use Rattle.tfpg_base.proofs.lists.Sequences.{below_or_last}
 use Rattle.tfpg_base.proofs.lists.Written.{slice_get-set_same, slice_get-set_other, slice_get-push_before, slice_get-push_at}
-use Rattle.tfpg_base.specs.Hypothesis.{Hypothesis, IsProperPart, believing}
+use Rattle.tfpg_base.specs.declared.no_memory.NoMemory.{NoMemory}
+use Rattle.tfpg_base.specs.Hypothesis.{Hypothesis, IsProperPart}
 use Rattle.std.proofs.lemmas.Bool.Decides.{nat_tests}
 use Rattle.tfpg_base.proofs.lists.Cuts.{append_cons-not_nil}
 use Rattle.tfpg_graph.specs.Graph.{Tfpg}
-use Rattle.tfpg_log.specs.Log.{Logbook, IsOrdered, first_events}
+use Rattle.tfpg_log.specs.Log.{Logbook, IsOrdered, first_events, ignoring}
 use Rattle.tfpg_log.proofs.events.Events.{whole_log}
 use Rattle.tfpg_evidence.specs.declared.finding.Finding.{Finding}
 use Rattle.tfpg_evidence.specs.declared.finding.Status.{Status}
@@ -21,14 +22,15 @@ use Rattle.tfpg_evidence.specs.Findings.{hypothesis_of}
 use Rattle.tfpg_clause.specs.Case.{Case, case_of}
 use Rattle.tfpg_clause.specs.Trees.{Judged, IsPartial, IsRefutation, split_count}
 use Rattle.tfpg_hyp.specs.Hypotheses.{Hypotheses, Row, IsRowOf}
+use Rattle.tfpg_hyp.specs.Views.{log_for}
 use Rattle.tfpg_hyp.specs.declared.ranking_key.Fraction.{Fraction}
-use Rattle.tfpg_hyp.specs.Ranking.{cost_of, robustness_of, monitored_in, alarmed_in}
+use Rattle.tfpg_hyp.specs.Ranking.{cost_of, robustness_of, believed_in, alarmed_in}
 use Rattle.tfpg_hyp.specs.Rounds.{Inquiry, IsRankedPart, HasRankedPart, IsLeastPart}
 use Rattle.tfpg_log.specs.Explains.{Explains}
 use Rattle.tfpg_search.specs.Enough.{IsEnough}
-use Rattle.tfpg_search.specs.Live.{HasNoNameTwice, IsUnsettled}
+use Rattle.tfpg_search.specs.Live.{HasNoNameTwice, AllowsReuse, IsUnsettled}
 use Rattle.tfpg_search.specs.SearchState.{SearchState}
-use Rattle.tfpg_search.specs.Represents.{SearchRepresents}
+use Rattle.tfpg_search.specs.Represents.{SearchRepresents, RepresentsSome}
 use Rattle.tfpg_clause.specs.Paths.{with_steps}
 use Rattle.tfpg_search.specs.Searched.{AreSearchSteps, Finds, IsSearched}
 use Rattle.tfpg_search.specs.declared.found.Found.{Found}
@@ -36,10 +38,12 @@ use Rattle.tfpg_search.specs.declared.found.Found.TheVariants.{Shown, Closed, Sp
 use Rattle.tfpg_engine.specs.declared.slot.Slot.{Slot}
 use Rattle.tfpg_engine.specs.declared.slot.Slot.TheVariants.{Untouched, Searched, Rejected}
 use Rattle.tfpg_engine.specs.Earned.{IsEarned}
-use Rattle.tfpg_engine.specs.EngineState.{SlotRepresents}
+use Rattle.tfpg_engine.specs.EngineState.{SlotRepresents, is_rejected_slot}
 use Rattle.tfpg_engine.specs.inside.TreeLaws.{TreeLaws}
-use Rattle.tfpg_engine.specs.inside.NewFindings.{is_rejected_slot, kept, status_by, RanksByFraction, GoesOnFrom, IsNewFinding, AreFirstFindings}
+use Rattle.tfpg_engine.specs.inside.NewFindings.{kept, status_by, IsKeptAfter, RanksByFraction, GoesOnFrom, IsNewFinding, AreFirstFindings}
 use Rattle.tfpg_engine.proofs.KeptStaysRight.{slot_partial}
+use Rattle.tfpg_engine.proofs.Ignoring.{own_log, ordered_for}
+use Rattle.tfpg_engine.proofs.EnoughIgnoring.{enough_ignoring}
 
 -- ---- the robustness of a set is a fraction
 
@@ -47,15 +51,19 @@ fraction_by : (monitored alarmed : ℕ) (b : Bool) → (monitored == 0) ≡ b �
 fraction_by monitored alarmed true is = omega arith
 fraction_by monitored alarmed false is = grind (arith, nat_tests)
 
-fraction_of : (graph : Tfpg) (log : Logbook) (reach : List ℕ) → 1 ≤ (robustness_of graph log reach).monitored
-fraction_of graph log reach = fraction_by (monitored_in graph reach) (alarmed_in graph log reach) (monitored_in graph reach == 0) refl
+fraction_of : (graph : Tfpg) (log : Logbook) (reach doubts : List ℕ) → 1 ≤ (robustness_of graph log reach doubts).monitored
+fraction_of graph log reach doubts = fraction_by (believed_in graph reach doubts) (alarmed_in graph log reach doubts) (believed_in graph reach doubts == 0) refl
 
-module _ (inquiry : Inquiry) (set reach : List ℕ) (number : ℕ) (findings : List Finding) (ordered : IsOrdered inquiry.log) where
+module _ (inquiry : Inquiry) (hypothesis : Hypothesis) (reach : List ℕ) (number : ℕ) (findings : List Finding) (ordered : IsOrdered inquiry.log) where
   abbrev graph : Tfpg
   graph = inquiry.graph
 
+  -- what the hypothesis sees of the log
   abbrev log : Logbook
-  log = inquiry.log
+  log = log_for inquiry.log hypothesis
+
+  ordered_log : IsOrdered log
+  ordered_log = ordered_for inquiry.log hypothesis.doubts ordered
 
   abbrev budget : ℕ
   budget = inquiry.terms.budget
@@ -64,7 +72,7 @@ module _ (inquiry : Inquiry) (set reach : List ℕ) (number : ℕ) (findings : L
   case = case_of graph log reach
 
   abbrev row : Row
-  row = record { number = number; hypothesis = believing set; reach = reach }
+  row = record { number = number; hypothesis = hypothesis; reach = reach }
 
   -- ---- a hypothesis that is not searched
 
@@ -72,71 +80,77 @@ module _ (inquiry : Inquiry) (set reach : List ℕ) (number : ℕ) (findings : L
   no_steps earlier = append-nil earlier
 
   abbrev passed : Status → Finding
-  passed s = record { number = number; set = set; doubts = []; steps = []; status = s }
+  passed s = record { number = number; set = hypothesis.set; doubts = hypothesis.doubts; steps = []; status = s }
 
-  earned_none : (earlier : List Judged) (s : Status) → is_open s ≡ false → HasNoNameTwice case earlier → IsEarned case budget earlier (passed s)
-  earned_none earlier s none_open names = record {
+  earned_none : (earlier : List Judged) (s : Status) → is_open s ≡ false → is_ranked s ≡ false → HasNoNameTwice case earlier → IsEarned case budget earlier (passed s)
+  earned_none earlier s none_open none_ranked names = record {
     steps = record {
       each = λ front step back is. absurd (append_cons-not_nil front step back is);
       names = subst (HasNoNameTwice case) (sym (no_steps earlier)) names;
     };
     within = omega arith;
     unsettled = λ holds. (let clash : true ≡ false = sym holds ∙ none_open in cc);
+    none_reusable = λ holds allows. (let clash : true ≡ false = sym holds ∙ (λ i. none_ranked i || none_open i) in cc);
   }
 
-  rejected_goes : (slot : Slot) → is_rejected_slot slot ≡ true → (earlier : List Judged) → SlotRepresents case (believing set) slot earlier
+  rejected_goes : (slot : Slot) → is_rejected_slot slot ≡ true → (earlier : List Judged) → SlotRepresents case hypothesis slot earlier
       → GoesOnFrom inquiry row findings earlier slot (passed status.Rejected)
   rejected_goes Untouched is earlier represents = cc
   rejected_goes (Searched search) is earlier represents = cc
   rejected_goes Rejected is earlier represents = record {
-    represents = subst (SlotRepresents case (believing set) Rejected) (sym (no_steps earlier)) represents;
+    represents = subst (SlotRepresents case hypothesis Rejected) (sym (no_steps earlier)) represents;
     evidence = subst (IsRefutation case) (sym (no_steps earlier)) represents.0;
-    earned = earned_none earlier status.Rejected refl represents.1;
+    earned = earned_none earlier status.Rejected refl refl represents.1;
   }
 
   -- A rejected hypothesis is passed over.
   pub new_finding_rejected : (slot : Slot) → is_rejected_slot slot ≡ true → IsNewFinding inquiry row findings slot slot (passed status.Rejected)
-  new_finding_rejected slot is = record { number_is = refl; hypothesis_is = refl; whole = λ key key_is. cc; none_open = λ enough. refl; goes_on = rejected_goes slot is }
+  new_finding_rejected slot is = record { number_is = refl; hypothesis_is = refl; whole = λ key key_is. cc; none_open = λ enough. refl; kept_is = is; goes_on = rejected_goes slot is }
 
   -- So is one with a ranked proper part.
-  pub new_finding_covered : TreeLaws → (slot : Slot) (by : ℕ) → is_rejected_slot slot ≡ false → IsLeastPart findings (believing set) by → IsNewFinding inquiry row findings slot slot (passed (status.Covered by))
+  pub new_finding_covered : TreeLaws → (slot : Slot) (by : ℕ) → is_rejected_slot slot ≡ false → IsLeastPart findings hypothesis by → IsNewFinding inquiry row findings slot slot (passed (status.Covered by))
   new_finding_covered laws slot by open_yet least = record {
     number_is = refl;
     hypothesis_is = refl;
     whole = λ key key_is. cc;
     none_open = λ enough. refl;
+    kept_is = refl;
     goes_on = λ earlier represents.
-        let good = slot_partial laws case ordered (believing set) slot earlier open_yet represents in
+        let good = slot_partial laws case ordered_log hypothesis slot earlier open_yet represents in
         record {
-          represents = subst (SlotRepresents case (believing set) slot) (sym (no_steps earlier)) represents;
+          represents = subst (SlotRepresents case hypothesis slot) (sym (no_steps earlier)) represents;
           evidence = (subst (IsPartial case) (sym (no_steps earlier)) good.partial, refl, least);
-          earned = earned_none earlier (status.Covered by) refl good.names;
+          earned = earned_none earlier (status.Covered by) refl refl good.names;
         };
   }
 
   -- ---- a hypothesis that is searched
 
-  module _ (old : Slot) (before new : SearchState) (steps : List Step) (none : HasRankedPart findings (believing set) → ⊥)
-      (begins : (earlier : List Judged) → SlotRepresents case (believing set) old earlier → SlotRepresents case (believing set) (Searched before) earlier)
+  module _ (old : Slot) (fresh : is_rejected_slot old ≡ false) (before new : SearchState) (steps : List Step) (none : HasRankedPart findings hypothesis → ⊥)
+      (begins : (earlier : List Judged) → SlotRepresents case hypothesis old earlier → SlotRepresents case hypothesis (Searched before) earlier)
       (same_set : new.set ≡ before.set) (same_reach : new.reach ≡ before.reach) (seen : new.seen ≡ length log.events) where
     abbrev searched_finding : Status → Finding
-    searched_finding s = record { number = number; set = set; doubts = []; steps = steps; status = s }
+    searched_finding s = record { number = number; set = hypothesis.set; doubts = hypothesis.doubts; steps = steps; status = s }
 
     abbrev status_of : Found → Status
-    status_of found = status_by (cost_of graph (believing set)) (robustness_of graph log reach) found
+    status_of found = status_by (cost_of graph hypothesis) (robustness_of graph log reach hypothesis.doubts) found
 
     whole_of : (found : Found) → RanksByFraction number (status_of found)
     whole_of (Shown trace) key is =
-        let robust : (robustness_of graph log reach).monitored ≡ key.robust.monitored = cc in
-        subst (λ (n : ℕ). 1 ≤ n) robust (fraction_of graph log reach)
+        let robust : (robustness_of graph log reach hypothesis.doubts).monitored ≡ key.robust.monitored = cc in
+        subst (λ (n : ℕ). 1 ≤ n) robust (fraction_of graph log reach hypothesis.doubts)
     whole_of Closed key is = cc
     whole_of Spent key is = cc
 
-    module _ (earlier : List Judged) (is_set : new.set ≡ set) (is_reach : new.reach ≡ reach) (within : split_count steps ≤ budget) (right : AreSearchSteps case earlier steps) where
+    module _ (earlier : List Judged) (is_set : new.set ≡ hypothesis.set) (is_reach : new.reach ≡ reach) (within : split_count steps ≤ budget) (right : AreSearchSteps case earlier steps) where
       abbrev all : List Judged
       all = with_steps earlier log steps
 
-      still : SearchRepresents graph log new all → SlotRepresents case (believing set) (Searched new) all
+      -- no subtree is reusable after all steps, where this is the reach
+      abbrev NoneAfter : List ℕ → Type 0
+      NoneAfter r = AllowsReuse (case_of graph log r) all → ⊥
+
+      still : SearchRepresents graph log new all → SlotRepresents case hypothesis (Searched new) all
       still represents =
           let at_seen : log ≡ first_events log new.seen = sym (ap (first_events log) seen ∙ whole_log log) in
           (is_set, is_reach, subst (λ (l : Logbook). SearchRepresents graph l new all) at_seen represents)
@@ -148,19 +162,19 @@ module _ (inquiry : Inquiry) (set reach : List ℕ) (number : ℕ) (findings : L
       goes (Shown trace) finds = record {
         represents = still finds.1;
         evidence = (partial_of finds.1, subst (λ (s : List ℕ). Explains graph log s trace) is_set finds.0, none, refl, refl);
-        earned = record { steps = right; within = within; unsettled = λ holds. cc };
+        earned = record { steps = right; within = within; unsettled = λ holds. cc; none_reusable = λ holds. subst NoneAfter is_reach finds.2 };
       }
       goes Closed finds =
           let refutes : IsRefutation case all = subst (λ (r : List ℕ). IsRefutation (case_of graph log r) all) is_reach finds in
           record {
             represents = (refutes, right.names);
             evidence = refutes;
-            earned = record { steps = right; within = within; unsettled = λ holds. cc };
+            earned = record { steps = right; within = within; unsettled = λ holds. cc; none_reusable = λ holds. cc };
           }
       goes Spent finds = record {
         represents = still finds.2;
         evidence = (partial_of finds.2, none, finds.0);
-        earned = record { steps = right; within = within; unsettled = λ holds. subst (λ (r : List ℕ). IsUnsettled (case_of graph log r) all) is_reach finds.1 };
+        earned = record { steps = right; within = within; unsettled = λ holds. subst (λ (r : List ℕ). IsUnsettled (case_of graph log r) all) is_reach finds.1; none_reusable = λ holds. subst NoneAfter is_reach finds.3 };
       }
 
     -- with a budget that is enough it is not open
@@ -169,6 +183,11 @@ module _ (inquiry : Inquiry) (set reach : List ℕ) (number : ℕ) (findings : L
     none_open_of Closed never enough = refl
     none_open_of Spent never enough = absurd (never enough refl)
 
+    kept_after : (found : Found) → IsKeptAfter (length log.events) (status_of found) old (kept new found)
+    kept_after (Shown trace) = record { not_before = fresh; not_now = refl; seen = seen }
+    kept_after Closed = refl
+    kept_after Spent = record { not_before = fresh; not_now = refl; seen = seen }
+
     -- The finding on a hypothesis that is searched on.
     pub new_finding_searched : (found : Found) → (IsEnough graph log budget → found ≡ Spent → ⊥) → IsSearched graph log budget (record { old = before; new = new; before = []; after = steps }) (Ok found)
         → IsNewFinding inquiry row findings old (kept new found) (searched_finding (status_of found))
@@ -176,7 +195,8 @@ module _ (inquiry : Inquiry) (set reach : List ℕ) (number : ℕ) (findings : L
       number_is = refl;
       hypothesis_is = refl;
       whole = whole_of found;
-      none_open = none_open_of found never;
+      none_open = λ enough. none_open_of found never (enough_ignoring graph inquiry.log hypothesis.doubts budget enough);
+      kept_is = kept_after found;
       goes_on = λ earlier represents.
           let start = begins earlier represents in
           let added : searched.added ≡ steps = sym searched.appended in
@@ -184,6 +204,52 @@ module _ (inquiry : Inquiry) (set reach : List ℕ) (number : ℕ) (findings : L
           (subst (AreSearchSteps (case_of graph log before.reach) earlier) added (searched.right earlier start.2)) in
           goes earlier (same_set ∙ start.0) (same_reach ∙ start.1) (subst (λ (s : List Step). split_count s ≤ budget) added searched.within) right found
           (subst (λ (s : List Step). Finds (case_of graph log new.reach) budget s (with_steps earlier log s) new found) added (searched.found earlier start.2));
+    }
+
+-- ---- the log that ignores the monitors of the hypothesis
+
+module _ (graph : Tfpg) (log : Logbook) (doubts : List ℕ) (own : log.ignored ≡ doubts) where
+  same : log ≡ ignoring log doubts
+  same = own_log log doubts own
+
+  -- what a search represents at the log that ignores these monitors, it represents at the log, if that ignores them
+  pub represents_some : (search : SearchState) → RepresentsSome graph (ignoring log doubts) search → RepresentsSome graph log search
+  represents_some search some = subst (λ (l : Logbook). RepresentsSome graph l search) (sym same) some
+
+  -- what was searched by the log, was searched by the log that ignores them
+  pub searched_ignoring : (budget : ℕ) (old new : SearchState) (before after : List Step) (found : Found) → before ≡ [] → IsSearched graph log budget (record { old = old; new = new; before = before; after = after }) (Ok found)
+      → IsSearched graph (ignoring log doubts) budget (record { old = old; new = new; before = []; after = after }) (Ok found)
+  searched_ignoring budget old new before after found none searched =
+      subst (λ (l : Logbook). IsSearched graph l budget (record { old = old; new = new; before = []; after = after }) (Ok found)) same
+      (subst (λ (steps : List Step). IsSearched graph log budget (record { old = old; new = new; before = steps; after = after }) (Ok found)) none searched)
+
+  -- a budget that is enough for the one log is enough for the other
+  pub not_spent : (budget : ℕ) (found : Found) → (IsEnough graph log budget → ◌≡◌ {A = Result Found NoMemory} (Ok found) (Ok Spent) → ⊥) → IsEnough graph (ignoring log doubts) budget → found ≡ Spent → ⊥
+  not_spent budget found never enough is = never (subst (λ (l : Logbook). IsEnough graph l budget) (sym same) enough) (ap Ok is)
+
+-- The finding and the slot as the code has them.
+pub as_written : (inquiry : Inquiry) (row : Row) (findings : List Finding) (old new written_slot : Slot) (number : ℕ) (set doubts : List ℕ) (steps : List Step) (by written_status : Status) (written : Finding)
+    → written ≡ record { number = number; set = set; doubts = doubts; steps = steps; status = written_status } → written_slot ≡ new → written_status ≡ by
+    → IsNewFinding inquiry row findings old new (record { number = number; set = set; doubts = doubts; steps = steps; status = by }) → IsNewFinding inquiry row findings old written_slot written
+as_written inquiry row findings old new written_slot number set doubts steps by written_status written is_written same_slot same_status is_new =
+    subst (λ (f : Finding). IsNewFinding inquiry row findings old written_slot f) (sym is_written)
+    (subst (λ (slot : Slot). IsNewFinding inquiry row findings old slot (record { number = number; set = set; doubts = doubts; steps = steps; status = written_status })) (sym same_slot)
+    (subst (λ (s : Status). IsNewFinding inquiry row findings old new (record { number = number; set = set; doubts = doubts; steps = steps; status = s })) (sym same_status) is_new))
+
+-- The finding by the log that ignores the monitors of the hypothesis is that of the round.
+pub found_ignoring : (inquiry : Inquiry) (row : Row) (own : Logbook) (findings : List Finding) (old new : Slot) (finding : Finding) → own ≡ ignoring inquiry.log row.hypothesis.doubts
+    → IsNewFinding (record inquiry { log = own }) row findings old new finding → IsNewFinding inquiry row findings old new finding
+found_ignoring inquiry row own findings old new finding is found =
+    let is_new = subst (λ (l : Logbook). IsNewFinding (record inquiry { log = l }) row findings old new finding) is found in
+    record {
+      number_is = is_new.number_is;
+      hypothesis_is = is_new.hypothesis_is;
+      whole = is_new.whole;
+      none_open = λ enough. is_new.none_open (enough_ignoring inquiry.graph inquiry.log row.hypothesis.doubts inquiry.terms.budget enough);
+      kept_is = is_new.kept_is;
+      goes_on = λ earlier represents.
+          let goes = is_new.goes_on earlier represents in
+          record { represents = goes.represents; evidence = goes.evidence; earned = goes.earned };
     }
 
 -- ---- which ranked hypothesis covers one
@@ -222,6 +288,12 @@ same_row table one other is also same = λ i. record {
   hypothesis = same_Some one.hypothesis other.hypothesis (sym is.hypothesis ∙ ap (slice_get table.hypotheses) same ∙ also.hypothesis) i;
   reach = same_Some one.reach other.reach (sym is.reach ∙ ap (slice_get table.reaches) same ∙ also.reach) i;
 }
+
+-- the hypothesis of a number, by its failure modes and its doubts
+pub hypothesis_at : (at : Option Hypothesis) (set doubts : List ℕ) → option_map (λ (h : Hypothesis). h.set) at ≡ Some set → option_map (λ (h : Hypothesis). h.doubts) at ≡ Some doubts
+    → at ≡ Some (record { set = set; doubts = doubts })
+hypothesis_at None set doubts set_is doubts_are = cc
+hypothesis_at (Some h) set doubts set_is doubts_are = λ i. Some (record { set = same_Some h.set set set_is i; doubts = same_Some h.doubts doubts doubts_are i })
 
 pub none_found : (inquiry : Inquiry) (table : Hypotheses) (slots : List Slot) → AreFirstFindings inquiry table slots slots [] 0
 none_found inquiry table slots =

@@ -23,6 +23,7 @@ use Rattle.tfpg_engine.specs.declared.told.Told.TheVariants as told
 use Rattle.tfpg_engine.specs.declared.told.EventFault.{EventFault}
 use Rattle.tfpg_engine.specs.declared.told.EventFault.TheVariants.{NoMemory, Ended}
 use Rattle.tfpg_engine.specs.Earned.{AreEarned}
+use Rattle.tfpg_engine.specs.Work.{was_rejected, last_worked_on, IsRoundWithin}
 
 -- An engine: its graph and its log, its terms, the table of hypotheses, what it keeps of each hypothesis, and whether it has ended.
 pub record EngineState : Type 0 where
@@ -43,6 +44,24 @@ SlotRepresents case hypothesis (Searched search) steps =
 SlotRepresents case hypothesis Rejected steps =
     IsRefutation case steps × HasNoNameTwice case steps
 
+-- whether the hypothesis is rejected
+abbrev pub is_rejected_slot : Slot → Bool
+is_rejected_slot Untouched = false
+is_rejected_slot (Searched search) = false
+is_rejected_slot Rejected = true
+
+-- how many events its search has seen; 0 where there is no search
+abbrev pub seen_by : Slot → ℕ
+seen_by Untouched = 0
+seen_by (Searched search) = search.seen
+seen_by Rejected = 0
+
+-- What is kept of the hypothesis of a number is as it was worked on in these rounds: it is rejected where it was in one of them, and
+-- else its search has seen the events at the last one in which it was worked on.
+pub record IsWorkedOn (number : ℕ) (rounds : List Round) (slot : Slot) : Type 0 where
+  pub rejected : is_rejected_slot slot ≡ was_rejected number rounds
+  pub seen : is_rejected_slot slot ≡ false → seen_by slot ≡ last_worked_on number rounds
+
 -- The engine represents these rounds: there was one for each event, and what it keeps of each hypothesis represents the steps that
 -- the hypothesis has in them.
 pub record EngineRepresents (engine : EngineState) (rounds : List Round) : Type 0 where
@@ -52,9 +71,11 @@ pub record EngineRepresents (engine : EngineState) (rounds : List Round) : Type 
       → slice_get engine.slots row.number ≡ Some slot
       → SlotRepresents (case_for engine.graph engine.log row.hypothesis row.reach) row.hypothesis slot
       (steps_so_far row.number rounds)
+  pub worked_on : (row : Row) (slot : Slot) → IsRowOf engine.table row
+      → slice_get engine.slots row.number ≡ Some slot → IsWorkedOn row.number rounds slot
 
 -- An event was accepted, and brought a round for all events and all rounds so far, whose steps are earned. With a
--- budget that is enough no set of it is open.
+-- budget that is enough no hypothesis of it is open.
 pub record GivesRound (line : ℕ) (text : List ℕ) (rounds : List Round) (round : Round)
     (old new : EngineState) : Type 0 where
   pub event : Event
@@ -73,3 +94,10 @@ Brings line text rounds old new (Ok (told.Refused refusal)) =
 Brings line text rounds old new (Ok (told.Round round)) = GivesRound line text rounds round old new
 Brings line text rounds old new (Err NoMemory) = new.ended ≡ true
 Brings line text rounds old new (Err Ended) = (old.ended ≡ true) × (new ≡ old)
+
+-- How the count of calls goes from one number to the other at an event, where the engine represented these rounds and is this one
+-- afterwards: a round keeps within its limits, and a refusal costs no call.
+abbrev pub CountsCalls : EngineState → List Round → Result Told EventFault → ℕ → ℕ → Type 0
+CountsCalls engine rounds (Ok (told.Refused refusal)) before after = after ≡ before
+CountsCalls engine rounds (Ok (told.Round round)) before after = IsRoundWithin engine.graph engine.log rounds round before after
+CountsCalls engine rounds (Err fault) before after = Unit {0}

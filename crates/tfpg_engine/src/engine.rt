@@ -2,13 +2,14 @@
 
 ghost use Rattle.std.specs.Prelude.{◌≡◌, ◌≤◌, ◌<◌, ◌↔◌, ℕ, List, [], true, false, IfOk, OnOk, OnErr, Ok, Err, replicate};
 ghost use Rattle.tfpg_evidence.specs.declared.round.Round.{Round};
+ghost use Rattle.tfpg_base.specs.declared.limits.TheConstants.{MAX_DOUBT};
 ghost use Rattle.tfpg_hyp.specs.Hypotheses.{HasHypotheses};
 ghost use Rattle.tfpg_hyp.specs.declared.limits.TheConstants.{MAX_HYPOTHESES};
 ghost use Rattle.tfpg_log.specs.Accepted.{reply_to};
 ghost use Rattle.tfpg_log.specs.Log.{IsLogOf};
 ghost use Rattle.tfpg_log.specs.LogOfLines.{new_log};
 ghost use Rattle.tfpg_log.specs.declared.refusal.Refusal.{Refusal};
-ghost use Rattle.tfpg_engine.specs.EngineState.{EngineRepresents, Brings};
+ghost use Rattle.tfpg_engine.specs.EngineState.{EngineRepresents, Brings, CountsCalls};
 
 use crate::inquiry::Inquiry;
 use crate::round;
@@ -24,7 +25,7 @@ use tfpg_hyp::laws::subsets_stand_before_their_supersets;
 use tfpg_hyp::{Table, TableFault};
 use tfpg_log::{Log, Offered};
 
-/// Diagnoses a graph by a growing log: for each accepted line a finding for each set of at most `k` failure modes.
+/// Diagnoses a graph by a growing log: for each accepted line a finding for each hypothesis.
 #[derive(Drop)]
 pub struct Engine {
     alloc: Global,
@@ -48,24 +49,26 @@ impl Model for Engine {
 }
 
 impl Engine {
-    /// The engine of a graph, for all sets of at most `k` failure modes, with at most `budget` splits of each in a round.
-    /// Where there are more than [`MAX_HYPOTHESES`](tfpg_hyp::MAX_HYPOTHESES) such sets, the fault says how many.
-    pub fn new(alloc: Global, graph: Graph, k: u32, budget: u64) -> Result<Engine, TableFault>
-        requires { 1 ≤ budget }
+    /// The engine of a graph, for all hypotheses on these terms: of at most `k` members, at most `doubt` of them monitors, with at
+    /// most `budget` splits of each in a round. Where there are more than [`MAX_HYPOTHESES`](tfpg_hyp::MAX_HYPOTHESES)
+    /// hypotheses, the fault says how many.
+    pub fn new(alloc: Global, graph: Graph, terms: Terms) -> Result<Engine, TableFault>
+        requires doubt { terms.doubt ≤ MAX_DOUBT }
+        requires budget { 1 ≤ terms.budget }
         ensures graph { IfOk result (λ engine. engine.graph ≡ graph) }
-        ensures terms { IfOk result (λ engine. engine.terms ≡ record { k = k; budget = budget }) }
+        ensures terms { IfOk result (λ engine. engine.terms ≡ terms) }
         ensures log { IfOk result (λ engine. engine.log ≡ new_log) }
         ensures represents { IfOk result (λ engine. EngineRepresents engine []) }
         ensures too_many { (count : ℕ) → (result ≡ Err (TableFault.TooMany count)) ↔
-            ((MAX_HYPOTHESES < count) × HasHypotheses graph (record { k = k; budget = budget }) count) }
+            ((MAX_HYPOTHESES < count) × HasHypotheses graph terms count) }
     {
-        let table = Table::new(alloc, &graph, k)?;
+        let table = Table::new(alloc, &graph, terms.k, terms.doubt)?;
         let slots = untouched(alloc, table.len())?;
         Ok(Engine {
             alloc,
             graph,
             log: Log::new(alloc),
-            terms: Terms { k, budget },
+            terms,
             table,
             slots,
             ended: false,
@@ -75,9 +78,10 @@ impl Engine {
     /// Takes a line of the log. A refused one changes nothing. An accepted one gives the round of all events so far, whose
     /// steps go on from those of the rounds before. Where memory runs out the engine has ended, and each later call says so.
     ///
-    /// The hypotheses go in the order of their numbers. A rejected one is passed over; one with a ranked proper subset is
-    /// covered by the one with the least number. Every other one is searched, with at most as many splits as the budget
-    /// says.
+    /// The hypotheses go in the order of their numbers, each by the log that ignores the monitors that it doubts. A rejected one
+    /// is passed over; one with a ranked proper part is covered by the one with the least number. Every other one is searched,
+    /// with at most as many splits as the budget says. A line is accepted or refused by the log that ignores no monitor. A round
+    /// keeps within the limits of its counted calls, and a refused line costs none.
     pub fn event<L: Ledger>(
         &mut self,
         line: u64,
@@ -89,6 +93,8 @@ impl Engine {
         ensures refused { (refusal : Refusal) → self.old.ended ≡ false →
             reply_to self.old.graph self.old.log text.now ≡ Offered.Refused refusal →
             result ≡ Ok (Told.Refused refusal) }
+        ensures work { (rounds : List Round) → EngineRepresents self.old rounds →
+            CountsCalls self.new rounds result work.old work.new }
         ensures ended { (result ≡ Err EventFault.Ended) ↔ (self.old.ended ≡ true) }
         ensures ends { OnErr result (self.new.ended ≡ true) }
         ensures runs { OnOk result (self.new.ended ≡ false) }
@@ -107,12 +113,12 @@ impl Engine {
                 subsets_stand_before_their_supersets();
                 let inquiry = Inquiry {
                     graph: &self.graph,
-                    log: &self.log,
                     terms: self.terms,
                 };
                 match round::make(
                     self.alloc,
                     &inquiry,
+                    &mut self.log,
                     &self.table,
                     line,
                     &mut self.slots,
@@ -139,10 +145,11 @@ impl Engine {
         &self.graph
     }
 
-    /// The log of the accepted lines, which is of the graph.
+    /// The log of the accepted lines, which is of the graph and ignores no monitor.
     pub fn log(&self) -> &Log
         ensures log { result.now ≡ self.now.log }
         ensures of { IsLogOf self.now.graph result.now }
+        ensures ignores_none { result.now.ignored ≡ [] }
     {
         &self.log
     }
@@ -154,11 +161,18 @@ impl Engine {
         self.terms
     }
 
-    /// The greatest number of failure modes of a hypothesis.
+    /// The greatest number of members of a hypothesis.
     pub fn k(&self) -> u32
         ensures { result ≡ self.now.terms.k }
     {
         self.terms.k
+    }
+
+    /// The greatest number of monitors that a hypothesis doubts.
+    pub fn doubt(&self) -> u32
+        ensures { result ≡ self.now.terms.doubt }
+    {
+        self.terms.doubt
     }
 
     /// How many splits of a hypothesis a round has at most.

@@ -1,13 +1,14 @@
 //! What a round finds of one hypothesis.
 
 ghost use Rattle.std.specs.Prelude.{◌≡◌, ◌<◌, ◌^◌, List, [], length, false, IfOk};
-ghost use Rattle.tfpg_base.specs.Hypothesis.{believing};
 ghost use Rattle.tfpg_evidence.specs.declared.finding.Finding.{Finding};
 ghost use Rattle.tfpg_hyp.specs.Ranking.{cost_of, robustness_of};
 ghost use Rattle.tfpg_hyp.specs.Rounds.{HasRankedPart, IsLeastPart};
-ghost use Rattle.tfpg_engine.specs.inside.Inquiries.{IsInquiry, IsRowOfGraph, case_of_row, row_of, inquiry_of};
+ghost use Rattle.tfpg_engine.specs.inside.Inquiries.{IsInquiry, IsRowOfGraph, case_of_row, hypothesis_listed, row_of, inquiry_of};
 ghost use Rattle.tfpg_engine.specs.inside.Slots.{CanGoOn};
-ghost use Rattle.tfpg_engine.specs.inside.NewFindings.{IsNewFinding, is_rejected_slot, status_by};
+ghost use Rattle.tfpg_engine.specs.inside.NewFindings.{IsNewFinding, status_by};
+ghost use Rattle.tfpg_engine.specs.inside.SlotWork.{IsSlotWithin};
+ghost use Rattle.tfpg_engine.specs.EngineState.{is_rejected_slot};
 
 use crate::covering::covering;
 use crate::inquiry::Inquiry;
@@ -17,38 +18,45 @@ use crate::tree_laws::tree_laws;
 use std::alloc::Global;
 use std::mem;
 use std::sync::ledger::Ledger;
-use tfpg_base::{Doubts, NoMemory, Steps};
+use tfpg_base::{NoMemory, Steps};
 use tfpg_evidence::{Finding, Status, StepList};
+use tfpg_graph::Graph;
 use tfpg_hyp::{cost, robust};
+use tfpg_log::Log;
+use tfpg_search::laws::a_round_has_one_work_limit;
 use tfpg_search::{Found, Search};
 
-/// The finding on a hypothesis, after those on the ones before it. A rejected one is passed over. So is one with a
-/// ranked proper subset. For every other one the search continues.
+/// The finding on a hypothesis, after those on the ones before it, by the log that ignores its monitors. A rejected one is
+/// passed over. So is one with a ranked proper part. For every other one the search continues.
 pub(crate) fn new_finding<L: Ledger>(
     alloc: Global,
     inquiry: &Inquiry<'_>,
+    log: &Log,
     listed: &Listed<'_>,
     findings: &[Finding],
     slot: &mut Slot,
     work: &mut Steps<L>,
 ) -> Result<Finding, NoMemory>
-    requires inquiry { IsInquiry (inquiry_of inquiry.now) }
+    requires inquiry { IsInquiry (inquiry_of inquiry.now log.now) }
+    requires ignores { log.now.ignored ≡ listed.now.doubts }
     requires row { IsRowOfGraph inquiry.now.graph.now (row_of listed.now) }
     requires few { length findings.now < 2 ^ 32 }
-    requires goes_on { CanGoOn (case_of_row (inquiry_of inquiry.now) (row_of listed.now))
-        (believing listed.now.set) slot.old }
-    ensures { IfOk result (IsNewFinding (inquiry_of inquiry.now) (row_of listed.now)
+    requires goes_on { CanGoOn (case_of_row (inquiry_of inquiry.now log.now) (row_of listed.now))
+        (hypothesis_listed listed.now) slot.old }
+    ensures found { IfOk result (IsNewFinding (inquiry_of inquiry.now log.now) (row_of listed.now)
         findings.now slot.old slot.new) }
+    ensures work { IfOk result (IsSlotWithin (case_of_row (inquiry_of inquiry.now log.now) (row_of listed.now))
+        slot.old work.old work.new) }
 {
     tree_laws();
     // The times of a log never fall.
-    inquiry.log.is_always_ordered();
+    log.is_always_ordered();
     if slot.is_rejected() {
         return Ok(passed_over(alloc, listed, Status::Rejected));
     }
-    match covering(findings, listed.set) {
+    match covering(findings, listed) {
         Some(by) => Ok(passed_over(alloc, listed, Status::Covered { by })),
-        None => search_on(alloc, inquiry, listed, slot, work),
+        None => search_on(alloc, inquiry, log, listed, slot, work),
     }
 }
 
@@ -57,7 +65,7 @@ fn passed_over(alloc: Global, listed: &Listed<'_>, status: Status) -> Finding
     ensures { result ≡ record {
       number = listed.now.number;
       set = listed.now.set;
-      doubts = [];
+      doubts = listed.now.doubts;
       steps = [];
       status = status;
     } }
@@ -70,7 +78,7 @@ fn finding_on(listed: &Listed<'_>, steps: StepList, status: Status) -> Finding
     ensures { result ≡ record {
       number = listed.now.number;
       set = listed.now.set;
-      doubts = [];
+      doubts = listed.now.doubts;
       steps = steps;
       status = status;
     } }
@@ -78,7 +86,7 @@ fn finding_on(listed: &Listed<'_>, steps: StepList, status: Status) -> Finding
     Finding {
         number: listed.number,
         set: listed.set,
-        doubts: Doubts::empty(),
+        doubts: listed.doubts,
         steps,
         status,
     }
@@ -89,46 +97,45 @@ fn finding_on(listed: &Listed<'_>, steps: StepList, status: Status) -> Finding
 fn search_on<L: Ledger>(
     alloc: Global,
     inquiry: &Inquiry<'_>,
+    log: &Log,
     listed: &Listed<'_>,
     slot: &mut Slot,
     work: &mut Steps<L>,
 ) -> Result<Finding, NoMemory>
-    requires inquiry { IsInquiry (inquiry_of inquiry.now) }
+    requires inquiry { IsInquiry (inquiry_of inquiry.now log.now) }
+    requires ignores { log.now.ignored ≡ listed.now.doubts }
     requires row { IsRowOfGraph inquiry.now.graph.now (row_of listed.now) }
     requires not_rejected { is_rejected_slot slot.old ≡ false }
-    requires goes_on { CanGoOn (case_of_row (inquiry_of inquiry.now) (row_of listed.now))
-        (believing listed.now.set) slot.old }
-    ensures { IfOk result (λ finding. (findings : List Finding) →
-        (HasRankedPart findings (believing listed.now.set) → ⊥) →
-        IsNewFinding (inquiry_of inquiry.now) (row_of listed.now) findings slot.old slot.new finding) }
+    requires goes_on { CanGoOn (case_of_row (inquiry_of inquiry.now log.now) (row_of listed.now))
+        (hypothesis_listed listed.now) slot.old }
+    ensures found { IfOk result (λ finding. (findings : List Finding) →
+        (HasRankedPart findings (hypothesis_listed listed.now) → ⊥) →
+        IsNewFinding (inquiry_of inquiry.now log.now) (row_of listed.now) findings slot.old slot.new finding) }
+    ensures work { IfOk result (IsSlotWithin (case_of_row (inquiry_of inquiry.now log.now) (row_of listed.now))
+        slot.old work.old work.new) }
 {
     // The times of a log never fall.
-    inquiry.log.is_always_ordered();
+    log.is_always_ordered();
+    a_round_has_one_work_limit();
     let mut search = mem::replace(slot, Slot::Rejected).into_search(alloc, inquiry.graph, listed)?;
     let mut steps = StepList::new(alloc);
-    let found = search.round(
-        inquiry.graph,
-        inquiry.log,
-        inquiry.terms.budget,
-        &mut steps,
-        work,
-    )?;
+    let found = search.round(inquiry.graph, log, inquiry.terms.budget, &mut steps, work)?;
     *slot = Slot::of(search, &found);
-    Ok(finding_on(listed, steps, status(inquiry, listed, found)))
+    Ok(finding_on(listed, steps, status(inquiry.graph, log, listed, found)))
 }
 
-/// The status of a set by what its search found.
-fn status(inquiry: &Inquiry<'_>, listed: &Listed<'_>, found: Found) -> Status
-    requires { IsRowOfGraph inquiry.now.graph.now (row_of listed.now) }
-    ensures { result ≡ status_by (cost_of inquiry.now.graph.now (believing listed.now.set))
-        (robustness_of inquiry.now.graph.now inquiry.now.log.now listed.now.reach.now) found }
+/// The status of a hypothesis by what its search found.
+fn status(graph: &Graph, log: &Log, listed: &Listed<'_>, found: Found) -> Status
+    requires { IsRowOfGraph graph.now (row_of listed.now) }
+    ensures { result ≡ status_by (cost_of graph.now (hypothesis_listed listed.now))
+        (robustness_of graph.now log.now listed.now.reach.now listed.now.doubts) found }
 {
     match found {
         Found::Shown(trace) => {
-            let robust = robust(inquiry.graph, inquiry.log, listed.reach);
+            let robust = robust(graph, log, listed.reach, listed.doubts);
             Status::Ranked {
                 trace,
-                cost: cost(inquiry.graph, listed.set),
+                cost: cost(graph, listed.set, listed.doubts),
                 alarmed: robust.alarmed,
                 monitored: robust.monitored,
             }

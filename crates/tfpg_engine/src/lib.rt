@@ -1,13 +1,18 @@
 //! One event, all hypotheses: the engine of a diagnosis.
 //!
-//! - [`Engine`] has a graph, a log that grows, and all sets of at most `k` failure modes. [`Engine::event`] takes a line.
+//! - [`Engine`] has a graph, a log that grows, and all hypotheses on some terms. [`Engine::event`] takes a line.
 //! - [`Told`] is what a line brings: a refusal, or a round. [`EventFault`] says why there is neither.
 //! - [`Slot`] is what the engine keeps of a hypothesis, as contracts see it.
 //!
 //! ```
-//! let mut engine = Engine::new(alloc, graph, 2, 1_000)?;
+//! let terms = Terms {
+//!     k: 2,
+//!     doubt: 1,
+//!     budget: 1_000,
+//! };
+//! let mut engine = Engine::new(alloc, graph, terms)?;
 //! match engine.event(1, b"30 alarm LowFlow", &mut work)? {
-//!     Told::Round(round) => {} // a finding on each set of at most two failure modes
+//!     Told::Round(round) => {} // a finding on each hypothesis of at most two members
 //!     Told::Refused(refusal) => {} // nothing has changed
 //! }
 //! ```

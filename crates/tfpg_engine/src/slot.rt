@@ -2,13 +2,12 @@
 
 ghost use Rattle.std.specs.Prelude.{◌≡◌, List, false, IfOk};
 ghost use Rattle.tfpg_log.specs.Log.{Logbook, first_events};
-ghost use Rattle.tfpg_base.specs.Hypothesis.{believing};
 ghost use Rattle.tfpg_clause.specs.Case.{case_of};
 ghost use Rattle.tfpg_clause.specs.Trees.{Judged};
 ghost use Rattle.tfpg_search.specs.Represents.{SearchRepresents};
-ghost use Rattle.tfpg_engine.specs.EngineState.{SlotRepresents};
-ghost use Rattle.tfpg_engine.specs.inside.Inquiries.{IsRowOfGraph, row_of};
-ghost use Rattle.tfpg_engine.specs.inside.NewFindings.{is_rejected_slot, kept};
+ghost use Rattle.tfpg_engine.specs.EngineState.{SlotRepresents, is_rejected_slot, seen_by};
+ghost use Rattle.tfpg_engine.specs.inside.Inquiries.{IsRowOfGraph, hypothesis_listed, row_of};
+ghost use Rattle.tfpg_engine.specs.inside.NewFindings.{kept};
 
 use crate::listed::Listed;
 use std::alloc::Global;
@@ -60,10 +59,11 @@ impl Slot {
         requires { IsRowOfGraph graph.now (row_of listed.now) }
         ensures represents { IfOk result (λ search. (log : Logbook) (steps : List Judged) →
             is_rejected_slot self ≡ false →
-            SlotRepresents (case_of graph.now log listed.now.reach.now) (believing listed.now.set)
+            SlotRepresents (case_of graph.now log listed.now.reach.now) (hypothesis_listed listed.now)
             self steps →
-            SlotRepresents (case_of graph.now log listed.now.reach.now) (believing listed.now.set)
+            SlotRepresents (case_of graph.now log listed.now.reach.now) (hypothesis_listed listed.now)
             (Slot.Searched search) steps) }
+        ensures seen { IfOk result (λ search. search.seen ≡ seen_by self) }
     {
         match self {
             Slot::Searched(search) => Ok(search),

@@ -9,10 +9,11 @@ use Rattle.tfpg_base.specs.Words.{is_name, is_number}
 use Rattle.tfpg_graph.specs.declared.cause.GraphCause.{GraphCause}
 use Rattle.tfpg_graph.specs.declared.cause.GraphCause.TheVariants.{BadHeader, BadLine, BadName, DuplicateName, UnknownName, BadNumber, NumberTooLarge, MinOverMax, EdgeIntoFailure, SelfEdge, DuplicateEdge, NoModes, TooManyNodes, TooManyFailures, TooManyEdges, TooManyModes, TooManyIncoming, AfterEnd}
 use Rattle.tfpg_graph.specs.Graph.{Tfpg, is_kind_at, is_failure, failures, incoming, node_named, mode_named, edge_from_to}
-use Rattle.tfpg_graph.specs.Text.{header}
+use Rattle.tfpg_graph.specs.declared.version.Version.{Version}
+use Rattle.tfpg_graph.specs.Text.{version_said, version_of}
 use Rattle.tfpg_base.specs.declared.limits.TheConstants.{MAX_TIME}
 use Rattle.tfpg_graph.specs.declared.limits.TheConstants.{MAX_NODES, MAX_FAILURES, MAX_EDGES, MAX_INCOMING, MAX_MODES, MAX_RARITY}
-use Rattle.tfpg_graph.specs.Statements.{NodeWords, FailureWords, OrWords, AndWords, Statement, DeclaresMode, DeclaresNode, DeclaresEdge, Ends, statement_of, statements_of, is_skipped, declares_mode, declares_edge, ends_text}
+use Rattle.tfpg_graph.specs.Statements.{LagWords, NodeWords, FailureWords, OrWords, AndWords, lag_words_of, Statement, DeclaresMode, DeclaresNode, DeclaresEdge, Ends, statement_of, statements_of, is_skipped, declares_mode, declares_edge, ends_text}
 use Rattle.tfpg_graph.specs.Declares.{modes_listed, ends_named, graph_said}
 
 -- the words in the place of a name
@@ -22,21 +23,21 @@ names_in (DeclaresNode name words) = name ∷ []
 names_in (DeclaresEdge source target tmin tmax modes) = source ∷ target ∷ modes_listed modes
 names_in Ends = []
 
--- the word for a lag, with the greatest lag
-abbrev pub lag_number : Option (List ℕ) → List (List ℕ × ℕ)
-lag_number None = []
-lag_number (Some lag) = (lag, MAX_TIME) ∷ []
+-- the words for a lag, each with the greatest that it may be
+abbrev pub lag_numbers : Option LagWords → List (List ℕ × ℕ)
+lag_numbers None = []
+lag_numbers (Some lag) = (lag.least, MAX_TIME) ∷ (lag.most, MAX_TIME) ∷ []
 
--- the word for a node's number, with the greatest that it may be
-abbrev pub node_number : NodeWords → List (List ℕ × ℕ)
-node_number (FailureWords rarity) = (rarity, MAX_RARITY) ∷ []
-node_number (OrWords lag) = lag_number lag
-node_number (AndWords lag) = lag_number lag
+-- the words for a node's numbers, each with the greatest that it may be
+abbrev pub node_numbers : NodeWords → List (List ℕ × ℕ)
+node_numbers (FailureWords rarity) = (rarity, MAX_RARITY) ∷ []
+node_numbers (OrWords lag) = lag_numbers lag
+node_numbers (AndWords lag) = lag_numbers lag
 
 -- the words in the place of a number, each with the greatest that it may be; `inf` for a greatest delay is none of them
 abbrev pub numbers_in : Statement → List (List ℕ × ℕ)
 numbers_in (DeclaresMode name) = []
-numbers_in (DeclaresNode name words) = node_number words
+numbers_in (DeclaresNode name words) = node_numbers words
 numbers_in (DeclaresEdge source target tmin tmax modes) = (tmin, MAX_TIME) ∷ (if bytes_eq tmax (codes "inf") then [] else (tmax, MAX_TIME) ∷ [])
 numbers_in Ends = []
 
@@ -84,11 +85,15 @@ has_bad_number said = not (list_all (λ number. is_number number.0) (numbers_in 
 abbrev pub has_large_number : Statement → Bool
 has_large_number said = list_any (λ number. nat_lt number.1 (digits_value 10 number.0)) (numbers_in said)
 
--- the least delay is above the greatest
+-- the number that the one word says is above that of the other
+abbrev pub is_over : List ℕ → List ℕ → Bool
+is_over least greatest = nat_lt (digits_value 10 greatest) (digits_value 10 least)
+
+-- the least lag or the least delay is above the greatest
 abbrev pub has_min_over_max : Statement → Bool
 has_min_over_max (DeclaresMode name) = false
-has_min_over_max (DeclaresNode name words) = false
-has_min_over_max (DeclaresEdge source target tmin tmax modes) = not (bytes_eq tmax (codes "inf")) && nat_lt (digits_value 10 tmax) (digits_value 10 tmin)
+has_min_over_max (DeclaresNode name words) = option_map_or (λ lag. is_over lag.least lag.most) (lag_words_of words) false
+has_min_over_max (DeclaresEdge source target tmin tmax modes) = not (bytes_eq tmax (codes "inf")) && is_over tmin tmax
 has_min_over_max Ends = false
 
 -- the edge goes into a failure mode
@@ -192,15 +197,16 @@ abbrev pub is_after_end : List Statement → Bool
 is_after_end before = list_any ends_text before
 
 -- The cause of a line after the header, by what the lines before it say. After the end every line but one that is skipped is too much.
-abbrev pub cause_after : List Statement → List ℕ → Option GraphCause
-cause_after before line =
-    if is_skipped line then None else (if is_after_end before then Some AfterEnd else cause_of_said before (statement_of line))
+abbrev pub cause_after : Version → List Statement → List ℕ → Option GraphCause
+cause_after version before line =
+    if is_skipped line then None else (if is_after_end before then Some AfterEnd else cause_of_said before (statement_of version line))
 
--- the line is the header
+-- the line is the header of some version
 abbrev pub is_header : List ℕ → Bool
-is_header line = bytes_eq line header
+is_header line = is_some (version_said line)
 
 -- The cause of the line at this index, from 0. The first line is tested for the header alone.
 abbrev pub cause_at : List (List ℕ) → ℕ → Option GraphCause
 cause_at lines zero = if is_header (slice_index_or lines 0 []) then None else Some BadHeader
-cause_at lines (suc index) = cause_after (statements_of (take (suc index) lines)) (slice_index_or lines (suc index) [])
+cause_at lines (suc index) =
+    cause_after (version_of lines) (statements_of (version_of lines) (take (suc index) lines)) (slice_index_or lines (suc index) [])

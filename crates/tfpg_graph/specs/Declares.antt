@@ -6,20 +6,24 @@ use Rattle.tfpg_graph.specs.declared.kind.Kind.{Kind}
 use Rattle.tfpg_graph.specs.declared.kind.Lag.{Lag}
 use Rattle.tfpg_graph.specs.declared.kind.Kind.TheVariants.{Failure, Or, And}
 use Rattle.tfpg_graph.specs.declared.edge.Edge.{Edge}
-use Rattle.tfpg_graph.specs.Graph.{Tfpg, Node, lag_up_to, node_named, mode_named}
-use Rattle.tfpg_graph.specs.Text.{all_modes}
-use Rattle.tfpg_graph.specs.Statements.{NodeWords, FailureWords, OrWords, AndWords, Statement, DeclaresMode, DeclaresNode, DeclaresEdge, Ends, statements_of}
+use Rattle.tfpg_graph.specs.Graph.{Tfpg, Node, node_named, mode_named}
+use Rattle.tfpg_graph.specs.Text.{all_modes, version_of}
+use Rattle.tfpg_graph.specs.Statements.{LagWords, NodeWords, FailureWords, OrWords, AndWords, Statement, DeclaresMode, DeclaresNode, DeclaresEdge, Ends, statements_of}
 
--- a lag from 0 up to what the word says: none where there is no word for it
-abbrev pub lag_of_word : Option (List ℕ) → Option (Option Lag)
-lag_of_word None = Some None
-lag_of_word (Some word) = option_map (λ most. Some (lag_up_to most)) (number_of word)
+-- the two numbers that two words say
+abbrev pub numbers_of_words : List ℕ → List ℕ → Option (ℕ × ℕ)
+numbers_of_words least greatest = option_and_then (λ from. option_map (λ to. (from, to)) (number_of greatest)) (number_of least)
+
+-- the lag that words say: none where there are no words for it
+abbrev pub lag_of_words : Option LagWords → Option (Option Lag)
+lag_of_words None = Some None
+lag_of_words (Some words) = option_map (λ range. Some (record { least = range.0; most = range.1 })) (numbers_of_words words.least words.most)
 
 -- what the words say that a node is
 abbrev pub kind_of_words : NodeWords → Option Kind
 kind_of_words (FailureWords rarity) = option_map Failure (number_of rarity)
-kind_of_words (OrWords lag) = option_map Or (lag_of_word lag)
-kind_of_words (AndWords lag) = option_map And (lag_of_word lag)
+kind_of_words (OrWords lag) = option_map Or (lag_of_words lag)
+kind_of_words (AndWords lag) = option_map And (lag_of_words lag)
 
 -- the mode that a line declares
 abbrev pub mode_declared : Statement → Option (List ℕ)
@@ -81,6 +85,10 @@ graph_said said = record {
   modes = filter_map mode_declared said;
 }
 
--- The graph that lines declare.
+-- what the lines of a text say, in the version that the first says
+abbrev pub said_by : List (List ℕ) → List Statement
+said_by lines = statements_of (version_of lines) lines
+
+-- The graph that the lines of a text declare.
 abbrev pub declared_by : List (List ℕ) → Tfpg
-declared_by lines = graph_said (statements_of lines)
+declared_by lines = graph_said (said_by lines)

@@ -7,11 +7,13 @@ use Rattle.tfpg_graph.specs.declared.cause.GraphCause.TheVariants.{NoIncoming, Z
 use Rattle.tfpg_graph.specs.declared.cause.GraphFault.{GraphFault}
 use Rattle.tfpg_graph.specs.declared.cause.GraphRefusal.{GraphRefusal}
 use Rattle.tfpg_graph.specs.declared.cause.GraphRefusal.TheVariants.{Fault, NoMemory}
+use Rattle.tfpg_graph.specs.declared.version.Version.{Version}
 use Rattle.tfpg_graph.specs.Graph.{Tfpg, is_discrepancy, incoming}
+use Rattle.tfpg_graph.specs.Text.{version_of}
 use Rattle.tfpg_graph.specs.Valid.{HasIncomingBefore, HasNoZeroCycle}
 use Rattle.tfpg_graph.specs.ZeroCycle.{LiesOnZeroCycle}
-use Rattle.tfpg_graph.specs.Statements.{Statement, statement_of, statements_of, declares_node, declares_edge, ends_text}
-use Rattle.tfpg_graph.specs.Declares.{declared_by}
+use Rattle.tfpg_graph.specs.Statements.{Statement, statement_of, declares_node, declares_edge, ends_text}
+use Rattle.tfpg_graph.specs.Declares.{said_by, declared_by}
 use Rattle.tfpg_graph.specs.Causes.{cause_at}
 
 -- The indexes of the lines that are tested, from 0. The first is tested also where the text has no line.
@@ -30,17 +32,17 @@ pub record IsLineFault (lines : List (List ℕ)) (fault : GraphFault) : Type 0 w
   pub cause : cause_at lines index ≡ Some fault.cause
   pub first : (earlier : ℕ) → earlier < index → cause_at lines earlier ≡ None
 
--- whether a line says such a thing
-abbrev pub says : (Statement → Bool) → List ℕ → Bool
-says test line = option_map_or test (statement_of line) false
+-- whether a line of a text of this version says such a thing
+abbrev pub says : Version → (Statement → Bool) → List ℕ → Bool
+says version test line = option_map_or test (statement_of version line) false
 
 -- The line of this number, counted from 1, says such a thing, and so many lines before it do.
 pub record IsLineSaying (test : Statement → Bool) (lines : List (List ℕ)) (count line : ℕ) : Type 0 where
   pub index : ℕ
   pub number : line ≡ index + 1
   pub within : index < length lines
-  pub here : IsTrue (says test (slice_index_or lines index []))
-  pub before : count_by (says test) (take index lines) ≡ count
+  pub here : IsTrue (says (version_of lines) test (slice_index_or lines index []))
+  pub before : count_by (says (version_of lines) test) (take index lines) ≡ count
 
 -- the node of this number is a discrepancy with no edge into it
 abbrev pub LacksIncoming : Tfpg → ℕ → Type 0
@@ -68,7 +70,7 @@ pub record IsEndFault (lines : List (List ℕ)) (fault : GraphFault) : Type 0 wh
   pub cause : fault.cause ≡ MissingEnd
   pub incoming : HasIncomingBefore (declared_by lines) (length (declared_by lines).nodes)
   pub no_cycle : HasNoZeroCycle (declared_by lines)
-  pub no_end : list_any ends_text (statements_of lines) ≡ false
+  pub no_end : list_any ends_text (said_by lines) ≡ false
   pub line : fault.line ≡ length lines + 1
 
 -- what is wrong with a text none of whose lines has a cause

@@ -49,6 +49,10 @@ lag_of (Failure rarity) = None
 lag_of (Or lag) = lag
 lag_of (And lag) = lag
 
+-- its least lag is 0, or it has no lag
+abbrev pub has_zero_least : Kind → Bool
+has_zero_least kind = option_map_or (λ lag. lag.least == 0) (lag_of kind) true
+
 -- what the node of this number is
 abbrev pub kind_at : Tfpg → ℕ → Option Kind
 kind_at graph node = option_map (λ n. n.kind) (slice_get graph.nodes node)
@@ -65,13 +69,9 @@ is_discrepancy graph node = not (is_kind_at is_failure graph node)
 abbrev pub lag_at : Tfpg → ℕ → Option Lag
 lag_at graph node = option_and_then lag_of (kind_at graph node)
 
--- the greatest lag, and 0 where there is none
-abbrev pub greatest_lag : Option Lag → ℕ
-greatest_lag lag = option_map_or (λ l. l.most) lag 0
-
--- the greatest lag of the node of this number, and 0 where it is not monitored
-abbrev pub lag_or_zero : Tfpg → ℕ → ℕ
-lag_or_zero graph node = greatest_lag (lag_at graph node)
+-- the lag of the node of this number, and from 0 up to 0 where it is not monitored
+abbrev pub lag_or_zero : Tfpg → ℕ → Lag
+lag_or_zero graph node = unwrap_or (lag_at graph node) (lag_up_to 0)
 
 -- the node of this number is a discrepancy with a monitor
 abbrev pub is_monitored : Tfpg → ℕ → Bool

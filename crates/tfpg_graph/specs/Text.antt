@@ -1,6 +1,6 @@
 -- The text of a graph: what each line spells.
-use Rattle.std.specs.Prelude.{◌≡◌, ℕ, ◌-◌, ◌≤◌, ◌^◌, List, [], ◌∷◌, ◌++◌, length, map, filter, All, not, ◌==◌, if◌then◌else◌, Option, Some, None, slice_get, codes, decimal, option_map, filter_map, flat_map, ◌⊎◌, ◌≢◌, ◌<◌, AllPairs}
-use Rattle.std.specs.List.{range_with_len, AllZip}
+use Rattle.std.specs.Prelude.{◌≡◌, ℕ, ◌-◌, ◌≤◌, ◌^◌, List, [], ◌∷◌, ◌++◌, length, map, filter, All, not, ◌==◌, if◌then◌else◌, Option, Some, None, slice_get, codes, decimal, option_map, filter_map, flat_map, unwrap_or, slice_index_or, bytes_eq, IfSome, ◌⊎◌, ◌≢◌, ◌<◌, AllPairs}
+use Rattle.std.specs.List.{range_with_len, AllZip, list_all}
 use Rattle.tfpg_base.specs.SetBits.{bits_of}
 use Rattle.tfpg_base.specs.Words.{joined_by_commas, line_of}
 use Rattle.tfpg_base.specs.Lines.{lines_of, with_line_end}
@@ -9,38 +9,49 @@ use Rattle.tfpg_graph.specs.declared.kind.Kind.{Kind}
 use Rattle.tfpg_graph.specs.declared.kind.Lag.{Lag}
 use Rattle.tfpg_graph.specs.declared.kind.Kind.TheVariants.{Failure, Or, And}
 use Rattle.tfpg_graph.specs.declared.edge.Edge.{Edge}
-use Rattle.tfpg_graph.specs.Graph.{Tfpg, Node, name_word, has_mode_bit}
-use Rattle.tfpg_graph.specs.Statements.{NodeWords, FailureWords, OrWords, AndWords, DeclaresMode, DeclaresNode, words_of_statement, is_empty_or_comment}
+use Rattle.tfpg_graph.specs.declared.version.Version.{Version}
+use Rattle.tfpg_graph.specs.declared.version.Version.TheVariants.{One, Two}
+use Rattle.tfpg_graph.specs.Graph.{Tfpg, Node, name_word, has_mode_bit, lag_of, has_zero_least}
+use Rattle.tfpg_graph.specs.Statements.{LagWords, NodeWords, FailureWords, OrWords, AndWords, DeclaresNode, words_of_statement, is_empty_or_comment}
 
--- the first line
-abbrev pub header : List ℕ
-header = codes "tfpg 1"
+-- the first line of a text of this version
+abbrev pub header : Version → List ℕ
+header One = codes "tfpg 1"
+header Two = codes "tfpg 2"
+
+-- the version that a first line says, where it is a header
+abbrev pub version_said : List ℕ → Option Version
+version_said line = if bytes_eq line (header One) then Some One else (if bytes_eq line (header Two) then Some Two else None)
+
+-- The version of a text, by its first line. It does not matter where that is no header, since the text then has a fault.
+abbrev pub version_of : List (List ℕ) → Version
+version_of lines = unwrap_or (version_said (slice_index_or lines 0 [])) One
 
 -- the line of a mode
 abbrev pub mode_line : List ℕ → List ℕ
-mode_line name = line_of (words_of_statement (DeclaresMode name))
+mode_line name = line_of (codes "mode" ∷ name ∷ [])
 
--- the word for a lag, which says the greatest
-abbrev pub lag_word : Lag → List ℕ
-lag_word lag = decimal lag.most
+-- the words for a lag
+abbrev pub lag_words : Lag → LagWords
+lag_words lag = record { least = decimal lag.least; most = decimal lag.most }
 
 -- the words that say what a node is
 abbrev pub words_of_kind : Kind → NodeWords
 words_of_kind (Failure rarity) = FailureWords (decimal rarity)
-words_of_kind (Or lag) = OrWords (option_map lag_word lag)
-words_of_kind (And lag) = AndWords (option_map lag_word lag)
+words_of_kind (Or lag) = OrWords (option_map lag_words lag)
+words_of_kind (And lag) = AndWords (option_map lag_words lag)
 
 -- the words of a node's line
-abbrev pub node_words : List ℕ → Kind → List (List ℕ)
-node_words name kind = words_of_statement (DeclaresNode name (words_of_kind kind))
+abbrev pub node_words : Version → List ℕ → Kind → List (List ℕ)
+node_words version name kind = words_of_statement version (DeclaresNode name (words_of_kind kind))
 
 -- the line of a node
-abbrev pub node_line : Node → List ℕ
-node_line node = line_of (node_words node.name node.kind)
+abbrev pub node_line : Version → Node → List ℕ
+node_line version node = line_of (node_words version node.name node.kind)
 
 -- the line of a node, with its line end
-abbrev pub node_text : Node → List ℕ
-node_text node = with_line_end (node_line node)
+abbrev pub node_text : Version → Node → List ℕ
+node_text version node = with_line_end (node_line version node)
 
 -- the word for a greatest delay
 abbrev pub tmax_word : Option ℕ → List ℕ
@@ -76,17 +87,30 @@ SpellsEdge graph edge line = (word : List ℕ) × SpellsModes graph edge.modes w
 abbrev pub content_lines : List (List ℕ) → List (List ℕ)
 content_lines lines = filter (λ line. not (is_empty_or_comment line)) lines
 
--- The lines after the header that are not skipped: the modes, the nodes, the edges and the end.
-pub record SpellsLines (graph : Tfpg) (lines : List (List ℕ)) : Type 0 where
+-- A version can spell a lag: version 1 has no word for the least, which is 0 there.
+abbrev pub CanSpellLag : Version → Lag → Type 0
+CanSpellLag One lag = lag.least ≡ 0
+CanSpellLag Two lag = Unit {0}
+
+-- A version can spell what a node is: it can spell the lag.
+abbrev pub CanSpell : Version → Kind → Type 0
+CanSpell version kind = IfSome (lag_of kind) (CanSpellLag version)
+
+-- The lines after the header that are not skipped: the modes, the nodes, the edges and the end. The version can spell what
+-- each node is.
+pub record SpellsLines (version : Version) (graph : Tfpg) (lines : List (List ℕ)) : Type 0 where
   pub edge_lines : List (List ℕ)
   pub edges : AllZip (SpellsEdge graph) graph.edges edge_lines
-  pub all : lines ≡ map mode_line graph.modes ++ map node_line graph.nodes ++ edge_lines ++ codes "end" ∷ []
+  pub all : lines ≡ map mode_line graph.modes ++ map (node_line version) graph.nodes ++ edge_lines ++ codes "end" ∷ []
+  pub kinds : All (λ node. CanSpell version node.kind) graph.nodes
 
--- The text spells the graph. After the header, empty lines and lines that begin with `#` are skipped; no line is too long.
+-- The text spells the graph, in one of the versions. After the header, empty lines and lines that begin with `#` are skipped;
+-- no line is too long.
 pub record Spells (text : List ℕ) (graph : Tfpg) : Type 0 where
+  pub version : Version
   pub after : List (List ℕ)
-  pub lines : lines_of text ≡ header ∷ after
-  pub said : SpellsLines graph (content_lines after)
+  pub lines : lines_of text ≡ header version ∷ after
+  pub said : SpellsLines version graph (content_lines after)
   pub short : All (λ line. length line ≤ LONGEST_LINE) (lines_of text)
 
 -- the word for an edge's modes in the canonical text: a star for all, else the names in the order of the modes
@@ -95,10 +119,14 @@ modes_word graph bits =
     if bits == all_modes graph then codes "*"
     else joined_by_commas (filter_map (slice_get graph.modes) (filter (has_mode_bit bits) (range_with_len 0 (length graph.modes))))
 
+-- the version of the canonical text: 1 where each least lag is 0, and else 2
+abbrev pub version_for : Tfpg → Version
+version_for graph = if list_all (λ node. has_zero_least node.kind) graph.nodes then One else Two
+
 -- the lines of the canonical text
 abbrev pub canonical_lines : Tfpg → List (List ℕ)
 canonical_lines graph =
-    header ∷ (map mode_line graph.modes ++ map node_line graph.nodes
+    header (version_for graph) ∷ (map mode_line graph.modes ++ map (node_line (version_for graph)) graph.nodes
     ++ map (λ edge. edge_line graph edge (modes_word graph edge.modes)) graph.edges ++ codes "end" ∷ [])
 
 -- the canonical text

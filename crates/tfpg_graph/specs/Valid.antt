@@ -9,12 +9,12 @@ use Rattle.tfpg_graph.specs.declared.edge.Edge.{Edge}
 use Rattle.tfpg_graph.specs.declared.limits.TheConstants.{MAX_NODES, MAX_FAILURES, MAX_EDGES, MAX_INCOMING, MAX_MODES, MAX_RARITY}
 use Rattle.tfpg_graph.specs.Graph.{Tfpg, is_discrepancy, failures, incoming}
 
--- the lag begins at 0, and is within its limit
+-- the least lag is not above the greatest, and that is within its limit
 pub record IsValidLag (lag : Lag) : Type 0 where
-  pub least : lag.least ≡ 0
+  pub in_order : lag.least ≤ lag.most
   pub most : lag.most ≤ MAX_TIME
 
--- its number is within its limit
+-- its numbers are in order and within their limits
 abbrev pub HasValidNumber : Kind → Type 0
 HasValidNumber (Failure rarity) = rarity ≤ MAX_RARITY
 HasValidNumber (Or lag) = IfSome lag IsValidLag

@@ -5,7 +5,7 @@
 /// is reported, except that `AfterEnd` comes before the others.
 #[derive(Clone, Copy, Debug, PartialEq, Eq)]
 pub enum GraphCause {
-    /// The first line is not `tfpg 1`, or there is none.
+    /// The first line is neither `tfpg 1` nor `tfpg 2`, or there is none.
     BadHeader,
     /// The line is too long, has none of the shapes, or stands out of its order.
     BadLine,
@@ -19,7 +19,7 @@ pub enum GraphCause {
     BadNumber,
     /// A number is above its limit.
     NumberTooLarge,
-    /// The least delay is above the greatest.
+    /// The least delay is above the greatest, or the least lag is.
     MinOverMax,
     /// The edge enters a failure mode.
     EdgeIntoFailure,

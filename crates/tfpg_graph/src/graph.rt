@@ -1,13 +1,13 @@
 //! A valid graph with its look-ups.
 
 ghost use Rattle.std.specs.Prelude.{◌≡◌, ◌<◌, ◌≤◌, length, slice_get, Some, unwrap_or, IfOk, IsTrue, All};
-ghost use Rattle.tfpg_graph.specs.Graph.{kind_at, is_kind_at, is_or, is_and, is_monitored, lag_or_zero, name_at, name_word, node_named, mode_named, edge_from_to, incoming, failures, failure_at, position_of_failure};
+ghost use Rattle.tfpg_graph.specs.Graph.{kind_at, is_kind_at, is_or, is_and, is_monitored, lag_at, lag_or_zero, name_at, name_word, node_named, mode_named, edge_from_to, incoming, failures, failure_at, position_of_failure};
 ghost use Rattle.tfpg_graph.specs.Valid.{IsValid};
 ghost use Rattle.tfpg_graph.specs.ZeroCycle.{HasZeroOrder};
 
 use crate::declared::Declared;
 use crate::edge::Edge;
-use crate::kind::Kind;
+use crate::kind::{Kind, Lag};
 use crate::limits::{MAX_INCOMING, MAX_NODES};
 use std::marker::Model;
 use tfpg_base::NoMemory;
@@ -121,15 +121,24 @@ impl Graph {
         node < self.node_count() && self.kind(node).is_monitored()
     }
 
-    /// The greatest lag of the node's alarm in milliseconds, and 0 where it is not monitored.
-    pub fn lag_or_zero(&self, node: u32) -> u64
-        requires { node < length self.now.nodes }
+    /// The lag of the node's alarm in milliseconds, and from 0 up to 0 where it is no monitored node. The number may be any.
+    pub fn lag_or_zero(&self, node: u32) -> Lag
         ensures { result ≡ lag_or_zero self.now node }
     {
-        match self.kind(node).lag() {
-            Some(lag) => lag.most,
-            None => 0,
+        match self.lag(node) {
+            Some(lag) => lag,
+            None => Lag { least: 0, most: 0 },
         }
+    }
+
+    /// The lag of the node's alarm in milliseconds, where it is a monitored node. The number may be any.
+    pub fn lag(&self, node: u32) -> Option<Lag>
+        ensures { result ≡ lag_at self.now node }
+    {
+        if node >= self.node_count() {
+            return None;
+        }
+        self.kind(node).lag()
     }
 
     /// The edge of this number.

@@ -3,7 +3,7 @@
 ghost use Rattle.std.specs.Prelude.{◌≡◌, is_some};
 
 /// How late the alarm of a monitored node comes: at least and at most so many milliseconds after the node became
-/// active. The greatest goes up to [`MAX_TIME`](tfpg_base::MAX_TIME). The least is 0 at each node of a valid graph.
+/// active. The greatest goes up to [`MAX_TIME`](tfpg_base::MAX_TIME), and the least up to the greatest.
 #[derive(Clone, Copy, Debug, PartialEq, Eq)]
 pub struct Lag {
     pub least: u64,
@@ -23,7 +23,7 @@ pub enum Kind {
 }
 
 impl Kind {
-    ghost use Rattle.tfpg_graph.specs.Graph.{is_failure, is_or, is_and, lag_of};
+    ghost use Rattle.tfpg_graph.specs.Graph.{is_failure, is_or, is_and, lag_of, has_zero_least};
 
     /// Whether it is a failure mode.
     pub fn is_failure(&self) -> bool
@@ -54,6 +54,16 @@ impl Kind {
             Kind::Failure { rarity: _ } => None,
             Kind::Or { lag } => *lag,
             Kind::And { lag } => *lag,
+        }
+    }
+
+    /// Whether its least lag is 0, or it has no lag.
+    pub(crate) fn has_zero_least(&self) -> bool
+        ensures { result ≡ has_zero_least self.now }
+    {
+        match self.lag() {
+            Some(lag) => lag.least == 0,
+            None => true,
         }
     }
 

@@ -3,6 +3,7 @@
 ghost use Rattle.std.specs.Prelude.{◌≡◌, ◌↔◌, ◌⊎◌, ◌<◌, ℕ, List, length, Bool, IsTrue, All, Contains, Some};
 ghost use Rattle.tfpg_base.specs.Words.{is_name};
 ghost use Rattle.tfpg_graph.specs.declared.cause.GraphFault.{GraphFault};
+ghost use Rattle.tfpg_graph.specs.declared.version.Version.{Version};
 ghost use Rattle.tfpg_graph.specs.Graph.{Tfpg, incoming, failure_at, name_at, node_named};
 ghost use Rattle.tfpg_graph.specs.Valid.{IsValid};
 ghost use Rattle.tfpg_graph.specs.ZeroCycle.{HasZeroOrder};
@@ -50,9 +51,10 @@ pub fn a_valid_graph_has_a_zero_order()
     ensures { (graph : Tfpg) → IsValid graph → HasZeroOrder graph }
 {}
 
-/// A line says exactly the statement whose words it has, with a space between each two.
+/// A line says exactly the statement whose words it has, with a space between each two, in each version.
 pub fn a_line_says_the_statement_whose_words_it_has()
-    ensures { (line : List ℕ) (said : Statement) → (statement_of line ≡ Some said) ↔ SaysStatement line said }
+    ensures { (version : Version) (line : List ℕ) (said : Statement) →
+        (statement_of version line ≡ Some said) ↔ SaysStatement version line said }
 {}
 
 /// A text has at most one first fault, and one that spells a valid graph has none.

@@ -1,8 +1,8 @@
 //! Timed failure propagation graphs: failure modes and discrepancies as nodes, propagations with their delays and
 //! system modes as edges.
 //!
-//! - [`read`] reads the text of a graph, and [`write`] writes it. [`append_node`] writes the line of one node,
-//!   and [`append_edge_start`] that of one edge up to its greatest delay.
+//! - [`read`] reads the text of a graph, and [`write`] writes it. [`append_node`] writes the line of one node, as a text of
+//!   a [`Version`] has it, and [`append_edge_start`] that of one edge up to its greatest delay.
 //! - [`Graph`] is a valid graph with its look-ups. [`Kind`], with [`Lag`], and [`Edge`] are its parts.
 //! - [`NodeSet`] is a set of its nodes. [`Graph::reach`] returns the nodes that a set of failure modes reaches.
 //! - [`GraphCause`] says what is wrong with a text that spells no valid graph, and [`GraphFault`] in which line.
@@ -29,6 +29,7 @@ pub mod laws;
 mod limits;
 mod reach;
 mod reading;
+mod version;
 mod writing;
 mod zero_cycle;
 
@@ -39,4 +40,5 @@ pub use kind::{Kind, Lag};
 pub use limits::{MAX_EDGES, MAX_FAILURES, MAX_INCOMING, MAX_MODES, MAX_NODES, MAX_RARITY};
 pub use reach::NodeSet;
 pub use reading::read;
+pub use version::Version;
 pub use writing::{append_edge_start, append_node, write};

@@ -22,7 +22,7 @@ use crate::reading::reader::Reader;
 use std::alloc::Global;
 use tfpg_base::without_last_line_end;
 
-/// Reads the text of a graph.
+/// Reads the text of a graph, of either [`Version`](crate::Version).
 ///
 /// Returns the graph that the text spells, where it spells a valid one, and else the first fault of the text: the first
 /// line that has a cause, with the first of its causes; or, where no line has one, what is wrong with the whole text. In

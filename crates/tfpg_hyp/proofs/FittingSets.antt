@@ -1,18 +1,16 @@
--- What the statuses of a round say of the sets.
+-- What the statuses of a round say of the hypotheses.
 use Rattle.std.proofs.Common.{◌≡◌, ◌↔◌, ℕ, ◌<◌, List, [], ◌∷◌, ◌++◌, false, Some, refl, sym, ap, subst, ◌∙◌, arith}
 use Rattle.std.specs.Prelude.{Contains, IsTrue, slice_get}
 use Rattle.std.proofs.lemmas.List.{append-nil}
 use Rattle.std.proofs.lemmas.Option.{same_Some}
 use Rattle.std.proofs.lemmas.List.Elements.{All-weaker, All-contains}
 use Rattle.tfpg_base.specs.declared.terms.Terms.{Terms}
-use Rattle.tfpg_base.specs.Set.{IsSubset}
 use Rattle.tfpg_base.specs.Hypothesis.{Hypothesis, IsProperPart}
 use Rattle.tfpg_base.proofs.lists.Elements.{All-at, Contains-at, slice_get-contains, slice_get-same_length, All-list_any_none}
-use Rattle.tfpg_base.specs.declared.activation.Activation.{Activation}
-use Rattle.tfpg_graph.specs.Graph.{Tfpg, is_kind_at, is_failure}
+use Rattle.tfpg_graph.specs.Graph.{Tfpg}
 use Rattle.tfpg_graph.specs.Valid.{IsValid}
 use Rattle.tfpg_log.specs.Log.{Logbook, IsLogOf, IsOrdered, GoesOn}
-use Rattle.tfpg_log.specs.Explains.{Explains, Fits, IsMember}
+use Rattle.tfpg_log.specs.Explains.{Fits}
 use Rattle.tfpg_evidence.specs.declared.finding.Finding.{Finding}
 use Rattle.tfpg_evidence.specs.declared.finding.Status.{Status}
 use Rattle.tfpg_evidence.specs.declared.finding.Status.TheVariants.{Ranked, Covered, Rejected, Open}
@@ -23,25 +21,22 @@ use Rattle.tfpg_evidence.specs.Findings.{hypothesis_of}
 use Rattle.tfpg_clause.specs.Case.{case_of}
 use Rattle.tfpg_clause.specs.Trees.{Judged, IsRefutation}
 use Rattle.tfpg_hyp.specs.Table.{IsHypothesis}
-use Rattle.tfpg_hyp.specs.Views.{IsReachOf, HypothesisFits, case_for}
+use Rattle.tfpg_hyp.specs.Views.{log_for, IsReachOf, HypothesisFits, case_for}
 use Rattle.tfpg_hyp.specs.Rounds.{IsRound, HasEvidence, IsRankedPart, HasRankedPart, HasNoneOpen, steps_so_far}
 use Rattle.tfpg_hyp.specs.Fitting.{HasFittingPart, AreNoneOpenBelow}
+use Rattle.tfpg_hyp.proofs.IgnoredMore.{whole_fits}
 use Rattle.tfpg_hyp.proofs.FindingsOfRound.{HasFindingAt, evidence}
 use Rattle.tfpg_hyp.proofs.Subsets.{part_first, once}
 
--- ---- sets and their supersets
+-- ---- what a hypothesis sees of a log
 
--- A trace that explains a log from a set explains it from each set that has its members.
-explains_more : (graph : Tfpg) (log : Logbook) (part whole : List ℕ) (trace : List Activation) → IsSubset part whole → Explains graph log part trace → Explains graph log whole trace
-explains_more graph log part whole trace is explains = record {
-  trace_of = explains.trace_of;
-  by_now = explains.by_now;
-  from_set =
-      All-weaker (λ (a : Activation). IsTrue (is_kind_at is_failure graph a.node) → IsMember graph part a.node) (λ (a : Activation). IsTrue (is_kind_at is_failure graph a.node) → IsMember graph whole a.node)
-      (λ a member failure. (let own = member failure in (own.0, All-contains (Contains whole) part own.0 is own.1, own.2))) trace explains.from_set;
-  rules = explains.rules;
-  shows = explains.shows;
-}
+-- the log that a hypothesis sees is one of the graph
+pub of_view : (graph : Tfpg) (log : Logbook) (terms : Terms) (hypothesis : Hypothesis) → IsLogOf graph log → IsHypothesis graph terms hypothesis → IsLogOf graph (log_for log hypothesis)
+of_view graph log terms hypothesis of is = record { own = of.own; ignored = is.doubts_of_graph.monitored }
+
+-- and its times are those of the log
+ordered_view : (log : Logbook) (hypothesis : Hypothesis) → IsOrdered log → IsOrdered (log_for log hypothesis)
+ordered_view log hypothesis ordered = record { in_order = ordered.in_order; in_range = ordered.in_range }
 
 -- ---- the findings of a round
 
@@ -53,7 +48,7 @@ LeavesNoTrace =
 
 module _ (leaves_none : LeavesNoTrace) (graph : Tfpg) (terms : Terms) (line : ℕ) (rounds : List Round) (log : Logbook) (round : Round) (valid : IsValid graph) (of : IsLogOf graph log) (ordered : IsOrdered log)
     (is_round : IsRound graph terms rounds log line round) where
-  -- ---- what each status says of the set
+  -- ---- what each status says of the hypothesis
 
   module _ (number : ℕ) (finding : Finding) (at : HasFindingAt round number finding) where
     -- its hypothesis stands in the table
@@ -92,10 +87,12 @@ module _ (leaves_none : LeavesNoTrace) (graph : Tfpg) (terms : Terms) (line : �
     alone : IsTrue (is_ranked finding.status) → HasRankedPart round.findings (hypothesis_of finding) → ⊥
     alone holds part = alone_by finding.status evidence_of holds part
 
-    -- a rejected set does not fit
+    -- a rejected hypothesis does not fit
     rejected_not_by : (status : Status) → Evidence status → IsTrue (is_rejected status) → HypothesisFits graph log (hypothesis_of finding) → ⊥
     rejected_not_by Rejected own holds fits =
-        leaves_none graph log log finding.set (evidence is_round number finding at).2.reach (steps_so_far number (rounds ++ round ∷ [])) valid of ordered
+        let view = log_for log (hypothesis_of finding) in
+        leaves_none graph view view finding.set (evidence is_round number finding at).2.reach (steps_so_far number (rounds ++ round ∷ [])) valid
+        (of_view graph log terms (hypothesis_of finding) of is_hypothesis) (ordered_view log (hypothesis_of finding) ordered)
         (subst (λ (h : Hypothesis). IsReachOf graph h (evidence is_round number finding at).2.reach) (sym (evidence is_round number finding at).2.hypothesis_is) (evidence is_round number finding at).2.reach_is)
         (record { more = []; events = sym (append-nil log.events); ignored = refl }) own fits
     rejected_not_by (Ranked trace cost alarmed monitored) own holds fits = cc
@@ -115,8 +112,8 @@ module _ (leaves_none : LeavesNoTrace) (graph : Tfpg) (terms : Terms) (line : �
     fits = ranked_fits number part.finding part.numbered part.ranked;
   }
 
-  whole_fits : (hypothesis : Hypothesis) → HasFittingPart graph log terms hypothesis → HypothesisFits graph log hypothesis
-  whole_fits hypothesis part = (part.fits.0, explains_more graph log part.part.set hypothesis.set part.fits.0 part.proper.set part.fits.1)
+  fits_by_part : (hypothesis : Hypothesis) → HasFittingPart graph log terms hypothesis → HypothesisFits graph log hypothesis
+  fits_by_part hypothesis part = whole_fits graph log part.part hypothesis part.proper.set part.proper.doubts part.fits
 
   covered_part : (number : ℕ) (finding : Finding) (at : HasFindingAt round number finding) (status : Status) → Evidence number finding at status → IsTrue (is_covered status)
       → (by : ℕ) × IsRankedPart round.findings (hypothesis_of finding) by
@@ -130,12 +127,12 @@ module _ (leaves_none : LeavesNoTrace) (graph : Tfpg) (terms : Terms) (line : �
       let part = covered_part number finding at finding.status (evidence_of number finding at) holds in
       part_fits (hypothesis_of finding) part.0 part.1
 
-  -- ---- a set that is not open is rejected exactly where it does not fit
+  -- ---- a hypothesis that is not open is rejected exactly where it does not fit
 
   rejected_where : (number : ℕ) (finding : Finding) (at : HasFindingAt round number finding) (status : Status) → finding.status ≡ status → is_open status ≡ false → (HypothesisFits graph log (hypothesis_of finding) → ⊥) → IsTrue (is_rejected status)
   rejected_where number finding at (Ranked trace cost alarmed monitored) is not_open none = absurd (none (ranked_fits number finding at (subst (λ (s : Status). IsTrue (is_ranked s)) (sym is) refl)))
   rejected_where number finding at (Covered by) is not_open none =
-      absurd (none (whole_fits (hypothesis_of finding) (covered_has number finding at (subst (λ (s : Status). IsTrue (is_covered s)) (sym is) refl))))
+      absurd (none (fits_by_part (hypothesis_of finding) (covered_has number finding at (subst (λ (s : Status). IsTrue (is_covered s)) (sym is) refl))))
   rejected_where number finding at Rejected is not_open none = refl
   rejected_where number finding at Open is not_open none = cc
 
@@ -145,7 +142,7 @@ module _ (leaves_none : LeavesNoTrace) (graph : Tfpg) (terms : Terms) (line : �
     λ none. rejected_where number finding at finding.status refl not_open none,
   )
 
-  -- ---- a ranked set is minimal
+  -- ---- a ranked hypothesis is minimal
 
   -- a proper part of a proper part is a proper part, since the hypotheses stand in the table in order
   deeper : (least middle greatest : ℕ) (a b c : Hypothesis) → slice_get is_round.hypotheses least ≡ Some a → slice_get is_round.hypotheses middle ≡ Some b → slice_get is_round.hypotheses greatest ≡ Some c
@@ -192,7 +189,7 @@ module _ (leaves_none : LeavesNoTrace) (graph : Tfpg) (terms : Terms) (line : �
         no_part_by key.0 there.0 there.1 (subst (λ (h : Hypothesis). IsProperPart h (hypothesis_of finding)) (sym same) part.proper)
         (subst (λ (h : Hypothesis). HypothesisFits graph log h) (sym same) part.fits) there.0.status refl
 
-  -- ---- a round without an open set
+  -- ---- a round without an open hypothesis
 
   module _ (none_open : HasNoneOpen round) where
     not_open : (number : ℕ) (finding : Finding) → HasFindingAt round number finding → is_open finding.status ≡ false
@@ -228,6 +225,6 @@ module _ (leaves_none : LeavesNoTrace) (graph : Tfpg) (terms : Terms) (line : �
 
     pub covered_of : (number : ℕ) (finding : Finding) → HasFindingAt round number finding → IsTrue (is_covered finding.status) ↔ (HypothesisFits graph log (hypothesis_of finding) × HasFittingPart graph log terms (hypothesis_of finding))
     covered_of number finding at = (
-      λ covered. (whole_fits (hypothesis_of finding) (covered_has number finding at covered), covered_has number finding at covered),
+      λ covered. (fits_by_part (hypothesis_of finding) (covered_has number finding at covered), covered_has number finding at covered),
       λ both. covered_where number finding at finding.status refl both.0 both.1,
     )

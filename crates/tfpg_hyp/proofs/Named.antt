@@ -43,7 +43,7 @@ allowed_named graph log (AndMust node number horizon) clause is =
 -- ---- silences
 
 pub first_events_of : (graph : Tfpg) (log : Logbook) (seen : ℕ) → IsLogOf graph log → IsLogOf graph (first_events log seen)
-first_events_of graph log seen of = record { own = All-take (IsEventOf graph) seen log.events of.own }
+first_events_of graph log seen of = record { own = All-take (IsEventOf graph) seen log.events of.own; ignored = of.ignored }
 
 -- ---- steps
 
@@ -72,4 +72,4 @@ right_named case path subtrees of (Cycle reasons) right =
     (λ reason has.
     let states = Contains-each_of (stated case path) reasons right.constraints reason right.hold has in
     stated_named case path of reason states.0 states.2)
-right_named case path subtrees of Again right = absurd right
+right_named case path subtrees of Again right = tt

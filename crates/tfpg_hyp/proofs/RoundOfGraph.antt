@@ -2,9 +2,10 @@
 use Rattle.std.proofs.Common.{◌≡◌, ℕ, ◌<◌, List, [], ◌∷◌, ◌++◌, length, get_or, map, Option, Some, refl, ap, subst, ◌∙◌, arith}
 use Rattle.std.specs.Prelude.{All, IsTrue, slice_get}
 use Rattle.std.proofs.lemmas.Option.{slice_get-get_or, option_and_then_some}
-use Rattle.std.proofs.lemmas.List.Elements.{All-same, All-nil}
+use Rattle.std.proofs.lemmas.List.Elements.{All-same, All-weaker}
 use Rattle.tfpg_base.specs.declared.terms.Terms.{Terms}
-use Rattle.tfpg_graph.specs.Graph.{Tfpg, failures, AreFailures, sizes_of}
+use Rattle.tfpg_graph.specs.Graph.{Tfpg, failures, is_monitored, sizes_of}
+use Rattle.tfpg_graph.proofs.NodeAt.{monitored_within}
 use Rattle.tfpg_log.specs.Log.{Logbook, IsLogOf}
 use Rattle.tfpg_evidence.specs.declared.step.Step.{Step}
 use Rattle.tfpg_evidence.specs.declared.finding.Finding.{Finding}
@@ -20,9 +21,11 @@ use Rattle.tfpg_base.proofs.lists.Choices.{Contains-each_of, each_of-some}
 use Rattle.tfpg_evidence.proofs.FindingsByNumber.{finding_numbered-first}
 use Rattle.tfpg_base.proofs.lists.Images.{All-unmap}
 use Rattle.tfpg_base.proofs.lists.Elements.{All-back, All-from_members, Contains-at}
+use Rattle.tfpg_hyp.specs.Table.{IsHypothesis}
 use Rattle.tfpg_hyp.specs.Views.{case_for}
 use Rattle.tfpg_hyp.specs.Rounds.{IsRound, HasEvidence, key_at, key_of_status, steps_so_far}
 use Rattle.tfpg_hyp.specs.declared.ranking_key.RankingKey.{RankingKey}
+use Rattle.tfpg_hyp.proofs.FittingSets.{of_view}
 use Rattle.tfpg_hyp.proofs.FindingsOfRound.{HasFindingAt, evidence, steps_so_far-push}
 use Rattle.tfpg_hyp.proofs.NamedSteps.{AreStepsOfGraph, evidence_named}
 
@@ -57,20 +60,22 @@ module _ (graph : Tfpg) (terms : Terms) (line : ℕ) (rounds : List Round) (log 
   number_at : (number : ℕ) (finding : Finding) → HasFindingAt round number finding → finding.number ≡ number
   number_at number finding at = (evidence is_round number finding at).2.number_is
 
-  members_at : (number : ℕ) (hypothesis : Hypothesis) → slice_get is_round.hypotheses number ≡ Some hypothesis → AreFailures graph hypothesis.set
-  members_at number hypothesis at = ((is_round.table.exact hypothesis).0 (Contains-at is_round.hypotheses number hypothesis at)).of_graph.members
+  hypothesis_at : (number : ℕ) (hypothesis : Hypothesis) → slice_get is_round.hypotheses number ≡ Some hypothesis → IsHypothesis graph terms hypothesis
+  hypothesis_at number hypothesis at = (is_round.table.exact hypothesis).0 (Contains-at is_round.hypotheses number hypothesis at)
 
-  believes_at : (number : ℕ) (hypothesis : Hypothesis) → slice_get is_round.hypotheses number ≡ Some hypothesis → hypothesis.doubts ≡ []
-  believes_at number hypothesis at = ((is_round.table.exact hypothesis).0 (Contains-at is_round.hypotheses number hypothesis at)).believes
+  nodes_at : (number : ℕ) (hypothesis : Hypothesis) → slice_get is_round.hypotheses number ≡ Some hypothesis → All (λ (node : ℕ). node < length graph.nodes) hypothesis.doubts
+  nodes_at number hypothesis at =
+      All-weaker (λ (node : ℕ). IsTrue (is_monitored graph node)) (λ (node : ℕ). node < length graph.nodes) (λ node monitored. monitored_within graph node monitored) hypothesis.doubts
+      (hypothesis_at number hypothesis at).doubts_of_graph.monitored
 
   finding_named : (number : ℕ) (finding : Finding) → HasFindingAt round number finding → IsFindingOf (sizes_of graph) finding
   finding_named number finding at =
       let own = evidence is_round number finding at in
       record {
-        set = All-same (λ (position : ℕ). position < length (failures graph)) finding.set own.0.set (ap (λ (h : Hypothesis). h.set) own.2.hypothesis_is) (members_at number own.0 own.1);
-        doubts = All-same (λ (node : ℕ). node < length graph.nodes) finding.doubts [] (ap (λ (h : Hypothesis). h.doubts) own.2.hypothesis_is ∙ believes_at number own.0 own.1) (All-nil _);
+        set = All-same (λ (position : ℕ). position < length (failures graph)) finding.set own.0.set (ap (λ (h : Hypothesis). h.set) own.2.hypothesis_is) (hypothesis_at number own.0 own.1).of_graph.members;
+        doubts = All-same (λ (node : ℕ). node < length graph.nodes) finding.doubts own.0.doubts (ap (λ (h : Hypothesis). h.doubts) own.2.hypothesis_is) (nodes_at number own.0 own.1);
         steps = last_named graph number rounds round finding at
-            (evidence_named (case_for graph log own.0 own.2.reach) of terms.budget round.findings (steps_so_far number (rounds ++ round ∷ [])) finding finding.status own.2.evidence);
+            (evidence_named (case_for graph log own.0 own.2.reach) (of_view graph log terms own.0 of (hypothesis_at number own.0 own.1)) terms.budget round.findings (steps_so_far number (rounds ++ round ∷ [])) finding finding.status own.2.evidence);
         status = status_named (case_for graph log own.0 own.2.reach) terms.budget round.findings (steps_so_far number (rounds ++ round ∷ [])) finding finding.status own.2.evidence;
       }
 

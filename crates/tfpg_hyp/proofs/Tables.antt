@@ -1,52 +1,66 @@
 -- What a table keeps, and that it is the only one.
-use Rattle.std.proofs.Common.{◌≡◌, ℕ, ◌+◌, ◌<◌, ◌≤◌, List, [], ◌∷◌, ◌++◌, length, map, get_or, Some, slice_get, Result, Err, ◌↔◌, ⊎_elim, arith, sym, ◌∙◌, ap, subst}
+use Rattle.std.proofs.Common.{◌≡◌, ℕ, ◌+◌, ◌<◌, ◌≤◌, List, [], ◌∷◌, ◌++◌, length, get_or, Some, slice_get, Result, Err, ◌↔◌, ⊎_elim, refl, arith, sym, ◌∙◌, ap, subst}
 use Rattle.std.specs.List.{All}
 use Rattle.std.proofs.lemmas.Bool.{cases_lt}
-use Rattle.std.proofs.lemmas.List.{length-append, length-map}
+use Rattle.std.proofs.lemmas.List.{length-append}
 use Rattle.std.proofs.lemmas.Option.{slice_get_within, get_or_from_slice_get, same_Some}
 use Rattle.tfpg_base.specs.declared.terms.Terms.{Terms}
-use Rattle.tfpg_base.specs.Hypothesis.{Hypothesis, believing}
-use Rattle.tfpg_graph.specs.Graph.{Tfpg, failures}
+use Rattle.tfpg_base.specs.Hypothesis.{Hypothesis}
+use Rattle.tfpg_graph.specs.Graph.{Tfpg, failures, AreFailures}
 use Rattle.tfpg_graph.specs.Reach.{IsReach}
 use Rattle.tfpg_base.proofs.lists.Written.{slice_get-push_before, slice_get-push_at}
-use Rattle.tfpg_hyp.specs.Table.{ComesFirst, IsListedBefore, StandsBefore, member_numbers, IsTable}
+use Rattle.tfpg_hyp.specs.Table.{ComesFirst, IsListedBefore, StandsBefore, member_numbers, monitors, IsTable}
 use Rattle.tfpg_hyp.specs.Views.{IsReachOf}
 use Rattle.tfpg_hyp.specs.declared.limits.TheConstants.{MAX_HYPOTHESES}
 use Rattle.tfpg_base.proofs.lists.Elements.{All-from_members}
-use Rattle.tfpg_base.proofs.lists.Images.{Contains-map, slice_get-map_only}
 use Rattle.tfpg_hyp.specs.declared.table.TableFault.{TableFault}
 use Rattle.tfpg_hyp.specs.declared.table.TableFault.TheVariants.{TooMany}
-use Rattle.tfpg_hyp.specs.Hypotheses.{HasHypotheses, AreReaches}
-use Rattle.tfpg_hyp.specs.inside.Choices.{chosen_below, choices_below}
+use Rattle.tfpg_hyp.specs.Hypotheses.{HasHypotheses}
+use Rattle.tfpg_hyp.specs.inside.Choices.{chosen_below, counted_below}
 use Rattle.tfpg_base.proofs.lists.Ordered.{same_in_order}
 use Rattle.tfpg_hyp.proofs.Counted.{length-chosen_below}
 use Rattle.tfpg_hyp.proofs.Listed.{IsTable-listed}
 
--- these are what the first sets reach
-abbrev pub ReachedSoFar : Tfpg → List (List ℕ) → List (List ℕ) → Type 0
-ReachedSoFar graph sets reaches = (number : ℕ) (set reach : List ℕ) → slice_get sets number ≡ Some set → slice_get reaches number ≡ Some reach → IsReach graph set reach
+-- these are what the first hypotheses reach
+abbrev pub ReachedSoFar : Tfpg → List Hypothesis → List (List ℕ) → Type 0
+ReachedSoFar graph hypotheses reaches =
+    (number : ℕ) (hypothesis : Hypothesis) (reach : List ℕ) → slice_get hypotheses number ≡ Some hypothesis → slice_get reaches number ≡ Some reach → IsReachOf graph hypothesis reach
 
 -- one reach more
-pub ReachedSoFar-push : (graph : Tfpg) (sets reaches : List (List ℕ)) (number : ℕ) (set reach : List ℕ) → length reaches ≡ number → number < length sets → set ≡ get_or sets number set → IsReach graph set reach
-    → ReachedSoFar graph sets reaches → ReachedSoFar graph sets (reaches ++ reach ∷ [])
-ReachedSoFar-push graph sets reaches number set reach here within is reached before other own own_reach at at_reach =
+pub ReachedSoFar-push : (graph : Tfpg) (hypotheses : List Hypothesis) (reaches : List (List ℕ)) (number : ℕ) (hypothesis : Hypothesis) (reach : List ℕ) → length reaches ≡ number → number < length hypotheses
+    → hypothesis ≡ get_or hypotheses number hypothesis → IsReachOf graph hypothesis reach → ReachedSoFar graph hypotheses reaches → ReachedSoFar graph hypotheses (reaches ++ reach ∷ [])
+ReachedSoFar-push graph hypotheses reaches number hypothesis reach here within is reached before other own own_reach at at_reach =
     ⊎_elim
     (λ earlier. before other own own_reach at (sym (slice_get-push_before reaches reach other earlier) ∙ at_reach))
     (λ not_earlier.
     let last : other ≡ length reaches = omega (arith, not_earlier, slice_get_within (reaches ++ reach ∷ []) other own_reach at_reach, length-append reaches (reach ∷ [])) in
     let same_reach : reach ≡ own_reach = same_Some reach own_reach (sym (slice_get-push_at reaches reach other last) ∙ at_reach) in
-    let same_set : set ≡ own = is ∙ ap (λ n. get_or sets n set) (sym (last ∙ here)) ∙ get_or_from_slice_get sets other own set at in
-    subst (IsReach graph own) same_reach (subst (λ (s : List ℕ). IsReach graph s reach) same_set reached))
+    let same : hypothesis ≡ own = is ∙ ap (λ n. get_or hypotheses n hypothesis) (sym (last ∙ here)) ∙ get_or_from_slice_get hypotheses other own hypothesis at in
+    subst (λ (r : List ℕ). IsReachOf graph own r) same_reach (subst (λ (h : Hypothesis). IsReachOf graph h reach) same reached))
     (cases_lt other (length reaches))
 
--- what the sets reach is what their hypotheses reach
-pub AreReaches-believing : (graph : Tfpg) (sets reaches : List (List ℕ)) → length reaches ≡ length sets → ReachedSoFar graph sets reaches → AreReaches graph (map believing sets) reaches
-AreReaches-believing graph sets reaches complete reached = record {
-  complete = complete ∙ sym (length-map sets believing);
-  exact = λ number hypothesis reach at at_reach.
-      let own = slice_get-map_only believing sets number hypothesis at in
-      subst (λ (h : Hypothesis). IsReachOf graph h reach) own.2 (reached number own.0 reach own.1 at_reach);
-}
+-- what the first hypotheses reach, and what a set of failure modes reaches
+abbrev pub AreReachedWith : Tfpg → List Hypothesis → List (List ℕ) → ℕ → List ℕ → List ℕ → Type 0
+AreReachedWith graph hypotheses reaches number set reach = (length reaches ≡ number) × ReachedSoFar graph hypotheses reaches × IsReach graph set reach
+
+-- at first there are no reaches
+pub AreReachedWith-none : (graph : Tfpg) (hypotheses : List Hypothesis) (reaches : List (List ℕ)) (set reach : List ℕ) → reaches ≡ [] → IsReach graph set reach → AreReachedWith graph hypotheses reaches 0 set reach
+AreReachedWith-none graph hypotheses reaches set reach none is = (
+  ap length none,
+  λ number hypothesis own at at_reach. absurd (omega (arith, slice_get_within reaches number own at_reach, ap length none)),
+  is,
+)
+
+-- the reach of the set is that of the next hypothesis
+pub AreReachedWith-next : (graph : Tfpg) (hypotheses : List Hypothesis) (before after : List (List ℕ)) (number : ℕ) (hypothesis : Hypothesis) (set reach : List ℕ)
+    → (length before ≡ number) × ReachedSoFar graph hypotheses before → number < length hypotheses → hypothesis ≡ get_or hypotheses number hypothesis → after ≡ before ++ reach ∷ []
+    → set ≡ hypothesis.set → IsReach graph set reach → AreReachedWith graph hypotheses after (number + 1) set reach
+AreReachedWith-next graph hypotheses before after number hypothesis set reach so_far within is pushed same reached = (
+  omega (arith, ap length pushed, length-append before (reach ∷ []), so_far.0),
+  subst (ReachedSoFar graph hypotheses) (sym pushed)
+      (ReachedSoFar-push graph hypotheses before number hypothesis reach so_far.0 within is (subst (λ (s : List ℕ). IsReach graph s reach) same reached) so_far.1),
+  reached,
+)
 
 -- ---- one table
 
@@ -71,7 +85,7 @@ IsListedBefore-asymmetric a b before after =
 -- The table of a graph and of terms is one.
 pub one_table : (graph : Tfpg) (terms : Terms) (hypotheses others : List Hypothesis) → IsTable graph terms hypotheses → IsTable graph terms others → hypotheses ≡ others
 one_table graph terms hypotheses others first second =
-    same_in_order StandsBefore (λ a b. IsListedBefore-asymmetric (member_numbers a) (member_numbers b)) hypotheses others first.in_order second.in_order
+    same_in_order (StandsBefore graph) (λ a b. IsListedBefore-asymmetric (member_numbers graph a) (member_numbers graph b)) hypotheses others first.in_order second.in_order
     (λ hypothesis member. (second.exact hypothesis).1 ((first.exact hypothesis).0 member))
     (λ hypothesis member. (first.exact hypothesis).1 ((second.exact hypothesis).0 member))
 
@@ -81,26 +95,37 @@ one_count graph terms count other first second = sym first.counted ∙ ap length
 
 -- ---- what is listed and counted
 
+-- the hypotheses that are listed on these terms
+abbrev listed_on : Tfpg → Terms → List Hypothesis
+listed_on graph terms = chosen_below (monitors graph) terms.doubt (length (failures graph)) (terms.k + 1)
+
 -- so many hypotheses were counted
-pub HasHypotheses-counted : (graph : Tfpg) (terms : Terms) (k : ℕ) → terms.k ≡ k → (count total : ℕ) → count ≡ length (failures graph) → total ≡ choices_below count (k + 1) → HasHypotheses graph terms total
-HasHypotheses-counted graph terms k same count total failing counted = record {
-  hypotheses = map believing (chosen_below count (terms.k + 1));
-  table = IsTable-listed graph terms count failing;
-  counted = length-map (chosen_below count (terms.k + 1)) believing ∙ length-chosen_below count (terms.k + 1) ∙ ap (λ n. choices_below count (n + 1)) same ∙ sym counted;
+pub HasHypotheses-counted : (graph : Tfpg) (terms : Terms) (k doubt : ℕ) → terms.k ≡ k → terms.doubt ≡ doubt → (count own total : ℕ) → count ≡ length (failures graph) → own ≡ length (monitors graph)
+    → total ≡ counted_below own doubt count (k + 1) → HasHypotheses graph terms total
+HasHypotheses-counted graph terms k doubt same_k same_doubt count own total failing monitored counted = record {
+  hypotheses = listed_on graph terms;
+  table = IsTable-listed graph terms (length (failures graph)) refl;
+  counted =
+      length-chosen_below (monitors graph) terms.doubt (length (failures graph)) (terms.k + 1)
+      ∙ (λ i. counted_below (sym monitored i) (same_doubt i) (sym failing i) (same_k i + 1)) ∙ sym counted;
 }
 
-module _ (graph : Tfpg) (terms : Terms) (count : ℕ) (sets : List (List ℕ)) (failing : count ≡ length (failures graph)) (listed : sets ≡ chosen_below count (terms.k + 1)) where
+module _ (graph : Tfpg) (terms : Terms) (count : ℕ) (nodes : List ℕ) (hypotheses : List Hypothesis) (failing : count ≡ length (failures graph)) (monitored : nodes ≡ monitors graph)
+    (listed : hypotheses ≡ chosen_below nodes terms.doubt count (terms.k + 1)) where
+  all_listed : hypotheses ≡ listed_on graph terms
+  all_listed = listed ∙ (λ i. chosen_below (monitored i) terms.doubt (failing i) (terms.k + 1))
+
   -- what was listed is the table
-  pub IsTable-sets : IsTable graph terms (map believing sets)
-  IsTable-sets = subst (λ (listed : List (List ℕ)). IsTable graph terms (map believing listed)) (sym listed) (IsTable-listed graph terms count failing)
+  pub IsTable-hypotheses : IsTable graph terms hypotheses
+  IsTable-hypotheses = subst (IsTable graph terms) (sym all_listed) (IsTable-listed graph terms (length (failures graph)) refl)
 
   -- its members are failure modes of the graph
-  pub members_failing : All (λ set. All (λ index. index < length (failures graph)) set) sets
-  members_failing = All-from_members (λ set. All (λ index. index < length (failures graph)) set) sets (λ set member. ((IsTable-sets.exact (believing set)).0 (Contains-map believing sets set member)).of_graph.members)
+  pub members_failing : All (λ (hypothesis : Hypothesis). AreFailures graph hypothesis.set) hypotheses
+  members_failing = All-from_members (λ (hypothesis : Hypothesis). AreFailures graph hypothesis.set) hypotheses (λ hypothesis member. ((IsTable-hypotheses.exact hypothesis).0 member).of_graph.members)
 
   -- and it is no longer than was counted
-  pub few_sets : choices_below (length (failures graph)) (terms.k + 1) ≤ MAX_HYPOTHESES → length sets ≤ MAX_HYPOTHESES
-  few_sets few = omega (arith, few, ap length listed, length-chosen_below count (terms.k + 1), ap (λ n. choices_below n (terms.k + 1)) failing)
+  pub few_hypotheses : counted_below (length (monitors graph)) terms.doubt (length (failures graph)) (terms.k + 1) ≤ MAX_HYPOTHESES → length hypotheses ≤ MAX_HYPOTHESES
+  few_hypotheses few = omega (arith, few, ap length all_listed, length-chosen_below (monitors graph) terms.doubt (length (failures graph)) (terms.k + 1))
 
 -- ---- too many
 

@@ -58,7 +58,7 @@ HasEvidence case budget findings steps finding (Covered by) =
 HasEvidence case budget findings steps finding (Ranked trace c alarmed monitored) =
     IsPartial case steps × Explains case.graph case.log finding.set trace
     × (HasRankedPart findings (hypothesis_of finding) → ⊥) × (c ≡ cost_of case.graph (hypothesis_of finding))
-    × (robustness_of case.graph case.log case.reach ≡ record { alarmed = alarmed; monitored = monitored })
+    × (robustness_of case.graph case.log case.reach finding.doubts ≡ record { alarmed = alarmed; monitored = monitored })
 -- This round spent its whole budget on splits, the tree is not closed, and no proper part is ranked.
 HasEvidence case budget findings steps finding Open =
     IsPartial case steps × (HasRankedPart findings (hypothesis_of finding) → ⊥)

@@ -3,13 +3,13 @@ use Rattle.std.specs.Prelude.{ℕ, List}
 use Rattle.tfpg_base.specs.Hypothesis.{Hypothesis}
 use Rattle.tfpg_graph.specs.Graph.{Tfpg}
 use Rattle.tfpg_graph.specs.Reach.{IsReach}
-use Rattle.tfpg_log.specs.Log.{Logbook}
+use Rattle.tfpg_log.specs.Log.{Logbook, ignoring}
 use Rattle.tfpg_log.specs.Explains.{Fits}
 use Rattle.tfpg_clause.specs.Case.{Case, case_of}
 
--- the log as a hypothesis sees it: for now each one believes every monitor, and sees the whole log
+-- the log as a hypothesis sees it: it ignores the monitors that the hypothesis doubts
 abbrev pub log_for : Logbook → Hypothesis → Logbook
-log_for log hypothesis = log
+log_for log hypothesis = ignoring log hypothesis.doubts
 
 -- These nodes are what the failure modes of a hypothesis reach.
 abbrev pub IsReachOf : Tfpg → Hypothesis → List ℕ → Type 0

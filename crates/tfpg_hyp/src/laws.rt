@@ -3,6 +3,7 @@
 ghost use Rattle.std.specs.Prelude.{◌≡◌, ◌≢◌, ◌<◌, ◌≤◌, ◌⊎◌, ℕ, List, Some, slice_get};
 ghost use Rattle.tfpg_base.specs.declared.terms.Terms.{Terms};
 ghost use Rattle.tfpg_base.specs.Hypothesis.{Hypothesis, IsProperPart};
+ghost use Rattle.tfpg_base.specs.NodeSet.{IsNodeSet};
 ghost use Rattle.tfpg_base.specs.Set.{IsSubset, IsSet};
 ghost use Rattle.tfpg_graph.specs.Graph.{Tfpg};
 ghost use Rattle.tfpg_hyp.specs.Hypotheses.{HasHypotheses};
@@ -10,13 +11,15 @@ ghost use Rattle.tfpg_hyp.specs.Ranking.{IsRankedBefore};
 ghost use Rattle.tfpg_hyp.specs.Table.{IsHypothesis, IsTable};
 ghost use Rattle.tfpg_hyp.specs.declared.ranking_key.RankingKey.{RankingKey};
 
+mod larger_hypotheses;
 mod names;
 mod round_laws;
 
+pub use larger_hypotheses::a_larger_hypothesis_fits_as_well;
 pub use names::a_round_is_of_its_graph;
 pub use round_laws::{rounds_say_which_sets_fit, statuses_are_those_of_minimal_sets};
 
-/// A graph has one table for each greatest size of its hypotheses, and one number of them.
+/// On the same terms a graph has one table, and one number of hypotheses.
 pub fn the_table_is_one()
     ensures hypotheses { (graph : Tfpg) (terms : Terms) (hypotheses others : List Hypothesis) →
         IsTable graph terms hypotheses → IsTable graph terms others → hypotheses ≡ others }
@@ -31,7 +34,8 @@ pub fn the_table_is_one()
 /// Each part of a hypothesis is a hypothesis, and a proper one has the lesser number.
 pub fn subsets_stand_before_their_supersets()
     ensures hypothesis { (graph : Tfpg) (terms : Terms) (part whole : Hypothesis) →
-        IsSet part.set → IsSubset part.set whole.set → IsSubset part.doubts whole.doubts →
+        IsSet part.set → IsNodeSet part.doubts →
+        IsSubset part.set whole.set → IsSubset part.doubts whole.doubts →
         IsHypothesis graph terms whole → IsHypothesis graph terms part }
     ensures before { (graph : Tfpg) (terms : Terms) (hypotheses : List Hypothesis) →
         IsTable graph terms hypotheses → (number other : ℕ) (part whole : Hypothesis) →

@@ -1,61 +1,108 @@
-//! How the sets of at most `k` failure modes are counted, and listed in order.
+//! How the hypotheses are listed in order: size by size, and those of one size by their rising lists.
 
-ghost use Rattle.std.specs.Prelude.{◌≡◌, ◌+◌, ◌<◌, ◌≤◌, ◌++◌, map, All, IfOk, OnOk};
+ghost use Rattle.std.specs.Prelude.{◌≡◌, ◌+◌, ◌<◌, ◌≤◌, ◌++◌, map, length, All, IfOk, OnOk};
+ghost use Rattle.tfpg_base.specs.NodeSet.{IsNodeSet};
+ghost use Rattle.tfpg_base.specs.declared.limits.TheConstants.{MAX_DOUBT};
 ghost use Rattle.tfpg_graph.specs.declared.limits.TheConstants.{MAX_FAILURES};
-ghost use Rattle.tfpg_hyp.specs.inside.Choices.{chosen, chosen_below, choices_below};
+ghost use Rattle.tfpg_hyp.specs.inside.Choices.{chosen, chosen_below, doubted};
 
+use crate::members::Members;
 use std::alloc::Global;
 use tfpg_base::{NoMemory, Set};
 
-/// How many sets of at most `k` of so many failure modes there are: a sum of binomials, size by size, with at most 64
-/// multiplications and divisions.
-pub(crate) fn count_sets(count: u32, k: u32) -> u128
-    requires { count ≤ MAX_FAILURES }
-    ensures { result ≡ choices_below count (k + 1) }
+/// The hypotheses of at most `k` members, which are positions below `count` and monitors, at most `doubt` of them monitors.
+pub(crate) fn list_hypotheses(
+    alloc: Global,
+    count: u32,
+    monitors: &[u32],
+    k: u32,
+    doubt: u32,
+) -> Result<Vec<Members>, NoMemory>
+    requires few_failures { count ≤ MAX_FAILURES }
+    requires few_doubts { doubt ≤ MAX_DOUBT }
+    requires monitors { IsNodeSet monitors.now }
+    ensures { IfOk result (λ list. list.items ≡ chosen_below monitors.now doubt count (k + 1)) }
 {
-    let mut of_size = 1;
-    let mut total = 1;
-    for size in 0..k.min(count) {
-        of_size = of_size * u128::from(count - size) / u128::from(size + 1);
-        total += of_size;
-    }
-    total
-}
-
-/// These sets: the smaller first, and those of one size by their rising lists.
-pub(crate) fn list_sets(alloc: Global, count: u32, k: u32) -> Result<Vec<Set>, NoMemory>
-    requires { count ≤ MAX_FAILURES }
-    ensures { IfOk result (λ sets. sets.items ≡ chosen_below count (k + 1)) }
-{
-    let mut sets = Vec::new(alloc);
-    let sizes = k.min(count) + 1;
+    let mut list = Vec::new(alloc);
+    let sizes = k.min(count + doubt) + 1;
     for size in 0..sizes {
-        append_sets(&mut sets, Set::empty(), 0, count, size)?;
+        append_hypotheses(&mut list, Set::empty(), 0, count, size, monitors, doubt)?;
     }
-    Ok(sets)
+    Ok(list)
 }
 
-/// Appends the sets that have these members and `size` more of the `count` positions from `least` on. First come those
-/// with the position `least`.
-fn append_sets(
-    sets: &mut Vec<Set>,
-    members: Set,
+/// Appends the hypotheses that have these failure modes and `size` members more: of the `count` positions from `least` on,
+/// and of the monitors, at most `doubt` of them. First come those with the position `least`.
+fn append_hypotheses(
+    list: &mut Vec<Members>,
+    set: Set,
     least: u32,
     count: u32,
     size: u32,
+    monitors: &[u32],
+    doubt: u32,
 ) -> Result<(), NoMemory>
     requires room { least + count ≤ MAX_FAILURES }
-    requires below { All (λ position. position < least) members }
+    requires few_doubts { doubt ≤ MAX_DOUBT }
+    requires monitors { IsNodeSet monitors.now }
+    requires below { All (λ position. position < least) set }
     ensures { OnOk result
-        (sets.new.items ≡ sets.old.items ++ map (λ more. members ++ more) (chosen count size least)) }
+        (list.new.items ≡ list.old.items
+        ++ map (λ more. record { set = set ++ more.set; doubts = more.doubts })
+        (chosen monitors.now doubt count size least)) }
 {
     if size == 0 {
-        sets.push(members)?;
+        list.push(Members::believing(set))?;
         return Ok(());
     }
-    if count < size {
+    if count == 0 {
+        if doubt < size {
+            return Ok(());
+        }
+        return append_doubts(list, Members::believing(set), monitors, size);
+    }
+    if count + doubt < size || count as usize + monitors.len() < size as usize {
         return Ok(());
     }
-    append_sets(sets, members.with(least), least + 1, count - 1, size - 1)?;
-    append_sets(sets, members, least + 1, count - 1, size)
+    let larger = set.with(least);
+    append_hypotheses(
+        list,
+        larger,
+        least + 1,
+        count - 1,
+        size - 1,
+        monitors,
+        doubt,
+    )?;
+    append_hypotheses(list, set, least + 1, count - 1, size, monitors, doubt)
+}
+
+/// Appends the hypotheses that have these members and doubt `size` of the monitors besides. First come those that doubt the
+/// first monitor.
+fn append_doubts(
+    list: &mut Vec<Members>,
+    members: Members,
+    monitors: &[u32],
+    size: u32,
+) -> Result<(), NoMemory>
+    requires monitors { IsNodeSet monitors.now }
+    requires below { All (λ doubt. All (λ node. doubt < node) monitors.now) members.doubts }
+    ensures { OnOk result
+        (list.new.items ≡ list.old.items
+        ++ map (λ nodes. record { set = members.set; doubts = members.doubts ++ nodes }) (doubted size monitors.now)) }
+{
+    if size == 0 {
+        list.push(members)?;
+        return Ok(());
+    }
+    if monitors.len() < size as usize {
+        return Ok(());
+    }
+    match monitors.split_first() {
+        None => Ok(()),
+        Some((node, others)) => {
+            append_doubts(list, members.doubting(*node), others, size - 1)?;
+            append_doubts(list, members, others, size)
+        }
+    }
 }

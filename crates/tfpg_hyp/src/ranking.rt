@@ -1,21 +1,21 @@
 //! By what ranked hypotheses are ordered: their cost, then their robustness, then their number.
 
 ghost use Rattle.std.specs.Prelude.{◌≡◌, ◌↔◌, ◌<◌, ◌≤◌, length, IsTrue};
-ghost use Rattle.tfpg_base.specs.Hypothesis.{believing};
 ghost use Rattle.tfpg_graph.specs.Graph.{failures, AreFailures};
 ghost use Rattle.tfpg_graph.specs.declared.limits.TheConstants.{MAX_RARITY};
-ghost use Rattle.tfpg_hyp.specs.Ranking.{rarity_at, cost_of, robustness_of, IsRankedBefore};
+ghost use Rattle.tfpg_hyp.specs.Ranking.{rarity_at, cost_of, is_believed, robustness_of, IsRankedBefore};
 
+use crate::limits::DOUBT_COST;
 use crate::ranking_key::{Fraction, RankingKey};
-use tfpg_base::Set;
+use tfpg_base::{Doubts, Set};
 use tfpg_graph::{Graph, Kind, NodeSet};
 use tfpg_log::Log;
 
-/// The cost of a set of failure modes: the sum of their rarities, at most 64,000,000.
-/// Goes once over the failure modes of the graph.
-pub fn cost(graph: &Graph, set: Set) -> u64
+/// The cost of a hypothesis: the sum of the rarities of its failure modes, which is at most 64,000,000, and
+/// [`DOUBT_COST`](crate::DOUBT_COST) for each monitor that it doubts. Goes once over the failure modes of the graph.
+pub fn cost(graph: &Graph, set: Set, doubts: Doubts) -> u64
     requires { AreFailures graph.now set }
-    ensures { result ≡ cost_of graph.now (believing set) }
+    ensures { result ≡ cost_of graph.now (record { set = set; doubts = doubts }) }
 {
     let mut cost = 0;
     for position in 0..graph.failure_count() {
@@ -23,19 +23,19 @@ pub fn cost(graph: &Graph, set: Set) -> u64
             cost += rarity(graph, position);
         }
     }
-    cost
+    cost + DOUBT_COST * u64::from(doubts.len())
 }
 
-/// The robustness of a set with this reach: the share of the monitored nodes in it that have an alarm in the log, and 1/1
-/// where there is no monitored node in it. Goes once over the nodes of the graph.
-pub fn robust(graph: &Graph, log: &Log, reach: &NodeSet) -> Fraction
-    ensures fraction { result ≡ robustness_of graph.now log.now reach.now }
+/// The robustness of a hypothesis with this reach and these doubts: of the monitored nodes in the reach outside the doubts, the
+/// share that has an alarm in the log; 1/1 where there is no such node. Goes once over the nodes of the graph.
+pub fn robust(graph: &Graph, log: &Log, reach: &NodeSet, doubts: Doubts) -> Fraction
+    ensures fraction { result ≡ robustness_of graph.now log.now reach.now doubts }
     ensures whole { 1 ≤ result.monitored }
 {
     let mut alarmed = 0;
     let mut monitored = 0;
     for node in 0..graph.node_count() {
-        if reach.has(node) && graph.is_monitored(node) {
+        if reach.has(node) && is_believed(graph, doubts, node) {
             monitored += 1;
             if log.alarm_of(node).is_some() {
                 alarmed += 1;
@@ -82,4 +82,11 @@ fn rarity(graph: &Graph, position: u32) -> u64
         Kind::Or { lag: _ } => 0,
         Kind::And { lag: _ } => 0,
     }
+}
+
+/// Whether the node is monitored, and its monitor is none of the doubts.
+fn is_believed(graph: &Graph, doubts: Doubts, node: u32) -> bool
+    ensures { result ≡ is_believed graph.now doubts node }
+{
+    graph.is_monitored(node) && !doubts.has(node)
 }

@@ -1,19 +1,24 @@
 //! The table of hypotheses.
 
-ghost use Rattle.std.specs.Prelude.{◌≡◌, ◌<◌, ◌≤◌, ◌↔◌, ◌+◌, ℕ, List, length, slice_get, Some, All, IfOk};
+ghost use Rattle.std.specs.Prelude.{◌≡◌, ◌<◌, ◌≤◌, ◌↔◌, ◌+◌, ℕ, List, length, slice_get, option_map, Some, All, IfOk};
 ghost use Rattle.tfpg_base.specs.declared.terms.Terms.{Terms};
-ghost use Rattle.tfpg_base.specs.Hypothesis.{believing};
+ghost use Rattle.tfpg_base.specs.declared.limits.TheConstants.{MAX_DOUBT};
+ghost use Rattle.tfpg_base.specs.Hypothesis.{Hypothesis};
 ghost use Rattle.tfpg_graph.specs.Graph.{failures, AreFailures};
 ghost use Rattle.tfpg_graph.specs.Reach.{IsReach};
-ghost use Rattle.tfpg_hyp.specs.Hypotheses.{HasHypotheses, IsTableOf};
+ghost use Rattle.tfpg_hyp.specs.Table.{monitors};
+ghost use Rattle.tfpg_hyp.specs.Hypotheses.{HasHypotheses, AreReaches, IsTableOf};
 ghost use Rattle.tfpg_hyp.specs.declared.limits.TheConstants.{MAX_HYPOTHESES};
-ghost use Rattle.tfpg_hyp.specs.inside.Choices.{choices_below};
+ghost use Rattle.tfpg_hyp.specs.inside.Choices.{counted_below};
 
+use crate::counting::count_hypotheses;
 use crate::limits::MAX_HYPOTHESES;
-use crate::listing::{count_sets, list_sets};
+use crate::listing::list_hypotheses;
+use crate::members::Members;
+use crate::monitors::{monitor_count, monitors_of};
 use std::alloc::Global;
 use std::marker::Model;
-use tfpg_base::{NoMemory, Set};
+use tfpg_base::{Doubts, NoMemory, Set};
 use tfpg_graph::{Graph, NodeSet};
 
 /// Why there is no table.
@@ -35,49 +40,51 @@ impl From<NoMemory> for TableFault {
     }
 }
 
-/// All sets of at most `k` failure modes of a graph, with what each reaches. They have numbers from 0: smaller sets
-/// come first, and sets of one size stand by their rising lists of positions.
+/// All hypotheses of a graph, with what each reaches. A hypothesis is a set of failure modes and a set of monitors that it
+/// doubts: at most `k` members, and at most `doubt` of them monitors. They have numbers from 0: those with fewer members come
+/// first, and those of one size stand by the rising lists of their members, failure modes before monitors.
 ///
 /// Contracts see the list of the hypotheses and that of their reaches. No look-up allocates; each takes constant time.
 #[derive(Drop)]
 pub struct Table {
-    sets: Vec<Set>,
+    hypotheses: Vec<Members>,
     reaches: Vec<NodeSet>,
 }
 
 impl Model for Table {
-    ghost use Rattle.std.specs.Prelude.{◌≡◌, ◌≤◌, length, map};
-    ghost use Rattle.tfpg_base.specs.Hypothesis.{believing};
+    ghost use Rattle.std.specs.Prelude.{◌≡◌, ◌≤◌, length};
     ghost use Rattle.tfpg_hyp.specs.Hypotheses.{Hypotheses};
     ghost use Rattle.tfpg_hyp.specs.declared.limits.TheConstants.{MAX_HYPOTHESES};
 
     ghost Value = { Hypotheses };
 
     ghost view = { λ table. record {
-      hypotheses = map believing table.sets.items;
+      hypotheses = table.hypotheses.items;
       reaches = table.reaches.items;
     } };
 
     ghost invariant = { λ table.
-        (length table.reaches.items ≡ length table.sets.items) × (length table.sets.items ≤ MAX_HYPOTHESES) };
+        (length table.reaches.items ≡ length table.hypotheses.items) × (length table.hypotheses.items ≤ MAX_HYPOTHESES) };
 }
 
 impl Table {
-    /// The table of all sets of at most `k` failure modes of the graph. Where there are more than
-    /// [`MAX_HYPOTHESES`](crate::MAX_HYPOTHESES) of them, the fault says how many, and none is listed.
-    pub fn new(alloc: Global, graph: &Graph, k: u32) -> Result<Table, TableFault>
-        ensures table { IfOk result (λ table. (terms : Terms) → terms.k ≡ k →
+    /// The table of all hypotheses of at most `k` failure modes and monitors of the graph, at most `doubt` of them monitors.
+    /// Where there are more than [`MAX_HYPOTHESES`](crate::MAX_HYPOTHESES) of them, the fault says how many, and none is
+    /// listed.
+    pub fn new(alloc: Global, graph: &Graph, k: u32, doubt: u32) -> Result<Table, TableFault>
+        requires { doubt ≤ MAX_DOUBT }
+        ensures table { IfOk result (λ table. (terms : Terms) → terms.k ≡ k → terms.doubt ≡ doubt →
             IsTableOf graph.now terms table) }
-        ensures too_many { (terms : Terms) → terms.k ≡ k →
+        ensures too_many { (terms : Terms) → terms.k ≡ k → terms.doubt ≡ doubt →
             (count : ℕ) → (result ≡ Err (TableFault.TooMany count)) ↔
             ((MAX_HYPOTHESES < count) × HasHypotheses graph.now terms count) }
     {
         graph.is_always_valid();
-        let count = count_sets(graph.failure_count(), k);
+        let count = count_hypotheses(graph.failure_count(), monitor_count(graph), k, doubt);
         if count > u128::from(MAX_HYPOTHESES) {
             return Err(TableFault::TooMany { count });
         }
-        let table = Table::list(alloc, graph, k)?;
+        let table = Table::list(alloc, graph, k, doubt)?;
         Ok(table)
     }
 
@@ -87,18 +94,26 @@ impl Table {
         ensures reaches { result ≡ length self.now.reaches }
         ensures few { result ≤ MAX_HYPOTHESES }
     {
-        self.sets.len() as u32
+        self.hypotheses.len() as u32
     }
 
-    /// The set of this number.
+    /// The failure modes of the hypothesis of this number.
     pub fn set(&self, number: u32) -> Set
         requires { number < length self.now.hypotheses }
-        ensures { slice_get self.now.hypotheses number ≡ Some (believing result) }
+        ensures { option_map (λ (hypothesis : Hypothesis). hypothesis.set) (slice_get self.now.hypotheses number) ≡ Some result }
     {
-        self.sets[number as usize]
+        self.hypotheses[number as usize].set
     }
 
-    /// What the set of this number reaches.
+    /// The monitors that the hypothesis of this number doubts.
+    pub fn doubts(&self, number: u32) -> Doubts
+        requires { number < length self.now.hypotheses }
+        ensures { option_map (λ (hypothesis : Hypothesis). hypothesis.doubts) (slice_get self.now.hypotheses number) ≡ Some result }
+    {
+        self.hypotheses[number as usize].doubts
+    }
+
+    /// What the hypothesis of this number reaches: what its failure modes do.
     pub fn reach(&self, number: u32) -> &NodeSet
         requires { number < length self.now.hypotheses }
         ensures { slice_get self.now.reaches number ≡ Some result.now }
@@ -107,28 +122,41 @@ impl Table {
     }
 
     /// The table, where it is known to be small enough.
-    fn list(alloc: Global, graph: &Graph, k: u32) -> Result<Table, NoMemory>
-        requires { choices_below (length (failures graph.now)) (k + 1) ≤ MAX_HYPOTHESES }
-        ensures { IfOk result (λ table. (terms : Terms) → terms.k ≡ k → IsTableOf graph.now terms table) }
+    fn list(alloc: Global, graph: &Graph, k: u32, doubt: u32) -> Result<Table, NoMemory>
+        requires few_doubts { doubt ≤ MAX_DOUBT }
+        requires few { counted_below (length (monitors graph.now)) doubt (length (failures graph.now)) (k + 1) ≤ MAX_HYPOTHESES }
+        ensures { IfOk result (λ table. (terms : Terms) → terms.k ≡ k → terms.doubt ≡ doubt →
+            IsTableOf graph.now terms table) }
     {
         graph.is_always_valid();
-        let sets = list_sets(alloc, graph.failure_count(), k)?;
-        let reaches = reaches_of(alloc, graph, &sets)?;
-        Ok(Table { sets, reaches })
+        let monitors = monitors_of(alloc, graph)?;
+        let hypotheses = list_hypotheses(alloc, graph.failure_count(), &monitors, k, doubt)?;
+        let reaches = reaches_of(alloc, graph, &hypotheses)?;
+        Ok(Table {
+            hypotheses,
+            reaches,
+        })
     }
 }
 
-/// What each of the sets reaches.
-fn reaches_of(alloc: Global, graph: &Graph, sets: &[Set]) -> Result<Vec<NodeSet>, NoMemory>
-    requires { All (AreFailures graph.now) sets.now }
-    ensures complete { IfOk result (λ reaches. length reaches.items ≡ length sets.now) }
-    ensures exact { IfOk result (λ reaches. (number : ℕ) (set reach : List ℕ) →
-        slice_get sets.now number ≡ Some set → slice_get reaches.items number ≡ Some reach →
-        IsReach graph.now set reach) }
+/// What each of the hypotheses reaches. Those with the same failure modes that follow one another share the search.
+fn reaches_of(
+    alloc: Global,
+    graph: &Graph,
+    hypotheses: &[Members],
+) -> Result<Vec<NodeSet>, NoMemory>
+    requires { All (λ (hypothesis : Hypothesis). AreFailures graph.now hypothesis.set) hypotheses.now }
+    ensures { IfOk result (λ reaches. AreReaches graph.now hypotheses.now reaches.items) }
 {
     let mut reaches = Vec::new(alloc);
-    for set in sets {
-        reaches.push(graph.reach(*set))?;
+    let mut set = Set::empty();
+    let mut reach = graph.reach(set);
+    for hypothesis in hypotheses {
+        if hypothesis.set != set {
+            set = hypothesis.set;
+            reach = graph.reach(set);
+        }
+        reaches.push(reach)?;
     }
     Ok(reaches)
 }

@@ -60,10 +60,10 @@ module _ (case : Case) where
   pub breaks_unique : (path : List PathSplit) (step : Step) (one other : BadStep) → BreaksAt case path step one → BreaksAt case path step other → one ≡ other
   breaks_unique path (Split name) one other a b = a.0 ∙ sym b.0
   breaks_unique path (Cycle reasons) one other a b = cycle_unique (stated case path) reasons one other a b
-  breaks_unique path Again one other a b = a ∙ sym b
+  breaks_unique path Again one other a b = a.0 ∙ sym b.0
 
   -- A step that breaks a condition is not right.
   pub breaks_wrong : (path : List PathSplit) (subtrees : ℕ) (step : Step) (bad : BadStep) → BreaksAt case path step bad → IsRightStep case path subtrees step → ⊥
   breaks_wrong path subtrees (Split name) bad breaks right = let both : None ≡ Some subtrees = sym breaks.1 ∙ right in cc
   breaks_wrong path subtrees (Cycle reasons) bad breaks right = cycle_wrong (stated case path) reasons bad breaks right.constraints right.hold right.negative_cycle
-  breaks_wrong path subtrees Again bad breaks right = right
+  breaks_wrong path subtrees Again bad breaks right = breaks.1 right

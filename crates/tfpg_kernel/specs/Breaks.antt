@@ -9,7 +9,7 @@ use Rattle.tfpg_evidence.specs.declared.step.Step.{Step}
 use Rattle.tfpg_evidence.specs.declared.step.Step.TheVariants.{Split, Cycle, Again}
 use Rattle.tfpg_clause.specs.Case.{Case, case_at}
 use Rattle.tfpg_clause.specs.Clauses.{count_of}
-use Rattle.tfpg_clause.specs.Trees.{Judged, stated, IsRefutation, IsPresentLeaf}
+use Rattle.tfpg_clause.specs.Trees.{Judged, stated, IsReusable, IsRefutation, IsPresentLeaf}
 use Rattle.tfpg_clause.specs.declared.path.PathSplit.{PathSplit}
 use Rattle.tfpg_base.specs.ConstraintCycle.{IsCycle, sum_of}
 use Rattle.tfpg_kernel.specs.declared.taken.BadStep.{BadStep}
@@ -43,11 +43,11 @@ CycleBreaks stated reasons bad =
     (reasons_fault stated reasons ≡ Some bad)
     ⊎ ((constraints : List Constraint) × (each_of (map stated reasons) ≡ Some constraints) × ClosingBreaks constraints bad)
 
--- The step breaks this condition at a leaf of this path, and none before it. No subtree is reused yet.
+-- The step breaks this condition at a leaf of this path, and none before it.
 abbrev pub BreaksAt : Case → List PathSplit → Step → BadStep → Type 0
 BreaksAt case path (Split name) bad = (bad ≡ NotAClause) × (count_of case.graph case.log name ≡ None)
 BreaksAt case path (Cycle reasons) bad = CycleBreaks (stated case path) reasons bad
-BreaksAt case path Again bad = bad ≡ NotReusable
+BreaksAt case path Again bad = (bad ≡ NotReusable) × (IsReusable path → ⊥)
 
 -- The step that comes next after these steps breaks this condition, and none before it: they are a refutation already; or it
 -- breaks it at the present leaf.

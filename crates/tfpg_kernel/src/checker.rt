@@ -1,11 +1,11 @@
 //! The checker: the path to the present leaf, and how a step moves it.
 
-ghost use Rattle.std.specs.Prelude.{◌≡◌, ◌≤◌, ◌<◌, ◌+◌, ◌↔◌, ℕ, List, [], ◌∷◌, ◌++◌, OnOk, false};
+ghost use Rattle.std.specs.Prelude.{◌≡◌, ◌≤◌, ◌<◌, ◌+◌, ◌↔◌, ℕ, List, [], ◌∷◌, ◌++◌, OnOk, false, not, if◌then◌else◌};
 ghost use Rattle.tfpg_graph.specs.Graph.{Tfpg};
 ghost use Rattle.tfpg_graph.specs.Reach.{IsReach};
 ghost use Rattle.tfpg_log.specs.Log.{Logbook, GoesOn, IsLogOf, IsOrdered};
 ghost use Rattle.tfpg_log.specs.Explains.{Fits};
-ghost use Rattle.tfpg_evidence.specs.declared.step.Step.TheVariants.{Split, Cycle};
+ghost use Rattle.tfpg_evidence.specs.declared.step.Step.TheVariants.{Split, Cycle, Again};
 ghost use Rattle.tfpg_clause.specs.Case.{case_of};
 ghost use Rattle.tfpg_clause.specs.Trees.{Judged, IsRefutation, IsPartial};
 ghost use Rattle.tfpg_kernel.specs.declared.taken.Taken.TheVariants.{Partial, Closed, Bad};
@@ -23,13 +23,13 @@ use std::alloc::Global;
 use std::marker::Model;
 use tfpg_base::NoMemory;
 use tfpg_clause::laws::{a_partial_tree_grows, a_refutation_leaves_no_trace};
-use tfpg_clause::{PathSplit, backtrack};
+use tfpg_clause::{PathSplit, backtrack, cite, is_reusable, reuse};
 use tfpg_evidence::{ClauseName, Reason, Step};
 use tfpg_graph::{Graph, NodeSet};
 use tfpg_log::Log;
 
 /// Checks a refutation of a set of failure modes, step by step. It keeps the path to the present leaf, so its memory is
-/// that of the deepest path, at most 32 bytes a split.
+/// that of the deepest path, at most 40 bytes a split.
 #[derive(Drop)]
 pub struct Checker {
     reach: NodeSet,
@@ -135,7 +135,7 @@ impl Checker {
         match step {
             Step::Split(name) => self.split(graph, log, *name),
             Step::Cycle(reasons) => self.close(graph, log, reasons.as_slice()),
-            Step::Again => Taken::Bad(BadStep::NotReusable),
+            Step::Again => self.reuse(),
         }
     }
 
@@ -167,8 +167,8 @@ impl Checker {
         let _pushed = self.path.push(split);
     }
 
-    /// Closes the present leaf, where the reasons do: the next alternative of the deepest split that has one left is the
-    /// present leaf then.
+    /// Closes the present leaf, where the reasons do, and marks the splits that they cite: the next alternative of the deepest
+    /// split that has one left is the present leaf then.
     fn close(&mut self, graph: &Graph, log: &Log, reasons: &[Reason]) -> Taken
         requires of { IsLogOf graph.now log.now }
         requires not_closed { self.old.closed ≡ false }
@@ -179,11 +179,35 @@ impl Checker {
         if let Err(bad) = check_cycle(graph, log, &self.reach, &self.path, reasons) {
             return Taken::Bad(bad);
         }
-        if backtrack(&mut self.path) {
-            Taken::Partial
-        } else {
-            self.closed = true;
-            Taken::Closed
+        cite(&mut self.path, reasons);
+        let goes_on = backtrack(&mut self.path);
+        self.finish(goes_on)
+    }
+
+    /// Reuses the subtree of the alternative before, where it is reusable: it closes the deepest split of the path.
+    fn reuse(&mut self) -> Taken
+        requires not_closed { self.old.closed ≡ false }
+        ensures moves { (graph : Tfpg) (log : Logbook) → Moves graph log self.old Again result self.new }
+        ensures reach { self.new.reach ≡ self.old.reach }
+        ensures spare { self.old.spare ≤ self.new.spare }
+    {
+        if !is_reusable(&self.path) {
+            return Taken::Bad(BadStep::NotReusable);
         }
+        let goes_on = reuse(&mut self.path);
+        self.finish(goes_on)
+    }
+
+    /// The result of a step that closed a leaf. The tree is closed where the path does not go on.
+    fn finish(&mut self, goes_on: bool) -> Taken
+        requires { self.old.closed ≡ false }
+        ensures result { result ≡ if goes_on then Partial else Closed }
+        ensures same { self.new ≡ record self.old { closed = not goes_on } }
+    {
+        if goes_on {
+            return Taken::Partial;
+        }
+        self.closed = true;
+        Taken::Closed
     }
 }

@@ -1,8 +1,8 @@
 //! The checker of refutations.
 //!
 //! It stands apart from all that finds evidence, and is small, so that a reviewer can read it whole: what it calls of other
-//! crates is `PathSplit::on_clause`, `stated`, `backtrack`, `Items::as_slice`, and calls that do nothing: laws, and two that
-//! bring an invariant into a proof (`Graph::is_always_valid` and `Log::is_always_ordered`).
+//! crates is `PathSplit::on_clause`, `stated`, `cite`, `backtrack`, `is_reusable`, `reuse`, `Items::as_slice`, and calls that do
+//! nothing: laws, and two that bring an invariant into a proof (`Graph::is_always_valid` and `Log::is_always_ordered`).
 //!
 //! - [`Checker`] takes the steps of a refutation one by one. It keeps the path to the present leaf and no step.
 //! - [`Taken`] is what it returns: the tree is partial, the tree is closed, or the step is bad, with the first cause,

@@ -2,10 +2,11 @@
 pub mod Events
 pub mod AlarmIndexes
 pub mod AlarmEvents
-pub mod FirstAlarms
 pub mod NodesEvents
 pub mod LastQuiets
 pub mod SilenceTimes
+pub mod LastAlarms
+pub mod AlarmIntervals
 pub mod SilentNodes
 pub mod Order
 pub mod Indexes

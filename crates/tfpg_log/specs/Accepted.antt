@@ -1,5 +1,5 @@
 -- Which lines a log accepts, and why others are refused.
-use Rattle.std.specs.Prelude.{ℕ, List, [], ◌∷◌, ◌++◌, length, count_by, not, nat_lt, nat_le, Option, is_none, option_map, option_and_then, unwrap_or, Result, Ok, Err}
+use Rattle.std.specs.Prelude.{ℕ, List, [], ◌∷◌, ◌++◌, length, count_by, not, nat_lt, nat_le, Option, is_none, option_and_then, unwrap_or, Result, Ok, Err}
 use Rattle.std.specs.Bool.{then_some}
 use Rattle.std.specs.Option.{option_map_or}
 use Rattle.std.specs.Str.Parse.{digits_value}
@@ -13,8 +13,8 @@ use Rattle.tfpg_log.specs.declared.event.Offered.{Offered}
 use Rattle.tfpg_log.specs.declared.event.Offered.TheVariants.{Accepted, Refused}
 use Rattle.tfpg_log.specs.declared.limits.TheConstants.{MAX_EVENTS, MAX_MODE_CHANGES}
 use Rattle.tfpg_log.specs.declared.refusal.Refusal.{Refusal}
-use Rattle.tfpg_log.specs.declared.refusal.Refusal.TheVariants.{BadLine, BadNumber, TimeTooLarge, TimeBack, UnknownName, NotMonitored, NotAMode, SecondAlarm, SilentAfterAlarm, LogFull, ModesFull}
-use Rattle.tfpg_log.specs.Log.{Logbook, now_of, alarm_of, is_mode_change}
+use Rattle.tfpg_log.specs.declared.refusal.Refusal.TheVariants.{BadLine, BadNumber, TimeTooLarge, TimeBack, UnknownName, NotMonitored, NotAMode, LogFull, ModesFull}
+use Rattle.tfpg_log.specs.Log.{Logbook, now_of, is_mode_change}
 use Rattle.tfpg_log.specs.LogStatements.{LogStatement, Alarm, Silent, Sweep, Tick, Mode, log_statement_of}
 
 -- the tests of the word for the time, in order
@@ -32,20 +32,14 @@ monitor_refusals graph name =
     ∷ option_and_then (λ node. then_some (not (is_monitored graph node)) NotMonitored) (node_named graph name)
     ∷ []
 
--- the time of the alarm that the node of this name has
-abbrev pub alarm_of_named : Tfpg → Logbook → List ℕ → Option ℕ
-alarm_of_named graph log name = option_and_then (alarm_of log) (node_named graph name)
-
 -- the test of the room for one more event
 abbrev pub room_refusal : Logbook → Option Refusal
 room_refusal log = then_some (nat_le MAX_EVENTS (length log.events)) LogFull
 
 -- the tests of a statement, in order
 abbrev pub statement_refusals : Tfpg → Logbook → LogStatement → List (Option Refusal)
-statement_refusals graph log (Alarm name) =
-    monitor_refusals graph name ++ option_map SecondAlarm (alarm_of_named graph log name) ∷ room_refusal log ∷ []
-statement_refusals graph log (Silent name) =
-    monitor_refusals graph name ++ option_map SilentAfterAlarm (alarm_of_named graph log name) ∷ room_refusal log ∷ []
+statement_refusals graph log (Alarm name) = monitor_refusals graph name ++ room_refusal log ∷ []
+statement_refusals graph log (Silent name) = monitor_refusals graph name ++ room_refusal log ∷ []
 statement_refusals graph log Sweep = room_refusal log ∷ []
 statement_refusals graph log Tick = room_refusal log ∷ []
 statement_refusals graph log (Mode name) =

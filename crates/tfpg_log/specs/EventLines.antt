@@ -1,12 +1,12 @@
 -- The line of an event, and which event may come next in a log.
-use Rattle.std.specs.Prelude.{◌≡◌, ℕ, ◌<◌, ◌≤◌, List, [], ◌∷◌, ◌++◌, length, count_by, IsTrue, None, unwrap_or, slice_get, codes, decimal}
+use Rattle.std.specs.Prelude.{◌≡◌, ℕ, ◌<◌, ◌≤◌, List, [], ◌∷◌, ◌++◌, length, count_by, IsTrue, unwrap_or, slice_get, codes, decimal}
 use Rattle.tfpg_base.specs.TextLine.{text_line}
 use Rattle.tfpg_base.specs.declared.limits.TheConstants.{MAX_TIME}
 use Rattle.tfpg_graph.specs.Graph.{Tfpg, name_word}
 use Rattle.tfpg_log.specs.declared.event.Event.{Event}
 use Rattle.tfpg_log.specs.declared.event.Event.TheVariants.{Alarm, Silent, Sweep, Tick, Mode}
 use Rattle.tfpg_log.specs.declared.limits.TheConstants.{MAX_EVENTS, MAX_MODE_CHANGES}
-use Rattle.tfpg_log.specs.Log.{Logbook, now_of, alarm_of, is_mode_change, time_of_event, IsEventOf}
+use Rattle.tfpg_log.specs.Log.{Logbook, now_of, is_mode_change, time_of_event, IsEventOf}
 use Rattle.tfpg_log.specs.LogOfLines.{log_of_events}
 
 -- a mode's name
@@ -33,21 +33,11 @@ HasNames graph (Sweep time) = Unit {0}
 HasNames graph (Tick time) = Unit {0}
 HasNames graph (Mode time mode) = mode < length graph.modes
 
--- no alarm of its node came before, where it is an alarm or a silence
-abbrev pub IsUnalarmed : Logbook → Event → Type 0
-IsUnalarmed log (Alarm time node) = alarm_of log node ≡ None
-IsUnalarmed log (Silent time node) = alarm_of log node ≡ None
-IsUnalarmed log (Sweep time) = Unit {0}
-IsUnalarmed log (Tick time) = Unit {0}
-IsUnalarmed log (Mode time mode) = Unit {0}
-
--- The event may come next in a log: it is of the graph, not before now and not too late, its node has no alarm so far, and
--- there is room.
+-- The event may come next in a log: it is of the graph, not before now and not too late, and there is room.
 pub record IsNextEvent (graph : Tfpg) (log : Logbook) (event : Event) : Type 0 where
   pub own : IsEventOf graph event
   pub not_back : now_of log ≤ time_of_event event
   pub in_range : time_of_event event ≤ MAX_TIME
-  pub unalarmed : IsUnalarmed log event
   pub room : length log.events < MAX_EVENTS
   pub mode_room : IsTrue (is_mode_change event) → count_by is_mode_change log.events < MAX_MODE_CHANGES
 

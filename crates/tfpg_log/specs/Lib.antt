@@ -16,5 +16,6 @@ pub mod LogOfLines
 pub mod AcceptedLog
 pub mod EventLines
 pub mod Quiet
+pub mod LastAlarm
 -- What the code and its proofs need besides. No public clause reaches it.
 pub mod inside

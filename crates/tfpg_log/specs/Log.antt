@@ -1,8 +1,11 @@
 -- What a log is: its events, its time, its alarms, and the mode of an instant.
-use Rattle.std.specs.Prelude.{◌≤◌, AllPairs, ◌≡◌, ℕ, suc, ◌-◌, ◌<◌, List, [], ◌∷◌, ◌++◌, length, take, All, fold, Bool, true, false, ◌&&◌, nat_lt, ◌==◌, if◌then◌else◌, IsTrue, Option, Some, None, is_none, option_map, option_and_then, find, position}
+use Rattle.std.specs.Prelude.{◌≤◌, AllPairs, ◌≡◌, ℕ, suc, ◌-◌, ◌<◌, List, [], ◌∷◌, ◌++◌, length, take, All, fold, Bool, true, false, ◌&&◌, nat_lt, nat_le, not, ◌==◌, if◌then◌else◌, IsTrue, Option, Some, None, is_none, option_map, option_and_then, find, position}
 use Rattle.tfpg_log.specs.declared.event.Event.{Event}
 use Rattle.tfpg_log.specs.declared.event.Event.TheVariants.{Alarm, Silent, Sweep, Tick, Mode}
 use Rattle.tfpg_graph.specs.declared.edge.Edge.{Edge}
+use Rattle.std.specs.Bool.{then_some}
+use Rattle.tfpg_graph.specs.declared.kind.Lag.{Lag}
+use Rattle.tfpg_graph.specs.Reach.{is_among}
 use Rattle.tfpg_graph.specs.Graph.{Tfpg, lag_or_zero, is_monitored, is_active_in}
 use Rattle.tfpg_log.specs.declared.interval.Interval.{Interval}
 use Rattle.tfpg_base.specs.Choice.{item_at}
@@ -36,6 +39,14 @@ first_events log count = record log { events = take count log.events }
 -- the log with one more event
 abbrev pub with_event : Logbook → Event → Logbook
 with_event log event = record log { events = log.events ++ event ∷ [] }
+
+-- the log that ignores these nodes, and no other
+abbrev pub ignoring : Logbook → List ℕ → Logbook
+ignoring log nodes = record log { ignored = nodes }
+
+-- whether the node's monitor is ignored
+abbrev pub is_ignored : Logbook → ℕ → Bool
+is_ignored log node = is_among log.ignored node
 
 -- One log goes on from another: it begins with the other's events, and ignores the same monitors.
 pub record GoesOn (earlier later : Logbook) : Type 0 where
@@ -93,14 +104,20 @@ mode_at log instant = mode_after 0 log.events instant
 abbrev pub is_active_at : Logbook → Edge → ℕ → Bool
 is_active_at log edge instant = is_active_in edge (mode_at log instant)
 
--- The instants at which a node became active, as an alarm of it at this time says: at most its lag before, and not after.
-abbrev pub alarm_interval : Tfpg → Logbook → ℕ → ℕ → Option Interval
-alarm_interval graph log node time =
-    Some (record { earliest = time - lag_or_zero graph node; latest = time })
+-- the instants that lie so long before a time as a lag says
+abbrev pub interval_before : Lag → ℕ → Interval
+interval_before lag time = record { earliest = time - lag.most; latest = time - lag.least }
 
--- The instant up to which a node is not active, as a silence of it at this time says: that time.
+-- The instants at which a node became active, as an alarm of it at this time says: at least its least lag before, and at
+-- most its greatest. An alarm of an ignored node says nothing.
+abbrev pub alarm_interval : Tfpg → Logbook → ℕ → ℕ → Option Interval
+alarm_interval graph log node time = then_some (not (is_ignored log node)) (interval_before (lag_or_zero graph node) time)
+
+-- The instant up to which a node is not active, as a silence of it at this time says: its least lag before. A silence
+-- says nothing where there is no such instant, nor where the node is ignored.
 abbrev pub inactive_until : Tfpg → Logbook → ℕ → ℕ → Option ℕ
-inactive_until graph log node time = Some time
+inactive_until graph log node time =
+    then_some (not (is_ignored log node) && nat_le (lag_or_zero graph node).least time) (time - (lag_or_zero graph node).least)
 
 -- Whether the event, after this log, is a silence of the node. A sweep is one of each monitored node without an alarm so
 -- far.
@@ -116,11 +133,6 @@ abbrev pub silence_time : Tfpg → Logbook → Event → ℕ → Option ℕ
 silence_time graph before event node =
     if is_silence_of graph before node event then Some (time_of_event event) else None
 
--- the instant up to which the event, after this log, says that the node is not active
-abbrev pub quiet_time : Tfpg → Logbook → Event → ℕ → Option ℕ
-quiet_time graph before event node =
-    if is_silence_of graph before node event then inactive_until graph before node (time_of_event event) else None
-
 -- the time of the event of a number, where it is a silence of the node
 abbrev pub silence_at : Tfpg → Logbook → ℕ → ℕ → Option ℕ
 silence_at graph log number node =
@@ -128,8 +140,7 @@ silence_at graph log number node =
 
 -- the instant up to which the event of a number says that the node is not active
 abbrev pub quiet_at : Tfpg → Logbook → ℕ → ℕ → Option ℕ
-quiet_at graph log number node =
-    option_and_then (λ event. quiet_time graph (first_events log (number - 1)) event node) (event_at log number)
+quiet_at graph log number node = option_and_then (inactive_until graph log node) (silence_at graph log number node)
 
 -- the event names only monitored nodes and modes of the graph
 abbrev pub IsEventOf : Tfpg → Event → Type 0
@@ -139,9 +150,11 @@ IsEventOf graph (Sweep time) = Unit {0}
 IsEventOf graph (Tick time) = Unit {0}
 IsEventOf graph (Mode time mode) = mode < length graph.modes
 
--- A log is of a graph where each event names only monitored nodes and modes of the graph.
+-- A log is of a graph where each event names only monitored nodes and modes of the graph, and each ignored node is a
+-- monitored node of the graph.
 pub record IsLogOf (graph : Tfpg) (log : Logbook) : Type 0 where
   pub own : All (IsEventOf graph) log.events
+  pub ignored : All (λ node. IsTrue (is_monitored graph node)) log.ignored
 
 -- The times of a log never fall from one event to the next, and none is too large. Each log made by offering lines is
 -- ordered.

@@ -16,6 +16,7 @@ ghost use Rattle.tfpg_log.specs.declared.span.Span.{Span};
 ghost use Rattle.tfpg_log.specs.declared.span.Window.{Window};
 ghost use Rattle.tfpg_log.specs.Log.{Logbook, GoesOn, IsLogOf, IsOrdered, now_of, event_at, alarm_of, alarm_event, mode_at, quiet_at, is_active_at};
 ghost use Rattle.tfpg_log.specs.Quiet.{IsLastQuiet};
+ghost use Rattle.tfpg_log.specs.LastAlarm.{IsLastAlarm};
 ghost use Rattle.tfpg_log.specs.Rules.{IsActive, HasAge, IsAge};
 ghost use Rattle.tfpg_log.specs.Spans.{span_number, span_at, are_active_at, window_of, joint_of};
 ghost use Rattle.tfpg_log.specs.Runs.{IsSpanOf, IsWindowRound};
@@ -83,7 +84,17 @@ pub fn an_alarm_event_is_the_first_alarm()
         (number : ℕ) × (alarm_event log node ≡ Some number) }
 {}
 
-/// Of the events that silence a node the last has the greatest time, since times never fall.
+/// Of the alarms of a node the first has the least time, and the last the greatest, since times never fall.
+pub fn alarms_come_between_the_first_and_the_last()
+    ensures first { (log : Logbook) → IsOrdered log → (node first number time : ℕ) →
+        alarm_of log node ≡ Some first → event_at log number ≡ Some (Event.Alarm time node) → first ≤ time }
+    ensures last { (log : Logbook) (node number : ℕ) → IsLastAlarm log node (Some number) →
+        IsOrdered log → (time other earlier : ℕ) → event_at log number ≡ Some (Event.Alarm time node) →
+        event_at log other ≡ Some (Event.Alarm earlier node) → earlier ≤ time }
+{}
+
+/// Of the events that say up to which instant a node is not active the last says so of the greatest instant, since times
+/// never fall.
 pub fn the_last_silence_has_the_greatest_time()
     ensures { (graph : Tfpg) (log : Logbook) (node number : ℕ) → IsLastQuiet graph log node (Some number) →
         IsOrdered log → (time other earlier : ℕ) → quiet_at graph log number node ≡ Some time →
@@ -158,7 +169,8 @@ pub fn windows_are_runs_of_spans()
 /// only after its own instant. So now does not fall; each instant up to the old now keeps its mode, the number of its
 /// span, and the ages that edges have there in a trace; and at each horizon up to the old now each span and each window
 /// stays as it was. Each event keeps its number, each node's first alarm its time and its number, and an event that was
-/// there is a silence of the same nodes. So the last silence of a node is the same or a later one.
+/// there says the same of when nodes are not active. So the last alarm and the last silence of a node are the same or
+/// later ones.
 pub fn a_log_that_goes_on_keeps_the_past()
     ensures event { (earlier later : Logbook) → GoesOn earlier later →
         (number : ℕ) (event : Event) → event_at earlier number ≡ Some event →
@@ -167,6 +179,10 @@ pub fn a_log_that_goes_on_keeps_the_past()
         (node time : ℕ) → alarm_of earlier node ≡ Some time → alarm_of later node ≡ Some time }
     ensures alarm_event { (earlier later : Logbook) → GoesOn earlier later →
         (node number : ℕ) → alarm_event earlier node ≡ Some number → alarm_event later node ≡ Some number }
+    ensures last_alarm { (earlier later : Logbook) → GoesOn earlier later →
+        (node number : ℕ) → IsLastAlarm earlier node (Some number) →
+        (last : Option ℕ) → IsLastAlarm later node last →
+        (other : ℕ) × (last ≡ Some other) × (number ≤ other) }
     ensures silence { (graph : Tfpg) (earlier later : Logbook) → GoesOn earlier later →
         (number node : ℕ) → number ≤ length earlier.events →
         quiet_at graph later number node ≡ quiet_at graph earlier number node }

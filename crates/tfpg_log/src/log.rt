@@ -1,13 +1,14 @@
 //! The log of accepted lines, with its look-ups.
 
 ghost use Rattle.std.specs.Prelude.{◌≡◌, ◌≤◌, ◌<◌, ◌-◌, ℕ, length, take, true, ◌&&◌, if◌then◌else◌, nat_le, Some, None, is_none, IfOk, count_by, option_and_then, slice_get};
-ghost use Rattle.tfpg_log.specs.Log.{IsLogOf, IsOrdered, now_of, event_at, alarm_of, alarm_event, alarm_among, mode_at, alarm_interval, inactive_until, silence_at, quiet_at, is_mode_change};
+ghost use Rattle.tfpg_log.specs.Log.{IsLogOf, IsOrdered, now_of, event_at, alarm_of, alarm_event, alarm_among, mode_at, ignoring, is_ignored, alarm_interval, inactive_until, silence_at, quiet_at, is_mode_change};
 ghost use Rattle.tfpg_log.specs.Spans.{span_number, span_at, window_round, window_of, joint_of};
 ghost use Rattle.tfpg_log.specs.inside.ActiveModes.{has_mode};
 ghost use Rattle.tfpg_log.specs.declared.limits.TheConstants.{MAX_EVENTS, MAX_MODE_CHANGES};
 ghost use Rattle.tfpg_log.specs.LogOfLines.{new_log};
 ghost use Rattle.tfpg_log.specs.Quiet.{IsLastQuiet};
-ghost use Rattle.tfpg_log.specs.inside.NodeEvents.{IsLast, IsNodeEvents, IsSwept, later_of};
+ghost use Rattle.tfpg_log.specs.LastAlarm.{IsLastAlarm};
+ghost use Rattle.tfpg_log.specs.inside.NodeEvents.{IsLast, IsNodeEvents, IsSilence, IsSwept, later_of};
 ghost use Rattle.tfpg_graph.specs.Graph.{Tfpg, is_monitored};
 
 mod accepting;
@@ -128,15 +129,18 @@ impl Log {
         }
     }
 
-    /// The number of the event that is the node's first alarm, where it has one. No other event is an alarm of it, since a
-    /// log takes no second one. The node may be any number.
+    /// The number of the event that is the node's first alarm, where it has one. The node may be any number.
     pub fn alarm_event(&self, node: u32) -> Option<u32>
-        ensures first { result ≡ alarm_event self.now node }
-        ensures only { (number time : ℕ) → event_at self.now number ≡ Some (Event.Alarm time node) →
-            result ≡ Some number }
+        ensures { result ≡ alarm_event self.now node }
     {
-        let _no_second = &self.events;
-        self.node_events(node).alarm
+        self.node_events(node).first_alarm
+    }
+
+    /// The number of the event that is the node's last alarm, where it has one. The node may be any number.
+    pub fn last_alarm(&self, node: u32) -> Option<u32>
+        ensures { IsLastAlarm self.now node result }
+    {
+        self.node_events(node).last_alarm
     }
 
     /// The mode of an instant, in milliseconds: that of the last change whose time is below it, and else mode 0. Takes
@@ -193,28 +197,48 @@ impl Log {
         self.window_round(&modes, number, horizon)
     }
 
-    /// The instants at which a node became active, as an alarm of it at this time says: at most its lag before, and not
-    /// after. Times are in milliseconds.
+    /// The instants at which a node became active, as an alarm of it at this time says: at least its least lag before, and
+    /// at most its greatest. An alarm of an ignored node says nothing. Times are in milliseconds, and the node may be
+    /// any number.
     pub fn alarm_interval(&self, graph: &Graph, node: u32, time: u64) -> Option<Interval>
-        requires { node < length graph.now.nodes }
         ensures { result ≡ alarm_interval graph.now self.now node time }
     {
+        if self.is_ignored(node) {
+            return None;
+        }
+        let lag = graph.lag_or_zero(node);
         Some(Interval {
-            earliest: time.saturating_sub(graph.lag_or_zero(node)),
-            latest: time,
+            earliest: time.saturating_sub(lag.most),
+            latest: time.saturating_sub(lag.least),
         })
     }
 
-    /// The instant up to which a node is not active, as a silence of it at this time says: that time. Times are in
-    /// milliseconds, and the node may be any number.
+    /// The instant up to which a node is not active, as a silence of it at this time says: its least lag before. A silence
+    /// says nothing where there is no such instant, nor where the node is ignored. Times are in milliseconds, and the
+    /// node may be any number.
     pub fn inactive_until(&self, graph: &Graph, node: u32, time: u64) -> Option<u64>
         ensures { result ≡ inactive_until graph.now self.now node time }
     {
-        Some(time)
+        let until = time.checked_sub(graph.lag_or_zero(node).least)?;
+        (!self.is_ignored(node)).then_some(until)
+    }
+
+    /// Ignores these nodes' monitors from now on, and no other's: their alarms and silences say nothing. Takes no memory.
+    pub fn ignore(&mut self, doubts: Doubts)
+        ensures { self.new ≡ ignoring self.old doubts }
+    {
+        self.ignored = doubts;
+    }
+
+    /// The nodes whose monitors are ignored.
+    pub fn ignored(&self) -> Doubts
+        ensures { result ≡ self.now.ignored }
+    {
+        self.ignored
     }
 
     /// The instant, in milliseconds, up to which the event of this number says that the node is not active. There is none
-    /// where the event is no silence of the node. Numbers begin with 1. Number and node may be any.
+    /// where the event is no silence of the node, or says nothing. Numbers begin with 1. Number and node may be any.
     pub fn quiet_at(&self, graph: &Graph, number: u32, node: u32) -> Option<u64>
         ensures { result ≡ quiet_at graph.now self.now number node }
     {
@@ -235,13 +259,32 @@ impl Log {
         }
     }
 
-    /// The number of the last event that says that the node is not active, where there is one: its own silence, or a sweep,
-    /// where the node is monitored and no event before is an alarm of it. Times never fall, so no other such event speaks
-    /// of a later instant. The node may be any number.
+    /// The number of the last event that says that the node is not active up to an instant, where there is one. Times
+    /// never fall, so no other such event speaks of a later instant. The node may be any number.
     pub fn last_quiet(&self, graph: &Graph, node: u32) -> Option<u32>
         ensures { IsLastQuiet graph.now self.now node result }
     {
+        self.is_always_ordered();
+        let number = self.last_silence(graph, node)?;
+        match self.quiet_at(graph, number, node) {
+            Some(_) => Some(number),
+            None => None,
+        }
+    }
+
+    /// The number of the last event that is a silence of the node, where there is one: its own silence, or a sweep, where
+    /// the node is monitored and no event before is an alarm of it.
+    fn last_silence(&self, graph: &Graph, node: u32) -> Option<u32>
+        ensures { IsLast (IsSilence graph.now self.now node) result }
+    {
         later_of(self.node_events(node).silence, self.last_swept(graph, node))
+    }
+
+    /// Whether the node's monitor is ignored.
+    fn is_ignored(&self, node: u32) -> bool
+        ensures { result ≡ is_ignored self.now node }
+    {
+        self.ignored.has(node)
     }
 
     /// A copy of the log, with the allocator that the log keeps. Takes time and memory linear in the log, and in the
@@ -299,7 +342,7 @@ impl Log {
         }
     }
 
-    /// The number of the last sweep that is a silence of the node: the last one of all, or before its alarm, if it has one.
+    /// The number of the last sweep that is a silence of the node: the last one of all, or before its first alarm, if it has one.
     fn last_swept(&self, graph: &Graph, node: u32) -> Option<u32>
         ensures { IsLast (IsSwept graph.now self.now node) result }
     {
@@ -307,7 +350,7 @@ impl Log {
             return None;
         }
         let events = self.node_events(node);
-        match events.alarm {
+        match events.first_alarm {
             Some(_) => events.sweep,
             None => self.last_sweep,
         }

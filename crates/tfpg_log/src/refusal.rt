@@ -17,10 +17,6 @@ pub enum Refusal {
     NotMonitored,
     /// No mode has the name.
     NotAMode,
-    /// The node has an alarm already, at `first`.
-    SecondAlarm { first: u64 },
-    /// The node has an alarm, at `first`.
-    SilentAfterAlarm { first: u64 },
     /// [`MAX_EVENTS`](crate::MAX_EVENTS) events were accepted.
     LogFull,
     /// [`MAX_MODE_CHANGES`](crate::MAX_MODE_CHANGES) mode changes were accepted.

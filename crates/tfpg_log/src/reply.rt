@@ -115,10 +115,7 @@ fn judge_alarm(graph: &Graph, log: &Log, time: u64, name: &[u8]) -> Result<Event
         (event_of graph.now time (Alarm name.now)) }
 {
     let node = find_monitor(graph, name)?;
-    match log.alarm_of(node) {
-        Some(first) => Err(Refusal::SecondAlarm { first }),
-        None => judge_room(log, Event::Alarm { time, node }),
-    }
+    judge_room(log, Event::Alarm { time, node })
 }
 
 fn judge_silence(graph: &Graph, log: &Log, time: u64, name: &[u8]) -> Result<Event, Refusal>
@@ -127,10 +124,7 @@ fn judge_silence(graph: &Graph, log: &Log, time: u64, name: &[u8]) -> Result<Eve
         (event_of graph.now time (Silent name.now)) }
 {
     let node = find_monitor(graph, name)?;
-    match log.alarm_of(node) {
-        Some(first) => Err(Refusal::SilentAfterAlarm { first }),
-        None => judge_room(log, Event::Silent { time, node }),
-    }
+    judge_room(log, Event::Silent { time, node })
 }
 
 fn judge_mode(graph: &Graph, log: &Log, time: u64, name: &[u8]) -> Result<Event, Refusal>

@@ -6,6 +6,7 @@ ghost use Rattle.tfpg_log.specs.Log.{IsLogOf};
 use std::alloc::Global;
 use std::process::Abort;
 use std::test::Fail;
+use tfpg_base::Doubts;
 use tfpg_graph::{Graph, read};
 use tfpg_log::{Event, Log, Offered, Span, Window, append_event};
 
@@ -157,6 +158,37 @@ fn an_alarm_leaves_an_interval(rt: HostRuntime) -> Result<(), Fail> {
     let graph = read(rt.alloc(), GRAPH)?;
     let log = Log::new(rt.alloc());
     assert_eq!(rt; interval_at(&graph, &log, 3, 100), Some((93, 100)));
+    Ok(())
+}
+
+/// A monitored discrepancy with a least lag.
+const LAGS: &[u8] = b"tfpg 2\nmode N\nfailure F 1\nor A watch 2 7\nedge F A 1 3 *\nend\n";
+
+/// Two alarms of one monitor, and a silence between them.
+const TWO_ALARMS: [&[u8]; 3] = [b"10 alarm A", b"12 silent A", b"20 alarm A"];
+
+#[test]
+fn a_monitor_has_a_first_and_a_last_alarm(rt: HostRuntime) -> Result<(), Fail> {
+    let graph = read(rt.alloc(), LAGS)?;
+    let log = log_of(rt.alloc(), &graph, &TWO_ALARMS)?;
+    assert_eq!(rt; log.alarm_event(1), Some(1));
+    assert_eq!(rt; log.last_alarm(1), Some(3));
+    assert_eq!(rt; interval_at(&graph, &log, 1, 20), Some((13, 18)));
+    assert_eq!(rt; log.quiet_at(&graph, 2, 1), Some(10));
+    assert_eq!(rt; log.inactive_until(&graph, 1, 1), None);
+    Ok(())
+}
+
+#[test]
+fn a_log_ignores_monitors(rt: HostRuntime) -> Result<(), Fail> {
+    let graph = read(rt.alloc(), LAGS)?;
+    let mut log = log_of(rt.alloc(), &graph, &TWO_ALARMS)?;
+    log.ignore(Doubts::empty().with(1));
+    assert!(rt; log.ignored().has(1));
+    assert_eq!(rt; interval_at(&graph, &log, 1, 20), None);
+    assert_eq!(rt; log.last_quiet(&graph, 1), None);
+    assert_eq!(rt; log.silence_at(&graph, 2, 1), Some(12));
+    assert_eq!(rt; log.alarm_of(1), Some(10));
     Ok(())
 }
 

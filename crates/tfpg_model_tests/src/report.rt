@@ -17,10 +17,10 @@ use tfpg_report::{head, lost, render};
 #[test]
 fn the_head_and_the_lines_of_lost_panels(rt: HostRuntime) -> Result<(), Fail> {
     let mut text = Vec::new(rt.alloc());
-    head(1, 1000, &mut text)?;
+    head(1, 2, 1000, &mut text)?;
     lost(1, false, &mut text)?;
     lost(2, true, &mut text)?;
-    let wanted = b"report 1 k 1 budget 1000\npanel 1 lost\npanel 2 memory\n";
+    let wanted = b"report 2 k 1 doubt 2 budget 1000\npanel 1 lost\npanel 2 memory\n";
     assert_eq!(rt; text.as_slice(), wanted.as_slice());
     Ok(())
 }

@@ -10,6 +10,7 @@ use Rattle.std.proofs.lemmas.Bool.Decides.{nat_tests}
 use Rattle.std.proofs.lemmas.Grind.{flat_map-append}
 use Rattle.std.proofs.lemmas.List.Concat.{flat_map_single}
 use Rattle.std.proofs.lemmas.List.Elements.{All-nil, All-cons, All-append, All-map, All-from_recursion, filter-append}
+use Rattle.tfpg_base.specs.Hypothesis.{Hypothesis}
 use Rattle.tfpg_base.specs.TextLine.{text_line}
 use Rattle.tfpg_base.specs.Lines.{HasNoLineEnd, ends_line, with_line_end}
 use Rattle.tfpg_base.specs.Words.{line_of}
@@ -22,7 +23,7 @@ use Rattle.tfpg_graph.specs.Graph.{Tfpg, Node, name_at, name_word, failure_at, f
 use Rattle.tfpg_graph.specs.declared.edge.Edge.{Edge}
 use Rattle.tfpg_graph.specs.Valid.{IsValid}
 use Rattle.tfpg_log.specs.declared.refusal.Refusal.{Refusal}
-use Rattle.tfpg_log.specs.declared.refusal.Refusal.TheVariants.{BadLine, BadNumber, TimeTooLarge, TimeBack, UnknownName, NotMonitored, NotAMode, SecondAlarm, SilentAfterAlarm, LogFull, ModesFull}
+use Rattle.tfpg_log.specs.declared.refusal.Refusal.TheVariants.{BadLine, BadNumber, TimeTooLarge, TimeBack, UnknownName, NotMonitored, NotAMode, LogFull, ModesFull}
 use Rattle.tfpg_evidence.specs.declared.clause_name.ClauseName.{ClauseName}
 use Rattle.tfpg_evidence.specs.declared.clause_name.ClauseName.TheVariants.{OrMay, AndMay, OrMust, AndMust}
 use Rattle.tfpg_evidence.specs.declared.reason.Reason.{Reason}
@@ -34,10 +35,11 @@ use Rattle.tfpg_evidence.specs.declared.finding.Status.TheVariants.{Ranked, Cove
 use Rattle.tfpg_evidence.specs.declared.finding.Finding.{Finding}
 use Rattle.tfpg_evidence.specs.declared.round.Counts.{Counts}
 use Rattle.tfpg_evidence.specs.declared.round.Round.{Round}
-use Rattle.tfpg_evidence.specs.Findings.{ranked_in_order, open_in, newly_rejected}
+use Rattle.tfpg_evidence.specs.Findings.{hypothesis_of, ranked_in_order, open_in, newly_rejected}
 use Rattle.tfpg_report.specs.declared.refused_line.RefusedLine.{RefusedLine}
 use Rattle.tfpg_report.specs.declared.refused_line.RefusedLine.TheVariants.{TooLong, Offer}
-use Rattle.tfpg_report.specs.Blocks.{refusal_name, refusal_time, time_words, cause_words, refused_text, edge_words, set_word, clause_words, reason_text, step_text, steps_text, hypothesis_words, activation_line, activation_text, robustness_word, ranked_line, ranked_text, open_text, rejected_text, counts_words, counts_text, Loss, lost_text, Block, RefusedBlock, RoundBlock, block_text}
+use Rattle.tfpg_report.specs.SetText.{doubt_word, hyphen_or_joined, member_words, set_word}
+use Rattle.tfpg_report.specs.Blocks.{refusal_name, refusal_time, time_words, cause_words, refused_text, edge_words, clause_words, reason_text, step_text, steps_text, hypothesis_words, activation_line, activation_text, robustness_word, ranked_line, ranked_text, open_text, rejected_text, counts_words, counts_text, Loss, lost_text, Block, RefusedBlock, RoundBlock, block_text}
 
 -- ---- words without a line end
 
@@ -80,12 +82,22 @@ module _ (graph : Tfpg) (valid : IsValid graph) where
       by None = All-nil (λ byte. ends_line byte ≡ false)
       by (Some node) = name node
 
-  -- a set
-  set : (members : List ℕ) → HasNoLineEnd (set_word graph members)
-  set [] = lacks_checked 10 (codes "-") refl
-  set (position ∷ positions) =
-      All-join (λ byte. ends_line byte ≡ false) 44 (map (failure_word graph) (position ∷ positions)) refl
-      (All-map HasNoLineEnd (failure_word graph) (position ∷ positions) (λ k d within. failure (get_or (position ∷ positions) k d)))
+  -- a monitor that is not believed
+  doubt : (node : ℕ) → HasNoLineEnd (doubt_word graph node)
+  doubt node = All-cons (λ byte. ends_line byte ≡ false) 33 (name_word graph node) refl (name node)
+
+  -- words with commas between
+  joined : (ws : List (List ℕ)) → All HasNoLineEnd ws → HasNoLineEnd (hyphen_or_joined ws)
+  joined [] clean = lacks_checked 10 (codes "-") refl
+  joined (word ∷ ws) clean = All-join (λ byte. ends_line byte ≡ false) 44 (word ∷ ws) refl clean
+
+  -- the text of a set
+  set : (hypothesis : Hypothesis) → HasNoLineEnd (set_word graph hypothesis)
+  set hypothesis =
+      joined (member_words graph hypothesis)
+      (All-append HasNoLineEnd (map (failure_word graph) hypothesis.set) (map (doubt_word graph) hypothesis.doubts)
+      (All-map HasNoLineEnd (failure_word graph) hypothesis.set (λ k d within. failure (get_or hypothesis.set k d)))
+      (All-map HasNoLineEnd (doubt_word graph) hypothesis.doubts (λ k d within. doubt (get_or hypothesis.doubts k d))))
 
   -- the names of the ends of an edge
   ends : (edge : ℕ) → All HasNoLineEnd (edge_words graph edge)
@@ -198,8 +210,6 @@ refusal_clean (TimeBack last) = lacks_checked 10 (codes "TimeBack") refl
 refusal_clean UnknownName = lacks_checked 10 (codes "UnknownName") refl
 refusal_clean NotMonitored = lacks_checked 10 (codes "NotMonitored") refl
 refusal_clean NotAMode = lacks_checked 10 (codes "NotAMode") refl
-refusal_clean (SecondAlarm first) = lacks_checked 10 (codes "SecondAlarm") refl
-refusal_clean (SilentAfterAlarm first) = lacks_checked 10 (codes "SilentAfterAlarm") refl
 refusal_clean LogFull = lacks_checked 10 (codes "LogFull") refl
 refusal_clean ModesFull = lacks_checked 10 (codes "ModesFull") refl
 
@@ -228,7 +238,7 @@ seven a b c d e f g =
 -- the words of the first line of a ranked hypothesis
 abbrev pub ranked_words : Tfpg → Finding → ℕ → ℕ → ℕ → List (List ℕ)
 ranked_words graph finding cost alarmed monitored =
-    codes "ranked" ∷ decimal finding.number ∷ codes "cost" ∷ decimal cost ∷ codes "robust" ∷ robustness_word alarmed monitored ∷ codes "set" ∷ set_word graph finding.set ∷ []
+    codes "ranked" ∷ decimal finding.number ∷ codes "cost" ∷ decimal cost ∷ codes "robust" ∷ robustness_word alarmed monitored ∷ codes "set" ∷ set_word graph (hypothesis_of finding) ∷ []
 
 -- the lines of a ranked hypothesis
 abbrev pub lines_of_trace : Tfpg → Finding → Status → List (List ℕ)
@@ -338,7 +348,7 @@ module _ (graph : Tfpg) (valid : IsValid graph) where
               number cost,
               (
                 lacks_checked 10 (codes "robust") refl,
-                (robustness alarmed monitored, (lacks_checked 10 (codes "set") refl, (set graph valid finding.set, tt))),
+                (robustness alarmed monitored, (lacks_checked 10 (codes "set") refl, (set graph valid (hypothesis_of finding), tt))),
               ),
             ),
           ),
@@ -358,7 +368,7 @@ module _ (graph : Tfpg) (valid : IsValid graph) where
 
   -- a hypothesis that is open, and one that the round rejected
   hypothesis_clean : (finding : Finding) → AllByRecursion HasNoLineEnd (hypothesis_words graph finding)
-  hypothesis_clean finding = (number finding.number, (lacks_checked 10 (codes "set") refl, (set graph valid finding.set, tt)))
+  hypothesis_clean finding = (number finding.number, (lacks_checked 10 (codes "set") refl, (set graph valid (hypothesis_of finding), tt)))
 
   open_finding : (finding : Finding) → HasLines (open_text graph finding) (open_line graph finding ∷ []) []
   open_finding finding =

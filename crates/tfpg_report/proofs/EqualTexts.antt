@@ -35,7 +35,7 @@ same_number keyword others more n m lacks small also same =
 
 -- the words of the first line
 abbrev head_words : Terms → List (List ℕ)
-head_words terms = codes "report" ∷ codes "1" ∷ codes "k" ∷ decimal terms.k ∷ codes "budget" ∷ decimal terms.budget ∷ []
+head_words terms = codes "report" ∷ codes "2" ∷ codes "k" ∷ decimal terms.k ∷ codes "doubt" ∷ decimal terms.doubt ∷ codes "budget" ∷ decimal terms.budget ∷ []
 
 -- the first line of a text is that of its head
 lines-head : (terms : Terms) (after : List ℕ) → lines_of (head_text terms ++ after) ≡ line_of (head_words terms) ∷ lines_of after
@@ -43,13 +43,13 @@ lines-head terms after =
     ap lines_of (append_assoc (line_of (head_words terms)) (10 ∷ []) after)
     ∙ lines_of-line (line_of (head_words terms)) after
     (clean_line (head_words terms)
-    (words (head_words terms) (lacks_checked 10 (codes "report") refl, (lacks_checked 10 (codes "1") refl, (lacks_checked 10 (codes "k") refl, (number terms.k, (lacks_checked 10 (codes "budget") refl, (number terms.budget, tt))))))))
+    (words (head_words terms) (lacks_checked 10 (codes "report") refl, (lacks_checked 10 (codes "2") refl, (lacks_checked 10 (codes "k") refl, (number terms.k, (lacks_checked 10 (codes "doubt") refl, (number terms.doubt, (lacks_checked 10 (codes "budget") refl, (number terms.budget, tt))))))))))
 
 -- it has these words
 words-head : (terms : Terms) → words_of (line_of (head_words terms)) ≡ head_words terms
 words-head terms =
     slice_split-join 32 (head_words terms) (omega arith)
-    (lacks_checked 32 (codes "report") refl, (lacks_checked 32 (codes "1") refl, (lacks_checked 32 (codes "k") refl, (number_lacks 32 terms.k (omega arith), (lacks_checked 32 (codes "budget") refl, (number_lacks 32 terms.budget (omega arith), tt))))))
+    (lacks_checked 32 (codes "report") refl, (lacks_checked 32 (codes "2") refl, (lacks_checked 32 (codes "k") refl, (number_lacks 32 terms.k (omega arith), (lacks_checked 32 (codes "doubt") refl, (number_lacks 32 terms.doubt (omega arith), (lacks_checked 32 (codes "budget") refl, (number_lacks 32 terms.budget (omega arith), tt))))))))
 
 -- the terms are read back
 same_terms : (terms others : Terms) → AreReportTerms terms → AreReportTerms others → line_of (head_words terms) ≡ line_of (head_words others) → terms ≡ others
@@ -57,9 +57,11 @@ same_terms terms others within also same =
     let same_words : head_words terms ≡ head_words others = sym (words-head terms) ∙ ap words_of same ∙ words-head others in
     let k : terms.k ≡ others.k =
     decimal_injective terms.k others.k (omega (arith, within.few_members)) (omega (arith, also.few_members)) (ap (λ (ws : List (List ℕ)). get_or ws 3 []) same_words) in
+    let doubt : terms.doubt ≡ others.doubt =
+    decimal_injective terms.doubt others.doubt (omega (arith, within.few_doubts)) (omega (arith, also.few_doubts)) (ap (λ (ws : List (List ℕ)). get_or ws 5 []) same_words) in
     let budget : terms.budget ≡ others.budget =
-    decimal_injective terms.budget others.budget (omega (arith, within.few_splits)) (omega (arith, also.few_splits)) (ap (λ (ws : List (List ℕ)). get_or ws 5 []) same_words) in
-    λ i. record { k = k i; budget = budget i }
+    decimal_injective terms.budget others.budget (omega (arith, within.few_splits)) (omega (arith, also.few_splits)) (ap (λ (ws : List (List ℕ)). get_or ws 7 []) same_words) in
+    λ i. record { k = k i; doubt = doubt i; budget = budget i }
 
 -- ---- the blocks
 

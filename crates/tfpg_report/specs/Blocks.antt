@@ -1,13 +1,13 @@
 -- The text of each block of a report.
-use Rattle.std.specs.Prelude.{ℕ, List, [], ◌∷◌, ◌++◌, length, map, filter_map, flat_map, Bool, if◌then◌else◌, ◌==◌, Option, Some, None, option_map, unwrap_or, slice_get, codes, decimal}
+use Rattle.std.specs.Prelude.{ℕ, List, [], ◌∷◌, ◌++◌, length, flat_map, Bool, if◌then◌else◌, ◌==◌, Option, Some, None, option_map, unwrap_or, slice_get, codes, decimal}
 use Rattle.tfpg_base.specs.declared.terms.Terms.{Terms}
 use Rattle.tfpg_base.specs.TextLine.{text_line}
 use Rattle.tfpg_base.specs.Lines.{with_line_end}
-use Rattle.tfpg_base.specs.Words.{joined_by_commas, line_of}
+use Rattle.tfpg_base.specs.Words.{line_of}
 use Rattle.tfpg_base.specs.declared.activation.Activation.{Activation}
-use Rattle.tfpg_graph.specs.Graph.{Tfpg, name_word, failure_word}
+use Rattle.tfpg_graph.specs.Graph.{Tfpg, name_word}
 use Rattle.tfpg_log.specs.declared.refusal.Refusal.{Refusal}
-use Rattle.tfpg_log.specs.declared.refusal.Refusal.TheVariants.{BadLine, BadNumber, TimeTooLarge, TimeBack, UnknownName, NotMonitored, NotAMode, SecondAlarm, SilentAfterAlarm, LogFull, ModesFull}
+use Rattle.tfpg_log.specs.declared.refusal.Refusal.TheVariants.{BadLine, BadNumber, TimeTooLarge, TimeBack, UnknownName, NotMonitored, NotAMode, LogFull, ModesFull}
 use Rattle.tfpg_evidence.specs.declared.clause_name.ClauseName.{ClauseName}
 use Rattle.tfpg_evidence.specs.declared.clause_name.ClauseName.TheVariants.{OrMay, AndMay, OrMust, AndMust}
 use Rattle.tfpg_evidence.specs.declared.reason.Reason.{Reason}
@@ -19,14 +19,15 @@ use Rattle.tfpg_evidence.specs.declared.finding.Status.TheVariants.{Ranked, Cove
 use Rattle.tfpg_evidence.specs.declared.finding.Finding.{Finding}
 use Rattle.tfpg_evidence.specs.declared.round.Counts.{Counts}
 use Rattle.tfpg_evidence.specs.declared.round.Round.{Round}
-use Rattle.tfpg_evidence.specs.Findings.{ranked_in_order, open_in, newly_rejected}
+use Rattle.tfpg_evidence.specs.Findings.{hypothesis_of, ranked_in_order, open_in, newly_rejected}
+use Rattle.tfpg_report.specs.SetText.{set_word}
 use Rattle.tfpg_report.specs.declared.refused_line.RefusedLine.{RefusedLine}
 use Rattle.tfpg_report.specs.declared.refused_line.RefusedLine.TheVariants.{TooLong, Offer}
 
 -- the first line of a report
 abbrev pub head_text : Terms → List ℕ
 head_text terms =
-    text_line (codes "report" ∷ codes "1" ∷ codes "k" ∷ decimal terms.k
+    text_line (codes "report" ∷ codes "2" ∷ codes "k" ∷ decimal terms.k ∷ codes "doubt" ∷ decimal terms.doubt
     ∷ codes "budget" ∷ decimal terms.budget ∷ [])
 
 -- the name of a refusal
@@ -38,8 +39,6 @@ refusal_name (TimeBack last) = codes "TimeBack"
 refusal_name UnknownName = codes "UnknownName"
 refusal_name NotMonitored = codes "NotMonitored"
 refusal_name NotAMode = codes "NotAMode"
-refusal_name (SecondAlarm first) = codes "SecondAlarm"
-refusal_name (SilentAfterAlarm first) = codes "SilentAfterAlarm"
 refusal_name LogFull = codes "LogFull"
 refusal_name ModesFull = codes "ModesFull"
 
@@ -52,8 +51,6 @@ refusal_time (TimeBack last) = Some last
 refusal_time UnknownName = None
 refusal_time NotMonitored = None
 refusal_time NotAMode = None
-refusal_time (SecondAlarm first) = Some first
-refusal_time (SilentAfterAlarm first) = Some first
 refusal_time LogFull = None
 refusal_time ModesFull = None
 
@@ -75,11 +72,6 @@ refused_text line cause = text_line (codes "refused" ∷ decimal line ∷ cause_
 abbrev pub edge_words : Tfpg → ℕ → List (List ℕ)
 edge_words graph edge =
     unwrap_or (option_map (λ e. name_word graph e.source ∷ name_word graph e.target ∷ []) (slice_get graph.edges edge)) []
-
--- a set: a hyphen for the empty set, else the names of its members with commas between
-abbrev pub set_word : Tfpg → List ℕ → List ℕ
-set_word graph [] = codes "-"
-set_word graph (position ∷ positions) = joined_by_commas (map (failure_word graph) (position ∷ positions))
 
 -- the words that name a clause
 abbrev pub clause_words : Tfpg → ClauseName → List (List ℕ)
@@ -119,9 +111,9 @@ steps_text graph finding =
     if length finding.steps == 0 then []
     else text_line (codes "hyp" ∷ decimal finding.number ∷ []) ++ flat_map (step_text graph) finding.steps
 
--- the number of a hypothesis and its set
+-- the number of a hypothesis and the text of its set
 abbrev pub hypothesis_words : Tfpg → Finding → List (List ℕ)
-hypothesis_words graph finding = decimal finding.number ∷ codes "set" ∷ set_word graph finding.set ∷ []
+hypothesis_words graph finding = decimal finding.number ∷ codes "set" ∷ set_word graph (hypothesis_of finding) ∷ []
 
 -- the line of an activation
 abbrev pub activation_line : Tfpg → Activation → List ℕ
@@ -139,7 +131,7 @@ robustness_word alarmed monitored = decimal alarmed ++ codes "/" ++ decimal moni
 abbrev pub ranked_line : Tfpg → Finding → ℕ → ℕ → ℕ → List ℕ
 ranked_line graph finding cost alarmed monitored =
     text_line (codes "ranked" ∷ decimal finding.number ∷ codes "cost" ∷ decimal cost
-    ∷ codes "robust" ∷ robustness_word alarmed monitored ∷ codes "set" ∷ set_word graph finding.set ∷ [])
+    ∷ codes "robust" ∷ robustness_word alarmed monitored ∷ codes "set" ∷ set_word graph (hypothesis_of finding) ∷ [])
 
 -- a ranked hypothesis and the times of its trace
 abbrev pub ranked_text : Tfpg → Finding → Status → List ℕ

@@ -1,3 +1,4 @@
 -- What the code and its proofs need besides. No public clause reaches it.
+pub mod Further
 pub mod Numbered
 pub mod Sections

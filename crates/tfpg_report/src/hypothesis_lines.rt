@@ -61,5 +61,11 @@ fn append_hypothesis(
 {
     let mut digits = Buffer::new();
     let number = digits.format(finding.number).as_bytes();
-    append_set_line(graph, &[status, number, b" set "], finding.set, into)
+    append_set_line(
+        graph,
+        &[status, number, b" set "],
+        finding.set,
+        finding.doubts,
+        into,
+    )
 }

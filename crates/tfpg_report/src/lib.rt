@@ -4,15 +4,16 @@
 //! - [`refused`] appends the block of a line that was refused.
 //! - [`render`] appends the block of a round.
 //! - [`lost`] appends the line of a lost panel. A panel is a listener to rounds.
-//! - [`append_set`], [`append_set_line`], [`append_activations`] and [`append_counts`] append a set, a line that ends with one,
-//!   the lines of a trace and the counts of a round, for other texts that have them.
+//! - [`append_set`], [`append_set_line`], [`append_activations`] and [`append_counts`] append the text of a set, a line that
+//!   ends with one, the lines of a trace and the counts of a round, for other texts that have them. The text of a set names its
+//!   failure modes, and then the monitors that are not believed, each with a `!` before the name of its node.
 //! - [`RefusedLine`] is why a line has a block of its own in place of a round.
 //!
 //! ```
 //! let mut text = Vec::new(alloc);
-//! head(1, 1000, &mut text)?;
+//! head(1, 0, 1000, &mut text)?;
 //! refused(1, RefusedLine::TooLong, &mut text)?;
-//! assert_eq!(rt; text.as_slice(), b"report 1 k 1 budget 1000\nrefused 1 TooLong\n".as_slice());
+//! assert_eq!(rt; text.as_slice(), b"report 2 k 1 doubt 0 budget 1000\nrefused 1 TooLong\n".as_slice());
 //! ```
 #![tactic(auto)]
 

@@ -118,6 +118,7 @@ fn append_ranked_line(
             b" set ",
         ],
         finding.set,
+        finding.doubts,
         into,
     )
 }

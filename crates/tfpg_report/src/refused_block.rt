@@ -60,8 +60,6 @@ fn refusal_name(refusal: Refusal) -> &'static [u8]
         Refusal::UnknownName => b"UnknownName",
         Refusal::NotMonitored => b"NotMonitored",
         Refusal::NotAMode => b"NotAMode",
-        Refusal::SecondAlarm { .. } => b"SecondAlarm",
-        Refusal::SilentAfterAlarm { .. } => b"SilentAfterAlarm",
         Refusal::LogFull => b"LogFull",
         Refusal::ModesFull => b"ModesFull",
     }
@@ -73,7 +71,6 @@ fn refusal_time(refusal: Refusal) -> Option<u64>
 {
     match refusal {
         Refusal::TimeBack { last } => Some(last),
-        Refusal::SecondAlarm { first } | Refusal::SilentAfterAlarm { first } => Some(first),
         _ => None,
     }
 }

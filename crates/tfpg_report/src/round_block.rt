@@ -17,7 +17,7 @@ use tfpg_graph::Graph;
 /// Appends the block of a round of the graph: the steps of each hypothesis, the ranked ones with their traces, the open
 /// ones, those that the round rejected, and the counts. Where memory runs out, a part of the block may stand after the
 /// old bytes. It costs the length of the text, a test for each failure mode of the graph and each set that is written,
-/// and a binary search for each ranked hypothesis.
+/// another for each node where the set has a monitor that is not believed, and a binary search for each ranked hypothesis.
 pub fn render(graph: &Graph, round: &Round, into: &mut Vec<u8>) -> Result<(), NoMemory>
     requires { IsRoundOf (sizes_of graph.now) round.now }
     ensures { Appends result into.old.items into.new.items (round_text graph.now round.entry.now) }

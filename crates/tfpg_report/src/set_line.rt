@@ -1,28 +1,32 @@
-//! A line that ends with a set.
+//! A line that ends with the text of a set.
 
-ghost use Rattle.std.specs.Prelude.{◌≡◌, ◌++◌, ◌∷◌, [], flat_map, map};
-ghost use Rattle.std.specs.List.{join_with_byte};
+ghost use Rattle.std.specs.Prelude.{◌≡◌, ◌<◌, ◌++◌, ◌∷◌, [], true, All, flat_map, length, map};
 ghost use Rattle.tfpg_base.specs.Append.{Appends};
+ghost use Rattle.tfpg_base.specs.TextLine.{separated};
 ghost use Rattle.tfpg_graph.specs.Graph.{AreFailures, failure_word};
-ghost use Rattle.tfpg_report.specs.Blocks.{set_word};
+ghost use Rattle.tfpg_report.specs.SetText.{doubt_word, set_word};
+ghost use Rattle.tfpg_report.specs.inside.Further.{further_words};
 
 use crate::names::failure_word;
-use tfpg_base::{NoMemory, Set, append_part};
+use tfpg_base::{Doubts, NoMemory, Set, append_part};
 use tfpg_graph::Graph;
 
-/// Appends the pieces, a set and a line end.
+/// Appends the pieces, the text of a set and a line end. The set has these failure modes and these monitors that are not
+/// believed.
 pub fn append_set_line(
     graph: &Graph,
     pieces: &[&[u8]],
     set: Set,
+    doubts: Doubts,
     into: &mut Vec<u8>,
 ) -> Result<(), NoMemory>
-    requires { AreFailures graph.now set }
-    ensures { Appends result into.old.items into.new.items
-        (flat_map (λ piece. piece.now) pieces.now ++ set_word graph.now set ++ 10 ∷ []) }
+    requires members { AreFailures graph.now set }
+    requires nodes { All (λ node. node < length graph.now.nodes) doubts }
+    ensures { Appends result into.old.items into.new.items (flat_map (λ piece. piece.now) pieces.now
+        ++ set_word graph.now (record { set = set; doubts = doubts }) ++ 10 ∷ []) }
 {
     append_pieces(pieces, into)?;
-    append_set(graph, set, into)?;
+    append_set(graph, set, doubts, into)?;
     into.push(b'\n')?;
     Ok(())
 }
@@ -37,24 +41,35 @@ fn append_pieces(pieces: &[&[u8]], into: &mut Vec<u8>) -> Result<(), NoMemory>
     Ok(())
 }
 
-/// Appends a set: a hyphen for the empty one, else the names of its members with commas between. Takes time linear in the
-/// count of failure modes, besides its text.
-pub fn append_set(graph: &Graph, set: Set, into: &mut Vec<u8>) -> Result<(), NoMemory>
-    requires { AreFailures graph.now set }
-    ensures { Appends result into.old.items into.new.items (set_word graph.now set) }
+/// Appends the text of a set: a hyphen where there is no member. Else the members, with commas between: the names of the
+/// failure modes in the order of their positions, and then the monitors that are not believed, in the order of their nodes,
+/// each with a `!` before its node's name. Takes time linear in the count of failure modes, and where there are such monitors
+/// in the count of nodes, besides its text.
+pub fn append_set(
+    graph: &Graph,
+    set: Set,
+    doubts: Doubts,
+    into: &mut Vec<u8>,
+) -> Result<(), NoMemory>
+    requires members { AreFailures graph.now set }
+    requires nodes { All (λ node. node < length graph.now.nodes) doubts }
+    ensures { Appends result into.old.items into.new.items
+        (set_word graph.now (record { set = set; doubts = doubts })) }
 {
-    if set.is_empty() {
+    let is_first = set.is_empty();
+    if is_first && doubts.len() == 0 {
         into.push(b'-')?;
         return Ok(());
     }
-    append_members(graph, set, into)
+    append_failures(graph, set, into)?;
+    append_doubts(graph, doubts, is_first, into)
 }
 
-/// Appends the names of the members with commas between.
-fn append_members(graph: &Graph, set: Set, into: &mut Vec<u8>) -> Result<(), NoMemory>
+/// Appends the names of the failure modes with commas between.
+fn append_failures(graph: &Graph, set: Set, into: &mut Vec<u8>) -> Result<(), NoMemory>
     requires { AreFailures graph.now set }
     ensures { Appends result into.old.items into.new.items
-        (join_with_byte 44 (map (failure_word graph.now) set)) }
+        (further_words true (map (failure_word graph.now) set)) }
 {
     let mut is_first = true;
     for position in 0..graph.failure_count() {
@@ -63,5 +78,45 @@ fn append_members(graph: &Graph, set: Set, into: &mut Vec<u8>) -> Result<(), NoM
             is_first = false;
         }
     }
+    Ok(())
+}
+
+/// Appends the words for the monitors that are not believed, with a comma before each, unless it is the first member.
+fn append_doubts(
+    graph: &Graph,
+    doubts: Doubts,
+    is_first: bool,
+    into: &mut Vec<u8>,
+) -> Result<(), NoMemory>
+    requires { All (λ node. node < length graph.now.nodes) doubts }
+    ensures { Appends result into.old.items into.new.items
+        (further_words is_first (map (doubt_word graph.now) doubts)) }
+{
+    if doubts.len() == 0 {
+        return Ok(());
+    }
+    let mut is_next_first = is_first;
+    for node in 0..graph.node_count() {
+        if doubts.has(node) {
+            append_doubt(graph, node, is_next_first, into)?;
+            is_next_first = false;
+        }
+    }
+    Ok(())
+}
+
+/// Appends the word for a monitor that is not believed, with a comma before it, unless it is the first member.
+fn append_doubt(
+    graph: &Graph,
+    node: u32,
+    is_first: bool,
+    into: &mut Vec<u8>,
+) -> Result<(), NoMemory>
+    requires { node < length graph.now.nodes }
+    ensures { Appends result into.old.items into.new.items
+        (separated 44 is_first (doubt_word graph.now node)) }
+{
+    append_part(into, b',', is_first, b"!")?;
+    into.extend_from_slice(graph.name(node))?;
     Ok(())
 }

@@ -1,5 +1,5 @@
 -- How a run on a file ends.
-use Rattle.std.proofs.Common.{◌≡◌, ℕ, ◌<◌, ◌≤◌, List, Result, Ok, Err, refl, sym, subst, subst₂, inl, inr, Bool}
+use Rattle.std.proofs.Common.{◌≡◌, ℕ, ◌<◌, ◌≤◌, List, Result, Ok, Err, refl, sym, subst, subst₂, ◌∙◌, inl, inr, Bool}
 use Rattle.std.specs.Prelude.{◌↔◌, IsErrAnd, OnOk, IfErr}
 use Rattle.tfpg_base.specs.declared.terms.Terms.{Terms}
 use Rattle.tfpg_base.specs.Terms.{AreReportTerms}
@@ -20,7 +20,11 @@ use Rattle.tfpg_run.specs.inside.Faults.{end_of_table_fault}
 use Rattle.tfpg_base.proofs.lists.Choices.{IfErr-from}
 use Rattle.tfpg_run.proofs.lemmas.diagnose.NextBlocks.{begins_without_memory}
 use Rattle.tfpg_base.proofs.lists.Sequences.{not_above}
-use Rattle.tfpg_run.specs.EndsOf.{end_of_fetch_fault, end_of_stream_fault}
+use Rattle.tfpg_run.specs.EndsOf.{end_of_fetch_fault, end_of_stream_fault, end_of_result}
+use Rattle.tfpg_run.specs.declared.fault.FetchFault.TheVariants as fetch
+use Rattle.tfpg_run.specs.Outputs.{WorksLineByLine}
+use Rattle.tfpg_run.specs.diagnose.Work.{IsReportWithin, RunsWithin}
+use Rattle.tfpg_words.specs.declared.usage_cause.UsageCause.{UsageCause}
 use Rattle.tfpg_run.specs.Fetch.{GivesGraph, IsFetchFault}
 use Rattle.tfpg_run.specs.Run.{CommandEnds}
 use Rattle.tfpg_run.specs.diagnose.Diagnosing.{Diagnoses, DiagnoseEnds}
@@ -114,6 +118,34 @@ pub diagnosed_for : (g graph : Tfpg) (other terms : Terms) (before now : Streams
 diagnosed_for g graph other terms before now result e f diagnoses =
     subst (λ (x : Terms). Diagnoses graph x before now result) f (subst (λ (x : Tfpg). Diagnoses x other before now result) e diagnoses)
 
+-- what its calls are within, for the graph and the terms that it was made of
+pub within_for : (g graph : Tfpg) (other terms : Terms) (before now : Streams) (start end : ℕ) → g ≡ graph → other ≡ terms
+    → WorksLineByLine (IsReportWithin g other start end) before now (Ok tt) → WorksLineByLine (IsReportWithin graph terms start end) before now (Ok tt)
+within_for g graph other terms before now start end e f works =
+    subst₂ (λ (x : Tfpg) (y : Terms). WorksLineByLine (IsReportWithin x y start end) before now (Ok tt)) e f works
+
+-- ---- work that was stopped is not done
+
+pub fetch_not_done : (fault : FetchFault) → end_of_fetch_fault fault ≡ Done → ⊥
+fetch_not_done fetch.Failed is = cc
+fetch_not_done fetch.TooLong is = cc
+fetch_not_done (fetch.Graph fault) is = cc
+fetch_not_done fetch.NoMemory is = cc
+
+pub table_not_done : (fault : TableFault) → end_of_table_fault fault ≡ Done → ⊥
+table_not_done (TooMany count) is = cc
+table_not_done NoMemory is = cc
+
+pub stream_not_done : (fault : StreamFault) → end_of_stream_fault fault ≡ Done → ⊥
+stream_not_done faults.ReadFault is = cc
+stream_not_done faults.WriteFault is = cc
+stream_not_done faults.TooMuchInput is = cc
+stream_not_done faults.NoMemory is = cc
+
+pub not_done : (result : Result (Unit {0}) End) (end : End) → (end ≡ Done → ⊥) → IsErrAnd result (λ e. e ≡ end) → end_of_result (λ (e : End). e) result ≡ Done → ⊥
+not_done (Ok done) end never err is = absurd err
+not_done (Err fault) end never err is = never (sym err ∙ is)
+
 -- ---- commands that were stopped, as the words name their files
 
 module _ {T : Type 0} (result : Result T End) (meant : Meaning) (first second : List ℕ) (before now : World) where
@@ -133,3 +165,9 @@ module _ {T : Type 0} (result : Result T End) (meant : Meaning) (first second : 
       (IfErr-with result (SimulateEnds (HasSimulation draw trace) graph script before now) (now.input ≡ before.input)
       (subst (λ (name : List ℕ). IfErr result (SimulateEnds (HasSimulation draw trace) name script before now)) one
       (subst (λ (name : List ℕ). IfErr result (SimulateEnds (HasSimulation draw trace) first name before now)) other is)) same)
+
+-- ---- within the limits
+
+-- what a run is within by the one meaning, it is within by the same
+pub runs_within : (meant other : Meaning) (before now : World) (start end : ℕ) → ◌≡◌ {A = Result Meaning UsageCause} (Ok meant) (Ok other) → RunsWithin other before now start end → RunsWithin meant before now start end
+runs_within meant other before now start end same is = let e : other ≡ meant = cc in subst (λ (m : Meaning). RunsWithin m before now start end) e is

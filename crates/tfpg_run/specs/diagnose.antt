@@ -3,3 +3,4 @@ pub mod ForNow
 pub mod RightReport
 pub mod Diagnosing
 pub mod BlockFindings
+pub mod Work

@@ -9,6 +9,7 @@ ghost use Rattle.tfpg_run.specs.EndsOf.{end_of_result};
 ghost use Rattle.tfpg_run.specs.Fetch.{AsksOnly};
 ghost use Rattle.tfpg_run.specs.Run.{RunEnds, CommandEnds};
 ghost use Rattle.tfpg_run.specs.World.{world};
+ghost use Rattle.tfpg_run.specs.diagnose.Work.{RunsWithin};
 
 use crate::diagnose::diagnose_file;
 use crate::end::End;
@@ -47,6 +48,11 @@ pub fn run<F: Shelf, S: Source, K: Sink, L: Ledger>(
         (world (F.state shelf.new) (S.state input.new) (K.state out.new)) →
         IsCompleted result }
 
+    // A diagnosis that is done kept within the limits of counted calls of its rounds.
+    ensures work { (meant : Meaning) → meaning (map string_bytes words.now) ≡ Ok meant → result ≡ End.Done →
+        RunsWithin meant (world (F.state shelf.old) (S.state input.old) (K.state out.old))
+        (world (F.state shelf.new) (S.state input.new) (K.state out.new)) work.old work.new }
+
     // No file is asked for but those that the words name.
     ensures asks { AsksOnly (meaning (map string_bytes words.now)) (F.state shelf.old).asked
         (F.state shelf.new).asked }
@@ -75,13 +81,22 @@ fn perform<F: Shelf, S: Source, K: Sink, L: Ledger>(
     ensures stopped { IfErr result (CommandEnds (Ok (meaning_of command.now))
         (world (F.state shelf.old) (S.state input.old) (K.state out.old))
         (world (F.state shelf.new) (S.state input.new) (K.state out.new))) }
+    ensures work { end_of_result (λ end. end) result ≡ End.Done → RunsWithin (meaning_of command.now)
+        (world (F.state shelf.old) (S.state input.old) (K.state out.old))
+        (world (F.state shelf.new) (S.state input.new) (K.state out.new)) work.old work.new }
     ensures asks { AsksOnly (Ok (meaning_of command.now)) (F.state shelf.old).asked
         (F.state shelf.new).asked }
 {
     match command {
-        Command::Diagnose { k, budget, graph } => {
+        Command::Diagnose {
+            k,
+            doubt,
+            budget,
+            graph,
+        } => {
             let terms = Terms {
                 k: *k,
+                doubt: *doubt,
                 budget: *budget,
             };
             diagnose_file(alloc, terms, graph.as_str(), shelf, input, out, work)

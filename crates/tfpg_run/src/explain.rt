@@ -39,28 +39,30 @@ pub(crate) fn judge_by_files<F: Shelf, S: Source, K: Sink>(
     ensures asks { AsksInOrder (graph_name.now ∷ log_name.now ∷ []) (F.state shelf.old).asked
         (F.state shelf.new).asked }
 {
-    let (graph, log) = fetch_graph_and_log(alloc, shelf, graph_name, log_name)?;
-    Ok(judge_map(alloc, &graph, &log, input, out)?)
+    let (graph, mut log) = fetch_graph_and_log(alloc, shelf, graph_name, log_name)?;
+    Ok(judge_map(alloc, &graph, &mut log, input, out)?)
 }
 
-/// Reads the map of the input, judges it by the graph and the log, and writes the verdict.
+/// Reads the map of the input, judges it by the graph and the log, and writes the verdict. From then on the log ignores the
+/// monitors that the map ignores.
 fn judge_map<S: Source, K: Sink>(
     alloc: Global,
     graph: &Graph,
-    log: &Log,
+    log: &mut Log,
     input: &mut S,
     out: &mut K,
 ) -> Result<(), JudgeFault>
-    requires { IsLogOf graph.now log.now }
-    ensures done { OnOk result (JudgesMap graph.now log.now
+    requires { IsLogOf graph.now log.old }
+    ensures done { OnOk result (JudgesMap graph.now log.old
         (streams (S.state input.old) (K.state out.old))
         (streams (S.state input.new) (K.state out.new)) (Ok tt)) }
-    ensures stopped { IfErr result (λ fault. JudgesMap graph.now log.now
+    ensures stopped { IfErr result (λ fault. JudgesMap graph.now log.old
         (streams (S.state input.old) (K.state out.old))
         (streams (S.state input.new) (K.state out.new)) (Err fault)) }
 {
     let map = read_map(alloc, graph, input)?;
-    let verdict = explains(graph, log, map.set, &map.trace);
+    log.ignore(map.members.doubts);
+    let verdict = explains(graph, log, map.members.set, &map.trace);
     let line = verdict_line(alloc, graph, verdict)?;
     write_all(out, &line)?;
     Ok(())

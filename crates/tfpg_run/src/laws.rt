@@ -1,9 +1,10 @@
 //! What the definitions of maps and of reports come to, as functions that do nothing: each says its laws in its clauses.
 
-ghost use Rattle.std.specs.Prelude.{◌≡◌, ◌<◌, ℕ, List, [], All, Contains, Some, false, slice_get};
+ghost use Rattle.std.specs.Prelude.{◌≡◌, ◌<◌, ◌≤◌, ℕ, List, length, [], All, Contains, Some, false, slice_get};
 ghost use Rattle.tfpg_base.specs.declared.activation.Activation.{Activation};
 ghost use Rattle.tfpg_base.specs.declared.terms.Terms.{Terms};
-ghost use Rattle.tfpg_base.specs.Hypothesis.{believing};
+ghost use Rattle.tfpg_base.specs.Hypothesis.{Hypothesis, believing};
+ghost use Rattle.tfpg_base.specs.declared.limits.TheConstants.{LONGEST_LINE};
 ghost use Rattle.tfpg_base.specs.Lines.{lines_of};
 ghost use Rattle.tfpg_base.specs.Trace.{IsRisingByNode};
 ghost use Rattle.tfpg_graph.specs.Graph.{Tfpg, IsSetOf};
@@ -18,7 +19,8 @@ ghost use Rattle.tfpg_check.specs.Report.{AreBlocks};
 ghost use Rattle.tfpg_sim.specs.declared.simulated.Simulated.{Simulated};
 ghost use Rattle.tfpg_sim.specs.Simulated.{IsSimulationOf};
 ghost use Rattle.tfpg_run.specs.diagnose.BlockFindings.{HasFindingInBlock};
-ghost use Rattle.tfpg_run.specs.map.Spelling.{IsActivationOf, SpellsMap};
+ghost use Rattle.tfpg_report.specs.SetText.{IsHypothesisOf};
+ghost use Rattle.tfpg_run.specs.map.Spelling.{IsActivationOf, SpellsMap, set_line};
 ghost use Rattle.tfpg_run.specs.map.MapText.{map_text};
 
 use tfpg_clause::laws::{
@@ -29,16 +31,22 @@ use tfpg_sim::laws::a_simulated_log_is_accepted_and_explained;
 
 /// Lines spell at most one map of a valid graph. So a verdict on a map that they spell is the verdict on theirs.
 pub fn lines_spell_at_most_one_map()
-    ensures { (graph : Tfpg) (lines : List (List ℕ)) (set other : List ℕ) (trace more : List Activation) →
-        IsValid graph → SpellsMap graph lines set trace → SpellsMap graph lines other more →
-        (set ≡ other) × (trace ≡ more) }
+    ensures { (graph : Tfpg) (lines : List (List ℕ)) (hypothesis other : Hypothesis)
+        (trace more : List Activation) →
+        IsValid graph → SpellsMap graph lines hypothesis trace → SpellsMap graph lines other more →
+        (hypothesis ≡ other) × (trace ≡ more) }
 {}
 
-/// The text of a map spells it, and so what `simulate` writes with `--trace` is a map that `explain` reads.
+/// The text of a map spells it, where the line of its set is not too long. It never is where no monitor is ignored, and so
+/// what `simulate` writes with `--trace` is a map that `explain` reads.
 pub fn the_text_of_a_map_spells_it()
-    ensures { (graph : Tfpg) (set : List ℕ) (trace : List Activation) →
+    ensures short { (graph : Tfpg) (hypothesis : Hypothesis) (trace : List Activation) →
+        IsValid graph → IsHypothesisOf graph hypothesis → All (IsActivationOf graph) trace →
+        IsRisingByNode trace → length (set_line graph hypothesis) ≤ LONGEST_LINE →
+        SpellsMap graph (lines_of (map_text graph hypothesis trace)) hypothesis trace }
+    ensures believing { (graph : Tfpg) (set : List ℕ) (trace : List Activation) →
         IsValid graph → IsSetOf graph set → All (IsActivationOf graph) trace → IsRisingByNode trace →
-        SpellsMap graph (lines_of (map_text graph set trace)) set trace }
+        SpellsMap graph (lines_of (map_text graph (believing set) trace)) (believing set) trace }
 {}
 
 /// In the blocks of a diagnosis of a simulated log, on any terms, no round rejects the simulated set.

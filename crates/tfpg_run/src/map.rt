@@ -1,4 +1,4 @@
-//! Maps: a set of failure modes, and a trace. `explain` reads one, and `simulate` writes one.
+//! Maps: a set of failure modes and of monitors that are ignored, and a trace. `explain` reads one, and `simulate` writes one.
 
 ghost use Rattle.std.specs.Prelude.{◌≡◌, ◌≤◌, ◌++◌, ◌∷◌, [], ℕ, List, length, OnOk, IsErrOf};
 ghost use Rattle.tfpg_base.specs.declared.limits.TheConstants.{LONGEST_LINE};
@@ -14,7 +14,7 @@ use lines::{read_activation, read_set_line};
 pub(crate) use reading::read_map;
 use std::alloc::Global;
 pub(crate) use text::map_text;
-use tfpg_base::{LineFault, NoMemory, Set, Trace};
+use tfpg_base::{Doubts, LineFault, NoMemory, Set, Trace};
 use tfpg_graph::Graph;
 
 /// Why a line is not taken.
@@ -37,10 +37,17 @@ pub(crate) enum NoMap {
     NoMemory,
 }
 
-/// A set of failure modes, and a trace.
+/// The members of a set: failure modes, and monitors that are ignored.
+#[derive(Drop)]
+pub(crate) struct Members {
+    pub(crate) set: Set,
+    pub(crate) doubts: Doubts,
+}
+
+/// The members of a set, and a trace.
 #[derive(Drop)]
 pub(crate) struct Map {
-    pub(crate) set: Set,
+    pub(crate) members: Members,
     pub(crate) trace: Trace,
 }
 
@@ -48,8 +55,8 @@ pub(crate) struct Map {
 #[derive(Drop)]
 pub(crate) struct MapReader {
     pub(crate) alloc: Global,
-    /// The set, once its line was read.
-    pub(crate) set: Option<Set>,
+    /// The members of the set, once its line was read.
+    pub(crate) members: Option<Members>,
     /// The activations so far.
     pub(crate) trace: Trace,
 }
@@ -61,7 +68,7 @@ impl MapReader {
     {
         MapReader {
             alloc,
-            set: None,
+            members: None,
             trace: Trace::new(alloc),
         }
     }
@@ -76,9 +83,9 @@ impl MapReader {
             → BeginsMap graph.now (lines ++ line.now ∷ []) → ⊥ }
     {
         graph.is_always_valid();
-        match self.set {
+        match self.members {
             None => {
-                self.set = Some(read_set_line(self.alloc, graph, line)?);
+                self.members = Some(read_set_line(self.alloc, graph, line)?);
                 Ok(())
             }
             Some(_) => self.take_activation(graph, line),
@@ -87,7 +94,7 @@ impl MapReader {
 
     /// Reads the line of one more activation.
     fn take_activation(&mut self, graph: &Graph, line: &[u8]) -> Result<(), MapFault>
-        ensures set { self.new.set ≡ self.old.set }
+        ensures members { self.new.members ≡ self.old.members }
         ensures taken { OnOk result (TakesActivation graph.now self.old.trace line.now self.new.trace) }
         ensures bad { IsErrOf result MapFault.BadMap → IsNoActivation graph.now self.old.trace line.now }
     {

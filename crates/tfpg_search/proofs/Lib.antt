@@ -8,6 +8,8 @@ pub mod steps
 pub mod leaves
 -- Calls of a search.
 pub mod calls
+-- Bounds that are set, and the calls that set them.
+pub mod work
 -- The budget that is always enough.
 pub mod budget
 -- The one latest solution at a leaf, and the clause that it violates first.

@@ -6,6 +6,7 @@ pub mod Solutions
 pub mod Live
 pub mod Enough
 pub mod SearchState
+pub mod Work
 pub mod Represents
 pub mod Searched
 pub mod Laws

@@ -7,7 +7,7 @@ use Rattle.tfpg_evidence.specs.declared.clause_name.ClauseName.{ClauseName}
 use Rattle.tfpg_evidence.specs.declared.reason.Reason.{Reason}
 use Rattle.tfpg_clause.specs.Order.{IsFirstViolated}
 use Rattle.tfpg_clause.specs.Case.{Case}
-use Rattle.tfpg_clause.specs.Trees.{Judged, IsPresentLeaf, stated}
+use Rattle.tfpg_clause.specs.Trees.{Judged, IsPresentLeaf, IsReusable, stated}
 use Rattle.tfpg_clause.specs.declared.path.PathSplit.{PathSplit}
 use Rattle.tfpg_search.specs.Solutions.{IsLatestAt}
 
@@ -39,6 +39,12 @@ pub record IsSimpleAfter (case : Case) (steps : List Judged) (reasons : List Rea
   pub path : List PathSplit
   pub leaf : IsPresentLeaf case steps path
   pub simple : IsSimpleAt case path reasons
+
+-- After these steps a subtree is reusable: it is so at their present leaf.
+pub record AllowsReuse (case : Case) (steps : List Judged) : Type 0 where
+  pub path : List PathSplit
+  pub leaf : IsPresentLeaf case steps path
+  pub reusable : IsReusable path
 
 -- no clause name stands twice on the path
 abbrev pub HasDistinctNames : List PathSplit → Type 0

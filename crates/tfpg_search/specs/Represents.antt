@@ -10,10 +10,13 @@ use Rattle.tfpg_clause.specs.Order.{horizon_of}
 use Rattle.tfpg_search.specs.Enough.{IsEventTime}
 use Rattle.tfpg_search.specs.Live.{HasNoNameTwice}
 use Rattle.tfpg_search.specs.SearchState.{SearchState, case_of_search}
+use Rattle.tfpg_search.specs.Work.{AreBoundsAt}
+use Rattle.tfpg_search.specs.inside.Leaf.{bounds_in}
 use Rattle.tfpg_search.specs.inside.AtItsLeaf.{IsAtItsLeaf, HasEnteredAll}
 
 -- The search represents these steps at this log: it has seen all its events, its path is that of their present leaf, all
--- alternatives on it were entered, no clause name stands twice on a path, and each horizon is the time of an event.
+-- alternatives on it were entered, the bounds in its system are those at this log, no clause name stands twice on a path, and
+-- each horizon is the time of an event.
 pub record SearchRepresents (graph : Tfpg) (log : Logbook) (search : SearchState) (steps : List Judged) : Type 0 where
   pub seen : search.seen ≡ length log.events
   pub leaf : IsPresentLeaf (case_of_search graph log search) steps search.path
@@ -21,6 +24,7 @@ pub record SearchRepresents (graph : Tfpg) (log : Logbook) (search : SearchState
   pub horizons : All (λ (split : PathSplit). IsEventTime log (horizon_of split.name)) search.path
   pub system : IsAtItsLeaf graph log search
   pub all_entered : HasEnteredAll search
+  pub bounds : AreBoundsAt (case_of_search graph log search) search.seen (bounds_in search.leaf)
 
 -- It represents some steps, at the first events of this log.
 abbrev pub RepresentsSome : Tfpg → Logbook → SearchState → Type 0

@@ -11,15 +11,16 @@ use Rattle.tfpg_clause.specs.Trees.{Judged, IsRefutation, split_count}
 use Rattle.tfpg_clause.specs.Paths.{with_steps}
 use Rattle.tfpg_search.specs.declared.found.Found.{Found}
 use Rattle.tfpg_search.specs.declared.found.Found.TheVariants.{Shown, Closed, Spent}
-use Rattle.tfpg_search.specs.Live.{IsLive, IsUnsettled, IsSimpleAfter, HasNoNameTwice}
+use Rattle.tfpg_search.specs.Live.{IsLive, IsUnsettled, IsSimpleAfter, AllowsReuse, HasNoNameTwice}
 use Rattle.tfpg_search.specs.SearchState.{SearchState, case_of_search}
 use Rattle.tfpg_search.specs.Represents.{SearchRepresents}
 
--- After these steps a split is live, in a cycle no left side stands twice, and no subtree is reused.
+-- After these steps a subtree is reused where one is reusable. Where none is, a split is live, and in a cycle no left side
+-- stands twice.
 abbrev pub IsSearchStep : Case → List Judged → Step → Type 0
-IsSearchStep case earlier (Split name) = IsLive case earlier name
-IsSearchStep case earlier (Cycle reasons) = IsSimpleAfter case earlier reasons
-IsSearchStep case earlier Again = ⊥
+IsSearchStep case earlier (Split name) = IsLive case earlier name × (AllowsReuse case earlier → ⊥)
+IsSearchStep case earlier (Cycle reasons) = IsSimpleAfter case earlier reasons × (AllowsReuse case earlier → ⊥)
+IsSearchStep case earlier Again = AllowsReuse case earlier
 
 -- The steps are right after the earlier ones: each is one that a search makes, and no clause name stands twice on a path.
 pub record AreSearchSteps (case : Case) (earlier : List Judged) (added : List Step) : Type 0 where
@@ -29,13 +30,15 @@ pub record AreSearchSteps (case : Case) (earlier : List Judged) (added : List St
 
 -- What was found, where these are the steps of all calls: a trace that explains the log from the set; that the steps are a
 -- refutation; or that the budget was spent on splits in this call and the tree is unsettled. Unless the steps are a
--- refutation, the search represents all of them.
+-- refutation, the search represents all of them, and no subtree is reusable after them.
 abbrev pub Finds : Case → ℕ → List Step → List Judged → SearchState → Found → Type 0
 Finds case budget added steps search (Shown trace) =
     Explains case.graph case.log search.set trace × SearchRepresents case.graph case.log search steps
+    × (AllowsReuse case steps → ⊥)
 Finds case budget added steps search Closed = IsRefutation case steps
 Finds case budget added steps search Spent =
     (split_count added ≡ budget) × IsUnsettled case steps × SearchRepresents case.graph case.log search steps
+    × (AllowsReuse case steps → ⊥)
 
 -- the same, unless memory ran out
 abbrev pub FindsOrNot : Case → ℕ → List Step → List Judged → SearchState → Result Found NoMemory → Type 0

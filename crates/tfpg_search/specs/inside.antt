@@ -7,6 +7,7 @@ pub mod Tags
 pub mod Closing
 pub mod LeafCalls
 pub mod Facts
+pub mod Counted
 pub mod Leaving
 pub mod Moves
 pub mod ClauseLaws

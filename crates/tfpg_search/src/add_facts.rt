@@ -1,6 +1,6 @@
 //! The facts of a log as bounds of a system.
 
-ghost use Rattle.std.specs.Prelude.{◌≡◌, ◌<◌, ◌≤◌, ◌+◌, ◌*◌, ℕ, pos, List, length, Option, Some, OnOk, OnErr, IfErr};
+ghost use Rattle.std.specs.Prelude.{◌≡◌, ◌<◌, ◌+◌, ℕ, pos, length, Some, OnOk, slice_get};
 ghost use Rattle.tfpg_base.specs.declared.constraint.Constraint.{Constraint};
 ghost use Rattle.tfpg_base.specs.Constraint.{Meets};
 ghost use Rattle.tfpg_evidence.specs.declared.reason.Reason.{Reason};
@@ -10,6 +10,9 @@ ghost use Rattle.tfpg_clause.specs.Case.{case_of};
 ghost use Rattle.tfpg_clause.specs.Facts.{fact};
 ghost use Rattle.tfpg_diff.specs.Solution.{IsSolution};
 ghost use Rattle.tfpg_diff.specs.SystemState.{with_floor, with_ceiling};
+ghost use Rattle.tfpg_search.specs.Work.{NodeBounds, AreFactBounds};
+ghost use Rattle.tfpg_search.specs.inside.Counted.{CountsFacts};
+ghost use Rattle.tfpg_search.specs.inside.Facts.{AreFactsIn};
 ghost use Rattle.tfpg_search.specs.inside.LeafCalls.{AddsFact, AddsFacts};
 
 use crate::add_fault::AddFault;
@@ -35,7 +38,10 @@ impl LeafSystem {
         requires nodes { length self.old.demands.bounds ≡ length graph.now.nodes }
         ensures adds { AddsFacts (fact (case_of graph.now log.now reach.now)) self.old self.new result }
         ensures picks { self.new.demands.picks ≡ self.old.demands.picks }
-        ensures steps { work.new ≤ work.old + 2 * length graph.now.nodes }
+        ensures facts { OnOk result ((node : ℕ) → node < length graph.now.nodes →
+            AreFactsIn (fact (case_of graph.now log.now reach.now)) self.new.demands node) }
+        ensures counts { (bounds : NodeBounds) → AreFactBounds (case_of graph.now log.now reach.now) bounds →
+            CountsFacts bounds self.old self.new work.old work.new result }
     {
         clause_laws();
         for node in 0..graph.node_count() {
@@ -55,7 +61,8 @@ impl LeafSystem {
         requires { node < length self.old.demands.bounds }
         ensures ok { OnOk result (self.new.demands ≡ with_floor self.old.demands node low.time node) }
         ensures adds { AddsFact low.reason (at_least node low.time) self.old self.new result }
-        ensures steps { work.new ≤ work.old + 1 }
+        ensures counts { (bounds : NodeBounds) → slice_get bounds.lows node ≡ Some low.time →
+            CountsFacts bounds self.old self.new work.old work.new result }
     {
         if low.time <= self.bounds(node).floor {
             return Ok(());
@@ -74,7 +81,8 @@ impl LeafSystem {
         ensures ok { OnOk result (self.new.demands ≡
             with_ceiling self.old.demands node high.time (length self.old.demands.bounds + node)) }
         ensures adds { AddsFact high.reason (at_most node (pos high.time)) self.old self.new result }
-        ensures steps { work.new ≤ work.old + 1 }
+        ensures counts { (bounds : NodeBounds) → slice_get bounds.highs node ≡ Some high.time →
+            CountsFacts bounds self.old self.new work.old work.new result }
     {
         if self.bounds(node).ceiling <= high.time {
             return Ok(());

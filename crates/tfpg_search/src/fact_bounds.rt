@@ -1,11 +1,13 @@
 //! The bounds that the facts of a log give the time of a node.
 
-ghost use Rattle.std.specs.Prelude.{◌≡◌, ℕ, ◌<◌, ◌≤◌, ◌+◌, ◌-◌, List, pos, length, Some, unwrap_or, if◌then◌else◌, nat_lt};
+ghost use Rattle.std.specs.Prelude.{◌≡◌, ℕ, ◌<◌, ◌≤◌, ◌+◌, ◌⊎◌, List, pos, length, true, Some, None, IfSome, MatchOption, if◌then◌else◌, nat_lt};
 ghost use Rattle.tfpg_base.specs.declared.limits.TheConstants.{NEVER};
 ghost use Rattle.tfpg_evidence.specs.declared.reason.Reason.{Reason};
-ghost use Rattle.tfpg_graph.specs.Graph.{Tfpg, lag_or_zero};
+ghost use Rattle.tfpg_graph.specs.Graph.{Tfpg};
 ghost use Rattle.tfpg_log.specs.declared.event.Event.TheVariants.{Alarm};
-ghost use Rattle.tfpg_log.specs.Log.{now_of, event_at, quiet_at};
+ghost use Rattle.tfpg_log.specs.declared.interval.Interval.{Interval};
+ghost use Rattle.tfpg_log.specs.Log.{now_of, event_at, is_ignored, quiet_at};
+ghost use Rattle.tfpg_search.specs.inside.Facts.{Leaves};
 ghost use Rattle.tfpg_base.specs.Bounds.{at_most, at_least};
 ghost use Rattle.tfpg_clause.specs.Case.{case_of};
 ghost use Rattle.tfpg_clause.specs.Facts.{fact};
@@ -13,7 +15,7 @@ ghost use Rattle.tfpg_clause.specs.Facts.{fact};
 use tfpg_base::NEVER;
 use tfpg_evidence::Reason;
 use tfpg_graph::{Graph, NodeSet};
-use tfpg_log::Log;
+use tfpg_log::{Interval, Log};
 
 /// A bound of the time of a node, in milliseconds, with the fact that states it.
 #[derive(Clone, Copy)]
@@ -51,9 +53,9 @@ pub(crate) fn high(graph: &Graph, log: &Log, node: u32) -> Bound
     ensures in_range { result.time ≤ NEVER }
 {
     log.is_always_ordered();
-    match log.alarm_event(node) {
-        Some(event) => Bound {
-            time: log.event(event).time(),
+    match left_by(graph, log, node, log.alarm_event(node)) {
+        Some((event, interval)) => Bound {
+            time: interval.latest,
             reason: Reason::Upto { event },
         },
         None => Bound {
@@ -79,45 +81,72 @@ fn after_now(log: &Log, node: u32) -> Bound
     }
 }
 
-/// The lower bound that the alarm of a node gives it: its lag before. It is 0 for a node without an alarm.
+/// The lower bound that the last alarm of a node gives it: its greatest lag before. It is 0 for a node without an alarm
+/// that says anything.
 fn after_alarm(graph: &Graph, log: &Log, node: u32) -> Bound
     requires { node < length graph.now.nodes }
     ensures stated { (reach : List ℕ) →
         fact (case_of graph.now log.now reach) result.reason ≡ Some (at_least node result.time) }
-    ensures greatest { (number time : ℕ) → event_at log.now number ≡ Some (Alarm time node) →
-        time - lag_or_zero graph.now node ≤ result.time }
+    ensures greatest { (number : ℕ) (interval : Interval) → Leaves graph.now log.now node number interval →
+        interval.earliest ≤ result.time }
     ensures in_range { result.time ≤ NEVER }
 {
     log.is_always_ordered();
-    match log.alarm_event(node) {
-        Some(event) => {
-            let lag = graph.lag_or_zero(node);
-            Bound {
-                time: log.event(event).time().saturating_sub(lag),
-                reason: Reason::From { event },
-            }
-        }
+    match left_by(graph, log, node, log.last_alarm(node)) {
+        Some((event, interval)) => Bound {
+            time: interval.earliest,
+            reason: Reason::From { event },
+        },
         None => from_zero(node),
     }
 }
 
-/// The lower bound that the last event gives a node which silences it: just after. It is 0 where no event silences it.
+/// The alarm of the node, by its number, and the instants that it leaves for the node's activation, where there is one, and
+/// it leaves any.
+fn left_by(graph: &Graph, log: &Log, node: u32, alarm: Option<u32>) -> Option<(u32, Interval)>
+    requires { IfSome alarm (λ number. (time : ℕ) × (event_at log.now number ≡ Some (Alarm time node))) }
+    ensures { MatchOption result
+        ((alarm ≡ None) ⊎ (is_ignored log.now node ≡ true))
+        (λ left. (alarm ≡ Some left.0) × Leaves graph.now log.now node left.0 left.1) }
+{
+    let number = alarm?;
+    let time = log.find_event(number)?.time();
+    let interval = log.alarm_interval(graph, node, time)?;
+    Some((number, interval))
+}
+
+/// The lower bound that the last event gives a node which says that it is not active: just after the instant up to which it
+/// says so. It is 0 where no event says so.
 fn after_silence(graph: &Graph, log: &Log, node: u32) -> Bound
     requires { node < length graph.now.nodes }
     ensures stated { (reach : List ℕ) →
         fact (case_of graph.now log.now reach) result.reason ≡ Some (at_least node result.time) }
-    ensures greatest { (number time : ℕ) → quiet_at graph.now log.now number node ≡ Some time →
-        time + 1 ≤ result.time }
+    ensures greatest { (number until : ℕ) → quiet_at graph.now log.now number node ≡ Some until →
+        until + 1 ≤ result.time }
     ensures in_range { result.time ≤ NEVER }
 {
-    log.is_always_ordered();
-    match log.last_quiet(graph, node) {
-        Some(event) => Bound {
-            time: log.event(event).time() + 1,
+    match last_quiet(graph, log, node) {
+        Some((event, until)) => Bound {
+            time: until + 1,
             reason: Reason::Quiet { event, node },
         },
         None => from_zero(node),
     }
+}
+
+/// The last event that says that the node is not active, by its number, and the instant up to which it says so, where there
+/// is one.
+fn last_quiet(graph: &Graph, log: &Log, node: u32) -> Option<(u32, u64)>
+    ensures last { MatchOption result
+        ((number until : ℕ) → quiet_at graph.now log.now number node ≡ Some until → ⊥)
+        (λ last. (quiet_at graph.now log.now last.0 node ≡ Some last.1)
+        × ((number until : ℕ) → quiet_at graph.now log.now number node ≡ Some until → until ≤ last.1)) }
+    ensures in_range { IfSome result (λ last. last.1 < NEVER) }
+{
+    log.is_always_ordered();
+    let event = log.last_quiet(graph, node)?;
+    let until = log.quiet_at(graph, event, node)?;
+    Some((event, until))
 }
 
 /// No time is before 0.

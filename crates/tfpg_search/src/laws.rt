@@ -1,11 +1,15 @@
 //! What the definitions of this crate come to, as functions that do nothing: each says its law in its clauses.
 
-ghost use Rattle.std.specs.Prelude.{ℕ, List};
+ghost use Rattle.std.specs.Prelude.{◌≡◌, ◌+◌, ◌*◌, ℕ, List};
 ghost use Rattle.tfpg_graph.specs.Graph.{Tfpg};
 ghost use Rattle.tfpg_log.specs.Log.{Logbook};
 ghost use Rattle.tfpg_evidence.specs.declared.clause_name.ClauseName.{ClauseName};
 ghost use Rattle.tfpg_search.specs.Enough.{AreNamesAt, IsMaximumIncoming};
+ghost use Rattle.tfpg_clause.specs.Case.{Case, case_at};
+ghost use Rattle.tfpg_search.specs.Work.{NodeBounds, AreFactBounds, AreBoundsAt, IsWorkLimit};
 ghost use Rattle.tfpg_search.specs.Laws.{SolvedLeavesHaveALatestSolution, LatestSolutionsAreAlone, TreesAreUnsettledWhereTheLatestSolutionViolates};
+
+use tfpg_clause::laws::facts_give_a_node_one_low_and_one_high;
 
 /// There is a budget that is always enough, for each graph and log: the clause names of a log can be listed, and some node has
 /// the greatest number of edges into it.
@@ -27,3 +31,17 @@ pub fn a_solved_leaf_has_one_latest_solution()
 pub fn a_tree_is_unsettled_where_its_latest_solution_violates()
     ensures { TreesAreUnsettledWhereTheLatestSolutionViolates }
 {}
+
+/// Each round has one limit of its counted calls: `there` says that there is one, and `only_one` that there is no other. Where
+/// the log changes no bound, the limit depends on the steps alone, and not on how many nodes there are (`unchanged`). So a search
+/// that built its system anew in each round would not keep within it.
+pub fn a_round_has_one_work_limit()
+    ensures there { (case : Case) (seen steps : ℕ) → (limit : ℕ) × IsWorkLimit case seen steps limit }
+    ensures only_one { (case : Case) (seen steps one other : ℕ) → IsWorkLimit case seen steps one →
+        IsWorkLimit case seen steps other → one ≡ other }
+    ensures unchanged { (case : Case) (seen steps limit : ℕ) (bounds : NodeBounds) →
+        AreBoundsAt (case_at case seen) seen bounds → AreFactBounds case bounds →
+        IsWorkLimit case seen steps limit → limit ≡ 4 * (steps + 1) }
+{
+    facts_give_a_node_one_low_and_one_high();
+}

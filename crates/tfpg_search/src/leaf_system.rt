@@ -11,7 +11,8 @@ ghost use Rattle.tfpg_diff.specs.declared.bounds.Bounds.{Bounds};
 ghost use Rattle.tfpg_diff.specs.Demands.{Bounded};
 ghost use Rattle.tfpg_diff.specs.Solution.{IsLatest};
 ghost use Rattle.tfpg_diff.specs.SystemState.{with_floor, with_ceiling, with_pick, popped_to};
-ghost use Rattle.tfpg_search.specs.inside.Leaf.{pick_reasons, IsStated};
+ghost use Rattle.tfpg_search.specs.Work.{widest_bounds};
+ghost use Rattle.tfpg_search.specs.inside.Leaf.{bounds_in, pick_reasons, IsStated};
 ghost use Rattle.tfpg_search.specs.inside.Closing.{IsFaultOf};
 ghost use Rattle.tfpg_search.specs.inside.LeafCalls.{AddsFact, AddsPick};
 ghost use Rattle.tfpg_search.specs.inside.Tags.{HasReason, reason_of};
@@ -55,6 +56,7 @@ impl LeafSystem {
     /// The system of so many nodes, of which nothing is known but that their times lie in range.
     pub(crate) fn new(alloc: Global, nodes: u32) -> Result<LeafSystem, NoMemory>
         ensures nodes { IfOk result (λ leaf. length leaf.demands.bounds ≡ nodes) }
+        ensures widest { IfOk result (λ leaf. bounds_in leaf ≡ widest_bounds nodes) }
         ensures no_picks { IfOk result (λ leaf. leaf.demands.picks ≡ []) }
         ensures no_reasons { IfOk result (λ leaf. pick_reasons leaf ≡ []) }
         ensures stated { (fact : Reason → Option Constraint) →

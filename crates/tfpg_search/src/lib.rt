@@ -2,8 +2,8 @@
 //!
 //! - [`Search`] has one set of failure modes. [`Search::round`] searches on for a log that goes on, and appends its steps.
 //! - [`Found`] is what it found: a trace that explains the log, a refutation, or that the budget of the round was spent.
-//! - [`laws`] says that there is a budget that is always enough, that a leaf with a solution has one latest solution, and which trees
-//!   are unsettled.
+//! - [`laws`] says that there is a budget that is always enough, that a leaf with a solution has one latest solution, which trees
+//!   are unsettled, and that a round has one limit of its counted calls.
 //!
 //! The mathematics stands in `docs/search.md`.
 //!

@@ -1,6 +1,6 @@
 //! The search of one set of failure modes, over all rounds.
 
-ghost use Rattle.std.specs.Prelude.{◌≡◌, ◌≤◌, ◌<◌, [], All, IfOk, Ok, length};
+ghost use Rattle.std.specs.Prelude.{◌≡◌, ◌≤◌, ◌<◌, ◌+◌, ◌-◌, ℕ, [], All, IfOk, Ok, length};
 ghost use Rattle.tfpg_graph.specs.Graph.{failures};
 ghost use Rattle.tfpg_graph.specs.Reach.{IsReach};
 ghost use Rattle.tfpg_log.specs.Log.{Logbook, IsLogOf, IsOrdered, first_events};
@@ -8,6 +8,9 @@ ghost use Rattle.tfpg_search.specs.Represents.{SearchRepresents, RepresentsSome}
 ghost use Rattle.tfpg_search.specs.inside.AtItsLeaf.{IsAtItsLeaf};
 ghost use Rattle.tfpg_search.specs.Enough.{IsEnough};
 ghost use Rattle.tfpg_search.specs.Searched.{IsSearched, call_of};
+ghost use Rattle.tfpg_search.specs.SearchState.{case_of_search};
+ghost use Rattle.tfpg_search.specs.Work.{NodeBounds, AreFactBounds, IsWorkLimit};
+ghost use Rattle.tfpg_search.specs.inside.Counted.{IsPaid};
 ghost use Rattle.tfpg_search.specs.inside.Moves.{KeepsSet, SearchesOn};
 
 mod entering;
@@ -95,6 +98,9 @@ impl Search {
 
     /// Continues the search, for a log that goes on from that of the last round. Appends the steps of this round, with
     /// at most as many splits as the budget says.
+    ///
+    /// The counter counts the calls that add to the system: at most one for each bound of a node that the log changed since the
+    /// last round, and four for each step and once more.
     pub fn round<L: Ledger>(
         &mut self,
         graph: &Graph,
@@ -109,6 +115,8 @@ impl Search {
         requires represents { RepresentsSome graph.now log.now self.old }
         ensures searched { IsSearched graph.now log.now budget
             (call_of self.old self.new steps.old steps.new) result }
+        ensures work { (limit : ℕ) → IsWorkLimit (case_of_search graph.now log.now self.old) self.old.seen
+            (length steps.new - length steps.old) limit → work.new ≤ work.old + limit }
         ensures enough { IsEnough graph.now log.now budget → result ≡ Ok Found.Spent → ⊥ }
         ensures set { self.new.set ≡ self.old.set }
         ensures reach { self.new.reach ≡ self.old.reach }
@@ -133,6 +141,8 @@ impl Search {
         ensures keeps { KeepsSet self.old self.new }
         ensures searches { SearchesOn graph.now log.now budget
             (call_of self.old self.new steps.old steps.new) result }
+        ensures counts { (bounds : NodeBounds) → AreFactBounds (case_of_search graph.now log.now self.old) bounds →
+            IsPaid bounds (call_of self.old self.new steps.old steps.new) work.old work.new }
     {
         let mut spent = 0;
         loop {

@@ -6,6 +6,7 @@ use Rattle.rand_pcg.specs.Pcg.{multiplier_64, pcg32}
 use Rattle.tfpg_graph.specs.declared.edge.Edge.{Edge}
 use Rattle.tfpg_graph.specs.declared.kind.Lag.{Lag}
 use Rattle.tfpg_graph.specs.Graph.{Tfpg, Node, lag_of}
+use Rattle.tfpg_sim.specs.declared.draws.Lateness.{Lateness}
 use Rattle.tfpg_sim.specs.declared.limits.TheConstants.{DELAY_STREAM, OPEN_DELAYS}
 
 -- the generator of a number and a stream: that of `Lcg64Xsh32`
@@ -43,18 +44,24 @@ abbrev pub after_lag : Lcg → Option Lag → Lcg
 after_lag state None = state
 after_lag state (Some lag) = after_draw state
 
--- how late the alarm of a monitored node comes
-abbrev pub lateness_of : Lcg → Node → Option ℕ
-lateness_of state node = option_map (λ lag. drawn state % (lag.most + 1)) (lag_of node.kind)
+-- the lateness of an alarm by its lag and what is drawn for it: from the least lag up to the greatest
+abbrev pub lateness_of : Lag → ℕ → Lateness
+lateness_of lag value = record { least = lag.least; drawn = lag.least + value % (lag.most - lag.least + 1) }
+
+-- the lateness that a node draws, where it is monitored
+abbrev pub lateness_drawn : Lcg → Option Lag → Option Lateness
+lateness_drawn state lag = option_map (λ own. lateness_of own (drawn state)) lag
 
 -- the latenesses of these nodes, from this generator on
-abbrev pub latenesses_from : Lcg → List Node → List (Option ℕ)
-latenesses_from state nodes = scan (λ before node. after_lag before (lag_of node.kind)) lateness_of state nodes
+abbrev pub latenesses_from : Lcg → List Node → List (Option Lateness)
+latenesses_from state nodes =
+    scan (λ before node. after_lag before (lag_of node.kind)) (λ before node. lateness_drawn before (lag_of node.kind))
+    state nodes
 
 -- the delay of each edge
 abbrev pub delays : Tfpg → ℕ → List ℕ
 delays graph number = delays_from (generator number DELAY_STREAM) graph.edges
 
 -- the lateness of each node that is monitored, drawn after the delays
-abbrev pub latenesses : Tfpg → ℕ → List (Option ℕ)
+abbrev pub latenesses : Tfpg → ℕ → List (Option Lateness)
 latenesses graph number = latenesses_from (after_edges (generator number DELAY_STREAM) graph.edges) graph.nodes

@@ -1,24 +1,33 @@
 //! What a simulation draws.
 
-ghost use Rattle.std.specs.Prelude.{◌≡◌, ◌≤◌, ◌<◌, ◌+◌, ◌^◌, ◌%◌, IfOk, OnOk, IfSome, length, All, option_map};
+ghost use Rattle.std.specs.Prelude.{◌≡◌, ◌≤◌, ◌<◌, ◌+◌, ◌^◌, IfOk, OnOk, IfSome, length};
 ghost use Rattle.tfpg_base.specs.declared.limits.TheConstants.{MAX_TIME};
 ghost use Rattle.tfpg_graph.specs.Graph.{lag_of};
 ghost use Rattle.tfpg_sim.specs.inside.Arrivals.{AreNearDelays, far};
-ghost use Rattle.tfpg_sim.specs.Draws.{generator, drawn, after_draw, delay_count, delay_of, after_edges, delays_from, after_lag, latenesses_from, delays, latenesses};
-ghost use Rattle.tfpg_sim.specs.inside.Entries.{IsLatenessInRange};
+ghost use Rattle.tfpg_sim.specs.Draws.{generator, drawn, after_draw, delay_count, delay_of, after_edges, delays_from, after_lag, lateness_of, lateness_drawn, latenesses_from, delays, latenesses};
+ghost use Rattle.tfpg_sim.specs.inside.Entries.{IsLatenessInRange, AreLatenessesInRange};
 
 use crate::limits::{DELAY_STREAM, OPEN_DELAYS};
 use rand_core::utils::NextWord;
 use rand_pcg::Lcg64Xsh32;
 use std::alloc::Global;
 use tfpg_base::NoMemory;
-use tfpg_graph::{Edge, Graph, Kind};
+use tfpg_graph::{Edge, Graph, Kind, Lag};
 
-/// The delay of each edge, and how late the alarm of each monitored node comes, in milliseconds.
+/// How late the alarm of a monitored node comes after its activation, in milliseconds.
+#[derive(Clone, Copy)]
+pub(crate) struct Lateness {
+    /// The least lag of the node. A sweep brings the alarm from then on.
+    pub(crate) least: u64,
+    /// What is drawn, from the least lag up to the greatest. The alarm comes then, where no sweep brings it earlier.
+    pub(crate) drawn: u64,
+}
+
+/// The delay of each edge in milliseconds, and the lateness of each monitored node.
 #[derive(Drop)]
 pub(crate) struct Draws {
     pub(crate) delays: Vec<u64>,
-    pub(crate) latenesses: Vec<Option<u64>>,
+    pub(crate) latenesses: Vec<Option<Lateness>>,
 }
 
 /// Draws the delays and the latenesses by the number. Takes time and memory linear in the graph.
@@ -27,7 +36,7 @@ pub(crate) fn draw_all(alloc: Global, graph: &Graph, number: u64) -> Result<Draw
     ensures latenesses { IfOk result (λ draws. draws.latenesses.items ≡ latenesses graph.now number) }
     ensures small_delays { IfOk result (λ draws. AreNearDelays draws.delays.items) }
     ensures each_delay { IfOk result (λ draws. length draws.delays.items ≡ length graph.now.edges) }
-    ensures small_latenesses { IfOk result (λ draws. All IsLatenessInRange draws.latenesses.items) }
+    ensures small_latenesses { IfOk result (λ draws. AreLatenessesInRange draws.latenesses.items) }
     ensures each_lateness { IfOk result (λ draws. length draws.latenesses.items ≡ length graph.now.nodes) }
 {
     let mut state = Lcg64Xsh32::new(number, DELAY_STREAM);
@@ -71,10 +80,10 @@ fn draw_latenesses(
     alloc: Global,
     graph: &Graph,
     state: &mut Lcg64Xsh32,
-) -> Result<Vec<Option<u64>>, NoMemory>
+) -> Result<Vec<Option<Lateness>>, NoMemory>
     ensures latenesses { IfOk result (λ latenesses. latenesses.items ≡
         latenesses_from state.old graph.now.nodes) }
-    ensures small { IfOk result (λ latenesses. All IsLatenessInRange latenesses.items) }
+    ensures small { IfOk result (λ latenesses. AreLatenessesInRange latenesses.items) }
     ensures count { IfOk result (λ latenesses. length latenesses.items ≡ length graph.now.nodes) }
 {
     let mut latenesses = Vec::new(alloc);
@@ -85,14 +94,27 @@ fn draw_latenesses(
 }
 
 /// Draws the lateness of a node of this kind, where it is monitored.
-fn draw_lateness(kind: Kind, state: &mut Lcg64Xsh32) -> Option<u64>
-    requires { IfSome (lag_of kind) (λ lag. lag.most ≤ MAX_TIME) }
-    ensures small { IsLatenessInRange result }
-    ensures lateness { result ≡ option_map (λ lag. drawn state.old % (lag.most + 1)) (lag_of kind) }
+fn draw_lateness(kind: Kind, state: &mut Lcg64Xsh32) -> Option<Lateness>
+    requires { IfSome (lag_of kind) (λ lag. (lag.least ≤ lag.most) × (lag.most ≤ MAX_TIME)) }
+    ensures small { IfSome result IsLatenessInRange }
+    ensures lateness { result ≡ lateness_drawn state.old (lag_of kind) }
     ensures after { state.new ≡ after_lag state.old (lag_of kind) }
 {
     let lag = kind.lag()?;
-    Some(draw_value(state) % (lag.most + 1))
+    Some(lateness_of(lag, draw_value(state)))
+}
+
+/// The lateness of an alarm by its lag and what is drawn for it: from the least lag up to the greatest.
+fn lateness_of(lag: Lag, value: u64) -> Lateness
+    requires in_order { lag.least ≤ lag.most }
+    requires most { lag.most ≤ MAX_TIME }
+    ensures lateness { result ≡ lateness_of lag value }
+    ensures small { IsLatenessInRange result }
+{
+    Lateness {
+        least: lag.least,
+        drawn: lag.least + value % (lag.most - lag.least + 1),
+    }
 }
 
 /// Takes a draw: two words, the high half first.

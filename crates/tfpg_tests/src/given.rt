@@ -7,7 +7,7 @@ ghost use Rattle.tfpg_log.specs.Log.{IsLogOf, with_event};
 use std::alloc::Global;
 use std::test::Fail;
 use tfpg_base::Set;
-use tfpg_graph::{Graph, NodeSet};
+use tfpg_graph::{Graph, NodeSet, read};
 use tfpg_log::{Log, Offered};
 
 /// Two failure modes with an edge each to A, of which the second is active in mode N alone. The first also has an edge to B,
@@ -40,6 +40,33 @@ pub(crate) fn accept(log: &mut Log, graph: &Graph, line: &[u8]) -> Result<(), Fa
         Offered::Accepted(_) => Ok(()),
         Offered::Refused(_) => Err(Fail::from("a line is refused")),
     }
+}
+
+/// Makes the rest of a test on the graph of the text and the log of the lines. No test owns them itself: each way out of a
+/// function that owns a graph is dear to prove.
+pub(crate) fn on_log<F: FnOnce(&Graph, &Log) -> Result<(), Fail>>(
+    alloc: Global,
+    text: &[u8],
+    lines: &[&[u8]],
+    test: F,
+) -> Result<(), Fail>
+    requires { (graph : _) (log : _) → IsLogOf graph.now log.now → F.pre test graph log }
+{
+    let graph = read(alloc, text)?;
+    on_log_of(alloc, &graph, lines, test)
+}
+
+/// Makes the rest of a test on the log of the lines.
+pub(crate) fn on_log_of<F: FnOnce(&Graph, &Log) -> Result<(), Fail>>(
+    alloc: Global,
+    graph: &Graph,
+    lines: &[&[u8]],
+    test: F,
+) -> Result<(), Fail>
+    requires { (graph : _) (log : _) → IsLogOf graph.now log.now → F.pre test graph log }
+{
+    let log = log_of(alloc, graph, lines)?;
+    test(graph, &log)
 }
 
 /// The nodes that the first failure mode of the graph reaches.

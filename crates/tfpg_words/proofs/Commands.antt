@@ -5,7 +5,7 @@ use Rattle.std.proofs.lemmas.Bool.{lt-ltb}
 use Rattle.std.proofs.lemmas.List.Sums.{sum_by-cons}
 use Rattle.clap.specs.Walk.{Row, Text}
 use Rattle.tfpg_words.specs.Words.{Form, Parts, Use, Word, is_word_among}
-use Rattle.tfpg_words.specs.Meaning.{NumberOption, both, number_by, number_in, use_of, k_option, budget_option, draw_option, size_option, diagnose_form, diagnose_of, diagnose_on, generate_form, generate_of, generate_on, simulate_form, simulate_of, simulate_on}
+use Rattle.tfpg_words.specs.Meaning.{NumberOption, both, number_by, number_in, use_of, k_option, doubt_option, budget_option, draw_option, size_option, diagnose_form, diagnose_of, diagnose_on, generate_form, generate_of, generate_on, simulate_form, simulate_of, simulate_on}
 use Rattle.tfpg_words.specs.inside.Given.{diagnose_by, diagnose_given, first_value, generate_by, generate_given, is_used, number_given, simulate_by, simulate_given}
 use Rattle.tfpg_words.specs.inside.Rows.{Holds, hyphened}
 
@@ -48,7 +48,8 @@ module _ (form : Form) (rows : List Row) (said : Parts) (h : Holds form rows sai
 abbrev pub Given : Form → Option Parts → List Row → Type 0
 Given form parts rows = (said : Parts) × (parts ≡ Some said) × Holds form rows said
 
-diagnose_same : (uses : List Use) (words : List Word) → diagnose_by (both (number_by k_option uses) (number_by budget_option uses)) words ≡ diagnose_on uses words
+diagnose_same : (uses : List Use) (words : List Word)
+    → diagnose_by (both (both (number_by k_option uses) (number_by doubt_option uses)) (number_by budget_option uses)) words ≡ diagnose_on uses words
 diagnose_same uses [] = refl
 diagnose_same uses (graph ∷ panels) = refl
 
@@ -64,7 +65,9 @@ generate_same uses (word ∷ words) = refl
 
 pub diagnose_is : (parts : Option Parts) (rows : List Row) → Given diagnose_form parts rows → diagnose_given rows ≡ diagnose_of parts
 diagnose_is parts rows (said, is, h) =
-    (λ i. diagnose_by (both (number_is diagnose_form rows said h k_option (codes "k") refl refl i) (number_is diagnose_form rows said h budget_option (codes "budget") refl refl i)) (h.words i))
+    (λ i. diagnose_by
+    (both (both (number_is diagnose_form rows said h k_option (codes "k") refl refl i) (number_is diagnose_form rows said h doubt_option (codes "doubt") refl refl i))
+    (number_is diagnose_form rows said h budget_option (codes "budget") refl refl i)) (h.words i))
     ∙ (diagnose_same said.uses said.positional ∙ ap diagnose_of (sym is))
 
 pub simulate_is : (parts : Option Parts) (rows : List Row) → Given simulate_form parts rows → simulate_given rows ≡ simulate_of parts

@@ -5,7 +5,7 @@ use Rattle.std.proofs.lemmas.Bool.{and_parts, leb-true}
 use Rattle.tfpg_base.specs.Words.{number_of}
 use Rattle.tfpg_words.specs.declared.usage_cause.UsageCause.{UsageCause}
 use Rattle.tfpg_words.specs.declared.usage_cause.UsageCause.TheVariants.{OutOfRange, UnknownCommand}
-use Rattle.tfpg_words.specs.Meaning.{Meaning, Diagnose, Explain, Simulate, Generate, NumberOption, within, number_in, number_by, both, use_of, k_option, budget_option, draw_option, size_option, diagnose_form, diagnose_with, diagnose_on, diagnose_of, explain_form, explain_on, explain_of, simulate_form, simulate_with, simulate_on, simulate_of, generate_form, generate_with, generate_on, generate_of, meaning}
+use Rattle.tfpg_words.specs.Meaning.{Meaning, Diagnose, Explain, Simulate, Generate, NumberOption, within, number_in, number_by, both, use_of, k_option, doubt_option, budget_option, draw_option, size_option, diagnose_form, diagnose_with, diagnose_on, diagnose_of, explain_form, explain_on, explain_of, simulate_form, simulate_with, simulate_on, simulate_of, generate_form, generate_with, generate_on, generate_of, meaning}
 use Rattle.tfpg_words.specs.Words.{Parts, Use, Word, parts_of_words}
 
 -- a number within the limits of an option
@@ -15,7 +15,7 @@ pub record IsInLimits (option : NumberOption) (number : ℕ) : Type 0 where
 
 -- so is each number of the meaning
 abbrev pub AreInLimits : Meaning → Type 0
-AreInLimits (Diagnose terms graph) = IsInLimits k_option terms.k × IsInLimits budget_option terms.budget
+AreInLimits (Diagnose terms graph) = (IsInLimits k_option terms.k × IsInLimits doubt_option terms.doubt) × IsInLimits budget_option terms.budget
 AreInLimits (Explain graph log) = ⊤
 AreInLimits (Simulate draw trace graph script) = IsInLimits draw_option draw
 AreInLimits (Generate draw size) = IsInLimits draw_option draw × IsInLimits size_option size
@@ -42,9 +42,9 @@ module _ (option : NumberOption) where
     number_within : (uses : List Use) → IfOk (number_by option uses) (IsInLimits option)
     number_within uses = used_within (use_of option.name uses)
 
-module _ (one two : NumberOption) where
-  both_within : (first second : Result ℕ UsageCause) → IfOk first (IsInLimits one) → IfOk second (IsInLimits two)
-      → IfOk (both first second) (λ numbers. IsInLimits one numbers.0 × IsInLimits two numbers.1)
+module _ {A B : Type 0} (One : A → Type 0) (Two : B → Type 0) where
+  both_within : (first : Result A UsageCause) (second : Result B UsageCause) → IfOk first One → IfOk second Two
+      → IfOk (both first second) (λ values. One values.0 × Two values.1)
   both_within (Ok first) (Ok second) one_is two_is = (one_is, two_is)
   both_within (Ok first) (Err cause) one_is two_is = tt
   both_within (Err cause) (Ok second) one_is two_is = tt
@@ -52,6 +52,9 @@ module _ (one two : NumberOption) where
 
 k_within : (uses : List Use) → IfOk (number_by k_option uses) (IsInLimits k_option)
 k_within = number_within k_option (record { low = omega arith; high = omega arith })
+
+doubt_within : (uses : List Use) → IfOk (number_by doubt_option uses) (IsInLimits doubt_option)
+doubt_within = number_within doubt_option (record { low = omega arith; high = omega arith })
 
 budget_within : (uses : List Use) → IfOk (number_by budget_option uses) (IsInLimits budget_option)
 budget_within = number_within budget_option (record { low = omega arith; high = omega arith })
@@ -68,18 +71,26 @@ diagnose_within : (parts : Option Parts) → IfOk (diagnose_of parts) AreInLimit
 diagnose_within None = tt
 diagnose_within (Some parts) = go parts.positional
   where
-    by : (graph : Word) (panels : List Word) (numbers : Result (ℕ × ℕ) UsageCause)
-        → IfOk numbers (λ two. IsInLimits k_option two.0 × IsInLimits budget_option two.1) → IfOk (diagnose_with graph panels numbers) AreInLimits
-    by graph [] (Ok (k, budget)) are = are
-    by graph (panel ∷ panels) (Ok (k, budget)) are = tt
+    members_within : (uses : List Use)
+        → IfOk (both (number_by k_option uses) (number_by doubt_option uses)) (λ two. IsInLimits k_option two.0 × IsInLimits doubt_option two.1)
+    members_within uses =
+        both_within (IsInLimits k_option) (IsInLimits doubt_option) (number_by k_option uses) (number_by doubt_option uses) (k_within uses) (doubt_within uses)
+
+    by : (graph : Word) (panels : List Word) (numbers : Result ((ℕ × ℕ) × ℕ) UsageCause)
+        → IfOk numbers (λ three. (IsInLimits k_option three.0.0 × IsInLimits doubt_option three.0.1) × IsInLimits budget_option three.1)
+        → IfOk (diagnose_with graph panels numbers) AreInLimits
+    by graph [] (Ok ((k, doubt), budget)) are = are
+    by graph (panel ∷ panels) (Ok ((k, doubt), budget)) are = tt
     by graph [] (Err cause) are = tt
     by graph (panel ∷ panels) (Err cause) are = tt
 
     go : (positional : List Word) → IfOk (diagnose_on parts.uses positional) AreInLimits
     go [] = tt
     go (graph ∷ panels) =
-        by graph panels (both (number_by k_option parts.uses) (number_by budget_option parts.uses))
-        (both_within k_option budget_option (number_by k_option parts.uses) (number_by budget_option parts.uses) (k_within parts.uses) (budget_within parts.uses))
+        let members = both (number_by k_option parts.uses) (number_by doubt_option parts.uses) in
+        by graph panels (both members (number_by budget_option parts.uses))
+        (both_within (λ two. IsInLimits k_option two.0 × IsInLimits doubt_option two.1) (IsInLimits budget_option) members (number_by budget_option parts.uses)
+        (members_within parts.uses) (budget_within parts.uses))
 
 explain_within : (parts : Option Parts) → IfOk (explain_of parts) AreInLimits
 explain_within None = tt
@@ -118,7 +129,7 @@ generate_within (Some parts) = go parts.positional
     go : (positional : List Word) → IfOk (generate_on parts.uses positional) AreInLimits
     go [] =
         by (both (number_by draw_option parts.uses) (number_by size_option parts.uses))
-        (both_within draw_option size_option (number_by draw_option parts.uses) (number_by size_option parts.uses) (draw_within parts.uses) (size_within parts.uses))
+        (both_within (IsInLimits draw_option) (IsInLimits size_option) (number_by draw_option parts.uses) (number_by size_option parts.uses) (draw_within parts.uses) (size_within parts.uses))
     go (a ∷ others) = tt
 
 -- What the words mean is within the limits.

@@ -3,8 +3,8 @@ use Rattle.std.specs.Prelude.{ℕ, ◌&&◌, Bool, List, [], ◌∷◌, Option, 
 use Rattle.std.specs.Prelude.{bytes_eq, codes, if◌then◌else◌, is_some, nat_le, find}
 use Rattle.tfpg_base.specs.declared.terms.Terms.{Terms}
 use Rattle.tfpg_base.specs.Words.{number_of}
-use Rattle.tfpg_base.specs.declared.limits.TheConstants.{MAX_K, MAX_BUDGET, MAX_CASE_SIZE}
-use Rattle.tfpg_words.specs.declared.limits.TheConstants.{MAX_DRAW, DEFAULT_K, DEFAULT_BUDGET, DEFAULT_DRAW, DEFAULT_SIZE}
+use Rattle.tfpg_base.specs.declared.limits.TheConstants.{MAX_K, MAX_DOUBT, MAX_BUDGET, MAX_CASE_SIZE}
+use Rattle.tfpg_words.specs.declared.limits.TheConstants.{MAX_DRAW, DEFAULT_K, DEFAULT_DOUBT, DEFAULT_BUDGET, DEFAULT_DRAW, DEFAULT_SIZE}
 use Rattle.tfpg_words.specs.declared.usage_cause.UsageCause.{UsageCause}
 use Rattle.tfpg_words.specs.declared.usage_cause.UsageCause.TheVariants.{NoCommand, UnknownCommand, BadWords, BadNumber, OutOfRange, BadPanel}
 use Rattle.tfpg_words.specs.Words.{Form, Parts, Use, Word, parts_of_words}
@@ -47,16 +47,20 @@ abbrev pub winning_cause : UsageCause → UsageCause → UsageCause
 winning_cause BadNumber other = BadNumber
 winning_cause cause other = other
 
--- Two numbers, or the first cause by which one of them is refused.
-abbrev pub both : Result ℕ UsageCause → Result ℕ UsageCause → Result (ℕ × ℕ) UsageCause
+-- Two values, or the first cause by which one of them is refused.
+abbrev pub both : {A B : Type 0} → Result A UsageCause → Result B UsageCause → Result (A × B) UsageCause
 both (Ok first) (Ok second) = Ok (first, second)
 both (Ok first) (Err cause) = Err cause
 both (Err cause) (Ok second) = Err cause
 both (Err cause) (Err other) = Err (winning_cause cause other)
 
--- `--k N`: the greatest number of failure modes of a hypothesis
+-- `--k N`: the greatest number of members of a hypothesis: failure modes, and monitors that it doubts
 abbrev pub k_option : NumberOption
 k_option = record { name = codes "--k"; least = 0; limit = MAX_K; default = DEFAULT_K }
+
+-- `--doubt N`: the greatest number of monitors that a hypothesis doubts
+abbrev pub doubt_option : NumberOption
+doubt_option = record { name = codes "--doubt"; least = 0; limit = MAX_DOUBT; default = DEFAULT_DOUBT }
 
 -- `--budget N`: the greatest number of splits of a hypothesis in a round
 abbrev pub budget_option : NumberOption
@@ -75,21 +79,23 @@ abbrev pub by_parts : (Parts → Result Meaning UsageCause) → Option Parts →
 by_parts means None = Err BadWords
 by_parts means (Some parts) = means parts
 
--- `diagnose [--k N] [--budget N] GRAPH [PANEL]..`. For now no word is a panel.
+-- `diagnose [--k N] [--doubt N] [--budget N] GRAPH [PANEL]..`. For now no word is a panel.
 abbrev pub diagnose_form : Form
-diagnose_form = record { options = k_option.name ∷ budget_option.name ∷ []; flags = [] }
+diagnose_form = record { options = k_option.name ∷ doubt_option.name ∷ budget_option.name ∷ []; flags = [] }
 
 -- what the positional words after `diagnose` mean with these numbers
-abbrev pub diagnose_with : Word → List Word → Result (ℕ × ℕ) UsageCause → Result Meaning UsageCause
+abbrev pub diagnose_with : Word → List Word → Result ((ℕ × ℕ) × ℕ) UsageCause → Result Meaning UsageCause
 diagnose_with graph panels (Err cause) = Err cause
-diagnose_with graph [] (Ok (k, budget)) = Ok (Diagnose (record { k = k; budget = budget }) graph)
+diagnose_with graph [] (Ok ((k, doubt), budget)) =
+    Ok (Diagnose (record { k = k; doubt = doubt; budget = budget }) graph)
 diagnose_with graph (panel ∷ panels) (Ok numbers) = Err BadPanel
 
 -- what the uses and the positional words after `diagnose` mean
 abbrev pub diagnose_on : List Use → List Word → Result Meaning UsageCause
 diagnose_on uses [] = Err BadWords
 diagnose_on uses (graph ∷ panels) =
-    diagnose_with graph panels (both (number_by k_option uses) (number_by budget_option uses))
+    diagnose_with graph panels
+    (both (both (number_by k_option uses) (number_by doubt_option uses)) (number_by budget_option uses))
 
 -- what the words after `diagnose` mean, by their parts
 abbrev pub diagnose_of : Option Parts → Result Meaning UsageCause

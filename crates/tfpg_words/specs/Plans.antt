@@ -10,7 +10,7 @@ use Rattle.tfpg_words.specs.Meaning.{Meaning, Diagnose, Explain, Simulate, Gener
 
 -- what a command asks for
 abbrev pub meaning_of : Command → Meaning
-meaning_of (command.Diagnose k budget graph) = Diagnose (record { k = k; budget = budget }) graph
+meaning_of (command.Diagnose k doubt budget graph) = Diagnose (record { k = k; doubt = doubt; budget = budget }) graph
 meaning_of (command.Explain graph log) = Explain graph log
 meaning_of (command.Simulate draw trace graph script) = Simulate draw trace graph script
 meaning_of (command.Generate draw size) = Generate draw size

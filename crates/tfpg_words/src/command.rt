@@ -5,11 +5,14 @@ use tfpg_base::Text;
 /// A command with its values.
 #[derive(Drop)]
 pub enum Command {
-    /// `diagnose [--k N] [--budget N] GRAPH`: reports on a log, for the sets of at most `k` failure modes, with at most
-    /// `budget` splits for each set and round. `k` is at most [`MAX_K`](tfpg_base::MAX_K), [`DEFAULT_K`](crate::DEFAULT_K) by
-    /// default; `budget` is 1 to [`MAX_BUDGET`](tfpg_base::MAX_BUDGET), [`DEFAULT_BUDGET`](crate::DEFAULT_BUDGET) by default.
+    /// `diagnose [--k N] [--doubt N] [--budget N] GRAPH`: reports on a log, for the hypotheses of at most `k` members, each
+    /// a failure mode or a monitor that it doubts. At most `doubt` of them are monitors, and a hypothesis has at most
+    /// `budget` splits in a round. `k` is at most [`MAX_K`](tfpg_base::MAX_K), [`DEFAULT_K`](crate::DEFAULT_K) by default;
+    /// `doubt` is at most [`MAX_DOUBT`](tfpg_base::MAX_DOUBT), [`DEFAULT_DOUBT`](crate::DEFAULT_DOUBT) by default; `budget`
+    /// is 1 to [`MAX_BUDGET`](tfpg_base::MAX_BUDGET), [`DEFAULT_BUDGET`](crate::DEFAULT_BUDGET) by default.
     Diagnose {
         k: u32,
+        doubt: u32,
         budget: u64,
         graph: Text,
     },

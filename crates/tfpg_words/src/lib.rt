@@ -7,7 +7,7 @@
 //! ```
 //! // The words `diagnose --k 1 engine.tfpg`.
 //! match plan(alloc, &words)?.command {
-//!     Command::Diagnose { k, budget, graph } => {} // k is 1, budget is 1000
+//!     Command::Diagnose { k, doubt, budget, graph } => {} // k is 1, doubt is 0, budget is 1000
 //!     _ => {}
 //! }
 //! ```
@@ -24,7 +24,7 @@ mod planning;
 mod usage_cause;
 
 pub use command::{Command, Planned};
-pub use limits::{DEFAULT_BUDGET, DEFAULT_DRAW, DEFAULT_K, DEFAULT_SIZE, MAX_DRAW};
+pub use limits::{DEFAULT_BUDGET, DEFAULT_DOUBT, DEFAULT_DRAW, DEFAULT_K, DEFAULT_SIZE, MAX_DRAW};
 pub use plan_fault::PlanFault;
 pub use planning::plan;
 pub use usage_cause::UsageCause;

@@ -6,6 +6,9 @@ pub const MAX_DRAW: u64 = 1_000_000_000_000;
 /// The `k` where the words give none.
 pub const DEFAULT_K: u64 = 2;
 
+/// The `doubt` where the words give none.
+pub const DEFAULT_DOUBT: u64 = 0;
+
 /// The budget where the words give none.
 pub const DEFAULT_BUDGET: u64 = 1000;
 

@@ -44,11 +44,11 @@ fn within(least: u64, limit: u64, word: &str) -> Result<u64, UsageCause>
     }
 }
 
-/// Two numbers, or the first cause by which one of them is refused.
-pub(crate) fn both(
-    first: Result<u64, UsageCause>,
-    second: Result<u64, UsageCause>,
-) -> Result<(u64, u64), UsageCause>
+/// Two values, or the first cause by which one of them is refused.
+pub(crate) fn both<A: Copy, B: Copy>(
+    first: Result<A, UsageCause>,
+    second: Result<B, UsageCause>,
+) -> Result<(A, B), UsageCause>
     ensures { result ≡ both first second }
 {
     match (first, second) {

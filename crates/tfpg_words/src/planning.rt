@@ -11,19 +11,28 @@ ghost use Rattle.tfpg_words.specs.inside.Parts.{rows_in};
 
 use crate::command::{Command, Planned};
 use crate::form::Form;
-use crate::limits::{DEFAULT_BUDGET, DEFAULT_DRAW, DEFAULT_K, DEFAULT_SIZE, MAX_DRAW};
+use crate::limits::{
+    DEFAULT_BUDGET, DEFAULT_DOUBT, DEFAULT_DRAW, DEFAULT_K, DEFAULT_SIZE, MAX_DRAW,
+};
 use crate::number::{NumberOption, both};
 use crate::parts::Parts;
 use crate::plan_fault::PlanFault;
 use crate::usage_cause::UsageCause;
 use std::alloc::Global;
-use tfpg_base::{MAX_BUDGET, MAX_CASE_SIZE, MAX_K, Text};
+use tfpg_base::{MAX_BUDGET, MAX_CASE_SIZE, MAX_DOUBT, MAX_K, Text};
 
 const K: NumberOption = NumberOption {
     name: "k",
     least: 0,
     limit: MAX_K,
     default: DEFAULT_K,
+};
+
+const DOUBT: NumberOption = NumberOption {
+    name: "doubt",
+    least: 0,
+    limit: MAX_DOUBT,
+    default: DEFAULT_DOUBT,
 };
 
 const BUDGET: NumberOption = NumberOption {
@@ -91,12 +100,12 @@ fn command_of(alloc: Global, command: &str, words: &[String]) -> Result<Command,
     }
 }
 
-/// `diagnose [--k N] [--budget N] GRAPH [PANEL]..`
+/// `diagnose [--k N] [--doubt N] [--budget N] GRAPH [PANEL]..`
 fn plan_diagnose(alloc: Global, words: &[String]) -> Result<Command, PlanFault>
     ensures { IsCommandOf (diagnose_of (parts_of_words diagnose_form (map string_bytes words.now))) result }
 {
     let form = Form {
-        options: &[K.name, BUDGET.name],
+        options: &[K.name, DOUBT.name, BUDGET.name],
         flags: &[],
     };
     let parts = Parts::of(alloc, &form, words)?;
@@ -109,12 +118,14 @@ fn plan_diagnose_by(alloc: Global, parts: &Parts) -> Result<Command, PlanFault>
     let Some([graph, panels @ ..]) = parts.positional() else {
         return Err(PlanFault::Usage(UsageCause::BadWords));
     };
-    let (k, budget) = both(K.number_in(parts), BUDGET.number_in(parts))?;
+    let members = both(K.number_in(parts), DOUBT.number_in(parts));
+    let ((k, doubt), budget) = both(members, BUDGET.number_in(parts))?;
     if !panels.is_empty() {
         return Err(PlanFault::Usage(UsageCause::BadPanel));
     }
     Ok(Command::Diagnose {
         k: k as u32,
+        doubt: doubt as u32,
         budget,
         graph: Text::of(alloc, graph)?,
     })

@@ -4,7 +4,7 @@ use Rattle.std.specs.Prelude.{nat_le, slice_get, map, filter_map, option_map, op
 use Rattle.std.specs.Bool.{then_some}
 use Rattle.std.specs.List.{list_all}
 use Rattle.std.proofs.lemmas.Bool.{leb-true, le-leb, eqb-true, and_parts}
-use Rattle.std.proofs.lemmas.Option.{option_and_then_some, slice_get_within}
+use Rattle.std.proofs.lemmas.Option.{option_and_then_some}
 use Rattle.tfpg_base.specs.Choice.{each_of}
 use Rattle.tfpg_base.specs.declared.constraint.Constraint.{Constraint}
 use Rattle.tfpg_base.proofs.lists.Choices.{then_some-true, cond-some_first, option_map-some}
@@ -13,9 +13,13 @@ use Rattle.tfpg_graph.specs.Graph.{Tfpg, is_kind_at, is_or, is_and, edges_into}
 use Rattle.tfpg_log.specs.declared.span.Span.{Span}
 use Rattle.tfpg_log.specs.declared.span.Window.{Window}
 use Rattle.tfpg_log.specs.declared.event.Event.{Event}
-use Rattle.tfpg_log.specs.Log.{Logbook, GoesOn, IsOrdered, now_of, event_at, first_events, quiet_at, quiet_time}
+use Rattle.tfpg_log.specs.Log.{Logbook, GoesOn, IsOrdered, now_of, event_at, ignoring, alarm_interval, quiet_at}
 use Rattle.tfpg_log.specs.Spans.{span_at, window_of, joint_of}
-use Rattle.tfpg_log.proofs.events.PastKept.{spans_kept, windows_kept, joints_kept, now_kept, events_kept, silences_kept}
+use Rattle.tfpg_log.proofs.events.PastKept.{spans_kept, windows_kept, joints_kept, now_kept, events_kept, quiets_kept}
+use Rattle.tfpg_log.proofs.events.NodesEvents.{event_within}
+use Rattle.tfpg_log.proofs.events.SilenceTimes.{quiet_by, silence_event}
+use Rattle.tfpg_log.specs.declared.interval.Interval.{Interval}
+use Rattle.tfpg_log.specs.declared.event.Event.TheVariants.{Alarm, Silent, Sweep, Tick, Mode}
 use Rattle.tfpg_evidence.specs.declared.clause_name.ClauseName.{ClauseName}
 use Rattle.tfpg_evidence.specs.declared.clause_name.ClauseName.TheVariants.{OrMay, AndMay, OrMust, AndMust}
 use Rattle.tfpg_base.specs.Bounds.{at_most, at_least, at_least_after}
@@ -114,17 +118,31 @@ allowed_by_now graph log (AndMust node number horizon) clause at =
     let w = must_has_window log (is_kind_at is_and graph node) node (edges_into graph node) (joint_of graph log node number horizon) number horizon clause at in
     joint_by_now graph log node number horizon w.0 w.1
 
--- an event that is a silence is an event of the log
+-- an event that says up to which instant a node is not active is an event of the log
 pub silence_within : (graph : Tfpg) (log : Logbook) (event node : ℕ) (stated : Constraint) → option_map (λ time. at_least node (time + 1)) (quiet_at graph log event node) ≡ Some stated
     → event ≤ length log.events
-silence_within graph log zero node stated at = absurd cc
-silence_within graph log (suc before) node stated at = by (slice_get log.events before) refl at
-  where
-    by : (found : Option Event) → slice_get log.events before ≡ found
-        → option_map (λ time. at_least node (time + 1)) (option_and_then (λ event. quiet_time graph (first_events log (suc before - 1)) event node) found) ≡ Some stated
-        → suc before ≤ length log.events
-    by None none kept = absurd cc
-    by (Some event) there kept = slice_get_within log.events before event there
+silence_within graph log event node stated at =
+    let told = option_map-some (λ time. at_least node (time + 1)) (quiet_at graph log event node) stated at in
+    let by = quiet_by graph log node event told.0 told.1 in
+    let is = silence_event graph log node event by.time by.silent in
+    event_within log is.event event is.there
+
+-- what an alarm leaves depends on what a log ignores alone
+from_same : (graph : Tfpg) (earlier later : Logbook) → later.ignored ≡ earlier.ignored → (event : Event) → from_alarm graph later event ≡ from_alarm graph earlier event
+from_same graph earlier later same (Alarm time node) =
+    ap (λ (nodes : List ℕ). option_map (λ (interval : Interval). at_least node interval.earliest) (alarm_interval graph (ignoring earlier nodes) node time)) same
+from_same graph earlier later same (Silent time node) = refl
+from_same graph earlier later same (Sweep time) = refl
+from_same graph earlier later same (Tick time) = refl
+from_same graph earlier later same (Mode time mode) = refl
+
+upto_same : (graph : Tfpg) (earlier later : Logbook) → later.ignored ≡ earlier.ignored → (event : Event) → upto_alarm graph later event ≡ upto_alarm graph earlier event
+upto_same graph earlier later same (Alarm time node) =
+    ap (λ (nodes : List ℕ). option_map (λ (interval : Interval). at_most node (pos interval.latest)) (alarm_interval graph (ignoring earlier nodes) node time)) same
+upto_same graph earlier later same (Silent time node) = refl
+upto_same graph earlier later same (Sweep time) = refl
+upto_same graph earlier later same (Tick time) = refl
+upto_same graph earlier later same (Mode time mode) = refl
 
 module _ (graph : Tfpg) (earlier later : Logbook) (ordered : IsOrdered later) (goes_on : GoesOn earlier later) where
   -- At a horizon up to the old now each clause is the same.
@@ -166,13 +184,13 @@ module _ (graph : Tfpg) (earlier later : Logbook) (ordered : IsOrdered later) (g
         ap (λ (upto : Bool). then_some (ltb node (length graph.nodes) && (upto && not (is_among reach node))) (at_least node (horizon + 1))) (after ∙ sym before) ∙ at
     fact_stays (From event) stated at =
         option_and_then_some (from_alarm graph earlier) (event_at earlier event) stated at
-        (λ e there rest. ap (option_and_then (from_alarm graph later)) (events_kept earlier later goes_on event e there) ∙ rest)
+        (λ e there rest. ap (option_and_then (from_alarm graph later)) (events_kept earlier later goes_on event e there) ∙ from_same graph earlier later goes_on.ignored e ∙ rest)
     fact_stays (Upto event) stated at =
         option_and_then_some (upto_alarm graph earlier) (event_at earlier event) stated at
-        (λ e there rest. ap (option_and_then (upto_alarm graph later)) (events_kept earlier later goes_on event e there) ∙ rest)
+        (λ e there rest. ap (option_and_then (upto_alarm graph later)) (events_kept earlier later goes_on event e there) ∙ upto_same graph earlier later goes_on.ignored e ∙ rest)
     fact_stays (Quiet event node) stated at =
         ap (option_map (λ time. at_least node (time + 1))) (silence_same event node (silence_within graph earlier event node stated at)) ∙ at
       where
         silence_same : (event node : ℕ) → event ≤ length earlier.events → quiet_at graph later event node ≡ quiet_at graph earlier event node
-        silence_same event node within = silences_kept graph earlier later goes_on event node within
+        silence_same event node within = quiets_kept graph earlier later goes_on event node within
     fact_stays (Pick split index) stated at = at

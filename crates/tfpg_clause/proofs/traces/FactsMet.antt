@@ -3,29 +3,29 @@
 use Rattle.std.proofs.Common.{◌≡◌, ℕ, zero, suc, ◌+◌, ◌-◌, ◌<◌, ◌≤◌, Bool, true, false, not, ◌&&◌, cond, eqb, leb, ltb, List, length, get_or, take, Option, Some, None, refl, sym, ap, subst, ◌∙◌, inl, inr, arith, pos}
 use Rattle.std.specs.Prelude.{is_some, is_none, slice_get, option_map, option_and_then}
 use Rattle.std.specs.Bool.{then_some}
-use Rattle.std.specs.Option.{option_map_or}
 use Rattle.std.proofs.lemmas.Bool.{cases_lt, leb-true, le-leb, lt-ltb, ltb-true, eqb-true, eq-eqb, and_parts, and_from, not-true, both_ways}
 use Rattle.std.proofs.lemmas.List.Elements.{All-contains, All-get_or}
-use Rattle.std.proofs.lemmas.Option.{option_and_then_some, cond_some, same_Some}
+use Rattle.std.proofs.lemmas.Option.{option_and_then_some, cond_some}
 use Rattle.tfpg_base.specs.declared.limits.TheConstants.{NEVER}
 use Rattle.tfpg_base.specs.declared.activation.Activation.{Activation}
 use Rattle.tfpg_base.specs.declared.constraint.Constraint.{Constraint}
 use Rattle.tfpg_base.specs.Trace.{time_of}
 use Rattle.tfpg_base.proofs.TraceTimes.{activation_there}
 use Rattle.tfpg_base.proofs.lists.Elements.{All-at}
-use Rattle.tfpg_graph.specs.Graph.{Tfpg, is_monitored}
+use Rattle.tfpg_graph.specs.Graph.{Tfpg, is_monitored, lag_or_zero}
 use Rattle.tfpg_graph.specs.Reach.{IsReach, Reaches, is_among}
 use Rattle.tfpg_graph.specs.ZeroCycle.{HasZeroOrder}
 use Rattle.tfpg_graph.proofs.lemmas.reach.Reaches.{among-from_Contains, Contains-from_among}
 use Rattle.tfpg_graph.proofs.NodeAt.{monitored_within}
 use Rattle.tfpg_log.specs.declared.event.Event.{Event}
 use Rattle.tfpg_log.specs.declared.event.Event.TheVariants.{Alarm, Silent, Sweep, Tick, Mode}
-use Rattle.tfpg_log.specs.Log.{Logbook, now_of, first_events, time_of_event, alarm_among, alarm_of, alarm_interval, quiet_time, quiet_at, IsLogOf, IsEventOf, IsOrdered}
+use Rattle.tfpg_log.specs.Log.{Logbook, now_of, first_events, time_of_event, alarm_among, alarm_of, is_ignored, interval_before, alarm_interval, inactive_until, silence_time, silence_at, quiet_at, IsLogOf, IsEventOf, IsOrdered}
 use Rattle.tfpg_log.specs.Explains.{Explains, IsActivatedIn, Shows, ShowsAll, ShowsSilence}
 use Rattle.tfpg_log.specs.Rules.{IsActive}
 use Rattle.tfpg_log.specs.declared.interval.Interval.{Interval}
 use Rattle.tfpg_log.proofs.causes.InReach.{trace_in_reach}
 use Rattle.tfpg_log.proofs.events.Order.{event_by_now}
+use Rattle.tfpg_log.proofs.events.SilenceTimes.{quiet_by}
 use Rattle.tfpg_evidence.specs.declared.reason.Reason.{Reason}
 use Rattle.tfpg_evidence.specs.declared.reason.Reason.TheVariants.{Zero, Top, Unreached, From, Upto, Quiet, Pick}
 use Rattle.tfpg_base.specs.Bounds.{at_most, at_least}
@@ -40,39 +40,39 @@ use Rattle.tfpg_clause.proofs.traces.TraceAgrees.{Agree, of_trace, active_from, 
 -- ---- silences
 
 -- What an event that is a silence of a node says, where it is of the graph and shown.
-pub record IsShownSilence (graph : Tfpg) (log : Logbook) (trace : List Activation) (node time : ℕ) (event : Event) : Type 0 where
+pub record IsShownSilence (graph : Tfpg) (before : Logbook) (trace : List Activation) (node time : ℕ) (event : Event) : Type 0 where
   pub within : node < length graph.nodes
-  pub shown : IsActive trace node time → ⊥
+  pub shown : ShowsSilence graph before trace node time
   pub at : time_of_event event ≡ time
 
-quiet_shown : (graph : Tfpg) (before : Logbook) (trace : List Activation) (event : Event) (node time : ℕ) → IsEventOf graph event → Shows graph before trace event
-    → quiet_time graph before event node ≡ Some time → IsShownSilence graph before trace node time event
-quiet_shown graph before trace (Alarm own alarmed) node time of shows is = absurd cc
-quiet_shown graph before trace (Silent own silent) node time of shows is =
+silence_shown : (graph : Tfpg) (before : Logbook) (trace : List Activation) (event : Event) (node time : ℕ) → IsEventOf graph event → Shows graph before trace event
+    → silence_time graph before event node ≡ Some time → IsShownSilence graph before trace node time event
+silence_shown graph before trace (Alarm own alarmed) node time of shows is = absurd cc
+silence_shown graph before trace (Silent own silent) node time of shows is =
     let parts = cond_some (eqb silent node) own time is in
     let same : silent ≡ node = eqb-true silent node parts.0 in
     record {
       within = subst (λ n. n < length graph.nodes) same (monitored_within graph silent of);
-      shown = subst (λ (n : ℕ). ShowsSilence graph before trace n own) same shows time (ap Some parts.1);
+      shown = subst (λ (t : ℕ). ShowsSilence graph before trace node t) parts.1 (subst (λ (n : ℕ). ShowsSilence graph before trace n own) same shows);
       at = parts.1;
     }
-quiet_shown graph before trace (Sweep own) node time of shows is =
+silence_shown graph before trace (Sweep own) node time of shows is =
     let parts = cond_some (is_monitored graph node && is_none (alarm_of before node)) own time is in
     let both = and_parts (is_monitored graph node) (is_none (alarm_of before node)) parts.0 in
     record {
       within = monitored_within graph node both.0;
-      shown = shows node both.0 (not-true (is_some (alarm_of before node)) both.1) time (ap Some parts.1);
+      shown = subst (λ (t : ℕ). ShowsSilence graph before trace node t) parts.1 (shows node both.0 (not-true (is_some (alarm_of before node)) both.1));
       at = parts.1;
     }
-quiet_shown graph before trace (Tick own) node time of shows is = absurd cc
-quiet_shown graph before trace (Mode own mode) node time of shows is = absurd cc
+silence_shown graph before trace (Tick own) node time of shows is = absurd cc
+silence_shown graph before trace (Mode own mode) node time of shows is = absurd cc
 
 -- the silence of an event's number, by the event
-quiet_of : (graph : Tfpg) (log : Logbook) (index node : ℕ) (event : Event) → slice_get log.events index ≡ Some event
-    → quiet_at graph log (suc index) node ≡ quiet_time graph (first_events log index) event node
-quiet_of graph log index node event at =
+silence_of : (graph : Tfpg) (log : Logbook) (index node : ℕ) (event : Event) → slice_get log.events index ≡ Some event
+    → silence_at graph log (suc index) node ≡ silence_time graph (first_events log index) event node
+silence_of graph log index node event at =
     let same : suc index - 1 ≡ index = omega arith in
-    ap (option_and_then (λ e. quiet_time graph (first_events log (suc index - 1)) e node)) at ∙ ap (λ (n : ℕ). quiet_time graph (first_events log n) event node) same
+    ap (option_and_then (λ e. silence_time graph (first_events log (suc index - 1)) e node)) at ∙ ap (λ (n : ℕ). silence_time graph (first_events log n) event node) same
 
 module _ (graph : Tfpg) (log : Logbook) (set reach : List ℕ) (is_reach : IsReach graph set reach) (of : IsLogOf graph log) (ordered : IsOrdered log) where
   -- ---- facts are met
@@ -116,17 +116,20 @@ module _ (graph : Tfpg) (log : Logbook) (set reach : List ℕ) (is_reach : IsRea
     upto_met index (Tick time) stated at is = absurd cc
     upto_met index (Mode time mode) stated at is = absurd cc
 
-    quiet_met : (index : ℕ) (event : Event) (node time : ℕ) → slice_get log.events index ≡ Some event → quiet_time graph (first_events log index) event node ≡ Some time
-        → Meets numbers (at_least node (time + 1))
-    quiet_met index event node time at is =
-        let quiet = quiet_shown graph (first_events log index) trace event node time (All-at (IsEventOf graph) log.events index event of.own at) (explains.shows index event at) is in
-        met_at_least numbers node (time + 1)
-        (elim (cases_lt time (get_or numbers node 0)) [
+    quiet_met : (index : ℕ) (event : Event) (node until : ℕ) → slice_get log.events index ≡ Some event → quiet_at graph log (suc index) node ≡ Some until
+        → Meets numbers (at_least node (until + 1))
+    quiet_met index event node until at is =
+        let by = quiet_by graph log node (suc index) until is in
+        let silent = silence_shown graph (first_events log index) trace event node by.time (All-at (IsEventOf graph) log.events index event of.own at) (explains.shows index event at)
+        (sym (silence_of graph log index node event at) ∙ by.silent) in
+        met_at_least numbers node (until + 1)
+        (elim (cases_lt until (get_or numbers node 0)) [
           | inl later ↦ omega (arith, later)
           | inr early ↦
               absurd
-              (quiet.shown
-              (active_from (length graph.nodes) (now_of log) trace numbers agree node time quiet.within (omega (arith, event_by_now log index event ordered at, quiet.at)) early))
+              (silent.shown until by.until_is
+              (active_from (length graph.nodes) (now_of log) trace numbers agree node until silent.within
+              (omega (arith, event_by_now log index event ordered at, silent.at, by.says.is)) early))
         ])
 
     -- The numbers meet each fact.
@@ -154,25 +157,29 @@ module _ (graph : Tfpg) (log : Logbook) (set reach : List ℕ) (is_reach : IsRea
       where
         by : (found : Option Event) → slice_get log.events index ≡ found → Meets numbers stated
         by None none = absurd (let gone : option_map (λ t. at_least node (t + 1)) (quiet_at graph log (suc index) node) ≡ None =
-            ap (λ (e : Option Event). option_map (λ t. at_least node (t + 1)) (option_and_then (λ x. quiet_time graph (first_events log (suc index - 1)) x node) e)) none in cc)
+            ap (λ (e : Option Event). option_map (λ t. at_least node (t + 1)) (option_and_then (inactive_until graph log node) (option_and_then (λ x. silence_time graph (first_events log (suc index - 1)) x node) e))) none in cc)
         by (Some event) at =
             let time = option_map-some (λ t. at_least node (t + 1)) (quiet_at graph log (suc index) node) stated is in
-            subst (Meets numbers) time.2 (quiet_met index event node time.0 at (sym (quiet_of graph log index node event at) ∙ time.1))
+            subst (Meets numbers) time.2 (quiet_met index event node time.0 at time.1)
     fact_is_met (Pick split index) stated is = absurd cc
 
   -- ---- facts suffice
 
   module _ (trace : List Activation) (numbers : List ℕ) (agree : Agree (length graph.nodes) (now_of log) trace numbers)
       (met : (reason : Reason) (stated : Constraint) → fact (case_of graph log reach) reason ≡ Some stated → Meets numbers stated) where
-    quiet_kept : (index : ℕ) (event : Event) (node time : ℕ) → slice_get log.events index ≡ Some event → quiet_time graph (first_events log index) event node ≡ Some time → IsActive trace node time → ⊥
-    quiet_kept index event node time at is active =
-        let stated : fact (case_of graph log reach) (Quiet (suc index) node) ≡ Some (at_least node (time + 1)) =
-        ap (option_map (λ t. at_least node (t + 1))) (quiet_of graph log index node event at ∙ is) in
+    quiet_kept : (number node until : ℕ) → quiet_at graph log number node ≡ Some until → IsActive trace node until → ⊥
+    quiet_kept number node until is active =
+        let stated : fact (case_of graph log reach) (Quiet number node) ≡ Some (at_least node (until + 1)) = ap (option_map (λ t. at_least node (t + 1))) is in
         omega (
           arith,
-          says_at_least numbers node (time + 1) (met (Quiet (suc index) node) (at_least node (time + 1)) stated),
-          active_only (length graph.nodes) (now_of log) trace numbers agree node time active,
+          says_at_least numbers node (until + 1) (met (Quiet number node) (at_least node (until + 1)) stated),
+          active_only (length graph.nodes) (now_of log) trace numbers agree node until active,
         )
+
+    silence_kept : (index : ℕ) (event : Event) (node time : ℕ) → slice_get log.events index ≡ Some event → silence_time graph (first_events log index) event node ≡ Some time
+        → ShowsSilence graph (first_events log index) trace node time
+    silence_kept index event node time at is until says =
+        quiet_kept (suc index) node until (ap (option_and_then (inactive_until graph log node)) (silence_of graph log index node event at ∙ is) ∙ says)
 
     event_is_shown : (index : ℕ) (event : Event) → slice_get log.events index ≡ Some event → IsEventOf graph event → Shows graph (first_events log index) trace event
     event_is_shown index (Alarm time node) at own =
@@ -183,7 +190,8 @@ module _ (graph : Tfpg) (log : Logbook) (set reach : List ℕ) (is_reach : IsRea
         (from ∙ ap (option_map (λ (i : Interval). at_least node i.earliest)) is)) in
         let till = says_at_most numbers node interval.latest (met (Upto (suc index)) (at_most node (pos interval.latest))
         (upto ∙ ap (option_map (λ (i : Interval). at_most node (pos i.latest))) is)) in
-        let by_alarm : interval.latest ≤ time = omega (arith, ap (λ (o : Option Interval). option_map_or (λ (i : Interval). i.latest) o 0) is) in (
+        let left = then_some-true (not (is_ignored log node)) (interval_before (lag_or_zero graph node) time) interval is in
+        let by_alarm : interval.latest ≤ time = omega (arith, ap (λ (i : Interval). i.latest) left.1) in (
           get_or numbers node 0,
           agree.early node (monitored_within graph node own) (omega (arith, till, by_alarm, event_by_now log index (Alarm time node) ordered at)),
           since,
@@ -191,12 +199,10 @@ module _ (graph : Tfpg) (log : Logbook) (set reach : List ℕ) (is_reach : IsRea
         )) in
         (own, told)
     event_is_shown index (Silent time node) at own =
-        let here : eqb node node ≡ true = eq-eqb node node refl in
-        λ until is. subst (λ (t : ℕ). IsActive trace node t → ⊥) (same_Some time until is) (quiet_kept index (Silent time node) node time at (ap (λ (b : Bool). cond b (Some time) None) here))
-    event_is_shown index (Sweep time) at own = λ node monitored none until is.
-        subst (λ (t : ℕ). IsActive trace node t → ⊥) (same_Some time until is)
-        (quiet_kept index (Sweep time) node time at
-        (ap (λ (b : Bool). cond b (Some time) None) (and_from (is_monitored graph node) (is_none (alarm_among (take index log.events) node)) monitored (ap not none))))
+        silence_kept index (Silent time node) node time at (ap (λ (b : Bool). cond b (Some time) None) (eq-eqb node node refl))
+    event_is_shown index (Sweep time) at own = λ node monitored none.
+        silence_kept index (Sweep time) node time at
+        (ap (λ (b : Bool). cond b (Some time) None) (and_from (is_monitored graph node) (is_none (alarm_among (take index log.events) node)) monitored (ap not none)))
     event_is_shown index (Tick time) at own = tt
     event_is_shown index (Mode time mode) at own = tt
 

@@ -1,11 +1,13 @@
 -- Where steps are a refutation, no trace explains the log: its numbers meet some alternative at each split, and so they lead down the
 -- tree to a leaf all of whose constraints they meet, which cannot be.
-use Rattle.std.proofs.Common.{◌≡◌, ℕ, zero, suc, ◌+◌, ◌<◌, List, [], ◌∷◌, ◌++◌, length, Option, Some, None, refl, sym, ap, subst, ◌∙◌, inl, inr, arith}
-use Rattle.std.specs.Prelude.{All, Contains, slice_get, option_map, option_and_then}
+use Rattle.std.proofs.Common.{◌≡◌, ℕ, zero, suc, ◌+◌, ◌<◌, List, [], ◌∷◌, ◌++◌, length, true, Option, Some, None, refl, sym, ap, subst, ◌∙◌, inl, inr, arith}
+use Rattle.std.specs.Prelude.{All, Contains, IsTrue, IsSomeAnd, slice_get, option_map, option_and_then}
 use Rattle.std.proofs.lemmas.Int.{ints}
 use Rattle.std.proofs.lemmas.Option.{option_and_then_some}
-use Rattle.std.proofs.lemmas.List.Elements.{All-head, All-tail}
-use Rattle.tfpg_base.specs.Choice.{item_at}
+use Rattle.std.proofs.lemmas.List.Elements.{All-head, All-tail, Contains-append_left, Contains-append_right}
+use Rattle.std.proofs.lemmas.Bool.{false≢true}
+use Rattle.std.proofs.lemmas.Bool.Decides.{nat_tests}
+use Rattle.tfpg_base.specs.Choice.{item_at, last_of}
 use Rattle.tfpg_base.specs.declared.constraint.Constraint.{Constraint}
 use Rattle.tfpg_base.specs.declared.activation.Activation.{Activation}
 use Rattle.tfpg_graph.specs.Graph.{Tfpg}
@@ -19,12 +21,12 @@ use Rattle.tfpg_evidence.specs.declared.reason.Reason.{Reason}
 use Rattle.tfpg_evidence.specs.declared.reason.Reason.TheVariants.{Zero, Top, Unreached, From, Upto, Quiet, Pick}
 use Rattle.tfpg_base.specs.Constraint.{Meets}
 use Rattle.tfpg_base.proofs.lists.Choices.{Contains-each_of_only}
-use Rattle.tfpg_base.proofs.lists.Elements.{All-at, All-front, All-back, All-from_members, slice_get-contains}
+use Rattle.tfpg_base.proofs.lists.Elements.{All-at, All-front, All-back, All-from_members, slice_get-contains, list_any-passes}
 use Rattle.tfpg_base.proofs.lists.Written.{slice_get-push_cases}
 use Rattle.tfpg_clause.specs.Facts.{fact}
 use Rattle.tfpg_clause.specs.Clauses.{alternatives, count_of, constraint_at, MeetsClause}
 use Rattle.tfpg_clause.specs.Case.{Case, case_of, case_at}
-use Rattle.tfpg_clause.specs.Trees.{Judged, Tree, Leaf, Branch, Subtrees, NoMore, Next, StepPlace, how_many, leaf_place, branch_place, new_split, next_alternative, places, places_from, picked, stated, IsClosedLeaf, IsRight, IsRefutation}
+use Rattle.tfpg_clause.specs.Trees.{Judged, Tree, Leaf, Branch, Subtrees, NoMore, Next, Reused, StepPlace, how_many, reasons_in, reasons_in_all, is_pick_of, cites, cited_by, leaf_place, branch_place, again_place, new_split, after_subtree, places, places_from, picked, stated, IsClosedLeaf, IsReusable, IsRight, IsRefutation}
 use Rattle.tfpg_clause.specs.declared.path.PathSplit.{PathSplit}
 use Rattle.tfpg_clause.proofs.traces.TraceAgrees.{of_trace}
 use Rattle.tfpg_clause.proofs.constraints.CycleNotNegative.{not_negative}
@@ -33,6 +35,7 @@ use Rattle.tfpg_clause.proofs.rules.RulesMet.{clause_is_met}
 use Rattle.tfpg_clause.proofs.logs.StaysAllowed.{fact_stays}
 use Rattle.tfpg_clause.proofs.trees.TreesStay.{first_to_whole, count_stays, picked_stays, refutation_stays}
 use Rattle.tfpg_clause.proofs.traces.NumbersOfTrace.{numbers_of_trace}
+use Rattle.tfpg_clause.proofs.trees.Marks.{item_cited, last_push, not_both}
 
 module _ (case : Case) (ordered : IsOrdered case.log) (numbers : List ℕ)
     (facts : (reason : Reason) (constraint : Constraint) → fact case reason ≡ Some constraint → Meets numbers constraint) where
@@ -77,35 +80,49 @@ module _ (case : Case) (ordered : IsOrdered case.log) (numbers : List ℕ)
   no_leaf path seen reasons met closed = no_cited_leaf path seen reasons (λ split number constraint member is. met split number constraint is) closed
 
   module _ (clauses : (name : ClauseName) (clause : List (List Constraint)) → alternatives case.graph case.log name ≡ Some clause → MeetsClause numbers clause) where
-    -- the numbers meet the alternative that is taken at one more split
-    meets_more : (path : List PathSplit) (split : PathSplit) (clause : List (List Constraint)) (k : ℕ) (alternative : List Constraint) → MeetsPath path
-        → alternatives case.graph case.log split.name ≡ Some clause → split.alternative ≡ suc k → slice_get clause k ≡ Some alternative → All (Meets numbers) alternative
-        → MeetsPath (path ++ split ∷ [])
-    meets_more path split clause k alternative met is alternative_is at all zero number constraint pick = cc
-    meets_more path split clause k alternative met is alternative_is at all (suc i) number constraint pick =
-        option_and_then_some
-        (λ (taken : PathSplit). option_and_then (λ c. constraint_at c taken.alternative number) (alternatives case.graph case.log taken.name))
-        (slice_get (path ++ split ∷ []) i) constraint pick
-        (λ taken there rest.
-        elim (slice_get-push_cases path split i taken there) [
-          | inl before ↦
-              met (suc i) number constraint
-              (ap (option_and_then (λ (t : PathSplit). option_and_then (λ c. constraint_at c t.alternative number) (alternatives case.graph case.log t.name))) before ∙ rest)
-          | inr last ↦
-              own number constraint
-              (subst (λ (t : PathSplit). option_and_then (λ c. constraint_at c t.alternative number) (alternatives case.graph case.log t.name) ≡ Some constraint) (sym last.1) rest)
-        ])
+    -- the numbers meet the alternative of this number of an allowed clause
+    abbrev MeetsAlternative : ClauseName → ℕ → Type 0
+    MeetsAlternative name alternative =
+        (number : ℕ) (constraint : Constraint) → option_and_then (λ clause. constraint_at clause alternative number) (alternatives case.graph case.log name) ≡ Some constraint → Meets numbers constraint
+
+    -- they meet it where they meet its constraints
+    alternative_met : (name : ClauseName) (clause : List (List Constraint)) (k : ℕ) (alternative : List Constraint)
+        → alternatives case.graph case.log name ≡ Some clause → slice_get clause k ≡ Some alternative → All (Meets numbers) alternative → MeetsAlternative name (suc k)
+    alternative_met name clause k alternative is at all number constraint pick =
+        let of_clause : constraint_at clause (suc k) number ≡ Some constraint = sym (ap (option_and_then (λ c. constraint_at c (suc k) number)) is) ∙ pick in
+        of_alternative number constraint (sym (ap (option_and_then (λ a. item_at a number)) at) ∙ of_clause)
       where
         of_alternative : (number : ℕ) (constraint : Constraint) → item_at alternative number ≡ Some constraint → Meets numbers constraint
         of_alternative zero constraint here = cc
         of_alternative (suc j) constraint here = All-at (Meets numbers) alternative j constraint all here
 
-        own : (number : ℕ) (constraint : Constraint) → option_and_then (λ c. constraint_at c split.alternative number) (alternatives case.graph case.log split.name) ≡ Some constraint → Meets numbers constraint
-        own number constraint pick =
-            let of_clause : constraint_at clause split.alternative number ≡ Some constraint = sym (ap (option_and_then (λ c. constraint_at c split.alternative number)) is) ∙ pick in
-            let in_alternative : item_at alternative number ≡ Some constraint =
-            sym (ap (λ (n : ℕ). constraint_at clause n number) alternative_is ∙ ap (option_and_then (λ a. item_at a number)) at) ∙ of_clause in
-            of_alternative number constraint in_alternative
+    -- the constraint that is picked at a split
+    abbrev pick_at : ℕ → PathSplit → Option Constraint
+    pick_at number taken = option_and_then (λ c. constraint_at c taken.alternative number) (alternatives case.graph case.log taken.name)
+
+    -- at one more split they meet what is cited there too, where they meet its alternative, or where nothing is cited
+    meets_more : (path : List PathSplit) (split : PathSplit) (reasons : List Reason) → MeetsCited path reasons
+        → (cites reasons (length path + 1) ≡ true → MeetsAlternative split.name split.alternative) → MeetsCited (path ++ split ∷ []) reasons
+    meets_more path split reasons met own zero number constraint member pick = cc
+    meets_more path split reasons met own (suc i) number constraint member pick =
+        option_and_then_some (pick_at number) (slice_get (path ++ split ∷ []) i) constraint pick
+        (λ taken there rest.
+        elim (slice_get-push_cases path split i taken there) [
+          | inl before ↦ met (suc i) number constraint member (ap (option_and_then (pick_at number)) before ∙ rest)
+          | inr last ↦
+              let same : suc i ≡ length path + 1 = omega (arith, last.0) in
+              own (list_any-passes (is_pick_of (length path + 1)) reasons (Pick (suc i) number) member (grind (arith, nat_tests))) number constraint
+              (subst (λ (t : PathSplit). pick_at number t ≡ Some constraint) (sym last.1) rest)
+        ])
+
+    -- fewer reasons cite less
+    meets_first : (path : List PathSplit) (one other : List Reason) → MeetsCited path (one ++ other) → MeetsCited path one
+    meets_first path one other met split number constraint member pick = met split number constraint (Contains-append_left one other (Pick split number) member) pick
+
+    -- and what is picked does not depend on marks
+    meets_others : (path : List PathSplit) (one other : List Reason) → MeetsCited path (one ++ other) → MeetsCited (cited_by one path) other
+    meets_others path one other met split number constraint member pick =
+        met split number constraint (Contains-append_right one other (Pick split number) member) (sym (item_cited (pick_at number) (λ cited taken. refl) one path split) ∙ pick)
 
     -- the alternative of a clause that they meet
     record MetAlternative (clause : List (List Constraint)) : Type 0 where
@@ -140,33 +157,50 @@ module _ (case : Case) (ordered : IsOrdered case.log) (numbers : List ℕ)
         by (Some clause) is many = let same : length clause ≡ count = cc in record { clause = clause; is = is; many = same }
 
     mutual
-      no_tree : (path : List PathSplit) (tree : Tree) → All (IsRight case) (places path tree) → MeetsPath path → ⊥
-      no_tree path (Leaf seen reasons) right met = no_leaf path seen reasons met (All-head (IsRight case) (leaf_place path seen reasons) [] right)
+      -- No numbers meet all facts, all clauses, and what the cycles of a tree cite on its path.
+      no_tree : (path : List PathSplit) (tree : Tree) → All (IsRight case) (places path tree) → MeetsCited path (reasons_in tree) → ⊥
+      no_tree path (Leaf seen reasons) right met = no_cited_leaf path seen reasons met (All-head (IsRight case) (leaf_place path seen reasons) [] right)
       no_tree path (Branch seen name subtrees) right met =
           let first : StepPlace = branch_place path seen name (how_many subtrees) in
           let split : PathSplit = new_split name (how_many subtrees) in
           let allowed = allowed_of seen name (how_many subtrees) (All-head (IsRight case) first (places_from path split subtrees) right) in
           let meets = met_alternative allowed.clause (clauses name allowed.clause allowed.is) in
-          no_subtrees path split subtrees meets.k (omega (arith, meets.within, allowed.many)) (All-tail (IsRight case) first (places_from path split subtrees) right)
-          (meets_more path (record split { alternative = 1 + meets.k }) allowed.clause meets.k meets.alternative met allowed.is (omega arith) meets.at meets.met)
+          let number : suc meets.k ≡ 1 + meets.k = omega arith in
+          let alternative : MeetsAlternative name (1 + meets.k) =
+          subst (MeetsAlternative name) number (alternative_met name allowed.clause meets.k meets.alternative allowed.is meets.at meets.met) in
+          no_subtrees path split subtrees meets.k (omega (arith, meets.within, allowed.many)) (All-tail (IsRight case) first (places_from path split subtrees) right) met alternative
+          (λ reusable. absurd (false≢true reusable))
 
+      -- The subtree of the alternative that they meet is passed on to, unless an earlier one is reusable.
       no_subtrees : (path : List PathSplit) (split : PathSplit) (subtrees : Subtrees) (k : ℕ) → k < how_many subtrees → All (IsRight case) (places_from path split subtrees)
-          → MeetsPath (path ++ record split { alternative = split.alternative + k } ∷ []) → ⊥
-      no_subtrees path split NoMore k within right met = omega arith
-      no_subtrees path split (Next tree others) zero within right met =
+          → MeetsCited path (reasons_in_all subtrees) → MeetsAlternative split.name (split.alternative + k) → (split.reusable ≡ true → ⊥) → ⊥
+      no_subtrees path split NoMore k within right met alternative before = omega arith
+      no_subtrees path split (Reused seen others) k within right met alternative before =
+          let last : last_of (path ++ split ∷ []) ≡ Some split = last_push path split in
+          let reusable : IsReusable (path ++ split ∷ []) = All-head (IsRight case) (again_place (path ++ split ∷ []) seen) [] right in
+          before (subst (λ (o : Option PathSplit). IsSomeAnd o (λ (s : PathSplit). IsTrue s.reusable)) last reusable)
+      no_subtrees path split (Next tree others) zero within right met alternative before =
           let own : List PathSplit = path ++ split ∷ [] in
-          let same : split.alternative + 0 ≡ split.alternative = omega arith in
-          no_tree own tree (All-front (IsRight case) (places own tree) (places_from path (next_alternative split) others) right)
-          (subst (λ (n : ℕ). MeetsPath (path ++ record split { alternative = n } ∷ [])) same met)
-      no_subtrees path split (Next tree others) (suc k) within right met =
+          let reasons : List Reason = reasons_in tree in
+          let number : split.alternative + 0 ≡ split.alternative = omega arith in
+          no_tree own tree (All-front (IsRight case) (places own tree) (places_from (cited_by reasons path) (after_subtree (length path + 1) reasons split) others) right)
+          (meets_more path split reasons (meets_first path reasons (reasons_in_all others) met) (λ cited. subst (MeetsAlternative split.name) number alternative))
+      no_subtrees path split (Next tree others) (suc k) within right met alternative before =
           let own : List PathSplit = path ++ split ∷ [] in
-          let same : split.alternative + suc k ≡ split.alternative + 1 + k = omega arith in
-          no_subtrees path (next_alternative split) others k (omega arith) (All-back (IsRight case) (places own tree) (places_from path (next_alternative split) others) right)
-          (subst (λ (n : ℕ). MeetsPath (path ++ record split { alternative = n } ∷ [])) same met)
+          let reasons : List Reason = reasons_in tree in
+          let number : split.alternative + suc k ≡ split.alternative + 1 + k = omega arith in
+          let next : PathSplit = after_subtree (length path + 1) reasons split in
+          let later : List StepPlace = places_from (cited_by reasons path) next others in
+          no_subtrees (cited_by reasons path) next others k (omega arith) (All-back (IsRight case) (places own tree) later right)
+          (meets_others path reasons (reasons_in_all others) met) (subst (MeetsAlternative split.name) number alternative)
+          (λ reusable.
+          no_tree own tree (All-front (IsRight case) (places own tree) later right)
+          (meets_more path split reasons (meets_first path reasons (reasons_in_all others) met)
+          (λ cited. absurd (not_both split.cited (cites reasons (length path + 1)) cited reusable))))
 
     -- So no steps are a refutation.
     pub no_refutation : (steps : List Judged) → IsRefutation case steps → ⊥
-    no_refutation steps refutation = no_tree [] refutation.tree refutation.right (λ split number constraint pick. none number constraint split pick)
+    no_refutation steps refutation = no_tree [] refutation.tree refutation.right (λ split number constraint member pick. none number constraint split pick)
       where
         none : (number : ℕ) (constraint : Constraint) (split : ℕ) → picked case.graph case.log [] split number ≡ Some constraint → Meets numbers constraint
         none number constraint zero pick = cc

@@ -10,8 +10,8 @@ use Rattle.tfpg_evidence.specs.declared.step.Step.{Step}
 use Rattle.tfpg_evidence.specs.declared.step.Step.TheVariants.{Split, Cycle, Again}
 use Rattle.tfpg_clause.specs.Case.{Case}
 use Rattle.tfpg_clause.specs.Clauses.{count_of}
-use Rattle.tfpg_clause.specs.Trees.{Judged, new_split, next_alternative}
-use Rattle.tfpg_clause.specs.Paths.{next_leaf}
+use Rattle.tfpg_clause.specs.Trees.{Judged, new_split, next_alternative, cited_by}
+use Rattle.tfpg_clause.specs.Paths.{next_leaf, above_last}
 use Rattle.tfpg_clause.specs.declared.path.PathSplit.{PathSplit}
 
 -- the next leaf with one more split before it
@@ -63,8 +63,8 @@ module _ (case : Case) where
   -- the path of the leaf after a step, where there is one
   abbrev pub leaf_next : List PathSplit → ℕ → Step → Option (List PathSplit)
   leaf_next path seen (Split name) = option_map (λ (count : ℕ). path ++ new_split name count ∷ []) (count_of case.graph (first_events case.log seen) name)
-  leaf_next path seen (Cycle reasons) = next_leaf path
-  leaf_next path seen Again = None
+  leaf_next path seen (Cycle reasons) = next_leaf (cited_by reasons path)
+  leaf_next path seen Again = next_leaf (above_last path)
 
   -- the path of the leaf after steps, where there is one
   abbrev pub leaf_after : Option (List PathSplit) → List Judged → Option (List PathSplit)

@@ -7,7 +7,7 @@ use Rattle.tfpg_clause.specs.Case.{Case, at_log, case_at}
 use Rattle.tfpg_clause.specs.Trees.{Judged, new_split, IsRefutation, IsPresentLeaf}
 use Rattle.tfpg_clause.specs.Paths.{with_step, MovesTo}
 use Rattle.tfpg_clause.specs.declared.path.PathSplit.{PathSplit}
-use Rattle.tfpg_clause.proofs.trees.TreeSteps.{Cut, cut_of_leaf, leaf_of_cut, first_cut, split_step, last_cycle, cycle_step}
+use Rattle.tfpg_clause.proofs.trees.TreeSteps.{Cut, cut_of_leaf, leaf_of_cut, first_cut, split_step, last_cycle, cycle_step, last_again, again_step}
 
 -- The case at its first events, where these are all of them.
 pub whole_case : (case : Case) → case_at case (length case.log.events) ≡ case
@@ -33,7 +33,9 @@ module _ (case : Case) where
       let closed = moves_now path (Cycle reasons) (Some next) moves in
       leaf_of_cut case (with_step steps case.log (Cycle reasons)) next
       (cycle_step case steps path next (length case.log.events) reasons (cut_of_leaf case steps path leaf) closed.0 (sym closed.1))
-  leaf_moves steps path next Again leaf moves = absurd moves
+  leaf_moves steps path next Again leaf moves =
+      leaf_of_cut case (with_step steps case.log Again) next
+      (again_step case steps path next (length case.log.events) (cut_of_leaf case steps path leaf) moves.0 (sym moves.1))
 
   -- or there is none left
   pub leaf_ends : (steps : List Judged) (path : List PathSplit) (step : Step) → IsPresentLeaf case steps path → MovesTo case path step None → IsRefutation case (with_step steps case.log step)
@@ -41,4 +43,4 @@ module _ (case : Case) where
   leaf_ends steps path (Cycle reasons) leaf moves =
       let closed = moves_now path (Cycle reasons) None moves in
       last_cycle case steps path (length case.log.events) reasons (cut_of_leaf case steps path leaf) closed.0 (sym closed.1)
-  leaf_ends steps path Again leaf moves = absurd moves
+  leaf_ends steps path Again leaf moves = last_again case steps path (length case.log.events) (cut_of_leaf case steps path leaf) moves.0 (sym moves.1)

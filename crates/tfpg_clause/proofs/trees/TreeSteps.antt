@@ -1,5 +1,5 @@
 -- One more right step makes a refutation or another partial tree of a partial tree.
-use Rattle.std.proofs.Common.{◌≡◌, ℕ, zero, suc, ◌-◌, ◌<◌, List, [], ◌∷◌, ◌++◌, length, take, drop, Option, Some, None, refl, sym, ap, subst, ◌∙◌, arith, append_assoc}
+use Rattle.std.proofs.Common.{◌≡◌, ℕ, suc, ◌+◌, ◌-◌, ◌<◌, List, [], ◌∷◌, ◌++◌, length, take, drop, Option, Some, None, refl, sym, ap, subst, ◌∙◌, arith, append_assoc}
 use Rattle.std.specs.Prelude.{All, slice_get, option_map}
 use Rattle.std.proofs.Math.Seq.{take-append_seam}
 use Rattle.std.proofs.lemmas.List.{length-map, take-map, map-append, append-nil}
@@ -11,16 +11,16 @@ use Rattle.tfpg_log.specs.Log.{first_events}
 use Rattle.tfpg_clause.specs.Case.{Case, case_at}
 use Rattle.tfpg_evidence.specs.declared.clause_name.ClauseName.{ClauseName}
 use Rattle.tfpg_evidence.specs.declared.reason.Reason.{Reason}
-use Rattle.tfpg_evidence.specs.declared.step.Step.TheVariants.{Split, Cycle}
+use Rattle.tfpg_evidence.specs.declared.step.Step.TheVariants.{Split, Cycle, Again}
 use Rattle.tfpg_base.proofs.lists.Cuts.{cut_at}
 use Rattle.tfpg_clause.specs.Clauses.{count_of}
-use Rattle.tfpg_clause.specs.Trees.{Judged, Tree, Leaf, Branch, Subtrees, NoMore, Next, StepPlace, how_many, leaf_place, branch_place, new_split, next_alternative, places_from, places_of, IsRight, IsRightStep, IsClosedLeaf, IsRefutation, IsPartial, IsPresentLeaf}
+use Rattle.tfpg_clause.specs.Trees.{Judged, Tree, Leaf, Branch, Subtrees, Next, StepPlace, how_many, cited_by, leaf_place, branch_place, again_place, new_split, after_subtree, places_from, places_of, IsRight, IsRightStep, IsClosedLeaf, IsReusable, IsRefutation, IsPartial, IsPresentLeaf}
 use Rattle.tfpg_clause.specs.declared.path.PathSplit.{PathSplit}
-use Rattle.tfpg_clause.specs.Paths.{IsRightNext, next_leaf}
-use Rattle.tfpg_clause.proofs.trees.LeafPaths.{leaf_after, after_both}
+use Rattle.tfpg_clause.specs.Paths.{IsRightNext, next_leaf, above_last}
+use Rattle.tfpg_clause.proofs.trees.LeafPaths.{leaf_next, leaf_after, after_both}
 use Rattle.tfpg_clause.proofs.alternatives.SomeAlternative.{some_alternative}
 use Rattle.tfpg_clause.proofs.trees.TreeWalk.{steps_of_places, first_path, walk_tree}
-use Rattle.tfpg_clause.proofs.trees.Grafts.{graft}
+use Rattle.tfpg_clause.proofs.trees.Grafts.{Grafted, some_leaves, so_many, graft, graft_again}
 use Rattle.tfpg_clause.proofs.trees.PresentLeaf.{more_places, leaf_there}
 
 -- A partial tree with its present leaf: the places of a tree, cut where the leaf is.
@@ -131,15 +131,6 @@ module _ (case : Case) where
 
   -- ---- a split
 
-  some_leaves : ℕ → Subtrees
-  some_leaves zero = NoMore
-  some_leaves (suc n) = Next (Leaf 0 []) (some_leaves n)
-
-  so_many : (n : ℕ) → how_many (some_leaves n) ≡ n
-  unfolding some_leaves
-  so_many zero = refl
-  so_many (suc n) = ap (λ (k : ℕ). suc k) (so_many n)
-
   -- A split on an allowed name moves to its first alternative.
   pub split_step : (steps : List Judged) (path : List PathSplit) (seen : ℕ) (name : ClauseName) (count : ℕ) → Cut case steps path
       → count_of case.graph (first_events case.log seen) name ≡ Some count
@@ -154,7 +145,7 @@ module _ (case : Case) where
       let first : StepPlace = branch_place cut.here.path seen name (suc (how_many others)) in
       let own : List PathSplit = cut.here.path ++ split ∷ [] in
       let leaf : StepPlace = leaf_place own 0 [] in
-      let later : List StepPlace = places_from cut.here.path (next_alternative split) others ++ grafted.rest in
+      let later : List StepPlace = places_from (cited_by [] cut.here.path) (after_subtree (length cut.here.path + 1) [] split) others ++ grafted.rest in
       let first_right : IsRight case first = is ∙ ap (λ (k : ℕ). Some k) (sym many) in
       record {
         tree = grafted.tree;
@@ -167,28 +158,26 @@ module _ (case : Case) where
         path_is = ap (λ (p : List PathSplit). p ++ split ∷ []) cut.path_is ∙ ap (λ (n : ℕ). path ++ new_split name n ∷ []) many;
       }
 
-  -- ---- a cycle
+  -- ---- a step that closes a leaf
 
-  -- a tree after a leaf was closed, with the places that are left
-  record ClosedTree (steps : List Judged) (path : List PathSplit) (rest : List StepPlace) : Type 0 where
+  -- a tree after such a step, with the places that are left
+  record ClosedTree (steps : List Judged) (next : Option (List PathSplit)) (rest : List StepPlace) : Type 0 where
     tree : Tree
     front : List StepPlace
     places_are : places_of tree ≡ front ++ rest
     steps_are : steps_of_places front ≡ steps
     right : All (IsRight case) front
-    path_is : next_leaf path ≡ first_path None rest
+    path_is : next ≡ first_path None rest
 
-  closed_tree : (steps : List Judged) (path : List PathSplit) (seen : ℕ) (reasons : List Reason) → Cut case steps path → IsClosedLeaf (case_at case seen) path reasons
-      → (rest : List StepPlace) × ClosedTree (steps ++ record { seen = seen; step = Cycle reasons } ∷ []) path rest
-  closed_tree steps path seen reasons cut closed =
-      let grafted = graft [] cut.tree cut.front cut.here cut.back (Leaf seen reasons) cut.places_are in
-      let one : StepPlace = leaf_place cut.here.path seen reasons in
-      let one_right : IsRight case one = subst (λ (p : List PathSplit). IsClosedLeaf (case_at case seen) p reasons) (sym cut.path_is) closed in
+  -- the tree in which the step has this place
+  closed_tree : (steps : List Judged) (path : List PathSplit) (one : StepPlace) (cut : Cut case steps path) → Grafted [] cut.front (one ∷ []) → IsRight case one
+      → (rest : List StepPlace) × ClosedTree (steps ++ one.step ∷ []) (leaf_next case path one.step.seen one.step.step) rest
+  closed_tree steps path one cut grafted one_right =
       let front : List StepPlace = cut.front ++ one ∷ [] in
       let right : All (IsRight case) front = All-append (IsRight case) cut.front (one ∷ []) cut.right (All-cons (IsRight case) one [] one_right (All-nil (IsRight case))) in
       let are : places_of grafted.tree ≡ front ++ grafted.rest = grafted.is ∙ sym (append_assoc cut.front (one ∷ []) grafted.rest) in
-      let steps_are : steps_of_places front ≡ steps ++ record { seen = seen; step = Cycle reasons } ∷ [] =
-      map-append step_in cut.front (one ∷ []) ∙ ap (λ (s : List Judged). s ++ record { seen = seen; step = Cycle reasons } ∷ []) cut.steps_are in (
+      let steps_are : steps_of_places front ≡ steps ++ one.step ∷ [] =
+      map-append step_in cut.front (one ∷ []) ∙ ap (λ (s : List Judged). s ++ one.step ∷ []) cut.steps_are in (
         grafted.rest,
         record {
           tree = grafted.tree;
@@ -197,43 +186,75 @@ module _ (case : Case) where
           steps_are = steps_are;
           right = right;
           path_is =
-              sym (ap (λ (leaf : Option (List PathSplit)). leaf_after case leaf (record { seen = seen; step = Cycle reasons } ∷ [])) (path_of_cut steps path cut))
-              ∙ sym (after_both case (Some []) steps (record { seen = seen; step = Cycle reasons } ∷ []))
+              sym (ap (λ (leaf : Option (List PathSplit)). leaf_after case leaf (one.step ∷ [])) (path_of_cut steps path cut))
+              ∙ sym (after_both case (Some []) steps (one.step ∷ []))
               ∙ ap (leaf_after case (Some [])) (sym steps_are)
               ∙ walk_tree case [] grafted.tree front grafted.rest are right;
         },
       )
 
-  finished : (steps : List Judged) (path : List PathSplit) (rest : List StepPlace) → ClosedTree steps path rest → next_leaf path ≡ None → IsRefutation case steps
-  finished steps path [] closed none =
+  finished : (steps : List Judged) (next : Option (List PathSplit)) (rest : List StepPlace) → ClosedTree steps next rest → next ≡ None → IsRefutation case steps
+  finished steps next [] closed none =
       let all : places_of closed.tree ≡ closed.front = closed.places_are ∙ append-nil closed.front in
       record {
         tree = closed.tree;
         steps_are = sym closed.steps_are ∙ ap steps_of_places (sym all);
         right = subst (All (IsRight case)) (sym all) closed.right;
       }
-  finished steps path (here ∷ back) closed none = let same : Some here.path ≡ None = sym closed.path_is ∙ none in cc
+  finished steps next (here ∷ back) closed none = let same : Some here.path ≡ None = sym closed.path_is ∙ none in cc
 
-  goes_on : (steps : List Judged) (path next : List PathSplit) (rest : List StepPlace) → ClosedTree steps path rest → next_leaf path ≡ Some next → Cut case steps next
-  goes_on steps path next [] closed some = let same : None ≡ Some next = sym closed.path_is ∙ some in cc
-  goes_on steps path next (here ∷ back) closed some =
-      let same : Some here.path ≡ Some next = sym closed.path_is ∙ some in
-      let path_same : here.path ≡ next = cc in
+  goes_on : (steps : List Judged) (next : Option (List PathSplit)) (path : List PathSplit) (rest : List StepPlace) → ClosedTree steps next rest → next ≡ Some path → Cut case steps path
+  goes_on steps next path [] closed some = let same : None ≡ Some path = sym closed.path_is ∙ some in cc
+  goes_on steps next path (here ∷ back) closed some =
+      let same : Some here.path ≡ Some path = sym closed.path_is ∙ some in
+      let path_same : here.path ≡ path = cc in
       record { tree = closed.tree; front = closed.front; here = here; back = back; places_are = closed.places_are; steps_are = closed.steps_are; right = closed.right; path_is = path_same }
+
+  -- a cycle
+  after_cycle : (steps : List Judged) (path : List PathSplit) (seen : ℕ) (reasons : List Reason) → Cut case steps path → IsClosedLeaf (case_at case seen) path reasons
+      → (rest : List StepPlace) × ClosedTree (steps ++ record { seen = seen; step = Cycle reasons } ∷ []) (next_leaf (cited_by reasons path)) rest
+  after_cycle steps path seen reasons cut closed =
+      closed_tree steps path (leaf_place cut.here.path seen reasons) cut (graft [] cut.tree cut.front cut.here cut.back (Leaf seen reasons) cut.places_are)
+      (subst (λ (p : List PathSplit). IsClosedLeaf (case_at case seen) p reasons) (sym cut.path_is) closed)
 
   -- A cycle that closes the last leaf makes a refutation;
   pub last_cycle : (steps : List Judged) (path : List PathSplit) (seen : ℕ) (reasons : List Reason) → Cut case steps path → IsClosedLeaf (case_at case seen) path reasons
-      → next_leaf path ≡ None → IsRefutation case (steps ++ record { seen = seen; step = Cycle reasons } ∷ [])
+      → next_leaf (cited_by reasons path) ≡ None → IsRefutation case (steps ++ record { seen = seen; step = Cycle reasons } ∷ [])
   last_cycle steps path seen reasons cut closed none =
-      let tree = closed_tree steps path seen reasons cut closed in
-      finished (steps ++ record { seen = seen; step = Cycle reasons } ∷ []) path tree.0 tree.1 none
+      let tree = after_cycle steps path seen reasons cut closed in
+      finished (steps ++ record { seen = seen; step = Cycle reasons } ∷ []) (next_leaf (cited_by reasons path)) tree.0 tree.1 none
 
   -- one that closes another leaf moves to the next.
   pub cycle_step : (steps : List Judged) (path next : List PathSplit) (seen : ℕ) (reasons : List Reason) → Cut case steps path → IsClosedLeaf (case_at case seen) path reasons
-      → next_leaf path ≡ Some next → Cut case (steps ++ record { seen = seen; step = Cycle reasons } ∷ []) next
+      → next_leaf (cited_by reasons path) ≡ Some next → Cut case (steps ++ record { seen = seen; step = Cycle reasons } ∷ []) next
   cycle_step steps path next seen reasons cut closed some =
-      let tree = closed_tree steps path seen reasons cut closed in
-      goes_on (steps ++ record { seen = seen; step = Cycle reasons } ∷ []) path next tree.0 tree.1 some
+      let tree = after_cycle steps path seen reasons cut closed in
+      goes_on (steps ++ record { seen = seen; step = Cycle reasons } ∷ []) (next_leaf (cited_by reasons path)) next tree.0 tree.1 some
+
+  -- at the root no subtree is reusable
+  not_at_root : (path : List PathSplit) → IsReusable path → path ≡ [] → ⊥
+  not_at_root path reusable root = let none : IsReusable [] = subst IsReusable root reusable in absurd none
+
+  -- a subtree that is reused
+  after_again : (steps : List Judged) (path : List PathSplit) (seen : ℕ) → Cut case steps path → IsReusable path
+      → (rest : List StepPlace) × ClosedTree (steps ++ record { seen = seen; step = Again } ∷ []) (next_leaf (above_last path)) rest
+  after_again steps path seen cut reusable =
+      let here : IsReusable cut.here.path = subst IsReusable (sym cut.path_is) reusable in
+      closed_tree steps path (again_place cut.here.path seen) cut (graft_again cut.tree cut.front cut.here cut.back seen (not_at_root cut.here.path here) cut.places_are) here
+
+  -- A subtree that is reused, where no leaf is left, makes a refutation;
+  pub last_again : (steps : List Judged) (path : List PathSplit) (seen : ℕ) → Cut case steps path → IsReusable path → next_leaf (above_last path) ≡ None
+      → IsRefutation case (steps ++ record { seen = seen; step = Again } ∷ [])
+  last_again steps path seen cut reusable none =
+      let tree = after_again steps path seen cut reusable in
+      finished (steps ++ record { seen = seen; step = Again } ∷ []) (next_leaf (above_last path)) tree.0 tree.1 none
+
+  -- and else moves to the next.
+  pub again_step : (steps : List Judged) (path next : List PathSplit) (seen : ℕ) → Cut case steps path → IsReusable path → next_leaf (above_last path) ≡ Some next
+      → Cut case (steps ++ record { seen = seen; step = Again } ∷ []) next
+  again_step steps path next seen cut reusable some =
+      let tree = after_again steps path seen cut reusable in
+      goes_on (steps ++ record { seen = seen; step = Again } ∷ []) (next_leaf (above_last path)) next tree.0 tree.1 some
 
   -- ---- the last step
 

@@ -1,6 +1,6 @@
 -- What a round finds of one hypothesis after the other, whatever the earlier rounds were.
-use Rattle.std.specs.Prelude.{◌≡◌, ℕ, ◌≤◌, List, length, take, All, Bool, true, false, Some, slice_get}
-use Rattle.tfpg_graph.specs.Graph.{Tfpg, AreFailures}
+use Rattle.std.specs.Prelude.{◌≡◌, ℕ, ◌≤◌, List, length, take, All, true, false, IsTrue, Some, slice_get}
+use Rattle.tfpg_graph.specs.Graph.{Tfpg, AreFailures, is_monitored}
 use Rattle.tfpg_log.specs.Log.{now_of}
 use Rattle.tfpg_evidence.specs.declared.finding.Finding.{Finding}
 use Rattle.tfpg_evidence.specs.declared.finding.Status.{Status}
@@ -19,17 +19,11 @@ use Rattle.tfpg_clause.specs.Paths.{with_steps}
 use Rattle.tfpg_search.specs.declared.found.Found.{Found}
 use Rattle.tfpg_search.specs.declared.found.Found.TheVariants as found
 use Rattle.tfpg_engine.specs.declared.slot.Slot.{Slot}
-use Rattle.tfpg_engine.specs.declared.slot.Slot.TheVariants.{Untouched, Searched, Rejected}
-use Rattle.tfpg_engine.specs.EngineState.{SlotRepresents}
+use Rattle.tfpg_engine.specs.declared.slot.Slot.TheVariants.{Searched, Rejected}
+use Rattle.tfpg_engine.specs.EngineState.{SlotRepresents, is_rejected_slot, seen_by}
 use Rattle.tfpg_engine.specs.Earned.{IsEarned}
 use Rattle.tfpg_engine.specs.inside.Inquiries.{case_of_row}
 use Rattle.tfpg_engine.specs.inside.RankedKeys.{HasFraction}
-
--- the test of a slot that is rejected
-abbrev pub is_rejected_slot : Slot → Bool
-is_rejected_slot Untouched = false
-is_rejected_slot (Searched search) = false
-is_rejected_slot Rejected = true
 
 -- what is kept of a search that found this
 abbrev pub kept : SearchState → Found → Slot
@@ -37,11 +31,24 @@ kept search (found.Shown trace) = Searched search
 kept search found.Closed = Rejected
 kept search found.Spent = Searched search
 
--- the status by the cost and the robustness of a set, and by what was found
+-- the status by the cost and the robustness of a hypothesis, and by what was found
 abbrev pub status_by : ℕ → Fraction → Found → Status
 status_by cost robust (found.Shown trace) = status.Ranked trace cost robust.alarmed robust.monitored
 status_by cost robust found.Closed = status.Rejected
 status_by cost robust found.Spent = status.Open
+
+-- A search that is kept on has seen so many events.
+pub record IsSearchedOn (events : ℕ) (old new : Slot) : Type 0 where
+  pub not_before : is_rejected_slot old ≡ false
+  pub not_now : is_rejected_slot new ≡ false
+  pub seen : seen_by new ≡ events
+
+-- What was kept of a hypothesis before and is kept now, after a round with so many events in which it has this status.
+abbrev pub IsKeptAfter : ℕ → Status → Slot → Slot → Type 0
+IsKeptAfter events (status.Ranked trace cost alarmed monitored) old new = IsSearchedOn events old new
+IsKeptAfter events (status.Covered by) old new = new ≡ old
+IsKeptAfter events status.Rejected old new = is_rejected_slot new ≡ true
+IsKeptAfter events status.Open old new = IsSearchedOn events old new
 
 -- Where the status ranks, its robustness is a fraction.
 abbrev pub RanksByFraction : ℕ → Status → Type 0
@@ -64,6 +71,7 @@ pub record IsNewFinding (inquiry : Inquiry) (row : Row) (findings : List Finding
   pub hypothesis_is : hypothesis_of finding ≡ row.hypothesis
   pub whole : RanksByFraction row.number finding.status
   pub none_open : IsEnough inquiry.graph inquiry.log inquiry.terms.budget → is_open finding.status ≡ false
+  pub kept_is : IsKeptAfter (length inquiry.log.events) finding.status old new
   pub goes_on : (earlier : List Judged)
       → SlotRepresents (case_of_row inquiry row) row.hypothesis old earlier
       → GoesOnFrom inquiry row findings earlier new finding
@@ -88,9 +96,10 @@ pub record AreFirstFindings (inquiry : Inquiry) (table : Hypotheses) (old new : 
   pub each : AreNewFindings inquiry table old new findings
   pub same : (number : ℕ) → count ≤ number → slice_get new number ≡ slice_get old number
 
--- a table of hypotheses of failure modes of the graph, with what each reaches
+-- a table of hypotheses of failure modes and monitors of the graph, with what each reaches
 pub record IsOfGraph (graph : Tfpg) (table : Hypotheses) : Type 0 where
   pub members : All (λ hypothesis. AreFailures graph hypothesis.set) table.hypotheses
+  pub doubts : All (λ hypothesis. All (λ node. IsTrue (is_monitored graph node)) hypothesis.doubts) table.hypotheses
   pub reached : AreReaches graph table.hypotheses table.reaches
 
 -- A finding on each hypothesis was made, they were put in order and counted.

@@ -1,5 +1,5 @@
 -- What an engine keeps between events.
-use Rattle.std.specs.Prelude.{◌≡◌, ◌≤◌, List, length, false, Some, slice_get}
+use Rattle.std.specs.Prelude.{◌≡◌, ◌≤◌, List, [], length, false, Some, slice_get}
 use Rattle.tfpg_base.specs.Hypothesis.{Hypothesis}
 use Rattle.tfpg_graph.specs.Graph.{Tfpg}
 use Rattle.tfpg_log.specs.Log.{Logbook, IsLogOf}
@@ -33,10 +33,12 @@ AllCanGoOn graph log table slots =
     (row : Row) (slot : Slot) → IsRowOf table row → slice_get slots row.number ≡ Some slot →
     CanGoOn (case_for graph log row.hypothesis row.reach) row.hypothesis slot
 
--- The table is that of the graph, there is a slot for each hypothesis, and while the engine runs each slot can go on.
+-- The table is that of the graph, the log ignores no monitor, there is a slot for each hypothesis, and while the engine runs each
+-- slot can go on.
 pub record IsEngine (engine : EngineState) : Type 0 where
   pub table : IsTableOf engine.graph engine.terms engine.table
   pub of : IsLogOf engine.graph engine.log
+  pub ignores_none : engine.log.ignored ≡ []
   pub budget : 1 ≤ engine.terms.budget
   pub one_each : length engine.slots ≡ length engine.table.hypotheses
   pub slots : engine.ended ≡ false → AllCanGoOn engine.graph engine.log engine.table engine.slots

@@ -4,11 +4,11 @@ ghost use Rattle.std.specs.Prelude.{◌≡◌, ◌≤◌, ◌∷◌, [], IfOk, I
 ghost use Rattle.tfpg_base.specs.Words.{number_of};
 ghost use Rattle.tfpg_base.specs.declared.limits.TheConstants.{MAX_TIME};
 ghost use Rattle.tfpg_graph.specs.Valid.{HasValidNumber, IsValidLag};
-ghost use Rattle.tfpg_graph.specs.Declares.{kind_of_words, lag_of_word, delays_of_words};
+ghost use Rattle.tfpg_graph.specs.Declares.{kind_of_words, lag_of_words, numbers_of_words, delays_of_words};
 ghost use Rattle.tfpg_base.specs.Choice.{first_of};
-ghost use Rattle.tfpg_graph.specs.Causes.{node_number, lag_number};
-ghost use Rattle.tfpg_graph.specs.inside.reading.LineCauses.{number_causes, delay_causes};
-ghost use Rattle.tfpg_graph.specs.inside.reading.StatementSeen.{node_words_of, word_seen};
+ghost use Rattle.tfpg_graph.specs.Statements.{OrWords};
+ghost use Rattle.tfpg_graph.specs.inside.reading.LineCauses.{number_causes, node_number_causes, range_causes, delay_causes};
+ghost use Rattle.tfpg_graph.specs.inside.reading.StatementSeen.{node_words_of, lag_seen};
 ghost use Rattle.tfpg_graph.specs.inside.reading.Turns.{ReadAs};
 ghost use Rattle.tfpg_graph.specs.inside.declaring.Declaring.{AreDelays};
 ghost use Rattle.tfpg_graph.specs.declared.cause.GraphCause.TheVariants.{MinOverMax};
@@ -16,12 +16,12 @@ ghost use Rattle.tfpg_graph.specs.declared.cause.GraphCause.TheVariants.{MinOver
 use crate::cause::GraphCause;
 use crate::kind::{Kind, Lag};
 use crate::limits::MAX_RARITY;
-use crate::reading::statement::NodeWords;
+use crate::reading::statement::{LagWords, NodeWords};
 use tfpg_base::{MAX_TIME, Number, read_number};
 
 /// What the words say that a node is.
 pub(crate) fn read_kind(words: NodeWords<'_>) -> Result<Kind, GraphCause>
-    ensures kind { ReadAs (first_of (number_causes (node_number (node_words_of words.entry))))
+    ensures kind { ReadAs (first_of (node_number_causes (node_words_of words.entry)))
         (kind_of_words (node_words_of words.entry)) result }
     ensures valid { IfOk result HasValidNumber }
 {
@@ -41,17 +41,17 @@ pub(crate) fn read_kind(words: NodeWords<'_>) -> Result<Kind, GraphCause>
     }
 }
 
-/// The lag from 0 up to what the word says, in milliseconds, where there is a word.
-fn read_lag(word: Option<&[u8]>) -> Result<Option<Lag>, GraphCause>
-    ensures lag { ReadAs (first_of (number_causes (lag_number (word_seen word.entry))))
-        (lag_of_word (word_seen word.entry)) result }
+/// The lag that the words say, where there are any.
+fn read_lag(words: Option<LagWords<'_>>) -> Result<Option<Lag>, GraphCause>
+    ensures lag { ReadAs (first_of (node_number_causes (OrWords (lag_seen words.entry))))
+        (lag_of_words (lag_seen words.entry)) result }
     ensures valid { IfOk result (λ lag. IfSome lag IsValidLag) }
 {
-    match word {
+    match words {
         None => Ok(None),
-        Some(word) => {
-            let most = read_up_to(word, MAX_TIME)?;
-            Ok(Some(Lag { least: 0, most }))
+        Some(words) => {
+            let (least, most) = read_range(words.least, words.most)?;
+            Ok(Some(Lag { least, most }))
         }
     }
 }
@@ -78,7 +78,20 @@ pub(crate) fn read_delays(tmin: &[u8], tmax: &[u8]) -> Result<(u64, Option<u64>)
         let least = read_up_to(tmin, MAX_TIME)?;
         return Ok((least, None));
     }
-    match (read_number(tmin, MAX_TIME), read_number(tmax, MAX_TIME)) {
+    let (least, greatest) = read_range(tmin, tmax)?;
+    Ok((least, Some(greatest)))
+}
+
+/// The least and the greatest time that the words say, in milliseconds.
+fn read_range(least: &[u8], greatest: &[u8]) -> Result<(u64, u64), GraphCause>
+    ensures range { ReadAs (first_of (range_causes least.now greatest.now))
+        (numbers_of_words least.now greatest.now) result }
+    ensures valid { IfOk result (λ range. (range.0 ≤ range.1) × (range.1 ≤ MAX_TIME)) }
+{
+    match (
+        read_number(least, MAX_TIME),
+        read_number(greatest, MAX_TIME),
+    ) {
         (Number::NotANumber, _) => Err(GraphCause::BadNumber),
         (_, Number::NotANumber) => Err(GraphCause::BadNumber),
         (Number::TooLarge, _) => Err(GraphCause::NumberTooLarge),
@@ -87,14 +100,14 @@ pub(crate) fn read_delays(tmin: &[u8], tmax: &[u8]) -> Result<(u64, Option<u64>)
     }
 }
 
-/// The delays, where they are in order.
-fn in_order(least: u64, greatest: u64) -> Result<(u64, Option<u64>), GraphCause>
+/// The times, where they are in order.
+fn in_order(least: u64, greatest: u64) -> Result<(u64, u64), GraphCause>
     requires { greatest ≤ MAX_TIME }
-    ensures delays { result ≡ (if nat_lt greatest least then Err MinOverMax else Ok (least, Some greatest)) }
-    ensures valid { IfOk result (λ delays. AreDelays delays.0 delays.1) }
+    ensures range { result ≡ (if nat_lt greatest least then Err MinOverMax else Ok (least, greatest)) }
+    ensures valid { IfOk result (λ range. (range.0 ≤ range.1) × (range.1 ≤ MAX_TIME)) }
 {
     if least > greatest {
         return Err(GraphCause::MinOverMax);
     }
-    Ok((least, Some(greatest)))
+    Ok((least, greatest))
 }

@@ -2,6 +2,7 @@
 
 ghost use Rattle.std.specs.Prelude.{◌≡◌, ◌≤◌, ◌^◌, length, Some, IfOk, IfErr};
 ghost use Rattle.tfpg_base.specs.Lines.{parts_of};
+ghost use Rattle.tfpg_graph.specs.Text.{version_said};
 ghost use Rattle.tfpg_graph.specs.Valid.{IsValid};
 ghost use Rattle.tfpg_graph.specs.Statements.{DeclaresMode, DeclaresNode, Ends};
 ghost use Rattle.tfpg_graph.specs.inside.reading.StatementSeen.{statement_seen, node_words_of, edge_said};
@@ -17,6 +18,7 @@ use crate::reading::check_node::read_node;
 use crate::reading::find_line::{Declaring, line_declaring};
 use crate::reading::list_modes::listed_modes;
 use crate::reading::statement::{EdgeWords, NodeWords, Statement, is_skipped, statement_of};
+use crate::version::Version;
 use crate::zero_cycle::first_on_zero_cycle;
 use std::alloc::Global;
 use tfpg_base::NoMemory;
@@ -73,10 +75,12 @@ impl LineRefusal {
     }
 }
 
-/// What the lines so far have declared, and which lines may come next.
+/// What the lines so far have declared, the version of the text, and which lines may come next.
 #[derive(Drop)]
 pub(crate) struct Reader {
     part: Part,
+    /// What the header says. It does not matter before that is read.
+    version: Version,
     declared: Declared,
 }
 
@@ -89,6 +93,7 @@ impl Reader {
     {
         Reader {
             part: Part::Header,
+            version: Version::One,
             declared: Declared::new(alloc),
         }
     }
@@ -120,13 +125,17 @@ impl Reader {
         ensures valid { IfOk result IsValid }
         ensures fault { IfErr result (IsEndRefusal (parts_of text.now)) }
     {
-        let Reader { part, declared } = self;
+        let Reader {
+            part,
+            version,
+            declared,
+        } = self;
         if let Some(node) = declared.without_incoming() {
-            let line = line_declaring(text, Declaring::Node, node);
+            let line = line_declaring(text, version, Declaring::Node, node);
             return Err(LineRefusal::Cause(GraphCause::NoIncoming).at(line));
         }
         if let Some(edge) = first_on_zero_cycle(alloc, &declared)? {
-            let line = line_declaring(text, Declaring::Edge, edge);
+            let line = line_declaring(text, version, Declaring::Edge, edge);
             return Err(LineRefusal::Cause(GraphCause::ZeroCycle).at(line));
         }
         match part {
@@ -139,13 +148,14 @@ impl Reader {
         requires { self.part ≡ Part.Header }
         ensures { IsTurnResult (turn self line.now) result }
     {
-        if line != b"tfpg 1".as_slice() {
-            return Err(LineRefusal::Cause(GraphCause::BadHeader));
+        match version_said(line) {
+            None => Err(LineRefusal::Cause(GraphCause::BadHeader)),
+            Some(version) => Ok(Reader {
+                part: Part::Declarations,
+                version,
+                declared: self.declared,
+            }),
         }
-        Ok(Reader {
-            part: Part::Declarations,
-            declared: self.declared,
-        })
     }
 
     fn take_after_end(self, line: &[u8]) -> Result<Reader, LineRefusal>
@@ -165,14 +175,14 @@ impl Reader {
         if is_skipped(line) {
             return Ok(self);
         }
-        match statement_of(line) {
+        match statement_of(line, self.version) {
             None => Err(LineRefusal::Cause(GraphCause::BadLine)),
             Some(statement) => self.with_statement(alloc, statement),
         }
     }
 
     fn with_statement(self, alloc: Global, statement: Statement<'_>) -> Result<Reader, LineRefusal>
-        ensures { IsTurnResult (turn_said self.declared (Some (statement_seen statement.entry))) result }
+        ensures { IsTurnResult (turn_said self.version self.declared (Some (statement_seen statement.entry))) result }
     {
         match statement {
             Statement::Mode { name } => self.with_mode(alloc, name),
@@ -183,7 +193,7 @@ impl Reader {
     }
 
     fn with_mode(self, alloc: Global, name: &[u8]) -> Result<Reader, LineRefusal>
-        ensures { IsTurnResult (turn_said self.declared (Some (DeclaresMode name.now))) result }
+        ensures { IsTurnResult (turn_said self.version self.declared (Some (DeclaresMode name.now))) result }
     {
         if let Some(cause) = mode_cause(&self.declared, name) {
             return Err(LineRefusal::Cause(cause));
@@ -191,6 +201,7 @@ impl Reader {
         let declared = self.declared.with_mode(alloc, name)?;
         Ok(Reader {
             part: Part::Declarations,
+            version: self.version,
             declared,
         })
     }
@@ -201,38 +212,54 @@ impl Reader {
         name: &[u8],
         words: NodeWords<'_>,
     ) -> Result<Reader, LineRefusal>
-        ensures { IsTurnResult (turn_said self.declared
+        ensures { IsTurnResult (turn_said self.version self.declared
             (Some (DeclaresNode name.now (node_words_of words.entry)))) result }
     {
         let kind = read_node(&self.declared, name, words)?;
         let declared = self.declared.with_node(alloc, name, kind)?;
         Ok(Reader {
             part: Part::Declarations,
+            version: self.version,
             declared,
         })
     }
 
     fn with_edge(self, alloc: Global, words: EdgeWords<'_>) -> Result<Reader, LineRefusal>
-        ensures { IsTurnResult (turn_said self.declared (Some (edge_said words.entry))) result }
+        ensures { IsTurnResult (turn_said self.version self.declared (Some (edge_said words.entry))) result }
     {
         let modes = listed_modes(alloc, words.modes)?;
         let edge = read_edge(&self.declared, words, modes.as_slice())?;
         let declared = self.declared.with_edge(edge)?;
         Ok(Reader {
             part: Part::Declarations,
+            version: self.version,
             declared,
         })
     }
 
     fn with_end(self) -> Result<Reader, LineRefusal>
-        ensures { IsTurnResult (turn_said self.declared (Some Ends)) result }
+        ensures { IsTurnResult (turn_said self.version self.declared (Some Ends)) result }
     {
         if self.declared.mode_count() == 0 {
             return Err(LineRefusal::Cause(GraphCause::BadLine));
         }
         Ok(Reader {
             part: Part::Ended,
+            version: self.version,
             declared: self.declared,
         })
+    }
+}
+
+/// The version that the line says, where it is a header.
+fn version_said(line: &[u8]) -> Option<Version>
+    ensures { result ≡ version_said line.now }
+{
+    if line == b"tfpg 1".as_slice() {
+        Some(Version::One)
+    } else if line == b"tfpg 2".as_slice() {
+        Some(Version::Two)
+    } else {
+        None
     }
 }

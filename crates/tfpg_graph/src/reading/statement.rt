@@ -1,11 +1,13 @@
 //! What a line of a graph's text says by its words alone: no name is looked up, and no number is read.
 
-ghost use Rattle.std.specs.Prelude.{◌≡◌, ℕ, List, ◌∷◌, [], length, map, Option, option_map};
+ghost use Rattle.std.specs.Prelude.{◌≡◌, length, map, Option, option_map};
 ghost use Rattle.tfpg_graph.specs.Statements.{is_empty_or_comment};
-ghost use Rattle.tfpg_graph.specs.Statements.{statement_of, statement_in, OrWords, AndWords, DeclaresNode, mode_in, failure_in, discrepancy_in, edge_in, end_in, lag_in, is_skipped};
+ghost use Rattle.tfpg_graph.specs.Statements.{statement_of, statement_in, OrWords, AndWords, DeclaresNode, mode_in, failure_in, discrepancy_in, edge_in, end_in, lag_in, hidden_in, watched_in, is_skipped};
 ghost use Rattle.tfpg_graph.specs.Statements as definition;
-ghost use Rattle.tfpg_graph.specs.inside.reading.StatementSeen.{statement_seen, word_seen};
+ghost use Rattle.tfpg_graph.specs.declared.version.Version.TheVariants.{One, Two};
+ghost use Rattle.tfpg_graph.specs.inside.reading.StatementSeen.{statement_seen, lag_seen};
 
+use crate::version::Version;
 use tfpg_base::{LONGEST_LINE, Words};
 
 /// What a line after the header says.
@@ -22,12 +24,19 @@ pub(crate) enum Statement<'a> {
     End,
 }
 
-/// The words that say what a node is, with the word for its number.
+/// The words that say what a node is, with the words for its numbers.
 #[derive(Clone, Copy)]
 pub(crate) enum NodeWords<'a> {
     Failure { rarity: &'a [u8] },
-    Or { lag: Option<&'a [u8]> },
-    And { lag: Option<&'a [u8]> },
+    Or { lag: Option<LagWords<'a>> },
+    And { lag: Option<LagWords<'a>> },
+}
+
+/// The words for a lag.
+#[derive(Clone, Copy)]
+pub(crate) struct LagWords<'a> {
+    pub(crate) least: &'a [u8],
+    pub(crate) most: &'a [u8],
 }
 
 /// The words of an edge's line after its keyword.
@@ -56,20 +65,20 @@ fn is_empty_or_comment(line: &[u8]) -> bool
     }
 }
 
-/// What the line says, where it has one of the shapes. Takes time linear in its length.
-pub(crate) fn statement_of(line: &[u8]) -> Option<Statement<'_>>
-    ensures { option_map statement_seen result ≡ statement_of line.now }
+/// What the line of a text of this version says, where it has one of the shapes. Takes time linear in its length.
+pub(crate) fn statement_of(line: &[u8], version: Version) -> Option<Statement<'_>>
+    ensures { option_map statement_seen result ≡ statement_of version line.now }
 {
     if line.len() > LONGEST_LINE {
         return None;
     }
     let words = Words::filled(line)?;
-    statement_in(words.as_slice())
+    statement_in(words.as_slice(), version)
 }
 
 /// What a line of these words says.
-fn statement_in<'a>(words: &[&'a [u8]]) -> Option<Statement<'a>>
-    ensures { option_map statement_seen result ≡ statement_in (map (λ word. word.now) words.now) }
+fn statement_in<'a>(words: &[&'a [u8]], version: Version) -> Option<Statement<'a>>
+    ensures { option_map statement_seen result ≡ statement_in version (map (λ word. word.now) words.now) }
 {
     let (keyword, others) = words.split_first()?;
     if *keyword == b"mode".as_slice() {
@@ -77,9 +86,9 @@ fn statement_in<'a>(words: &[&'a [u8]]) -> Option<Statement<'a>>
     } else if *keyword == b"failure".as_slice() {
         failure_in(others)
     } else if *keyword == b"or".as_slice() {
-        or_in(others)
+        or_in(others, version)
     } else if *keyword == b"and".as_slice() {
-        and_in(others)
+        and_in(others, version)
     } else if *keyword == b"edge".as_slice() {
         edge_in(others)
     } else if *keyword == b"end".as_slice() {
@@ -110,65 +119,96 @@ fn failure_in<'a>(words: &[&'a [u8]]) -> Option<Statement<'a>>
     }
 }
 
-fn or_in<'a>(words: &[&'a [u8]]) -> Option<Statement<'a>>
-    ensures { option_map statement_seen result ≡ discrepancy_in OrWords (map (λ word. word.now) words.now) }
+fn or_in<'a>(words: &[&'a [u8]], version: Version) -> Option<Statement<'a>>
+    ensures { option_map statement_seen result ≡
+        discrepancy_in version OrWords (map (λ word. word.now) words.now) }
 {
-    let (name, lag) = discrepancy_in(words)?;
+    let (name, lag) = discrepancy_in(words, version)?;
     Some(Statement::Node {
         name,
         words: NodeWords::Or { lag },
     })
 }
 
-fn and_in<'a>(words: &[&'a [u8]]) -> Option<Statement<'a>>
-    ensures { option_map statement_seen result ≡ discrepancy_in AndWords (map (λ word. word.now) words.now) }
+fn and_in<'a>(words: &[&'a [u8]], version: Version) -> Option<Statement<'a>>
+    ensures { option_map statement_seen result ≡
+        discrepancy_in version AndWords (map (λ word. word.now) words.now) }
 {
-    let (name, lag) = discrepancy_in(words)?;
+    let (name, lag) = discrepancy_in(words, version)?;
     Some(Statement::Node {
         name,
         words: NodeWords::And { lag },
     })
 }
 
-/// The name of a discrepancy, and the word for its lag where it is monitored.
-fn discrepancy_in<'a>(words: &[&'a [u8]]) -> Option<(&'a [u8], Option<&'a [u8]>)>
-    ensures { (with_lag : Option (List ℕ) → definition.NodeWords) →
-        option_map (λ found. DeclaresNode found.0.now (with_lag (word_seen found.1))) result
-        ≡ discrepancy_in with_lag (map (λ word. word.now) words.now) }
+/// The name of a discrepancy, and the words for its lag where it is monitored.
+fn discrepancy_in<'a>(
+    words: &[&'a [u8]],
+    version: Version,
+) -> Option<(&'a [u8], Option<LagWords<'a>>)>
+    ensures { (with_lag : Option definition.LagWords → definition.NodeWords) →
+        option_map (λ found. DeclaresNode found.0.now (with_lag (lag_seen found.1))) result
+        ≡ discrepancy_in version with_lag (map (λ word. word.now) words.now) }
 {
     let (name, others) = words.split_first()?;
-    let lag = lag_in(others)?;
+    let lag = lag_in(others, version)?;
     Some((*name, lag))
 }
 
-/// The word for the lag, where the last words of a discrepancy's line say that it is watched.
-fn lag_in<'a>(words: &[&'a [u8]]) -> Option<Option<&'a [u8]>>
-    ensures { option_map word_seen result ≡ lag_in (map (λ word. word.now) words.now) }
+/// The words for the lag, where the last words of a discrepancy's line say that it is watched.
+fn lag_in<'a>(words: &[&'a [u8]], version: Version) -> Option<Option<LagWords<'a>>>
+    ensures { option_map lag_seen result ≡ lag_in version (map (λ word. word.now) words.now) }
+{
+    let (state, others) = words.split_first()?;
+    if *state == b"hidden".as_slice() {
+        hidden_in(others)
+    } else if *state == b"watch".as_slice() {
+        watched_in(others, version)
+    } else {
+        None
+    }
+}
+
+fn hidden_in<'a>(words: &[&'a [u8]]) -> Option<Option<LagWords<'a>>>
+    ensures { option_map lag_seen result ≡ hidden_in (map (λ word. word.now) words.now) }
 {
     match words {
-        [state] => lag_of_hidden(*state),
-        [state, lag] => lag_of_watched(*state, *lag),
+        [] => Some(None),
         _ => None,
     }
 }
 
-fn lag_of_hidden(state: &[u8]) -> Option<Option<&'static [u8]>>
-    ensures { option_map word_seen result ≡ lag_in (state.now ∷ []) }
+fn watched_in<'a>(words: &[&'a [u8]], version: Version) -> Option<Option<LagWords<'a>>>
+    ensures { option_map lag_seen result ≡ watched_in version (map (λ word. word.now) words.now) }
 {
-    if state == b"hidden".as_slice() {
-        Some(None)
-    } else {
-        None
+    match version {
+        Version::One => most_in(words),
+        Version::Two => least_and_most_in(words),
     }
 }
 
-fn lag_of_watched<'a>(state: &[u8], lag: &'a [u8]) -> Option<Option<&'a [u8]>>
-    ensures { option_map word_seen result ≡ lag_in (state.now ∷ lag.now ∷ []) }
+/// A lag from 0 up to what the one word says.
+fn most_in<'a>(words: &[&'a [u8]]) -> Option<Option<LagWords<'a>>>
+    ensures { option_map lag_seen result ≡ watched_in One (map (λ word. word.now) words.now) }
 {
-    if state == b"watch".as_slice() {
-        Some(Some(lag))
-    } else {
-        None
+    match words {
+        [most] => Some(Some(LagWords {
+            least: b"0",
+            most: *most,
+        })),
+        _ => None,
+    }
+}
+
+fn least_and_most_in<'a>(words: &[&'a [u8]]) -> Option<Option<LagWords<'a>>>
+    ensures { option_map lag_seen result ≡ watched_in Two (map (λ word. word.now) words.now) }
+{
+    match words {
+        [least, most] => Some(Some(LagWords {
+            least: *least,
+            most: *most,
+        })),
+        _ => None,
     }
 }
 

@@ -1,4 +1,4 @@
-//! What the statuses of a round say of the sets themselves.
+//! What the statuses of a round say of the hypotheses themselves.
 
 ghost use Rattle.std.specs.Prelude.{ℕ, List};
 ghost use Rattle.tfpg_base.specs.declared.terms.Terms.{Terms};
@@ -11,8 +11,8 @@ ghost use Rattle.tfpg_hyp.specs.Fitting.{SayWhichSetsFit, AreStatusesOfMinimalSe
 
 use tfpg_clause::laws::a_refutation_leaves_no_trace;
 
-/// What a round says of a set, whatever became of the others: a set that is not open is rejected exactly where it does not fit
-/// the log, a set that fits is never rejected, and a ranked set of whose proper subsets none is open has no proper subset that
+/// What a round says of a hypothesis, whatever became of the others: one that is not open is rejected exactly where it does not
+/// fit the log, one that fits is never rejected, and a ranked one of whose proper parts none is open has no proper part that
 /// fits.
 pub fn rounds_say_which_sets_fit()
     ensures { (graph : Tfpg) (terms : Terms) (line : ℕ) (rounds : List Round) (log : Logbook)
@@ -23,8 +23,9 @@ pub fn rounds_say_which_sets_fit()
     a_refutation_leaves_no_trace();
 }
 
-/// In a round without an open set the statuses depend on the graph, on `k` and on the log alone: ranked are exactly the sets that
-/// fit while no proper subset does, covered exactly the others that fit, and rejected exactly those that do not.
+/// In a round without an open hypothesis the statuses depend on the graph, on `k` and `doubt`, and on the log alone: ranked are
+/// exactly the hypotheses that fit while no proper part does, covered exactly the others that fit, and rejected exactly those that
+/// do not.
 pub fn statuses_are_those_of_minimal_sets()
     ensures { (graph : Tfpg) (terms : Terms) (line : ℕ) (rounds : List Round) (log : Logbook)
         (round : Round) →

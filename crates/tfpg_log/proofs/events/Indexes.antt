@@ -1,5 +1,5 @@
 -- The index of a log's events stays right as events come.
-use Rattle.std.proofs.Common.{◌≡◌, ℕ, suc, ◌+◌, ◌<◌, ◌≤◌, false, List, [], ◌∷◌, ◌++◌, length, set, Option, Some, None, refl, inl, inr, sym, subst, ◌∙◌, arith}
+use Rattle.std.proofs.Common.{◌≡◌, ℕ, suc, ◌+◌, ◌<◌, ◌≤◌, false, List, [], ◌∷◌, ◌++◌, length, set, Option, Some, refl, inl, inr, sym, subst, ◌∙◌, arith}
 use Rattle.std.proofs.lemmas.Bool.{ne_eqb}
 use Rattle.std.proofs.lemmas.Bool.Decides.{eqb_tells}
 use Rattle.std.proofs.lemmas.Grind.{get_or-set_at}
@@ -7,16 +7,15 @@ use Rattle.std.proofs.lemmas.List.{get_or-set_other, length_push}
 use Rattle.tfpg_log.specs.declared.event.Event.{Event}
 use Rattle.tfpg_log.specs.declared.event.Event.TheVariants.{Alarm, Silent, Sweep, Tick, Mode}
 use Rattle.tfpg_log.specs.declared.mode_change.ModeChange.{ModeChange}
-use Rattle.tfpg_log.specs.Log.{Logbook, now_of, is_alarm_of, alarm_among, time_of_event, is_mode_change, mode_after, with_event}
+use Rattle.tfpg_log.specs.Log.{Logbook, now_of, is_alarm_of, time_of_event, is_mode_change, mode_after, with_event, ignoring}
 use Rattle.tfpg_base.specs.declared.limits.TheConstants.{MAX_TIME}
 use Rattle.tfpg_log.specs.declared.limits.TheConstants.{MAX_EVENTS}
 use Rattle.tfpg_log.specs.inside.SpanIndex.{begin_of_span, BeginSpans, with_change}
 use Rattle.tfpg_log.specs.inside.LogIndex.{IsLogIndex}
 use Rattle.tfpg_log.specs.declared.node_events.NodeEvents.{NodeEvents}
-use Rattle.tfpg_log.specs.inside.NodeEvents.{IsLast, IsSweep, IsNodeEvents, AreSameOfNodes, events_of, no_events}
+use Rattle.tfpg_log.specs.inside.NodeEvents.{IsLast, IsSweep, IsNodeEvents, AreSameOfNodes, events_of, no_events, with_alarm}
 use Rattle.tfpg_log.proofs.events.Events.{now-with_event}
 use Rattle.tfpg_log.proofs.events.Order.{ordered-with_event}
-use Rattle.tfpg_log.proofs.events.FirstAlarms.{first_alarms_kept}
 use Rattle.tfpg_log.proofs.events.NodesEvents.{node_kept, node_silenced, node_alarmed, last_sweep_kept, last_sweep_new}
 use Rattle.tfpg_log.proofs.changes.ModeChanges.{mode_after-append, mode_before_change, mode_after_change, changes-push}
 use Rattle.tfpg_log.proofs.changes.SpanChanges.{times_rise, spans_with_change, begun_with_change, one_more_change}
@@ -39,9 +38,8 @@ indexed_by : (log : Logbook) (nodes longer : List NodeEvents) (sweep last : Opti
     → length log.events < MAX_EVENTS → now_of log ≤ time_of_event event → time_of_event event ≤ MAX_TIME → is_mode_change event ≡ false
     → ((held instant : ℕ) → mode_after held (event ∷ []) instant ≡ held)
     → AreNodesEvents log event longer → IsLast (IsSweep (with_event log event)) last
-    → ((at node : ℕ) → event ≡ Alarm at node → alarm_among log.events node ≡ None)
     → IsLogIndex (with_event log event) longer last changes count
-indexed_by log nodes longer sweep last changes count event index room not_back in_range uncounted no_change own swept first = record {
+indexed_by log nodes longer sweep last changes count event index room not_back in_range uncounted no_change own swept = record {
   few = omega (arith, length_push log.events event, room);
   own = own;
   swept = swept;
@@ -51,7 +49,6 @@ indexed_by log nodes longer sweep last changes count event index room not_back i
   in_order = index.in_order;
   by_now = omega (arith, index.by_now, not_back, now-with_event log event);
   ordered = ordered-with_event log event index.ordered not_back in_range;
-  first_alarms = first_alarms_kept log event index.first_alarms first;
 }
 
 -- an event of no node leaves what is kept of each
@@ -82,7 +79,6 @@ module _ (log : Logbook) (nodes : List NodeEvents) (sweep : Option ℕ) (changes
       indexed_by log nodes nodes sweep sweep changes count (Tick time) index room not_back in_range refl (λ held instant. refl)
       (own_kept log nodes (Tick time) index.own (λ node. refl) (λ node t e. absurd cc))
       (last_sweep_kept log (Tick time) sweep (λ t e. absurd cc) index.swept)
-      (λ t n e. absurd cc)
 
   -- A sweep is the last.
   pub indexed_sweep : (number : ℕ) → number ≡ suc (length log.events) → IsLogIndex (with_event log (Sweep time)) nodes (Some number) changes count
@@ -90,7 +86,6 @@ module _ (log : Logbook) (nodes : List NodeEvents) (sweep : Option ℕ) (changes
       indexed_by log nodes nodes sweep (Some number) changes count (Sweep time) index room not_back in_range refl (λ held instant. refl)
       (own_kept log nodes (Sweep time) index.own (λ node. refl) (λ node t e. absurd cc))
       (last_sweep_new log time number at)
-      (λ t n e. absurd cc)
 
   -- A change of mode may begin a span, and is counted.
   pub indexed_mode : (mode : ℕ) → IsLogIndex (with_event log (Mode time mode)) nodes sweep (with_change changes time mode) (count + 1)
@@ -109,32 +104,47 @@ module _ (log : Logbook) (nodes : List NodeEvents) (sweep : Option ℕ) (changes
         in_order = times_rise (with_change changes time mode) spans.rise;
         by_now = omega (arith, begun_with_change (mode_after 0 log.events) changes time mode index.spans last, now-with_event log (Mode time mode));
         ordered = ordered-with_event log (Mode time mode) index.ordered not_back in_range;
-        first_alarms = first_alarms_kept log (Mode time mode) index.first_alarms (λ t n e. absurd cc);
       }
 
   module _ (longer : List NodeEvents) (same : AreSameOfNodes longer nodes) (node : ℕ) (lt : node < length longer) (before : NodeEvents) (is : IsNodeEvents log node before)
       (number : ℕ) (at : number ≡ suc (length log.events)) where
     -- A silence of a node is its last.
     pub indexed_silence : IsLogIndex (with_event log (Silent time node))
-        (set longer node (record { alarm = before.alarm; silence = Some number; sweep = before.sweep })) sweep changes count
+        (set longer node (record { first_alarm = before.first_alarm; last_alarm = before.last_alarm; silence = Some number; sweep = before.sweep })) sweep changes count
     indexed_silence =
-        indexed_by log nodes (set longer node (record { alarm = before.alarm; silence = Some number; sweep = before.sweep })) sweep sweep changes count (Silent time node)
+        indexed_by log nodes (set longer node (record { first_alarm = before.first_alarm; last_alarm = before.last_alarm; silence = Some number; sweep = before.sweep })) sweep sweep changes count (Silent time node)
         index room not_back in_range refl (λ held instant. refl)
-        (own_set log nodes longer (Silent time node) node (record { alarm = before.alarm; silence = Some number; sweep = before.sweep }) index.own same lt
+        (own_set log nodes longer (Silent time node) node (record { first_alarm = before.first_alarm; last_alarm = before.last_alarm; silence = Some number; sweep = before.sweep }) index.own same lt
         (node_silenced log time number at node before is)
         (λ other apart. (refl, λ t e. (let it : node ≡ other = cc in apart (sym it)))))
         (last_sweep_kept log (Silent time node) sweep (λ t e. absurd cc) index.swept)
-        (λ t n e. absurd cc)
 
-    -- The first alarm of a node has its number, and the last sweep so far is the last before it.
-    pub indexed_alarm : alarm_among log.events node ≡ None
-        → IsLogIndex (with_event log (Alarm time node))
-        (set longer node (record { alarm = Some number; silence = before.silence; sweep = sweep })) sweep changes count
-    indexed_alarm first =
-        indexed_by log nodes (set longer node (record { alarm = Some number; silence = before.silence; sweep = sweep })) sweep sweep changes count (Alarm time node)
+    -- An alarm of a node is its last.
+    pub indexed_alarm : IsLogIndex (with_event log (Alarm time node)) (set longer node (with_alarm before number sweep)) sweep changes count
+    indexed_alarm =
+        indexed_by log nodes (set longer node (with_alarm before number sweep)) sweep sweep changes count (Alarm time node)
         index room not_back in_range refl (λ held instant. refl)
-        (own_set log nodes longer (Alarm time node) node (record { alarm = Some number; silence = before.silence; sweep = sweep }) index.own same lt
-        (node_alarmed log time number at node before is sweep first index.swept)
+        (own_set log nodes longer (Alarm time node) node (with_alarm before number sweep) index.own same lt
+        (node_alarmed log time number at node before is sweep index.swept)
         (λ other apart. (ne_eqb node other (λ e. apart (sym e)), λ t e. absurd cc)))
         (last_sweep_kept log (Alarm time node) sweep (λ t e. absurd cc) index.swept)
-        (λ t n e. (let it : node ≡ n = cc in subst (λ (m : ℕ). alarm_among log.events m ≡ None) it first))
+
+-- What the log ignores does not bear on its index.
+pub indexed_ignoring : (log : Logbook) (ignored : List ℕ) (nodes : List NodeEvents) (sweep : Option ℕ) (changes : List ModeChange) (count : ℕ)
+    → IsLogIndex log nodes sweep changes count → IsLogIndex (ignoring log ignored) nodes sweep changes count
+indexed_ignoring log ignored nodes sweep changes count index = record {
+  few = index.few;
+  own = λ node. record {
+    first_alarm = (index.own node).first_alarm;
+    last_alarm = (index.own node).last_alarm;
+    silence = (index.own node).silence;
+    sweep = (index.own node).sweep;
+  };
+  swept = index.swept;
+  counted = index.counted;
+  fewer = index.fewer;
+  spans = index.spans;
+  in_order = index.in_order;
+  by_now = index.by_now;
+  ordered = record { in_order = index.ordered.in_order; in_range = index.ordered.in_range };
+}

@@ -1,17 +1,19 @@
--- The last event that silences a node is the later of its own last silence and of the last sweep that silences it.
-use Rattle.std.proofs.Common.{◌≡◌, ℕ, ◌-◌, ◌<◌, max, true, cond, eqb, take, Option, Some, None, ◌⊎◌, inl, inr, refl, sym, ap, subst, ◌∙◌, arith}
+-- The last silence of a node is the later of its own last one and of the last sweep that is one; and the last event that
+-- says up to which instant a node is not active is its last silence, or there is none.
+use Rattle.std.proofs.Common.{◌≡◌, ℕ, ◌-◌, ◌<◌, ◌≤◌, max, true, cond, eqb, take, Option, Some, None, ◌⊎◌, inl, inr, refl, sym, ap, subst, ◌∙◌, arith}
 use Rattle.std.specs.Prelude.{◌&&◌, is_none, option_and_then}
 use Rattle.std.proofs.lemmas.Bool.{eqb-true, eq-eqb, lt-ltb, ltb-true, cases_lt, and_from, and_parts}
 use Rattle.std.proofs.lemmas.Option.{cond_some}
 use Rattle.tfpg_base.proofs.lists.Choices.{none-from_never}
-use Rattle.tfpg_graph.specs.Graph.{Tfpg, is_monitored}
+use Rattle.tfpg_graph.specs.Graph.{Tfpg, is_monitored, lag_or_zero}
 use Rattle.tfpg_log.specs.declared.event.Event.{Event}
 use Rattle.tfpg_log.specs.declared.event.Event.TheVariants.{Alarm, Silent, Sweep, Tick, Mode}
-use Rattle.tfpg_log.specs.Log.{Logbook, event_at, first_events, alarm_among, alarm_event, quiet_time, quiet_at}
+use Rattle.tfpg_log.specs.Log.{Logbook, event_at, first_events, alarm_among, alarm_event, IsOrdered, inactive_until, silence_time, quiet_at}
 use Rattle.tfpg_log.specs.Quiet.{IsLastQuiet}
-use Rattle.tfpg_log.specs.inside.NodeEvents.{IsLast, IsOwnSilence, IsSweep, IsSweepBefore, IsSwept, later_of}
+use Rattle.tfpg_log.specs.inside.NodeEvents.{IsLast, IsOwnSilence, IsSweep, IsSweepBefore, IsSilence, IsSwept, later_of}
 use Rattle.tfpg_log.proofs.events.AlarmEvents.{alarm_event_is, none_before_alarm, none_before_none}
 use Rattle.tfpg_log.proofs.events.NodesEvents.{last_carried}
+use Rattle.tfpg_log.proofs.events.SilenceTimes.{quiet_by, says_inactive, silences_in_order}
 
 -- ---- sweeps
 
@@ -88,29 +90,25 @@ module _ (P Q : ℕ → Type 0) where
   )
   last_of_either (Some one) (Some other) first second = later_of_both one other first second
 
--- ---- what silences a node
-
--- the event of the number silences the node
-abbrev Silences : Tfpg → Logbook → ℕ → ℕ → Type 0
-Silences graph log node number = (time : ℕ) × (quiet_at graph log number node ≡ Some time)
+-- ---- silences
 
 module _ (graph : Tfpg) (log : Logbook) (node : ℕ) where
-  own_silences : (number : ℕ) → IsOwnSilence log node number → Silences graph log node number
+  own_silences : (number : ℕ) → IsOwnSilence log node number → IsSilence graph log node number
   own_silences number silence = (
     silence.0,
-    ap (option_and_then (λ event. quiet_time graph (first_events log (number - 1)) event node)) silence.1
+    ap (option_and_then (λ event. silence_time graph (first_events log (number - 1)) event node)) silence.1
         ∙ ap (λ b. cond b (Some silence.0) None) (eq-eqb node node refl),
   )
 
-  swept_silences : (number : ℕ) → IsSwept graph log node number → Silences graph log node number
+  swept_silences : (number : ℕ) → IsSwept graph log node number → IsSilence graph log node number
   swept_silences number swept = (
     swept.0.0,
-    ap (option_and_then (λ event. quiet_time graph (first_events log (number - 1)) event node)) swept.0.1
+    ap (option_and_then (λ event. silence_time graph (first_events log (number - 1)) event node)) swept.0.1
         ∙ ap (λ b. cond b (Some swept.0.0) None) swept.1,
   )
 
   by_event : (number time : ℕ) (event : Option Event) → event_at log number ≡ event
-      → option_and_then (λ event. quiet_time graph (first_events log (number - 1)) event node) event ≡ Some time → IsOwnSilence log node number ⊎ IsSwept graph log node number
+      → option_and_then (λ event. silence_time graph (first_events log (number - 1)) event node) event ≡ Some time → IsOwnSilence log node number ⊎ IsSwept graph log node number
   by_event number time None at e = absurd cc
   by_event number time (Some (Alarm own alarmed)) at e = absurd cc
   by_event number time (Some (Silent own silent)) at e =
@@ -120,24 +118,50 @@ module _ (graph : Tfpg) (log : Logbook) (node : ℕ) where
   by_event number time (Some (Tick own)) at e = absurd cc
   by_event number time (Some (Mode own mode)) at e = absurd cc
 
-  silences_by : (number : ℕ) → Silences graph log node number → IsOwnSilence log node number ⊎ IsSwept graph log node number
-  silences_by number silences = by_event number silences.0 (event_at log number) refl silences.1
+  silences_by : (number : ℕ) → IsSilence graph log node number → IsOwnSilence log node number ⊎ IsSwept graph log node number
+  silences_by number silence = by_event number silence.0 (event_at log number) refl silence.1
 
-  as_quiet : (result : Option ℕ) → IsLast (Silences graph log node) result → IsLastQuiet graph log node result
-  as_quiet None is = λ number. none-from_never (quiet_at graph log number node) (λ time e. is number (time, e))
-  as_quiet (Some number) is = record {
-    time = is.0.0;
-    silent = is.0.1;
-    last = λ later above. none-from_never (quiet_at graph log later node) (λ time e. is.1 later above (time, e));
-  }
-
-  -- The last event that silences the node is the later of its own last silence and of the last sweep that does.
-  pub last_quiet_is : (one other : Option ℕ) → IsLast (IsOwnSilence log node) one → IsLast (IsSwept graph log node) other → IsLastQuiet graph log node (later_of one other)
-  last_quiet_is one other own swept =
-      as_quiet (later_of one other)
-      (last_carried (λ number. IsOwnSilence log node number ⊎ IsSwept graph log node number) (Silences graph log node) (later_of one other)
+  -- The last silence of a node is the later of its own last one and of the last sweep that is one.
+  pub last_silence_is : (one other : Option ℕ) → IsLast (IsOwnSilence log node) one → IsLast (IsSwept graph log node) other → IsLast (IsSilence graph log node) (later_of one other)
+  last_silence_is one other own swept =
+      last_carried (λ number. IsOwnSilence log node number ⊎ IsSwept graph log node number) (IsSilence graph log node) (later_of one other)
       (λ number either. elim either [
         | inl silence ↦ own_silences number silence
         | inr sweep ↦ swept_silences number sweep
       ])
-      silences_by (last_of_either (IsOwnSilence log node) (IsSwept graph log node) one other own swept))
+      silences_by (last_of_either (IsOwnSilence log node) (IsSwept graph log node) one other own swept)
+
+  -- ---- the last silence that says up to which instant the node is not active
+
+  is_silence : (number until : ℕ) → quiet_at graph log number node ≡ Some until → IsSilence graph log node number
+  is_silence number until e = let by = quiet_by graph log node number until e in (by.time, by.silent)
+
+  -- A node without a silence is nowhere said not to be active.
+  pub none_quiet : IsLast (IsSilence graph log node) None → IsLastQuiet graph log node None
+  none_quiet none = λ number. none-from_never (quiet_at graph log number node) (λ until e. none number (is_silence number until e))
+
+  module _ (number : ℕ) (last : IsLast (IsSilence graph log node) (Some number)) where
+    -- If the last silence says so, it is the last that does.
+    pub last_says : (until : ℕ) → quiet_at graph log number node ≡ Some until → IsLastQuiet graph log node (Some number)
+    last_says until says = record {
+      time = until;
+      silent = says;
+      last = λ later above. none-from_never (quiet_at graph log later node) (λ other e. last.1 later above (is_silence later other e));
+    }
+
+    upto_last : (other until : ℕ) → quiet_at graph log other node ≡ Some until → other ≤ number
+    upto_last other until e = elim (cases_lt number other) [
+      | inl lt ↦ absurd (last.1 other lt (is_silence other until e))
+      | inr ge ↦ ge
+    ]
+
+    -- And if it does not, none does: a silence before it comes no later.
+    pub last_says_nothing : IsOrdered log → quiet_at graph log number node ≡ None → IsLastQuiet graph log node None
+    last_says_nothing ordered nothing other =
+        none-from_never (quiet_at graph log other node) (λ until e.
+        let by = quiet_by graph log node other until e in
+        let order = silences_in_order graph log ordered node other number by.time last.0.0 by.silent last.0.1 (upto_last other until e) in
+        let says : quiet_at graph log number node ≡ Some (last.0.0 - (lag_or_zero graph node).least) =
+        ap (option_and_then (inactive_until graph log node)) last.0.1
+        ∙ says_inactive graph log node last.0.0 by.says.heard (omega (arith, order, by.says.late)) in
+        absurd cc)

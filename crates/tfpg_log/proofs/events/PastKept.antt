@@ -13,7 +13,7 @@ use Rattle.tfpg_graph.specs.declared.edge.Edge.{Edge}
 use Rattle.tfpg_graph.specs.Graph.{Tfpg, is_active_in}
 use Rattle.tfpg_log.specs.declared.event.Event.{Event}
 use Rattle.tfpg_log.specs.declared.event.Event.TheVariants.{Alarm, Silent, Sweep, Tick, Mode}
-use Rattle.tfpg_log.specs.Log.{Logbook, GoesOn, IsOrdered, now_of, event_at, first_events, is_alarm_of, alarm_among, alarm_of, alarm_index, alarm_event, quiet_time, quiet_at, time_of_event, mode_after, mode_at}
+use Rattle.tfpg_log.specs.Log.{Logbook, GoesOn, IsOrdered, now_of, event_at, first_events, is_alarm_of, alarm_among, alarm_of, alarm_index, alarm_event, silence_time, silence_at, ignoring, inactive_until, quiet_at, time_of_event, mode_after, mode_at}
 use Rattle.tfpg_log.specs.Rules.{HasAge}
 use Rattle.tfpg_log.specs.Spans.{span_number, span_at, window_of, joint_of}
 use Rattle.tfpg_base.proofs.lists.FirstFound.{position-append}
@@ -135,11 +135,18 @@ alarm_events_kept earlier later goes_on node number e =
     ∙ ap (option_map suc) (position-append (is_alarm_of node) earlier.events goes_on.more at.0 at.1)
     ∙ ap Some at.2
 
--- An event that was there is a silence of the same nodes.
-pub silences_kept : (graph : Tfpg) (earlier later : Logbook) → GoesOn earlier later → (number node : ℕ) → number ≤ length earlier.events
-    → quiet_at graph later number node ≡ quiet_at graph earlier number node
+-- An event that was there is a silence of the same nodes, at the same time,
+silences_kept : (graph : Tfpg) (earlier later : Logbook) → GoesOn earlier later → (number node : ℕ) → number ≤ length earlier.events
+    → silence_at graph later number node ≡ silence_at graph earlier number node
 silences_kept graph earlier later goes_on zero node within = refl
 silences_kept graph earlier later goes_on (suc before) node within =
-    ap (λ first. option_and_then (λ event. quiet_time graph first event node) (slice_get later.events before)) (sym (first_kept earlier later goes_on (suc before - 1) (omega arith)))
-    ∙ ap (λ events. option_and_then (λ event. quiet_time graph (first_events earlier (suc before - 1)) event node) (slice_get events before)) goes_on.events
-    ∙ ap (option_and_then (λ event. quiet_time graph (first_events earlier (suc before - 1)) event node)) (slice_get-append_left earlier.events goes_on.more before (omega arith))
+    ap (λ first. option_and_then (λ event. silence_time graph first event node) (slice_get later.events before)) (sym (first_kept earlier later goes_on (suc before - 1) (omega arith)))
+    ∙ ap (λ events. option_and_then (λ event. silence_time graph (first_events earlier (suc before - 1)) event node) (slice_get events before)) goes_on.events
+    ∙ ap (option_and_then (λ event. silence_time graph (first_events earlier (suc before - 1)) event node)) (slice_get-append_left earlier.events goes_on.more before (omega arith))
+
+-- and says the same of when they are not active.
+pub quiets_kept : (graph : Tfpg) (earlier later : Logbook) → GoesOn earlier later → (number node : ℕ) → number ≤ length earlier.events
+    → quiet_at graph later number node ≡ quiet_at graph earlier number node
+quiets_kept graph earlier later goes_on number node within =
+    ap (λ (nodes : List ℕ). option_and_then (inactive_until graph (ignoring earlier nodes) node) (silence_at graph later number node)) goes_on.ignored
+    ∙ ap (option_and_then (inactive_until graph earlier node)) (silences_kept graph earlier later goes_on number node within)

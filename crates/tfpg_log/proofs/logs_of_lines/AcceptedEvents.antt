@@ -1,6 +1,6 @@
 -- The line of an event that may come next is accepted as this event.
 use Rattle.std.proofs.Common.{◌≡◌, ℕ, ◌<◌, ◌≤◌, false, not, ltb, leb, List, [], ◌∷◌, ◌++◌, length, get_or, IsTrue, Option, Some, None, unwrap_or, codes, refl, ap, ◌∙◌, arith, length-append}
-use Rattle.std.specs.Prelude.{decimal, is_none, option_map, option_and_then, count_by}
+use Rattle.std.specs.Prelude.{decimal, is_none, option_and_then, count_by}
 use Rattle.std.specs.Bool.{then_some}
 use Rattle.std.specs.Option.{option_map_or}
 use Rattle.std.specs.List.{AllByRecursion}
@@ -29,10 +29,10 @@ use Rattle.tfpg_log.specs.declared.event.Event.TheVariants as event
 use Rattle.tfpg_log.specs.declared.event.Offered.TheVariants.{Accepted, Refused}
 use Rattle.tfpg_log.specs.declared.limits.TheConstants.{MAX_EVENTS, MAX_MODE_CHANGES}
 use Rattle.tfpg_log.specs.declared.refusal.Refusal.{Refusal}
-use Rattle.tfpg_log.specs.declared.refusal.Refusal.TheVariants.{BadLine, BadNumber, TimeTooLarge, TimeBack, UnknownName, NotMonitored, NotAMode, SecondAlarm, SilentAfterAlarm, LogFull, ModesFull}
-use Rattle.tfpg_log.specs.Log.{Logbook, now_of, alarm_of, is_mode_change, time_of_event}
+use Rattle.tfpg_log.specs.declared.refusal.Refusal.TheVariants.{BadLine, BadNumber, TimeTooLarge, TimeBack, UnknownName, NotMonitored, NotAMode, LogFull, ModesFull}
+use Rattle.tfpg_log.specs.Log.{Logbook, now_of, is_mode_change, time_of_event}
 use Rattle.tfpg_log.specs.LogStatements.{LogStatement, Alarm, Silent, Sweep, Tick, Mode, words_of_log_statement, log_statement_of}
-use Rattle.tfpg_log.specs.Accepted.{time_refusals, statement_refusals, event_of, offered, reply_to_statement, reply_to, monitor_refusals, alarm_of_named, room_refusal}
+use Rattle.tfpg_log.specs.Accepted.{time_refusals, statement_refusals, event_of, offered, reply_to_statement, reply_to, monitor_refusals, room_refusal}
 use Rattle.tfpg_log.proofs.logs_of_lines.Accepting.{AreNone}
 use Rattle.tfpg_log.proofs.logs_of_lines.WrittenLines.{read_as_written}
 use Rattle.tfpg_graph.proofs.NodeAt.{monitored_within}
@@ -82,14 +82,14 @@ module _ (graph : Tfpg) (valid : IsValid graph) (log : Logbook) where
   mode_name mode within = ap is_name (mode_at mode within) ∙ valid.so_far.mode_names mode [] within
 
   -- no test of the name of an alarm or a silence refuses
-  own_none : (node : ℕ) (cause : ℕ → Refusal) → IsTrue (is_monitored graph node) → alarm_of log node ≡ None → room_refusal log ≡ None
-      → AreNone (monitor_refusals graph (name_word graph node) ++ option_map cause (alarm_of_named graph log (name_word graph node)) ∷ room_refusal log ∷ [])
-  own_none node cause monitored unalarmed room =
+  own_none : (node : ℕ) → IsTrue (is_monitored graph node) → room_refusal log ≡ None
+      → AreNone (monitor_refusals graph (name_word graph node) ++ room_refusal log ∷ [])
+  own_none node monitored room =
       let found = node_named-name_word graph node (monitored_within graph node monitored) valid.so_far.nodes_differ in (
         ap (λ o. then_some (is_none o) UnknownName) found,
         (
           ap (option_and_then (λ n. then_some (not (is_monitored graph n)) NotMonitored)) found ∙ ap (λ b. then_some (not b) NotMonitored) monitored,
-          (ap (λ o. option_map cause (option_and_then (alarm_of log) o)) found ∙ ap (option_map cause) unalarmed, (room, tt)),
+          (room, tt),
         ),
       )
 
@@ -141,13 +141,13 @@ module _ (graph : Tfpg) (valid : IsValid graph) (log : Logbook) where
       let within = monitored_within graph node next.own in
       let found = node_named-name_word graph node within valid.so_far.nodes_differ in
       accepted e next (Alarm (name_word graph node)) e (keyword (codes "alarm") refl refl, (IsWord-name (name_word graph node) (node_name node within), tt))
-      (own_none node SecondAlarm next.own next.unalarmed (room e next)) (λ i. event.Alarm (value e next i) (unwrap_or (found i) 0))
+      (own_none node next.own (room e next)) (λ i. event.Alarm (value e next i) (unwrap_or (found i) 0))
   is_accepted (event.Silent time node) next =
       let e = event.Silent time node in
       let within = monitored_within graph node next.own in
       let found = node_named-name_word graph node within valid.so_far.nodes_differ in
       accepted e next (Silent (name_word graph node)) e (keyword (codes "silent") refl refl, (IsWord-name (name_word graph node) (node_name node within), tt))
-      (own_none node SilentAfterAlarm next.own next.unalarmed (room e next)) (λ i. event.Silent (value e next i) (unwrap_or (found i) 0))
+      (own_none node next.own (room e next)) (λ i. event.Silent (value e next i) (unwrap_or (found i) 0))
   is_accepted (event.Sweep time) next =
       let e = event.Sweep time in
       accepted e next Sweep e (keyword (codes "sweep") refl refl, tt) (room e next, tt) (ap event.Sweep (value e next))

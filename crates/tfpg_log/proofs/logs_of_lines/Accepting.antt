@@ -17,19 +17,17 @@ use Rattle.tfpg_log.specs.declared.event.Event.TheVariants as kinds
 use Rattle.tfpg_log.specs.declared.event.Offered.TheVariants.{Accepted, Refused}
 use Rattle.tfpg_log.specs.declared.limits.TheConstants.{MAX_EVENTS}
 use Rattle.tfpg_log.specs.declared.refusal.Refusal.{Refusal}
-use Rattle.tfpg_log.specs.declared.refusal.Refusal.TheVariants.{BadLine, TimeTooLarge, TimeBack, UnknownName, NotMonitored, NotAMode, SecondAlarm, LogFull}
-use Rattle.tfpg_log.specs.Log.{Logbook, now_of, alarm_of, time_of_event, with_event, IsEventOf, IsLogOf}
+use Rattle.tfpg_log.specs.declared.refusal.Refusal.TheVariants.{BadLine, TimeTooLarge, TimeBack, UnknownName, NotMonitored, NotAMode, LogFull}
+use Rattle.tfpg_log.specs.Log.{Logbook, now_of, time_of_event, with_event, IsEventOf, IsLogOf}
 use Rattle.tfpg_log.specs.LogStatements.{LogStatement, Alarm, Silent, Sweep, Tick, Mode, log_statement_of}
 use Rattle.tfpg_log.specs.Accepted.{time_refusals, statement_refusals, room_refusal, event_of, offered, reply_to_statement, reply_to}
-use Rattle.tfpg_log.specs.inside.LogIndex.{IsNoSecondAlarm}
 
--- The event may come next: it is of the graph, not before now and not too late, no second alarm, and there is room for it.
+-- The event may come next: it is of the graph, not before now and not too late, and there is room for it.
 pub record MayCome (graph : Tfpg) (log : Logbook) (event : Event) : Type 0 where
   pub own : IsEventOf graph event
   pub not_back : now_of log ≤ time_of_event event
   pub in_range : time_of_event event ≤ MAX_TIME
   pub room : length log.events < MAX_EVENTS
-  pub first : IsNoSecondAlarm log event
 
 -- ---- what the tests say, where none refuses
 
@@ -59,8 +57,8 @@ monitor graph (Some node) unknown hidden = record {
 module _ (graph : Tfpg) (log : Logbook) (time : List ℕ) where
   module _ (statement : LogStatement) (none : AreNone (time_refusals (now_of log) time ++ statement_refusals graph log statement)) where
     -- an event at that time, once no test refuses the line
-    comes : (event : Event) → time_of_event event ≡ digits_value 10 time → room_refusal log ≡ None → IsEventOf graph event → IsNoSecondAlarm log event → MayCome graph log event
-    comes event at room own first =
+    comes : (event : Event) → time_of_event event ≡ digits_value 10 time → room_refusal log ≡ None → IsEventOf graph event → MayCome graph log event
+    comes event at room own =
         let in_range : digits_value 10 time ≤ MAX_TIME = ltb-false MAX_TIME (digits_value 10 time) (then_some-none (nat_lt MAX_TIME (digits_value 10 time)) TimeTooLarge none.1.0) in
         let not_back : now_of log ≤ digits_value 10 time =
         ltb-false (digits_value 10 time) (now_of log) (then_some-none (nat_lt (digits_value 10 time) (now_of log)) (TimeBack (now_of log)) none.1.1.0) in
@@ -69,29 +67,26 @@ module _ (graph : Tfpg) (log : Logbook) (time : List ℕ) where
           not_back = omega (arith, at, not_back);
           in_range = omega (arith, at, in_range);
           room = leb-false MAX_EVENTS (length log.events) (then_some-none (nat_le MAX_EVENTS (length log.events)) LogFull room);
-          first = first;
         }
 
   may_come : (statement : LogStatement) → AreNone (time_refusals (now_of log) time ++ statement_refusals graph log statement)
       → MayCome graph log (event_of graph (digits_value 10 time) statement)
   may_come (Alarm name) none =
       let found = monitor graph (node_named graph name) none.1.1.1.0 none.1.1.1.1.0 in
-      let first : alarm_of log found.node ≡ None =
-      option_map-none SecondAlarm (alarm_of log found.node) (ap (λ node. option_map SecondAlarm (option_and_then (alarm_of log) node)) (sym found.there) ∙ none.1.1.1.1.1.0) in
       subst (λ node. MayCome graph log (kinds.Alarm (digits_value 10 time) (unwrap_or node 0))) (sym found.there)
-      (comes (Alarm name) none (kinds.Alarm (digits_value 10 time) found.node) refl none.1.1.1.1.1.1.0 found.monitored first)
+      (comes (Alarm name) none (kinds.Alarm (digits_value 10 time) found.node) refl none.1.1.1.1.1.0 found.monitored)
   may_come (Silent name) none =
       let found = monitor graph (node_named graph name) none.1.1.1.0 none.1.1.1.1.0 in
       subst (λ node. MayCome graph log (kinds.Silent (digits_value 10 time) (unwrap_or node 0))) (sym found.there)
-      (comes (Silent name) none (kinds.Silent (digits_value 10 time) found.node) refl none.1.1.1.1.1.1.0 found.monitored tt)
-  may_come Sweep none = comes Sweep none (kinds.Sweep (digits_value 10 time)) refl none.1.1.1.0 tt tt
-  may_come Tick none = comes Tick none (kinds.Tick (digits_value 10 time)) refl none.1.1.1.0 tt tt
+      (comes (Silent name) none (kinds.Silent (digits_value 10 time) found.node) refl none.1.1.1.1.1.0 found.monitored)
+  may_come Sweep none = comes Sweep none (kinds.Sweep (digits_value 10 time)) refl none.1.1.1.0 tt
+  may_come Tick none = comes Tick none (kinds.Tick (digits_value 10 time)) refl none.1.1.1.0 tt
   may_come (Mode name) none =
       let found = is_some-there (mode_named graph name)
       (not-false (is_some (mode_named graph name)) (then_some-none (is_none (mode_named graph name)) NotAMode none.1.1.1.0)) in
       let below : found.0 < length graph.modes = (position-Some (λ m. bytes_eq m name) graph.modes found.0 [] found.1).0 in
       subst (λ mode. MayCome graph log (kinds.Mode (digits_value 10 time) (unwrap_or mode 0))) (sym found.1)
-      (comes (Mode name) none (kinds.Mode (digits_value 10 time) found.0) refl none.1.1.1.1.0 below tt)
+      (comes (Mode name) none (kinds.Mode (digits_value 10 time) found.0) refl none.1.1.1.1.0 below)
 
   by_tests : (statement : LogStatement) (event : Event) (first : Option Refusal) → first_of (time_refusals (now_of log) time ++ statement_refusals graph log statement) ≡ first
       → offered (unless_refused first (event_of graph (digits_value 10 time) statement)) ≡ Accepted event → MayCome graph log event
@@ -113,4 +108,4 @@ accepted_may_come graph log line event e = by_statement graph log event (log_sta
 
 -- A log with one more event that may come is of the graph.
 pub of-with_event : (graph : Tfpg) (log : Logbook) (event : Event) → IsLogOf graph log → MayCome graph log event → IsLogOf graph (with_event log event)
-of-with_event graph log event of may = record { own = All-push (IsEventOf graph) log.events event of.own may.own }
+of-with_event graph log event of may = record { own = All-push (IsEventOf graph) log.events event of.own may.own; ignored = of.ignored }

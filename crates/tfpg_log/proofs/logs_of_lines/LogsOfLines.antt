@@ -39,7 +39,7 @@ module _ (graph : Tfpg) where
   right_from_new lines =
       still_right new_log lines
       (record {
-        of_graph = record { own = λ k d within. absurd (omega arith) };
+        of_graph = record { own = λ k d within. absurd (omega arith); ignored = λ k d within. absurd (omega arith) };
         ordered = record { in_order = λ i j d before within. absurd (omega arith); in_range = λ k d within. absurd (omega arith) };
       })
 

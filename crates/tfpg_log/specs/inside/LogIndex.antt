@@ -12,11 +12,6 @@ use Rattle.tfpg_log.specs.declared.node_events.NodeEvents.{NodeEvents}
 use Rattle.tfpg_log.specs.inside.NodeEvents.{IsLast, IsSweep, IsNodeEvents, events_of}
 use Rattle.tfpg_log.specs.inside.SpanIndex.{begin_of_span, BeginSpans}
 
--- No node has a second alarm: each alarm is the first of its node.
-abbrev pub AreFirstAlarms : Logbook → Type 0
-AreFirstAlarms log =
-    (number time node : ℕ) → event_at log number ≡ Some (Alarm time node) → alarm_event log node ≡ Some number
-
 -- The index of a log's events: for each node those that bound when it became active, the last sweep, the changes of mode
 -- that begin the spans, and how many events are changes of mode.
 pub record IsLogIndex (log : Logbook) (nodes : List NodeEvents) (sweep : Option ℕ) (changes : List ModeChange)
@@ -30,18 +25,9 @@ pub record IsLogIndex (log : Logbook) (nodes : List NodeEvents) (sweep : Option 
   pub in_order : IsNonDecreasingBy (λ (change : ModeChange). change.time) changes
   pub by_now : begin_of_span changes (length changes) ≤ now_of log + 1
   pub ordered : IsOrdered log
-  pub first_alarms : AreFirstAlarms log
 
 -- One more event may come at this time: there is room for it, and the time is neither before now nor too large.
 pub record MayComeAt (log : Logbook) (time : ℕ) : Type 0 where
   pub room : length log.events < MAX_EVENTS
   pub not_back : now_of log ≤ time
   pub in_range : time ≤ MAX_TIME
-
--- the event is no second alarm of its node
-abbrev pub IsNoSecondAlarm : Logbook → Event → Type 0
-IsNoSecondAlarm log (Alarm time node) = alarm_of log node ≡ None
-IsNoSecondAlarm log (Silent time node) = Unit {0}
-IsNoSecondAlarm log (Sweep time) = Unit {0}
-IsNoSecondAlarm log (Tick time) = Unit {0}
-IsNoSecondAlarm log (Mode time mode) = Unit {0}

@@ -1,8 +1,8 @@
 //! How a log takes one more event, and keeps its indexes.
 
-ghost use Rattle.std.specs.Prelude.{◌≡◌, ◌≤◌, None, OnOk, OnErr, vec_len};
-ghost use Rattle.tfpg_log.specs.Log.{alarm_of, with_event, time_of_event};
-ghost use Rattle.tfpg_log.specs.inside.LogIndex.{MayComeAt, IsNoSecondAlarm};
+ghost use Rattle.std.specs.Prelude.{◌≡◌, ◌≤◌, OnOk, OnErr, vec_len};
+ghost use Rattle.tfpg_log.specs.Log.{with_event, time_of_event};
+ghost use Rattle.tfpg_log.specs.inside.LogIndex.{MayComeAt};
 ghost use Rattle.tfpg_log.specs.inside.NodeEvents.{AreSameOfNodes};
 
 use crate::event::Event;
@@ -14,8 +14,7 @@ use tfpg_base::NoMemory;
 impl Log {
     /// Takes the event as its last. Where there is no memory for it, the log stays as it was.
     pub(crate) fn accept(&mut self, event: Event) -> Result<(), NoMemory>
-        requires next { MayComeAt self.old (time_of_event event) }
-        requires first { IsNoSecondAlarm self.old event }
+        requires { MayComeAt self.old (time_of_event event) }
         ensures ok { OnOk result (self.new ≡ with_event self.old event) }
         ensures err { OnErr result (self.new ≡ self.old) }
     {
@@ -31,18 +30,14 @@ impl Log {
         }
     }
 
-    /// Takes a node's first alarm.
+    /// Takes an alarm of a node.
     fn accept_alarm(&mut self, time: u64, node: u32) -> Result<(), NoMemory>
-        requires next { MayComeAt self.old time }
-        requires first { alarm_of self.old node ≡ None }
+        requires { MayComeAt self.old time }
         ensures ok { OnOk result (self.new ≡ with_event self.old (Event.Alarm time node)) }
         ensures err { OnErr result (self.new ≡ self.old) }
     {
-        let events = NodeEvents {
-            alarm: Some(self.len() + 1),
-            silence: self.node_events(node).silence,
-            sweep: self.last_sweep,
-        };
+        let before = self.node_events(node);
+        let events = before.with_alarm(self.len() + 1, self.last_sweep);
         lengthen(&mut self.nodes, node as usize + 1)?;
         self.events.push(Event::Alarm { time, node })?;
         self.nodes[node as usize] = events;
@@ -57,7 +52,8 @@ impl Log {
     {
         let before = self.node_events(node);
         let events = NodeEvents {
-            alarm: before.alarm,
+            first_alarm: before.first_alarm,
+            last_alarm: before.last_alarm,
             silence: Some(self.len() + 1),
             sweep: before.sweep,
         };

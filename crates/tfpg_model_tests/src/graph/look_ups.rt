@@ -8,15 +8,15 @@ use tfpg_graph::{Edge, Graph, Kind, append_edge_start, read, write};
 
 /// Three modes, an AND discrepancy before its sources, comments, and edges that name their modes in every way.
 const THREE_MODES: &[u8] =
-    b"tfpg 1\n# modes\nmode N\nmode D\nmode R\n\nand C hidden\nor A watch 7\nfailure F1 3\nfailure F2 5\nedge A C 0 inf D,N\nedge F2 C 2 2 R\nedge F1 A 0 0 R,N,D\nedge F2 A 1 9 *\nend\n\n# the end\n";
+    b"tfpg 2\n# modes\nmode N\nmode D\nmode R\n\nand C hidden\nor A watch 2 7\nfailure F1 3\nfailure F2 5\nedge A C 0 inf D,N\nedge F2 C 2 2 R\nedge F1 A 0 0 R,N,D\nedge F2 A 1 9 *\nend\n\n# the end\n";
 
 /// The canonical text of the same graph.
 const THREE_MODES_WRITTEN: &[u8] =
-    b"tfpg 1\nmode N\nmode D\nmode R\nand C hidden\nor A watch 7\nfailure F1 3\nfailure F2 5\nedge A C 0 inf N,D\nedge F2 C 2 2 R\nedge F1 A 0 0 *\nedge F2 A 1 9 *\nend\n";
+    b"tfpg 2\nmode N\nmode D\nmode R\nand C hidden\nor A watch 2 7\nfailure F1 3\nfailure F2 5\nedge A C 0 inf N,D\nedge F2 C 2 2 R\nedge F1 A 0 0 *\nedge F2 A 1 9 *\nend\n";
 
 /// What its look-ups return, node by node, edge by edge, and mode by mode.
 const THREE_MODES_SEEN: &str = "node 0 And { lag: None } false 0 Some(0) None [0, 1]\n\
-    node 1 Or { lag: Some(Lag { least: 0, most: 7 }) } true 7 Some(1) None [2, 3]\n\
+    node 1 Or { lag: Some(Lag { least: 2, most: 7 }) } true 7 Some(1) None [2, 3]\n\
     node 2 Failure { rarity: 3 } false 0 Some(2) Some(0) []\n\
     node 3 Failure { rarity: 5 } false 0 Some(3) Some(1) []\n\
     edge 0 Edge { source: 1, target: 0, tmin: 0, tmax: None, modes: 3 }\n\
@@ -25,7 +25,7 @@ const THREE_MODES_SEEN: &str = "node 0 And { lag: None } false 0 Some(0) None [0
     edge 3 Edge { source: 3, target: 1, tmin: 1, tmax: Some(9), modes: 7 }\n\
     mode 0 Some(0)\nmode 1 Some(1)\nmode 2 Some(2)\n\
     failure 0 2\nfailure 1 3\n\
-    absent None None\n";
+    absent None None None\n";
 
 /// What the look-ups of a node return, as a line.
 fn node_line(alloc: Global, graph: &Graph, node: u32) -> Result<String, Fail>
@@ -33,7 +33,7 @@ fn node_line(alloc: Global, graph: &Graph, node: u32) -> Result<String, Fail>
 {
     let kind = graph.kind(node);
     let is_monitored = graph.is_monitored(node);
-    let lag = graph.lag_or_zero(node);
+    let lag = graph.lag_or_zero(node).most;
     let found = graph.find(graph.name(node));
     let position = graph.place_of(node);
     let incoming = graph.incoming(node);
@@ -55,9 +55,10 @@ fn mode_line(alloc: Global, graph: &Graph, mode: u32) -> Result<String, Fail>
 /// What the look-ups of words return that name nothing, as a line.
 fn absent_line(alloc: Global, graph: &Graph) -> Result<String, Fail> {
     let line = format!(in alloc;
-        "absent {:?} {:?}\n",
+        "absent {:?} {:?} {:?}\n",
         graph.find(b"N"),
-        graph.find_mode(b"A")
+        graph.find_mode(b"A"),
+        graph.lag(4)
     )?;
     Ok(line)
 }

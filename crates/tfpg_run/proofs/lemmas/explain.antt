@@ -1,2 +1,3 @@
 -- How judging ends.
 pub mod Judged
+pub mod NamedNodes

@@ -1,11 +1,12 @@
 -- What `explain` does: it reads a graph, a log, and a map of the input, and writes the verdict on it.
 use Rattle.std.specs.Prelude.{◌≡◌, ◌⊎◌, ℕ, ◌+◌, List, length, take, Result, Ok, Err}
 use Rattle.tfpg_base.specs.declared.activation.Activation.{Activation}
+use Rattle.tfpg_base.specs.Hypothesis.{Hypothesis}
 use Rattle.tfpg_base.specs.Lines.{whole_lines}
 use Rattle.tfpg_base.specs.declared.limits.TheConstants.{MAX_BYTES}
 use Rattle.tfpg_base.specs.Outside.{SourceState, Rose, Takes}
 use Rattle.tfpg_graph.specs.Graph.{Tfpg}
-use Rattle.tfpg_log.specs.Log.{Logbook}
+use Rattle.tfpg_log.specs.Log.{Logbook, ignoring}
 use Rattle.tfpg_trace.specs.declared.verdict.Verdict.{Verdict}
 use Rattle.tfpg_trace.specs.FirstFault.{IsVerdict}
 use Rattle.tfpg_run.specs.declared.end.End.{End}
@@ -21,13 +22,14 @@ use Rattle.tfpg_run.specs.map.InputMap.{GivesMap, RefusesMap}
 use Rattle.tfpg_run.specs.map.Spelling.{BeginsMap}
 use Rattle.tfpg_run.specs.explain.Verdicts.{verdict_text}
 
--- The whole input was taken, its lines spell a map, and the text is the verdict on it.
+-- The whole input was taken, its lines spell a map, and the text is the verdict on it, by the log that ignores the
+-- monitors of the map's set.
 pub record HasVerdict (graph : Tfpg) (log : Logbook) (input : SourceState) (taken text : List ℕ) : Type 0 where
-  pub set : List ℕ
+  pub hypothesis : Hypothesis
   pub trace : List Activation
-  pub gives : GivesMap graph input taken set trace
+  pub gives : GivesMap graph input taken hypothesis trace
   pub verdict : Verdict
-  pub right : IsVerdict graph log set trace verdict
+  pub right : IsVerdict graph (ignoring log hypothesis.doubts) hypothesis.set trace verdict
   pub text_is : text ≡ verdict_text graph verdict
 
 -- How judging a map ends, where these bytes were taken. Before the verdict is known, nothing is written. Where the

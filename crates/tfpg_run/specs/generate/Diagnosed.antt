@@ -10,7 +10,7 @@ use Rattle.tfpg_base.specs.declared.terms.Terms.{Terms}
 
 -- the terms on which a generated case is diagnosed
 abbrev pub generated_terms : Terms
-generated_terms = record { k = GENERATED_K; budget = GENERATED_BUDGET }
+generated_terms = record { k = GENERATED_K; doubt = 0; budget = GENERATED_BUDGET }
 
 -- The round of the line at an index, after these rounds: it is one of the log of the lines so far, and its steps are
 -- earned. Indexes begin with 0, numbers of lines with 1.

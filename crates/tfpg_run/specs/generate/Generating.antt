@@ -1,10 +1,12 @@
 -- What `generate` does: it draws a graph and a script, simulates the script, diagnoses the log, and writes what became
 -- of the truth.
 use Rattle.std.specs.Prelude.{◌≡◌, ℕ, List, [], ◌∷◌, ◌++◌, length, Contains, false, Result, Ok, Err}
+use Rattle.tfpg_base.specs.Hypothesis.{believing}
 use Rattle.tfpg_base.specs.Lines.{lines_of}
 use Rattle.tfpg_base.specs.Outside.{SinkState}
 use Rattle.tfpg_evidence.specs.declared.finding.Finding.{Finding}
 use Rattle.tfpg_evidence.specs.declared.round.Round.{Round}
+use Rattle.tfpg_evidence.specs.Findings.{hypothesis_of}
 use Rattle.tfpg_evidence.specs.RoundOf.{is_rejected}
 use Rattle.tfpg_sim.specs.declared.simulated.Simulated.{Simulated}
 use Rattle.tfpg_sim.specs.Generated.{generated_graph, generated_script}
@@ -29,7 +31,7 @@ pub record HasSummary (number size : ℕ) (text : List ℕ) : Type 0 where
   pub rounds : AreRoundsOf (generated_graph number size) generated_terms (lines_of simulated.log) (earlier ++ last ∷ [])
   pub truth : Finding
   pub found : Contains last.findings truth
-  pub of_set : truth.set ≡ simulated.set
+  pub of_truth : hypothesis_of truth ≡ believing simulated.set
   pub not_rejected : is_rejected truth.status ≡ false
   pub text_is : text ≡ summary_text
       (drawing number size (generated_graph number size) (length (lines_of simulated.log)))

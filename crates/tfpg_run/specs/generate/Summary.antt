@@ -1,11 +1,13 @@
 -- The three lines that `generate` writes.
 use Rattle.std.specs.Prelude.{ℕ, List, [], ◌∷◌, ◌++◌, length, codes, decimal}
+use Rattle.tfpg_base.specs.Hypothesis.{believing}
 use Rattle.tfpg_base.specs.TextLine.{text_line}
 use Rattle.tfpg_graph.specs.Graph.{Tfpg}
 use Rattle.tfpg_evidence.specs.declared.finding.Status.{Status}
 use Rattle.tfpg_evidence.specs.declared.finding.Status.TheVariants.{Ranked, Covered, Rejected, Open}
 use Rattle.tfpg_evidence.specs.declared.round.Counts.{Counts}
-use Rattle.tfpg_report.specs.Blocks.{counts_words, set_word}
+use Rattle.tfpg_report.specs.Blocks.{counts_words}
+use Rattle.tfpg_report.specs.SetText.{set_word}
 
 -- the word for a status
 abbrev pub status_word : Status → List ℕ
@@ -39,7 +41,7 @@ rounds_text rounds counts = text_line (codes "rounds" ∷ decimal rounds ∷ cou
 
 -- the line that says which set was simulated, and what became of it
 abbrev pub truth_text : Tfpg → List ℕ → Status → List ℕ
-truth_text graph set status = text_line (codes "truth" ∷ set_word graph set ∷ status_word status ∷ [])
+truth_text graph set status = text_line (codes "truth" ∷ set_word graph (believing set) ∷ status_word status ∷ [])
 
 -- the three lines
 abbrev pub summary_text : Drawing → ℕ → Counts → List ℕ → Status → List ℕ

@@ -2,6 +2,7 @@
 use Rattle.std.specs.Prelude.{◌≡◌, ◌++◌, ℕ, ◌≤◌, List, [], length}
 use Rattle.tfpg_base.specs.declared.activation.Activation.{Activation}
 use Rattle.tfpg_base.specs.declared.limits.TheConstants.{MAX_BYTES}
+use Rattle.tfpg_base.specs.Hypothesis.{Hypothesis}
 use Rattle.tfpg_base.specs.Lines.{lines_of}
 use Rattle.tfpg_base.specs.Outside.{SourceState, IsAtEnd}
 use Rattle.tfpg_graph.specs.Graph.{Tfpg}
@@ -9,8 +10,9 @@ use Rattle.tfpg_run.specs.Streams.{HasLeft}
 use Rattle.tfpg_run.specs.map.Spelling.{SpellsMap, IsMapFault}
 
 -- The whole input was taken, at most 2^32 bytes, and its lines spell this map.
-pub record GivesMap (graph : Tfpg) (input : SourceState) (taken set : List ℕ) (trace : List Activation) : Type 0 where
-  pub spells : SpellsMap graph (lines_of taken) set trace
+pub record GivesMap (graph : Tfpg) (input : SourceState) (taken : List ℕ) (hypothesis : Hypothesis)
+    (trace : List Activation) : Type 0 where
+  pub spells : SpellsMap graph (lines_of taken) hypothesis trace
   pub few : length taken ≤ MAX_BYTES
   pub at_end : IsAtEnd input
 

@@ -1,37 +1,40 @@
--- The text of a map: a set of failure modes and a trace. And which line of a text is at fault.
+-- The text of a map: a hypothesis, whose failure modes and ignored monitors make its set, and a trace. And which line of a
+-- text is at fault.
 use Rattle.std.specs.Prelude.{◌≡◌, ◌≢◌, ◌⊎◌, ℕ, ◌<◌, ◌≤◌, List, [], ◌∷◌, ◌++◌, length, map, All, AllPairs, codes}
 use Rattle.tfpg_base.specs.declared.activation.Activation.{Activation}
 use Rattle.tfpg_base.specs.declared.limits.TheConstants.{MAX_TIME, LONGEST_LINE}
 use Rattle.tfpg_sim.specs.FaultyLine.{IsFaultyLine}
 use Rattle.tfpg_base.specs.Trace.{IsRisingByNode, time_of}
 use Rattle.tfpg_base.specs.Words.{line_of}
-use Rattle.tfpg_graph.specs.Graph.{Tfpg, IsSetOf}
-use Rattle.tfpg_report.specs.Blocks.{activation_line, set_word}
+use Rattle.tfpg_base.specs.Hypothesis.{Hypothesis}
+use Rattle.tfpg_graph.specs.Graph.{Tfpg}
+use Rattle.tfpg_report.specs.Blocks.{activation_line}
+use Rattle.tfpg_report.specs.SetText.{IsHypothesisOf, set_word}
 
--- the line of a set
-abbrev pub set_line : Tfpg → List ℕ → List ℕ
-set_line graph set = line_of (codes "set" ∷ set_word graph set ∷ [])
+-- the line of the set of a hypothesis
+abbrev pub set_line : Tfpg → Hypothesis → List ℕ
+set_line graph hypothesis = line_of (codes "set" ∷ set_word graph hypothesis ∷ [])
 
 -- an activation of a node of the graph, at a time that is not too large
 pub record IsActivationOf (graph : Tfpg) (activation : Activation) : Type 0 where
   pub in_graph : activation.node < length graph.nodes
   pub in_range : activation.time ≤ MAX_TIME
 
--- The lines spell this set and this trace: the line of the set, and then the line of each activation, in any order,
--- each node once. No line is too long.
-pub record SpellsMap (graph : Tfpg) (lines : List (List ℕ)) (set : List ℕ) (trace : List Activation) : Type 0 where
-  pub of_graph : IsSetOf graph set
+-- The lines spell this hypothesis and this trace: the line of the set, and then the line of each activation, in any
+-- order, each node once. No line is too long.
+pub record SpellsMap (graph : Tfpg) (lines : List (List ℕ)) (hypothesis : Hypothesis) (trace : List Activation) : Type 0 where
+  pub of_graph : IsHypothesisOf graph hypothesis
   pub listed : List Activation
   pub of_nodes : All (IsActivationOf graph) listed
   pub once : AllPairs (λ earlier later. earlier.node ≢ later.node) listed
-  pub spelled : lines ≡ set_line graph set ∷ map (activation_line graph) listed
+  pub spelled : lines ≡ set_line graph hypothesis ∷ map (activation_line graph) listed
   pub short : All (λ line. length line ≤ LONGEST_LINE) lines
   pub rising : IsRisingByNode trace
   pub same_times : (node : ℕ) → time_of trace node ≡ time_of listed node
 
 -- The lines spell some map.
 abbrev pub HasMap : Tfpg → List (List ℕ) → Type 0
-HasMap graph lines = (set : List ℕ) × (trace : List Activation) × SpellsMap graph lines set trace
+HasMap graph lines = (hypothesis : Hypothesis) × (trace : List Activation) × SpellsMap graph lines hypothesis trace
 
 -- Some map begins with these lines.
 abbrev pub BeginsMap : Tfpg → List (List ℕ) → Type 0

@@ -1,5 +1,6 @@
 -- What `simulate` does: it writes the log that a script makes, or the map of what happened.
 use Rattle.std.specs.Prelude.{◌≡◌, ◌⊎◌, ℕ, List, Bool, true, false, IsTrue, Result, Ok, Err}
+use Rattle.tfpg_base.specs.Hypothesis.{believing}
 use Rattle.tfpg_base.specs.Lines.{lines_of}
 use Rattle.tfpg_base.specs.Outside.{SinkState}
 use Rattle.tfpg_graph.specs.Graph.{Tfpg}
@@ -21,7 +22,7 @@ use Rattle.tfpg_run.specs.World.{World}
 
 -- what is written of a simulation: the map of its set and its trace where the trace is asked for, else its log
 abbrev pub simulated_text : Tfpg → Bool → Simulated → List ℕ
-simulated_text graph true simulated = map_text graph simulated.set simulated.trace
+simulated_text graph true simulated = map_text graph (believing simulated.set) simulated.trace
 simulated_text graph false simulated = simulated.log
 
 -- The script is right, and this is the text of its simulation on the graph with the draws of the number. Each line of
@@ -32,7 +33,7 @@ pub record HasSimulation (draw : ℕ) (trace : Bool) (graph : Tfpg) (script text
   pub accepted : AreAccepted graph (lines_of simulated.log)
   pub explains : Explains graph (log_of_lines graph (lines_of simulated.log)) simulated.set simulated.trace
   pub text_is : text ≡ simulated_text graph trace simulated
-  pub spells : IsTrue trace → SpellsMap graph (lines_of text) simulated.set simulated.trace
+  pub spells : IsTrue trace → SpellsMap graph (lines_of text) (believing simulated.set) simulated.trace
 
 -- How a simulation of the script on the graph ends, whose text is to be such. Before its whole text is known, nothing
 -- is written.

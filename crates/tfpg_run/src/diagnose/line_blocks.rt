@@ -7,6 +7,7 @@ ghost use Rattle.tfpg_graph.specs.Graph.{Tfpg, sizes_of};
 ghost use Rattle.tfpg_report.specs.Blocks.{refused_text, round_text};
 ghost use Rattle.tfpg_check.specs.Report.{Progress};
 ghost use Rattle.tfpg_base.specs.declared.terms.Terms.{Terms};
+ghost use Rattle.tfpg_run.specs.diagnose.Work.{IsBlockWithin};
 ghost use Rattle.tfpg_run.specs.inside.diagnose.LineBlocks.{EngineReports, HasBlock, IsEngineReady, numbered};
 
 use std::alloc::Global;
@@ -32,7 +33,8 @@ pub(crate) fn line_block<L: Ledger>(
     ensures { (graph : Tfpg) (terms : Terms) (before : Progress) →
         EngineReports graph terms engine.old before
         → length text.now ≤ LONGEST_LINE → IfOk result
-        (λ block. HasBlock graph terms before (numbered number text.now) block.items engine.new) }
+        (λ block. (has : HasBlock graph terms before (numbered number text.now) block.items engine.new)
+        × IsBlockWithin graph before text.now has.block work.old work.new) }
 {
     rounds_say_which_sets_fit();
     statuses_are_those_of_minimal_sets();

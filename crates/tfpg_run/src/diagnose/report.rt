@@ -1,6 +1,6 @@
 //! The report of a diagnosis: line by line, each with its block written before the next is taken.
 
-ghost use Rattle.std.specs.Prelude.{◌≡◌, ◌++◌, [], ℕ, List, IfOk, IfErr, OnErr, Err};
+ghost use Rattle.std.specs.Prelude.{◌≡◌, ◌++◌, [], ℕ, List, IfOk, IfErr, OnOk, OnErr, Ok, Err};
 ghost use Rattle.tfpg_base.specs.Outside.{Rose, Puts};
 ghost use Rattle.tfpg_graph.specs.Graph.{Tfpg};
 ghost use Rattle.tfpg_graph.specs.Valid.{IsValid};
@@ -9,9 +9,11 @@ ghost use Rattle.tfpg_engine.specs.EngineState.{EngineRepresents};
 ghost use Rattle.tfpg_report.specs.Blocks.{head_text};
 ghost use Rattle.tfpg_check.specs.Report.{HasReports};
 ghost use Rattle.tfpg_run.specs.diagnose.Diagnosing.{Diagnoses};
+ghost use Rattle.tfpg_run.specs.diagnose.Work.{IsReportWithin};
+ghost use Rattle.tfpg_run.specs.Outputs.{WorksLineByLine};
 ghost use Rattle.tfpg_run.specs.Streams.{Streams, streams};
 ghost use Rattle.tfpg_run.specs.inside.diagnose.LineBlocks.{IsEngineReady};
-ghost use Rattle.tfpg_run.specs.inside.diagnose.UnderWay.{IsDiagnosing, ComesTo, diagnosis_at};
+ghost use Rattle.tfpg_run.specs.inside.diagnose.UnderWay.{IsDiagnosing, IsDiagnosingWithin, ComesTo, ComesToWithin, diagnosis_at};
 
 use super::line_blocks::{line_block, refused_block};
 use crate::fault::StreamFault;
@@ -42,9 +44,12 @@ pub(super) fn write_report<S: Source, K: Sink, L: Ledger>(
     requires unread { engine.old.log ≡ new_log }
     requires new { EngineRepresents engine.old [] }
     requires has_reports { HasReports engine.old.graph engine.old.terms }
-    ensures { Diagnoses engine.old.graph engine.old.terms
+    ensures diagnoses { Diagnoses engine.old.graph engine.old.terms
         (streams (S.state input.old) (K.state out.old))
         (streams (S.state input.new) (K.state out.new)) result }
+    ensures work { OnOk result (WorksLineByLine (IsReportWithin engine.old.graph engine.old.terms work.old work.new)
+        (streams (S.state input.old) (K.state out.old))
+        (streams (S.state input.new) (K.state out.new)) (Ok tt)) }
 {
     let mut lines = Lines::new(alloc)?;
     let head = first_line(alloc, engine.terms())?;
@@ -62,7 +67,7 @@ fn first_line(alloc: Global, terms: Terms) -> Result<Vec<u8>, NoMemory>
     ensures { IfOk result (λ line. line.items ≡ head_text terms) }
 {
     let mut line = Vec::new(alloc);
-    head(terms.k, terms.budget, &mut line)?;
+    head(terms.k, terms.doubt, terms.budget, &mut line)?;
     Ok(line)
 }
 
@@ -81,6 +86,11 @@ fn write_next_block<S: Source, K: Sink, L: Ledger>(
         (diagnosis_at (streams (S.state input.old) (K.state out.old)) lines.old engine.old)
         → IfOk result (ComesTo graph terms before lines.old.number
         (diagnosis_at (streams (S.state input.new) (K.state out.new)) lines.new engine.new)) }
+    ensures counts { (graph : Tfpg) (terms : Terms) (before : Streams) (start : ℕ)
+        → IsDiagnosingWithin graph terms before
+        (diagnosis_at (streams (S.state input.old) (K.state out.old)) lines.old engine.old) start work.old
+        → IfOk result (ComesToWithin graph terms before
+        (diagnosis_at (streams (S.state input.new) (K.state out.new)) lines.new engine.new) start work.new) }
     ensures stopped { (graph : Tfpg) (terms : Terms) (before : Streams)
         → IsDiagnosing graph terms before
         (diagnosis_at (streams (S.state input.old) (K.state out.old)) lines.old engine.old)

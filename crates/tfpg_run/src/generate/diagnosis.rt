@@ -10,7 +10,7 @@ ghost use Rattle.tfpg_run.specs.inside.generate.Diagnosed.{HasDiagnosed};
 use crate::limits::{GENERATED_BUDGET, GENERATED_K};
 use std::alloc::Global;
 use std::sync::ledger::Ledger;
-use tfpg_base::{NoMemory, Steps, without_last_line_end};
+use tfpg_base::{NoMemory, Steps, Terms, without_last_line_end};
 use tfpg_engine::{Engine, Told};
 use tfpg_evidence::Round;
 use tfpg_graph::Graph;
@@ -59,7 +59,12 @@ impl Diagnosis {
         requires { length (failures graph) ≡ FAILURE_COUNT }
         ensures { IfOk result (HasDiagnosed graph []) }
     {
-        match Engine::new(alloc, graph, GENERATED_K, GENERATED_BUDGET) {
+        let terms = Terms {
+            k: GENERATED_K,
+            doubt: 0,
+            budget: GENERATED_BUDGET,
+        };
+        match Engine::new(alloc, graph, terms) {
             Ok(engine) => Ok(Diagnosis { engine, last: None }),
             Err(TableFault::NoMemory) => Err(NoMemory),
             Err(TableFault::TooMany { .. }) => unreachable!(),

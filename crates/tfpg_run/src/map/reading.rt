@@ -1,7 +1,8 @@
 //! Reading the map of the input, line by line.
 
-ghost use Rattle.std.specs.Prelude.{◌<◌, ◌≡◌, IfOk, IfErr, All, length};
+ghost use Rattle.std.specs.Prelude.{◌<◌, ◌≡◌, IfOk, IfErr, IsTrue, All, length};
 ghost use Rattle.tfpg_base.specs.Outside.{SourceState};
+ghost use Rattle.tfpg_graph.specs.Graph.{is_monitored};
 ghost use Rattle.tfpg_run.specs.inside.map.Reading.{IsReadingMap, ReadsOn, LacksMap, ReadsMap, ReturnsMap, map_reading_at};
 
 use super::{Map, MapFault, MapReader, NoMap};
@@ -25,6 +26,8 @@ pub(crate) fn read_map<S: Source>(alloc: Global, graph: &Graph, input: &mut S) -
     ensures map { IfOk result (ReadsMap graph.now (S.state input.old) (S.state input.new)) }
     ensures nodes { IfOk result (λ map. All (λ activation. activation.node < length graph.now.nodes)
         map.trace) }
+    ensures monitors { IfOk result (λ map. All (λ node. IsTrue (is_monitored graph.now node))
+        map.members.doubts) }
     ensures none { IfErr result (LacksMap graph.now (S.state input.old) (S.state input.new)) }
 {
     let mut reader = MapReader::new(alloc);
@@ -76,11 +79,9 @@ fn not_a_map(lines: &Lines) -> NoMap
 fn map_of(reader: MapReader) -> Result<Map, NoMap>
     ensures { ReturnsMap reader result }
 {
-    match reader.set {
-        Some(set) => Ok(Map {
-            set,
-            trace: reader.trace,
-        }),
+    let MapReader { members, trace, .. } = reader;
+    match members {
+        Some(members) => Ok(Map { members, trace }),
         None => Err(NoMap::Refused { line: 1 }),
     }
 }

@@ -1,16 +1,17 @@
 //! The text of a map.
 
 ghost use Rattle.std.specs.Prelude.{◌≡◌, ◌<◌, All, IfOk, length};
+ghost use Rattle.tfpg_base.specs.Hypothesis.{believing};
 ghost use Rattle.tfpg_graph.specs.Graph.{AreFailures};
 ghost use Rattle.tfpg_run.specs.map.MapText.{map_text};
 
 use std::alloc::Global;
-use tfpg_base::{NoMemory, Set, Trace};
+use tfpg_base::{Doubts, NoMemory, Set, Trace};
 use tfpg_graph::Graph;
 use tfpg_report::{append_activations, append_set_line};
 
-/// The text of a map: the line of the set, and then the line of each activation, by rising nodes. It has the form that
-/// `explain` reads.
+/// The text of a map that ignores no monitor: the line of the set, and then the line of each activation, by rising nodes. It
+/// has the form that `explain` reads.
 pub(crate) fn map_text(
     alloc: Global,
     graph: &Graph,
@@ -19,10 +20,10 @@ pub(crate) fn map_text(
 ) -> Result<Vec<u8>, NoMemory>
     requires members { AreFailures graph.now set }
     requires within { All (λ activation. activation.node < length graph.now.nodes) trace.now }
-    ensures { IfOk result (λ text. text.items ≡ map_text graph.now set trace.now) }
+    ensures { IfOk result (λ text. text.items ≡ map_text graph.now (believing set) trace.now) }
 {
     let mut text = Vec::new(alloc);
-    append_set_line(graph, &[b"set "], set, &mut text)?;
+    append_set_line(graph, &[b"set "], set, Doubts::empty(), &mut text)?;
     append_activations(graph, trace.as_slice(), &mut text)?;
     Ok(text)
 }

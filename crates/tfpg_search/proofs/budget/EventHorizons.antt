@@ -1,5 +1,5 @@
 -- The horizons of the names on the path of a search are times of events.
-use Rattle.std.proofs.Common.{◌≡◌, ℕ, ◌≤◌, List, [], ◌∷◌, length, take, drop, Option, Some, None, sym, subst}
+use Rattle.std.proofs.Common.{◌≡◌, ℕ, ◌≤◌, List, [], ◌∷◌, length, take, drop, Option, Some, None, refl, sym, subst}
 use Rattle.std.specs.Prelude.{All, Contains}
 use Rattle.std.proofs.lemmas.List.{take-append-drop}
 use Rattle.std.proofs.lemmas.List.Elements.{All-push, All-weaker, Contains-append_left}
@@ -8,13 +8,13 @@ use Rattle.tfpg_log.specs.Log.{Logbook, now_of, time_of_event, first_events}
 use Rattle.tfpg_evidence.specs.declared.step.Step.{Step}
 use Rattle.tfpg_evidence.specs.declared.step.Step.TheVariants.{Split, Cycle, Again}
 use Rattle.tfpg_clause.specs.Order.{horizon_of}
-use Rattle.tfpg_clause.specs.Paths.{next_leaf, MovesTo}
+use Rattle.tfpg_clause.specs.Paths.{MovesTo}
 use Rattle.tfpg_clause.specs.declared.path.PathSplit.{PathSplit}
 use Rattle.tfpg_search.specs.Enough.{IsEventTime}
 use Rattle.tfpg_search.specs.inside.Moves.{IsSearchStepAt, Leads}
 use Rattle.tfpg_base.proofs.lists.Elements.{fold-last}
-use Rattle.tfpg_search.proofs.steps.PathAfter.{all_after}
-use Rattle.tfpg_clause.specs.Trees.{new_split}
+use Rattle.tfpg_search.proofs.steps.PathAfter.{moved_by, all_after}
+use Rattle.tfpg_clause.specs.Trees.{split_count, new_split}
 use Rattle.tfpg_clause.specs.Case.{Case}
 
 -- ---- now is the time of an event
@@ -48,18 +48,19 @@ module _ (case : Case) where
   abbrev At : PathSplit → Type 0
   At split = IsEventTime case.log (horizon_of split.name)
 
-  after_cycle : (path : List PathSplit) → AtTimes case.log path → (next : Option (List PathSplit)) → next_leaf path ≡ next → AtTimesWhere case.log next
-  after_cycle path times None is = tt
-  after_cycle path times (Some after) is = all_after At (λ split more time. time) path after is times
+  after_closing : (path : List PathSplit) → AtTimes case.log path → (step : Step) (next : Option (List PathSplit)) → split_count (step ∷ []) ≡ 0 → MovesTo case path step next → AtTimesWhere case.log next
+  after_closing path times step None closes moves = tt
+  after_closing path times step (Some after) closes moves =
+      all_after At (λ split cited time. time) (λ split more time. time) path after (moved_by case path after step closes moves) times
 
   module _ (now_is : IsEventTime case.log (now_of case.log)) where
     after_step : (path : List PathSplit) → AtTimes case.log path → (step : Step) (next : Option (List PathSplit)) → MovesTo case path step next → IsSearchStepAt case path step
         → AtTimesWhere case.log next
     after_step path times (Split name) next moves live =
         subst (AtTimesWhere case.log) (sym moves.2)
-        (All-push At path (new_split name moves.0) times (subst (IsEventTime case.log) (sym live.first.at_now) now_is))
-    after_step path times (Cycle reasons) next moves simple = after_cycle path times next (sym moves.1)
-    after_step path times Again next moves none = absurd moves
+        (All-push At path (new_split name moves.0) times (subst (IsEventTime case.log) (sym live.0.first.at_now) now_is))
+    after_step path times (Cycle reasons) next moves simple = after_closing path times (Cycle reasons) next refl moves
+    after_step path times Again next moves reusable = after_closing path times Again next refl moves
 
     led : (steps : List Step) (start end : Option (List PathSplit)) → AtTimesWhere case.log start → Leads case start steps end → AtTimesWhere case.log end
     led [] start end times leads = subst (AtTimesWhere case.log) leads times

@@ -2,18 +2,19 @@
 --
 -- Let n names be allowed. The present leaf under q splits counts a ^ (n - q), and so does each alternative of the split number q + 1
 -- that is not entered yet.
-use Rattle.std.proofs.Common.{◌≡◌, ℕ, zero, suc, ◌+◌, ◌-◌, ◌*◌, ◌^◌, ◌<◌, ◌≤◌, List, [], ◌∷◌, ◌++◌, length, Some, sym, subst, arith}
+use Rattle.std.proofs.Common.{◌≡◌, ℕ, zero, suc, ◌+◌, ◌-◌, ◌*◌, ◌^◌, ◌<◌, ◌≤◌, List, [], ◌∷◌, ◌++◌, length, refl, ap, sym, subst, arith}
 use Rattle.std.specs.Prelude.{All}
 use Rattle.std.proofs.lemmas.List.Elements.{All-head, All-tail}
 use Rattle.std.proofs.lemmas.Nat.{row_fits}
 use Rattle.std.proofs.Math.Nat.{pow-succ', one-le-pow}
 use Rattle.tfpg_base.proofs.lists.Sequences.{rows_fit-two, sub-mul_next}
 use Rattle.tfpg_evidence.specs.declared.clause_name.ClauseName.{ClauseName}
-use Rattle.tfpg_clause.specs.Paths.{next_leaf}
+use Rattle.tfpg_evidence.specs.declared.reason.Reason.{Reason}
 use Rattle.tfpg_clause.specs.declared.path.PathSplit.{PathSplit}
 use Rattle.tfpg_search.specs.inside.Picks.{IsInRange, AreInRange}
-use Rattle.tfpg_search.proofs.steps.PathAfter.{after_is}
-use Rattle.tfpg_clause.specs.Trees.{new_split, next_alternative}
+use Rattle.tfpg_search.proofs.steps.PathAfter.{After, Moved}
+use Rattle.tfpg_clause.proofs.trees.Marks.{length-cited}
+use Rattle.tfpg_clause.specs.Trees.{new_split, next_alternative, cited_from, cited_by}
 
 module _ (a : ℕ) (some : 1 ≤ a) where
   abbrev pub weight : List PathSplit → ℕ → ℕ
@@ -50,7 +51,13 @@ module _ (a : ℕ) (some : 1 ≤ a) where
   split_lowers (taken ∷ deeper) name count zero less low high = absurd (omega arith)
   split_lowers (taken ∷ deeper) name count (suc n) less low high = omega (arith, split_lowers deeper name count n (omega arith) low high)
 
-  -- ---- a cycle
+  -- ---- a step that closes a leaf
+
+  -- marks do not count
+  weight_cited : (number : ℕ) (reasons : List Reason) (path : List PathSplit) (n : ℕ) → weight (cited_from number reasons path) n ≡ weight path n
+  weight_cited number reasons [] n = refl
+  weight_cited number reasons (taken ∷ deeper) zero = refl
+  weight_cited number reasons (taken ∷ deeper) (suc n) = ap (λ (w : ℕ). (taken.alternatives - taken.alternative) * a ^ n + w) (weight_cited (number + 1) reasons deeper n)
 
   next_lowers : (front : List PathSplit) (taken : PathSplit) (deeper : List PathSplit) (n : ℕ) → length (front ++ taken ∷ deeper) ≤ n → taken.alternative < taken.alternatives
       → weight (front ++ next_alternative taken ∷ []) n + 1 ≤ weight (front ++ taken ∷ deeper) n
@@ -59,9 +66,13 @@ module _ (a : ℕ) (some : 1 ≤ a) where
   next_lowers (first ∷ front) taken deeper zero within more = absurd (omega arith)
   next_lowers (first ∷ front) taken deeper (suc n) within more = omega (arith, next_lowers front taken deeper n (omega arith) more)
 
-  pub cycle_lowers : (path after : List PathSplit) (n : ℕ) → length path ≤ n → next_leaf path ≡ Some after → weight after n + 1 ≤ weight path n
-  cycle_lowers path after n within is =
-      let next = after_is path after is in
+  after_lowers : (path after : List PathSplit) (n : ℕ) → length path ≤ n → After path after → weight after n + 1 ≤ weight path n
+  after_lowers path after n within next =
       subst (λ (fs : List PathSplit). weight after n + 1 ≤ weight fs n) (sym next.path_is)
       (subst (λ (fs : List PathSplit). weight fs n + 1 ≤ weight (next.front ++ next.taken ∷ next.deeper) n) (sym next.next_is)
       (next_lowers next.front next.taken next.deeper n (subst (λ (fs : List PathSplit). length fs ≤ n) next.path_is within) next.more))
+
+  pub closing_lowers : (path after : List PathSplit) (n : ℕ) → length path ≤ n → Moved path after → weight after n + 1 ≤ weight path n
+  closing_lowers path after n within moved =
+      let long : length (cited_by moved.0 path) ≡ length path = length-cited 1 moved.0 path in
+      subst (λ (w : ℕ). weight after n + 1 ≤ w) (weight_cited 1 moved.0 path n) (after_lowers (cited_by moved.0 path) after n (omega arith) moved.1)

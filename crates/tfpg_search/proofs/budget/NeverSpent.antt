@@ -1,5 +1,5 @@
 -- A budget that is enough is never spent.
-use Rattle.std.proofs.Common.{◌≡◌, ◌≢◌, ℕ, ◌+◌, ◌*◌, ◌<◌, ◌≤◌, List, [], ◌∷◌, ◌++◌, length, Option, Some, None, sym, ap, subst, arith, length-append}
+use Rattle.std.proofs.Common.{◌≡◌, ◌≢◌, ℕ, ◌+◌, ◌*◌, ◌<◌, ◌≤◌, List, [], ◌∷◌, ◌++◌, length, Option, Some, None, refl, sym, ap, subst, arith, length-append}
 use Rattle.std.specs.Prelude.{All, AllPairs, Contains, map}
 use Rattle.std.proofs.lemmas.List.{map-append, length-map}
 use Rattle.std.proofs.lemmas.List.Sums.{count_by-le-length}
@@ -9,7 +9,7 @@ use Rattle.tfpg_evidence.specs.declared.clause_name.ClauseName.{ClauseName}
 use Rattle.tfpg_evidence.specs.declared.step.Step.{Step}
 use Rattle.tfpg_evidence.specs.declared.step.Step.TheVariants.{Split, Cycle, Again}
 use Rattle.tfpg_clause.specs.Trees.{Judged, is_split, split_count, new_split}
-use Rattle.tfpg_clause.specs.Paths.{with_step, next_leaf, MovesTo}
+use Rattle.tfpg_clause.specs.Paths.{with_step, MovesTo}
 use Rattle.tfpg_clause.specs.declared.path.PathSplit.{PathSplit}
 use Rattle.tfpg_search.specs.Enough.{IsEventTime, IsNameAt, IsEnough}
 use Rattle.tfpg_search.specs.inside.Picks.{IsAllowed}
@@ -18,7 +18,8 @@ use Rattle.tfpg_search.specs.inside.Moves.{IsSearchStepAt, Leads, LeadsTo}
 use Rattle.tfpg_search.proofs.steps.DistinctNames.{split_name, names_after}
 use Rattle.tfpg_search.proofs.steps.RightSteps.{after_step, distinct_path}
 use Rattle.tfpg_base.proofs.lists.Pigeons.{length-le_contained}
-use Rattle.tfpg_search.proofs.budget.Measure.{weight, weight_some, weight_limit, AreFew, split_lowers, cycle_lowers}
+use Rattle.tfpg_search.proofs.budget.Measure.{weight, weight_some, weight_limit, AreFew, split_lowers, closing_lowers}
+use Rattle.tfpg_search.proofs.steps.PathAfter.{Moved, moved_by}
 use Rattle.tfpg_clause.specs.Case.{Case}
 use Rattle.tfpg_search.specs.Live.{HasDistinctNames}
 
@@ -63,14 +64,26 @@ module _ (laws : ClauseLaws) (case : Case) (now_is : IsEventTime case.log (now_o
     stands : AreLedTo after (with_step earlier case.log step)
     lower : weight a a_some after n + 1 ≤ weight a a_some path n
 
+  closing_step : (path : List PathSplit) (earlier : List Judged) → AreLedTo path earlier → (step : Step) (after : List PathSplit) → split_count (step ∷ []) ≡ 0
+      → MovesTo case path step (Some after) → IsSearchStepAt case path step → Lower path earlier step after
+  closing_step path earlier stands step after closes goes is =
+      let moved : Moved path after = moved_by case path after step closes goes in
+      record {
+        stands = record {
+          leads = after_step laws case path earlier stands.leads step (Some after) goes is;
+          names = names_after (IsNameAt case.graph case.log) path after moved stands.names;
+        };
+        lower = closing_lowers a a_some path after n (short path earlier stands) moved;
+      }
+
   step_lowers : (path : List PathSplit) (earlier : List Judged) → AreLedTo path earlier → (step : Step) (after : List PathSplit) → MovesTo case path step (Some after) → IsSearchStepAt case path step → Lower path earlier step after
   step_lowers path earlier stands (Split name) after goes live =
       let count : ℕ = goes.0 in
       let split : PathSplit = new_split name count in
       let same : path ++ split ∷ [] ≡ after = (let is : Some after ≡ Some (path ++ split ∷ []) = goes.2 in cc) in
-      let violated = live.first.violated in
+      let violated = live.0.first.violated in
       let own : IsNameAt case.graph case.log name =
-      record { clause = violated.clause; allowed = violated.allowed; horizon = subst (IsEventTime case.log) (sym live.first.at_now) now_is } in
+      record { clause = violated.clause; allowed = violated.allowed; horizon = subst (IsEventTime case.log) (sym live.0.first.at_now) now_is } in
       let names : AreNames (path ++ split ∷ []) =
       subst (All (IsNameAt case.graph case.log)) (sym (map-append split_name path (split ∷ [])))
       (All-append (IsNameAt case.graph case.log) (map split_name path) (name ∷ []) stands.names (All-cons (IsNameAt case.graph case.log) name [] own (All-nil (IsNameAt case.graph case.log)))) in
@@ -85,16 +98,8 @@ module _ (laws : ClauseLaws) (case : Case) (now_is : IsEventTime case.log (now_o
             (omega (arith, laws.some case.graph case.log name count goes.1))
             (laws.few case.graph case.log enough.maximum enough.incoming.within name count goes.1));
       }
-  step_lowers path earlier stands (Cycle reasons) after goes simple =
-      let is : next_leaf path ≡ Some after = sym goes.1 in
-      record {
-        stands = record {
-          leads = after_step laws case path earlier stands.leads (Cycle reasons) (Some after) goes simple;
-          names = names_after (IsNameAt case.graph case.log) path after is stands.names;
-        };
-        lower = cycle_lowers a a_some path after n (short path earlier stands) is;
-      }
-  step_lowers path earlier stands Again after goes none = absurd goes
+  step_lowers path earlier stands (Cycle reasons) after goes simple = closing_step path earlier stands (Cycle reasons) after refl goes simple
+  step_lowers path earlier stands Again after goes reusable = closing_step path earlier stands Again after refl goes reusable
 
   -- ---- all steps
 

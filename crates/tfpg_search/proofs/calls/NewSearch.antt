@@ -16,7 +16,8 @@ use Rattle.tfpg_clause.specs.Laws.{FrontsOfPartialTreesArePartial, PartialTreesH
 use Rattle.tfpg_clause.specs.declared.path.PathSplit.{PathSplit}
 use Rattle.tfpg_clause.specs.Order.{horizon_of}
 use Rattle.tfpg_search.specs.Enough.{IsEventTime}
-use Rattle.tfpg_search.specs.inside.Leaf.{pick_reasons, IsStated}
+use Rattle.tfpg_search.specs.inside.Leaf.{bounds_in, pick_reasons, IsStated}
+use Rattle.tfpg_search.specs.Work.{widest_bounds}
 use Rattle.tfpg_search.specs.Live.{HasDistinctNames, HasNoNameTwice}
 use Rattle.tfpg_search.specs.inside.Picks.{IsAllowed, IsInRange}
 use Rattle.tfpg_search.specs.SearchState.{SearchState}
@@ -53,8 +54,8 @@ module _ (graph : Tfpg) (reach : List ℕ) where
 
   pub new_represents : (log : Logbook) → ClauseLaws → (search : SearchState) → search.reach ≡ reach → IsReach graph search.set reach → search.seen ≡ 0 → search.path ≡ [] → search.entered ≡ []
       → length search.leaf.demands.bounds ≡ length graph.nodes → pick_reasons search.leaf ≡ [] → IsStated (fact (case_of graph (first_events log 0) reach)) (fact (case_of graph (first_events log 0) reach)) search.leaf
-      → SearchRepresents graph (first_events log 0) search []
-  new_represents log laws search reach_is is_reach seen path entered variables picks is_stated =
+      → bounds_in search.leaf ≡ widest_bounds (length graph.nodes) → SearchRepresents graph (first_events log 0) search []
+  new_represents log laws search reach_is is_reach seen path entered variables picks is_stated widest =
       let same : search ≡ record search { reach = reach; seen = 0; path = []; entered = [] } = λ i. record search { reach = reach_is i; seen = seen i; path = path i; entered = entered i } in
       subst (λ (s : SearchState). SearchRepresents graph (first_events log 0) s []) (sym same)
       (record {
@@ -76,4 +77,5 @@ module _ (graph : Tfpg) (reach : List ℕ) where
           picks = record { few = omega arith; many = omega arith; counts = λ split before there. cc; reasons = picks };
         };
         all_entered = refl;
+        bounds = record { unseen = λ none. widest; given = λ some. absurd (omega (arith, some)) };
       })

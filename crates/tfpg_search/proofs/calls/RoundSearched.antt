@@ -1,5 +1,5 @@
 -- What a call of a search comes to, for all steps that it represented before.
-use Rattle.std.proofs.Common.{◌≡◌, ℕ, ◌≤◌, List, [], ◌∷◌, length, Option, Some, None, refl, sym, ap, subst, ◌∙◌}
+use Rattle.std.proofs.Common.{◌≡◌, ℕ, ◌≤◌, List, [], ◌∷◌, length, Option, Some, None, refl, sym, ap, subst, ◌∙◌, arith}
 use Rattle.std.specs.Prelude.{All, Result, Ok, Err, map, option_map}
 use Rattle.std.proofs.lemmas.List.Elements.{All-nil, All-cons, All-head, All-tail}
 use Rattle.tfpg_base.specs.declared.constraint.Constraint.{Constraint}
@@ -15,13 +15,13 @@ use Rattle.tfpg_search.specs.declared.found.Found.{Found}
 use Rattle.tfpg_search.specs.declared.found.Found.TheVariants.{Shown, Closed, Spent}
 use Rattle.tfpg_search.specs.SearchState.{SearchState, case_of_search}
 use Rattle.tfpg_search.specs.Represents.{SearchRepresents, RepresentsSome}
-use Rattle.tfpg_search.specs.inside.AtItsLeaf.{IsAtItsLeaf, HasEnteredAll}
+use Rattle.tfpg_search.specs.inside.AtItsLeaf.{IsAtItsLeaf}
 use Rattle.tfpg_clause.specs.Paths.{with_steps}
 use Rattle.tfpg_search.specs.Searched.{AreSearchSteps, FindsOrNot, IsSearched, call_of}
 use Rattle.tfpg_search.specs.inside.ClauseLaws.{ClauseLaws}
-use Rattle.tfpg_search.specs.inside.Moves.{Leads, LeadsTo, FoundAtLeaf, SearchesOn}
+use Rattle.tfpg_search.specs.inside.Moves.{Leads, LeadsTo, IsLoaded, FoundAtLeaf, SearchesOn}
 use Rattle.tfpg_search.proofs.calls.NewSearch.{names_of_partial}
-use Rattle.tfpg_search.proofs.steps.RightSteps.{live_here, lift}
+use Rattle.tfpg_search.proofs.steps.RightSteps.{live_here, none_allowed, lift}
 use Rattle.tfpg_search.proofs.leaves.StaysAtItsLeaf.{carried, all_allowed}
 use Rattle.tfpg_search.specs.Enough.{IsEventTime, IsNameAt, IsEnough}
 use Rattle.tfpg_search.specs.inside.Picks.{IsAllowed}
@@ -37,22 +37,36 @@ pub seen_stands : ClauseLaws → (graph : Tfpg) (log : Logbook) (old new : Searc
 seen_stands laws graph log old new ordered some same =
     subst (IsAtItsLeaf graph log) (sym same) (carried laws graph (first_events log old.seen) log ordered (laws.first log old.seen) old (length log.events) some.1.system)
 
-module _ (laws : ClauseLaws) (graph : Tfpg) (log : Logbook) (budget : ℕ) (new : SearchState) (seen : new.seen ≡ length log.events) where
+module _ (laws : ClauseLaws) (graph : Tfpg) (log : Logbook) (budget : ℕ) (new : SearchState) (seen : new.seen ≡ length log.events) (some : 1 ≤ length log.events) where
   abbrev case : Case
   case = case_of_search graph log new
 
-  represents : (steps : List Judged) → LeadsTo case steps (Some new.path) → AtTimes log new.path → IsAtItsLeaf graph log new → HasEnteredAll new → SearchRepresents graph log new steps
-  represents steps leads times stands all = record { seen = seen; leaf = leads.0; names = leads.1; horizons = times; system = stands; all_entered = all }
+  represents : (steps : List Judged) → LeadsTo case steps (Some new.path) → AtTimes log new.path → IsAtItsLeaf graph log new → IsLoaded graph log new → SearchRepresents graph log new steps
+  represents steps leads times stands loaded = record {
+    seen = seen;
+    leaf = leads.0;
+    names = leads.1;
+    horizons = times;
+    system = stands;
+    all_entered = loaded.all_entered;
+    bounds = record { unseen = λ none. absurd (omega arith); given = λ _. loaded.bounds };
+  }
 
   finds : (added : List Step) (steps : List Judged) (splits : ℕ) (end : Option (List PathSplit)) (result : Result Found NoMemory) → split_count added ≡ splits → LeadsTo case steps end
       → (end ≡ Some new.path → AtTimes log new.path) → FoundAtLeaf case budget new splits end result → FindsOrNot case budget added steps new result
-  finds added steps splits end (Ok (Shown trace)) count leads times ends = (ends.0, represents steps (subst (LeadsTo case steps) ends.3 leads) (times ends.3) ends.1 ends.2)
+  finds added steps splits end (Ok (Shown trace)) count leads times ends =
+      let here : LeadsTo case steps (Some new.path) = subst (LeadsTo case steps) ends.3 leads in (
+        ends.0,
+        represents steps here (times ends.3) ends.1 ends.2,
+        none_allowed laws case new.path steps here.0 ends.4,
+      )
   finds added steps splits end (Ok Closed) count leads times ends = (subst (LeadsTo case steps) ends leads).0
   finds added steps splits end (Ok Spent) count leads times ends =
       let here : LeadsTo case steps (Some new.path) = subst (LeadsTo case steps) ends.4 leads in (
         count ∙ ends.0,
         (ends.1.0, live_here laws case new.path steps here.0 ends.1.0 ends.1.1),
         represents steps here (times ends.4) ends.2 ends.3,
+        none_allowed laws case new.path steps here.0 ends.5,
       )
   finds added steps splits end (Err no_memory) count leads times ends = tt
 
@@ -97,7 +111,7 @@ module _ (laws : ClauseLaws) (graph : Tfpg) (log : Logbook) (budget : ℕ) (old 
     within = subst (λ (n : ℕ). n ≤ budget) (sym on.grows.count) on.within;
     right = λ earlier represents. (lifted earlier represents).0;
     found = λ earlier represents.
-        finds laws graph log budget new seen_is on.grows.added (with_steps earlier log on.grows.added) on.splits on.end result on.grows.count
+        finds laws graph log budget new seen_is some on.grows.added (with_steps earlier log on.grows.added) on.splits on.end result on.grows.count
         (subst (λ (r : List ℕ). LeadsTo (case_of graph log r) (with_steps earlier log on.grows.added) on.end) (sym reach_is) (lifted earlier represents).1)
         (times_at_end earlier represents) on.ends;
   }

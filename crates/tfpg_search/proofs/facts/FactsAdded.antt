@@ -1,22 +1,23 @@
 -- Bounds that get tighter, until they say all facts.
 use Rattle.std.proofs.Common.{◌≡◌, ◌≢◌, ℕ, zero, suc, ◌+◌, ◌<◌, ◌≤◌, Bool, true, false, cond, ltb, ◌&&◌, not, leb, List, [], ◌∷◌, length, get_or, Option, Some, None, refl, sym, ◌∙◌, ap, subst, inl, inr, ⊎_elim, ◌⊎◌, arith}
-use Rattle.std.specs.Prelude.{slice_get, pos, option_map, option_and_then, ◌-◌}
+use Rattle.std.specs.Prelude.{slice_get, pos, option_map, option_and_then}
 use Rattle.std.proofs.lemmas.Bool.{ltb-true, ltb-false, and_parts}
 use Rattle.std.proofs.lemmas.Option.{same_Some, none-some, slice_get-get_or}
 use Rattle.tfpg_base.specs.declared.limits.TheConstants.{NEVER}
 use Rattle.tfpg_base.specs.Constraint.{Meets}
 use Rattle.tfpg_base.specs.declared.constraint.Constraint.{Constraint}
-use Rattle.tfpg_graph.specs.Graph.{Tfpg, lag_or_zero}
+use Rattle.tfpg_graph.specs.Graph.{Tfpg}
 use Rattle.tfpg_graph.specs.Reach.{is_among}
 use Rattle.tfpg_log.specs.declared.event.Event.{Event}
 use Rattle.tfpg_log.specs.declared.event.Event.TheVariants.{Alarm, Silent, Sweep, Tick, Mode}
-use Rattle.tfpg_log.specs.Log.{Logbook, IsLogOf, now_of, event_at, quiet_at}
+use Rattle.tfpg_log.specs.Log.{Logbook, IsLogOf, now_of, event_at, alarm_interval, quiet_at}
+use Rattle.tfpg_log.specs.declared.interval.Interval.{Interval}
 use Rattle.tfpg_log.proofs.events.SilentNodes.{event_own, quiet_within}
 use Rattle.tfpg_evidence.specs.declared.reason.Reason.{Reason}
 use Rattle.tfpg_evidence.specs.declared.reason.Reason.TheVariants.{Zero, Top, Unreached, From, Upto, Quiet, Pick}
 use Rattle.tfpg_base.specs.Bounds.{at_most, at_least}
 use Rattle.tfpg_clause.specs.Facts.{fact, from_alarm, upto_alarm}
-use Rattle.tfpg_base.proofs.lists.Choices.{then_some-true}
+use Rattle.tfpg_base.proofs.lists.Choices.{then_some-true, option_map-some}
 use Rattle.tfpg_graph.proofs.NodeAt.{monitored_within}
 use Rattle.tfpg_diff.specs.declared.bounds.Bounds.{Bounds}
 use Rattle.tfpg_diff.specs.declared.why.Why.TheVariants.{Given}
@@ -55,7 +56,8 @@ module _ (graph : Tfpg) (log : Logbook) (of : IsLogOf graph log) where
     from_bound : (number : ℕ) (event : Option Event) → event_at log number ≡ event → option_and_then (from_alarm graph log) event ≡ Some constraint → IsBound graph constraint
     from_bound number None at is = absurd cc
     from_bound number (Some (Alarm time node)) at is =
-        inl (record { node = node; bound = time - lag_or_zero graph node; within = alarm_within number time node at; is = sym (same_Some (at_least node (time - lag_or_zero graph node)) constraint is) })
+        let told = option_map-some (λ (i : Interval). at_least node i.earliest) (alarm_interval graph log node time) constraint is in
+        inl (record { node = node; bound = told.0.earliest; within = alarm_within number time node at; is = sym told.2 })
     from_bound number (Some (Silent time node)) at is = absurd cc
     from_bound number (Some (Sweep time)) at is = absurd cc
     from_bound number (Some (Tick time)) at is = absurd cc
@@ -64,7 +66,8 @@ module _ (graph : Tfpg) (log : Logbook) (of : IsLogOf graph log) where
     upto_bound : (number : ℕ) (event : Option Event) → event_at log number ≡ event → option_and_then (upto_alarm graph log) event ≡ Some constraint → IsBound graph constraint
     upto_bound number None at is = absurd cc
     upto_bound number (Some (Alarm time node)) at is =
-        inr (record { node = node; bound = time; within = alarm_within number time node at; is = sym (same_Some (at_most node (pos time)) constraint is) })
+        let told = option_map-some (λ (i : Interval). at_most node (pos i.latest)) (alarm_interval graph log node time) constraint is in
+        inr (record { node = node; bound = told.0.latest; within = alarm_within number time node at; is = sym told.2 })
     upto_bound number (Some (Silent time node)) at is = absurd cc
     upto_bound number (Some (Sweep time)) at is = absurd cc
     upto_bound number (Some (Tick time)) at is = absurd cc

@@ -1,5 +1,5 @@
 -- What moves do to the system of a search.
-use Rattle.std.proofs.Common.{◌≡◌, ℕ, zero, suc, ◌+◌, ◌<◌, List, [], ◌∷◌, ◌++◌, length, take, get_or, Option, Some, None, refl, sym, ap, subst, ◌∙◌, inl, inr, arith, length-append}
+use Rattle.std.proofs.Common.{◌≡◌, ℕ, zero, suc, ◌+◌, ◌<◌, List, [], ◌∷◌, ◌++◌, length, take, get_or, false, Option, Some, None, refl, sym, ap, subst, ◌∙◌, inl, inr, arith, length-append}
 use Rattle.std.specs.Prelude.{slice_get, option_and_then}
 use Rattle.std.specs.Option.{option_map_or}
 use Rattle.std.proofs.lemmas.List.{take-append-le, take_more, take_at, length-take-le}
@@ -13,19 +13,21 @@ use Rattle.tfpg_evidence.specs.declared.clause_name.ClauseName.TheVariants.{OrMa
 use Rattle.tfpg_evidence.specs.declared.reason.Reason.{Reason}
 use Rattle.tfpg_evidence.specs.declared.reason.Reason.TheVariants.{Zero, Top, Unreached, From, Upto, Quiet, Pick}
 use Rattle.tfpg_clause.specs.Facts.{fact}
-use Rattle.tfpg_clause.specs.Clauses.{count_of}
+use Rattle.tfpg_clause.specs.Clauses.{alternatives, count_of, constraint_at}
 use Rattle.tfpg_base.specs.Choice.{item_at}
 use Rattle.tfpg_clause.specs.declared.path.PathSplit.{PathSplit}
 use Rattle.tfpg_search.specs.inside.Leaf.{Leaf, pick_reasons, IsStated}
-use Rattle.tfpg_search.specs.inside.Picks.{IsAllowed, constraint_count, picks_from, picks_of}
+use Rattle.tfpg_search.specs.inside.Picks.{IsAllowed, IsInRange, constraint_count, picks_from, picks_of}
 use Rattle.tfpg_search.specs.inside.Leaving.{constraint_count_at, KeepsBounds, Leaves, Pushing}
 use Rattle.tfpg_search.specs.SearchState.{SearchState}
 use Rattle.tfpg_search.specs.inside.AtItsLeaf.{IsAtItsLeaf, HasEnteredAll}
 use Rattle.tfpg_search.proofs.steps.DistinctNames.{range_push}
-use Rattle.tfpg_search.proofs.leaves.PicksOfPath.{of_split, picks_last}
+use Rattle.tfpg_search.proofs.leaves.PicksOfPath.{of_split, picks_last, picks_cited}
+use Rattle.tfpg_search.proofs.steps.PathAfter.{all_cited}
+use Rattle.tfpg_clause.proofs.trees.Marks.{item_cited, length-cited}
 use Rattle.tfpg_base.proofs.lists.Choices.{option_and_then-some}
 use Rattle.tfpg_base.proofs.lists.Written.{slice_get-push_cases, slice_get-push_last, slice_get-append_some}
-use Rattle.tfpg_clause.specs.Trees.{picked, stated, new_split}
+use Rattle.tfpg_clause.specs.Trees.{picked, stated, new_split, cited_by}
 use Rattle.tfpg_clause.specs.Case.{case_of}
 
 -- ---- what is stated
@@ -44,7 +46,7 @@ module _ (facts stated other : Reason → Option Constraint) (leaf : Leaf) where
 
 -- what is read past the end
 abbrev no_split : PathSplit
-no_split = record { name = OrMay 0 0 0; alternative = 0; alternatives = 0 }
+no_split = record { name = OrMay 0 0 0; alternative = 0; alternatives = 0; cited = false; reusable = false }
 
 module _ (graph : Tfpg) (log : Logbook) where
   pub of_same : (one other : Option PathSplit) (number : ℕ) (c : Constraint) → ((f : PathSplit) → one ≡ Some f → other ≡ Some f) → of_split graph log one number ≡ Some c → of_split graph log other number ≡ Some c
@@ -89,6 +91,35 @@ module _ (graph : Tfpg) (log : Logbook) where
       stated = is_stated;
       picks = record { few = at.picks.few; many = at.picks.many; counts = at.picks.counts; reasons = reasons ∙ at.picks.reasons };
     }
+
+    -- ---- splits on the path are cited
+
+    cited_stated : (reasons : List Reason) (r : Reason) (c : Constraint) → stated (case_of graph log old.reach) old.path r ≡ Some c → stated (case_of graph log old.reach) (cited_by reasons old.path) r ≡ Some c
+    cited_stated reasons r c is =
+        states_more old.reach old.path (cited_by reasons old.path)
+        (λ split number c is.
+        item_cited (λ (taken : PathSplit). option_and_then (λ clause. constraint_at clause taken.alternative number) (alternatives graph log taken.name)) (λ cited taken. refl) reasons old.path split ∙ is)
+        r c is
+
+    pub cited_stands : (reasons : List Reason) → IsAtItsLeaf graph log (record old { path = cited_by reasons old.path })
+    cited_stands reasons =
+        let long : length (cited_by reasons old.path) ≡ length old.path = length-cited 1 reasons old.path in
+        record {
+          reach_is = at.reach_is;
+          variables = at.variables;
+          allowed = all_cited (IsAllowed graph log) (λ split cited allowed. allowed) 1 reasons old.path at.allowed;
+          range = all_cited IsInRange (λ split cited is. record { first = is.first; last = is.last }) 1 reasons old.path at.range;
+          stated =
+              restated (fact (case_of graph log old.reach)) (stated (case_of graph log old.reach) old.path) (stated (case_of graph log old.reach) (cited_by reasons old.path)) old.leaf at.stated
+              (λ r c is. fact_stated old.reach (cited_by reasons old.path) r c is)
+              (λ index r c there is. cited_stated reasons r c is);
+          picks = record {
+            few = (let few = at.picks.few in omega arith);
+            many = (let many = at.picks.many in omega arith);
+            counts = λ split before there. at.picks.counts split before there ∙ ap (λ (rs : List Reason). length rs) (sym (picks_cited graph log 1 reasons old.path split));
+            reasons = at.picks.reasons ∙ sym (picks_cited graph log 1 reasons old.path (length old.entered));
+          };
+        }
 
     -- ---- a split is appended to the path
 

@@ -8,12 +8,12 @@ use Rattle.tfpg_log.specs.Log.{Logbook}
 use Rattle.tfpg_evidence.specs.declared.clause_name.ClauseName.{ClauseName}
 use Rattle.tfpg_evidence.specs.declared.reason.Reason.{Reason}
 use Rattle.tfpg_evidence.specs.declared.step.Step.{Step}
-use Rattle.tfpg_evidence.specs.declared.step.Step.TheVariants.{Split, Cycle}
+use Rattle.tfpg_evidence.specs.declared.step.Step.TheVariants.{Split, Cycle, Again}
 use Rattle.tfpg_clause.specs.Facts.{fact}
 use Rattle.tfpg_clause.specs.Clauses.{count_of}
 use Rattle.tfpg_search.specs.declared.add_fault.AddFault.{AddFault}
 use Rattle.tfpg_search.specs.inside.Closing.{Closes, IsSimpleCycle}
-use Rattle.tfpg_clause.specs.Paths.{next_leaf}
+use Rattle.tfpg_clause.specs.Paths.{next_leaf, above_last, MovesTo, IsReusable}
 use Rattle.tfpg_clause.specs.declared.path.PathSplit.{PathSplit}
 use Rattle.tfpg_diff.specs.Solution.{IsSolution}
 use Rattle.tfpg_base.specs.Constraint.{Meets}
@@ -22,13 +22,16 @@ use Rattle.tfpg_search.specs.inside.Picks.{picks_from}
 use Rattle.tfpg_search.specs.inside.Leaving.{constraint_count_at, Leaves, Pushing}
 use Rattle.tfpg_search.specs.SearchState.{SearchState, case_of_search}
 use Rattle.tfpg_search.specs.inside.AtItsLeaf.{IsAtItsLeaf, HasEnteredAll}
-use Rattle.tfpg_search.specs.inside.Moves.{Grows, GrowsAnyhow, KeepsSet, IsLoaded, untaken}
+use Rattle.tfpg_search.specs.inside.Moves.{IsSearchStepAt, Grows, GrowsAnyhow, KeepsSet, IsLoaded, untaken}
 use Rattle.tfpg_search.proofs.steps.StepsAppended.{grows_none, grows_one}
+use Rattle.tfpg_search.specs.inside.Facts.{AreFactsIn}
+use Rattle.tfpg_search.proofs.work.BoundsGiven.{system_given}
 use Rattle.tfpg_search.proofs.leaves.AlternativePushed.{at_other}
-use Rattle.tfpg_search.proofs.leaves.AtItsLeaf.{leaf_stands, split_stands, enter_stands, left_again}
+use Rattle.tfpg_search.proofs.leaves.AtItsLeaf.{leaf_stands, cited_stands, split_stands, enter_stands, left_again}
 use Rattle.tfpg_base.proofs.lists.Written.{slice_get-push_last}
-use Rattle.tfpg_search.proofs.leaves.NextLeaf.{counted, next_stands, next_some, next_fewer}
-use Rattle.tfpg_clause.specs.Trees.{stated, new_split}
+use Rattle.tfpg_search.proofs.leaves.NextLeaf.{counted, next_stands, next_some, next_fewer, untaken_cited}
+use Rattle.tfpg_search.proofs.steps.PathAfter.{Moved, moved_by}
+use Rattle.tfpg_clause.specs.Trees.{split_count, stated, new_split, cited_by}
 use Rattle.tfpg_clause.specs.Case.{case_of}
 use Rattle.tfpg_search.specs.Live.{IsLiveAt}
 use Rattle.tfpg_search.specs.Searched.{call_of}
@@ -40,35 +43,54 @@ module _ (graph : Tfpg) (log : Logbook) (old : SearchState) (at : IsAtItsLeaf gr
 
   -- ---- a split
 
-  pub split_ok : (new : SearchState) (after : List Step) (name : ClauseName) (count : ℕ) → HasEnteredAll old → IsLiveAt (case_of_search graph log old) old.path name
+  pub split_ok : (new : SearchState) (after : List Step) (name : ClauseName) (count : ℕ) → HasEnteredAll old → IsLiveAt (case_of_search graph log old) old.path name → (IsReusable old.path → ⊥)
       → count_of graph log name ≡ Some count → 0 < count → new ≡ record old { path = old.path ++ new_split name count ∷ [] } → after ≡ before ++ Split name ∷ []
       → IsAtItsLeaf graph log new × Grows graph log (call_of old new before after) 1 (Some new.path)
-  split_ok new after name count all live counted some same appended = (
+  split_ok new after name count all live none counted some same appended = (
     subst (IsAtItsLeaf graph log) (sym same) (split_stands graph log old at name count all counted some),
-    grows_one graph log old new before after (Split name) (Some new.path) appended (count, counted, ap (λ (s : SearchState). Some s.path) same) live,
+    grows_one graph log old new before after (Split name) (Some new.path) appended (count, counted, ap (λ (s : SearchState). Some s.path) same) (live, none),
   )
 
   -- ---- a closed leaf
 
-  module _ (after : List Step) (reasons : List Reason) (cycle : IsSimpleCycle (stated (case_of_search graph log old) old.path) reasons) (appended : after ≡ before ++ Cycle reasons ∷ []) where
-    closes_to : (new : SearchState) (end : Option (List PathSplit)) → next_leaf old.path ≡ end → Grows graph log (call_of old new before after) 0 end
-    closes_to new end is =
-        grows_one graph log old new before after (Cycle reasons) end appended
-        (record { constraints = cycle.0; hold = cycle.1.are_named; negative_cycle = cycle.1.negative_cycle }, sym is)
-        (record { constraints = cycle.0; hold = cycle.1.are_named; simple = cycle.1.simple })
+  -- the move of a cycle, and of a subtree that is reused
+  pub cycle_moves : (reasons cited : List Reason) (end : Option (List PathSplit)) → IsSimpleCycle (stated (case_of_search graph log old) old.path) reasons → cited ≡ reasons
+      → next_leaf (cited_by cited old.path) ≡ end → MovesTo (case_of_search graph log old) old.path (Cycle reasons) end
+  cycle_moves reasons cited end cycle same is =
+      (record { constraints = cycle.0; hold = cycle.1.are_named; negative_cycle = cycle.1.negative_cycle }, sym is ∙ ap (λ (rs : List Reason). next_leaf (cited_by rs old.path)) same)
+
+  pub cycle_is : (reasons : List Reason) → IsSimpleCycle (stated (case_of_search graph log old) old.path) reasons → (IsReusable old.path → ⊥)
+      → IsSearchStepAt (case_of_search graph log old) old.path (Cycle reasons)
+  cycle_is reasons cycle none = (record { constraints = cycle.0; hold = cycle.1.are_named; simple = cycle.1.simple }, none)
+
+  pub reuse_moves : (end : Option (List PathSplit)) → IsReusable old.path → next_leaf (above_last old.path) ≡ end → MovesTo (case_of_search graph log old) old.path Again end
+  reuse_moves end reusable is = (reusable, sym is)
+
+  module _ (after : List Step) (step : Step) (closes : split_count (step ∷ []) ≡ 0) (is_step : IsSearchStepAt (case_of_search graph log old) old.path step) (appended : after ≡ before ++ step ∷ []) where
+    closes_to : (new : SearchState) (end : Option (List PathSplit)) → MovesTo (case_of_search graph log old) old.path step end → Grows graph log (call_of old new before after) 0 end
+    closes_to new end moves = subst (λ (n : ℕ). Grows graph log (call_of old new before after) n end) closes (grows_one graph log old new before after step end appended moves is_step)
 
     -- no leaf is left
-    pub close_last : (new : SearchState) → next_leaf old.path ≡ None → Grows graph log (call_of old new before after) 0 None
-    close_last new none = closes_to new None none
+    pub close_last : (new : SearchState) → MovesTo (case_of_search graph log old) old.path step None → Grows graph log (call_of old new before after) 0 None
+    close_last new moves = closes_to new None moves
 
-    module _ (middle : SearchState) (same : middle ≡ record old { path = middle.path }) (is : next_leaf old.path ≡ Some middle.path) where
+    module _ (middle : SearchState) (same : middle ≡ record old { path = middle.path }) (moves : MovesTo (case_of_search graph log old) old.path step (Some middle.path)) where
+      moved : Moved old.path middle.path
+      moved = moved_by (case_of_search graph log old) old.path middle.path step closes moves
+
+      abbrev marked : SearchState
+      marked = record old { path = cited_by moved.0 old.path }
+
+      marked_at : IsAtItsLeaf graph log marked
+      marked_at = cited_stands graph log old at moved.0
+
       pub close_counted : (kept number : ℕ) → slice_get middle.entered kept ≡ Some number → number ≤ length (pick_reasons middle.leaf)
       close_counted kept number there =
           subst (λ (l : Leaf). number ≤ length (pick_reasons l)) (sym (ap (λ (s : SearchState). s.leaf) same))
           (counted graph log old at kept number (ap (λ (s : SearchState). slice_get s.entered kept) (sym same) ∙ there))
 
       pub close_some : length middle.path ≡ 0 → ⊥
-      close_some = next_some graph log old at middle.path is
+      close_some = next_some graph log marked marked_at middle.path moved.1
 
       pub close_ok : (new : SearchState) (kept : ℕ) → kept ≡ length middle.path - 1 → new ≡ record middle { entered = take kept middle.entered; leaf = new.leaf }
           → Leaves (slice_get middle.entered kept) middle.leaf new.leaf
@@ -80,12 +102,14 @@ module _ (graph : Tfpg) (log : Logbook) (old : SearchState) (at : IsAtItsLeaf gr
           let left : Leaves (slice_get old.entered kept) old.leaf new.leaf =
           subst (λ (l : Leaf). Leaves (slice_get old.entered kept) l new.leaf) leaf_is (subst (λ (es : List ℕ). Leaves (slice_get es kept) middle.leaf new.leaf) entered_is leaves) in
           let stands : IsAtItsLeaf graph log (record old { path = middle.path; entered = take kept old.entered; leaf = new.leaf }) =
-          next_stands graph log old at middle.path is kept number new.leaf left in
+          next_stands graph log marked marked_at middle.path moved.1 kept number new.leaf left in
           let all : new ≡ record old { path = middle.path; entered = take kept old.entered; leaf = new.leaf } =
-          new_is ∙ ap (λ (s : SearchState). record s { path = middle.path; entered = take kept s.entered; leaf = new.leaf }) same in (
+          new_is ∙ ap (λ (s : SearchState). record s { path = middle.path; entered = take kept s.entered; leaf = new.leaf }) same in
+          let fewer : untaken middle.path < untaken old.path =
+          subst (λ (n : ℕ). untaken middle.path < n) (untaken_cited 1 moved.0 old.path) (next_fewer graph log marked marked_at middle.path moved.1) in (
             subst (IsAtItsLeaf graph log) (sym all) stands,
-            closes_to new (Some new.path) (is ∙ ap (λ (fs : List PathSplit). Some fs) (sym path_is)),
-            subst (λ (fs : List PathSplit). untaken fs < untaken old.path) (sym path_is) (next_fewer graph log old at middle.path is),
+            subst (λ (fs : List PathSplit). Grows graph log (call_of old new before after) 0 (Some fs)) (sym path_is) (closes_to new (Some middle.path) moves),
+            subst (λ (fs : List PathSplit). untaken fs < untaken old.path) (sym path_is) fewer,
           )
 
 -- ---- entering
@@ -162,13 +186,15 @@ module _ (graph : Tfpg) (log : Logbook) (old : SearchState) (at : IsAtItsLeaf gr
   )
 
 -- All facts are added where all alternatives were entered: the leaf is loaded.
-pub add_loaded : (graph : Tfpg) (log : Logbook) (middle new : SearchState) → new ≡ record middle { leaf = new.leaf } → HasEnteredAll middle → (result : Result (Unit {0}) AddFault)
+pub add_loaded : (graph : Tfpg) (log : Logbook) (middle new : SearchState) → new ≡ record middle { leaf = new.leaf } → HasEnteredAll middle → IsAtItsLeaf graph log new → (result : Result (Unit {0}) AddFault)
+    → OnOk result ((node : ℕ) → node < length graph.nodes → AreFactsIn (fact (case_of graph log middle.reach)) new.leaf.demands node)
     → OnOk result ((reason : Reason) (constraint : Constraint) → fact (case_of graph log middle.reach) reason ≡ Some constraint → (times : List ℕ) → IsSolution new.leaf.demands times → Meets times constraint)
     → OnOk result (IsLoaded graph log new)
-add_loaded graph log middle new same all (Ok done) facts =
+add_loaded graph log middle new same all at (Ok done) inside facts =
+    let there : IsAtItsLeaf graph log (record middle { leaf = new.leaf }) = subst (IsAtItsLeaf graph log) same at in
     subst (λ (s : SearchState). IsLoaded graph log s) (sym same)
-    (record { all_entered = all; facts = λ times solution reason constraint is. facts reason constraint is times solution })
-add_loaded graph log middle new same all (Err fault) facts = tt
+    (record { all_entered = all; bounds = system_given (case_of graph log middle.reach) new.leaf there.variables there.stated.bounds inside; facts = λ times solution reason constraint is. facts reason constraint is times solution })
+add_loaded graph log middle new same all at (Err fault) inside facts = tt
 
 pub add_closes : (graph : Tfpg) (log : Logbook) (old middle : SearchState) → KeepsSet old middle → middle.path ≡ old.path → (result : Result (Unit {0}) AddFault)
     → IfErr result (Closes (stated (case_of graph log middle.reach) middle.path)) → IfErr result (Closes (stated (case_of graph log old.reach) old.path))

@@ -9,28 +9,32 @@ use Rattle.tfpg_log.specs.Log.{Logbook}
 use Rattle.tfpg_evidence.specs.declared.reason.Reason.{Reason}
 use Rattle.tfpg_evidence.specs.declared.reason.Reason.TheVariants.{Pick}
 use Rattle.tfpg_clause.specs.Facts.{fact}
-use Rattle.tfpg_clause.specs.Paths.{next_leaf}
 use Rattle.tfpg_clause.specs.declared.path.PathSplit.{PathSplit}
 use Rattle.tfpg_search.specs.inside.Leaf.{Leaf, pick_reasons}
-use Rattle.tfpg_search.specs.inside.Picks.{IsAllowed, picks_of}
+use Rattle.tfpg_search.specs.inside.Picks.{IsAllowed, IsInRange, picks_of}
 use Rattle.tfpg_search.specs.SearchState.{SearchState}
 use Rattle.tfpg_search.specs.inside.AtItsLeaf.{IsAtItsLeaf}
 use Rattle.tfpg_search.specs.inside.Leaving.{KeepsBounds, Leaves}
 use Rattle.tfpg_search.specs.inside.Moves.{untaken}
-use Rattle.tfpg_search.proofs.steps.DistinctNames.{range_after}
+use Rattle.tfpg_search.proofs.steps.DistinctNames.{range_next}
 use Rattle.tfpg_search.proofs.leaves.PicksOfPath.{picks_are, picks_take, picks_fewer}
 use Rattle.tfpg_search.proofs.leaves.AtItsLeaf.{restated, of_same, fact_stated}
 use Rattle.tfpg_base.proofs.lists.Cuts.{slice_get-taken}
 use Rattle.tfpg_base.proofs.lists.Elements.{slice_get-none}
 use Rattle.tfpg_base.proofs.lists.Written.{slice_get-append_left, slice_get-after}
-use Rattle.tfpg_search.proofs.steps.PathAfter.{After, after_is, all_after}
-use Rattle.tfpg_clause.specs.Trees.{picked, stated, next_alternative}
+use Rattle.tfpg_search.proofs.steps.PathAfter.{After, all_next}
+use Rattle.tfpg_clause.specs.Trees.{picked, stated, next_alternative, cited_from}
 use Rattle.tfpg_clause.specs.Case.{case_of}
 
 -- a split in its next alternative, the last of its path, has fewer that are not taken
 next_untaken : (front : List PathSplit) (taken : PathSplit) (deeper : List PathSplit) → taken.alternative < taken.alternatives → untaken (front ++ next_alternative taken ∷ []) < untaken (front ++ taken ∷ deeper)
 next_untaken [] taken deeper more = omega (arith, more)
 next_untaken (first ∷ front) taken deeper more = omega (arith, next_untaken front taken deeper more)
+
+-- marks do not count
+pub untaken_cited : (number : ℕ) (reasons : List Reason) (path : List PathSplit) → untaken (cited_from number reasons path) ≡ untaken path
+untaken_cited number reasons [] = refl
+untaken_cited number reasons (taken ∷ deeper) = ap (λ (n : ℕ). (taken.alternatives - taken.alternative) + n) (untaken_cited (number + 1) reasons deeper)
 
 keeps_of : (o : Option ℕ) (old new : Leaf) → Leaves o old new → KeepsBounds old new
 keeps_of None old new same = subst (KeepsBounds old) (sym same) (record { variables = refl; stated = λ fact stated is. is })
@@ -46,10 +50,7 @@ module _ (graph : Tfpg) (log : Logbook) (old : SearchState) (at : IsAtItsLeaf gr
       let all : length (pick_reasons old.leaf) ≡ length (picks_of graph log (take (length old.entered) old.path)) = ap (λ (rs : List Reason). length rs) at.picks.reasons in
       omega arith
 
-  module _ (next : List PathSplit) (is : next_leaf old.path ≡ Some next) where
-    abbrev after : After old.path next
-    after = after_is old.path next is
-
+  module _ (next : List PathSplit) (after : After old.path next) where
     abbrev front : List PathSplit
     front = after.front
 
@@ -115,8 +116,8 @@ module _ (graph : Tfpg) (log : Logbook) (old : SearchState) (at : IsAtItsLeaf gr
         record {
           reach_is = at.reach_is;
           variables = keeps.variables ∙ at.variables;
-          allowed = all_after (IsAllowed graph log) (λ taken more allowed. allowed) old.path next is at.allowed;
-          range = range_after old.path next at.range is;
+          allowed = all_next (IsAllowed graph log) (λ taken more allowed. allowed) old.path next after at.allowed;
+          range = all_next IsInRange range_next old.path next after at.range;
           stated =
               restated (fact (case_of graph log old.reach)) (stated (case_of graph log old.reach) old.path) (stated (case_of graph log old.reach) next) left
               (keeps.stated (fact (case_of graph log old.reach)) (stated (case_of graph log old.reach) old.path) at.stated)

@@ -10,10 +10,19 @@ use Rattle.tfpg_evidence.specs.declared.reason.Reason.{Reason}
 use Rattle.tfpg_evidence.specs.declared.reason.Reason.TheVariants.{Pick}
 use Rattle.tfpg_clause.specs.Clauses.{alternatives, constraint_at}
 use Rattle.tfpg_base.specs.Choice.{item_at}
+use Rattle.tfpg_clause.specs.Trees.{cited_from}
 use Rattle.tfpg_clause.specs.declared.path.PathSplit.{PathSplit}
 use Rattle.tfpg_search.specs.inside.Picks.{constraint_count, picks_from, picks_of_from}
 use Rattle.tfpg_base.proofs.lists.Choices.{number_in}
 use Rattle.tfpg_base.proofs.lists.Written.{slice_get-append_cases, slice_get-append_some, slice_get-append_right}
+
+-- marks leave picks as they are
+pub picks_cited : (graph : Tfpg) (log : Logbook) (number : ℕ) (reasons : List Reason) (path : List PathSplit) (count : ℕ)
+    → picks_of_from graph log number (take count (cited_from number reasons path)) ≡ picks_of_from graph log number (take count path)
+picks_cited graph log number reasons [] count = refl
+picks_cited graph log number reasons (taken ∷ deeper) zero = refl
+picks_cited graph log number reasons (taken ∷ deeper) (suc count) =
+    ap (λ (rs : List Reason). picks_from number 1 (constraint_count graph log taken) ++ rs) (picks_cited graph log (number + 1) reasons deeper count)
 
 -- ---- the picks of one alternative
 

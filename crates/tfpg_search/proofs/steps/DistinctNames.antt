@@ -1,5 +1,5 @@
 -- The names on the path of a search: no name stands twice, since the latest solution meets the clause of each.
-use Rattle.std.proofs.Common.{◌≡◌, ◌≢◌, ℕ, zero, suc, ◌<◌, ◌≤◌, List, [], ◌∷◌, ◌++◌, length, get_or, Some, refl, sym, ap, subst, ◌∙◌, arith, append_assoc}
+use Rattle.std.proofs.Common.{◌≡◌, ◌≢◌, ℕ, zero, suc, ◌+◌, ◌<◌, ◌≤◌, List, [], ◌∷◌, ◌++◌, length, get_or, Some, refl, sym, ap, subst, ◌∙◌, arith, append_assoc}
 use Rattle.std.specs.Prelude.{All, AllPairs, map, slice_get, option_map, option_and_then}
 use Rattle.std.proofs.lemmas.List.{map-append}
 use Rattle.std.proofs.lemmas.List.Elements.{All-nil, All-cons, All-head, All-tail, All-get_or, All-map, All-append, Contains-get_or}
@@ -12,12 +12,12 @@ use Rattle.tfpg_log.specs.Log.{Logbook}
 use Rattle.tfpg_evidence.specs.declared.clause_name.ClauseName.{ClauseName}
 use Rattle.tfpg_clause.specs.Clauses.{alternatives, constraint_at, MeetsClause, Violates}
 use Rattle.tfpg_base.specs.Choice.{item_at}
-use Rattle.tfpg_clause.specs.Paths.{next_leaf}
+use Rattle.tfpg_evidence.specs.declared.reason.Reason.{Reason}
 use Rattle.tfpg_clause.specs.declared.path.PathSplit.{PathSplit}
 use Rattle.tfpg_search.specs.inside.Picks.{IsAllowed, IsInRange, AreInRange}
 use Rattle.tfpg_base.proofs.lists.Elements.{All-front, All-from_indexes, AllPairs-front}
-use Rattle.tfpg_search.proofs.steps.PathAfter.{after_is, all_after}
-use Rattle.tfpg_clause.specs.Trees.{picked, new_split, next_alternative}
+use Rattle.tfpg_search.proofs.steps.PathAfter.{Moved, all_after}
+use Rattle.tfpg_clause.specs.Trees.{picked, new_split, next_alternative, cited_from}
 use Rattle.tfpg_search.specs.Live.{HasDistinctNames}
 
 -- the name of a split
@@ -81,29 +81,38 @@ distinct_push path taken distinct fresh =
     subst (AllPairs ◌≢◌) (sym (map-append split_name path (taken ∷ [])))
     (all_pairs_push ◌≢◌ (map split_name path) taken.name distinct (λ k d within. All-get_or (λ (n : ClauseName). n ≢ taken.name) (map split_name path) k d within fresh))
 
+-- marks leave names as they are
+names_cited : (number : ℕ) (reasons : List Reason) (path : List PathSplit) → map split_name (cited_from number reasons path) ≡ map split_name path
+names_cited number reasons [] = refl
+names_cited number reasons (taken ∷ deeper) = ap (λ (ns : List ClauseName). taken.name ∷ ns) (names_cited (number + 1) reasons deeper)
+
 -- the names on the path after are the first names on the path
-names_front : (path after : List PathSplit) → next_leaf path ≡ Some after → (rest : List ClauseName) × (map split_name path ≡ map split_name after ++ rest)
-names_front path after is =
-    let a = after_is path after is in
+names_front : (path after : List PathSplit) → Moved path after → (rest : List ClauseName) × (map split_name path ≡ map split_name after ++ rest)
+names_front path after moved =
+    let a = moved.1 in
     let rest : List ClauseName = map split_name a.deeper in (
       rest,
-      ap (map split_name) a.path_is
+      sym (names_cited 1 moved.0 path)
+          ∙ ap (map split_name) a.path_is
           ∙ map-append split_name a.front (a.taken ∷ a.deeper)
           ∙ sym (append_assoc (map split_name a.front) (a.taken.name ∷ []) rest)
           ∙ ap (λ (ns : List ClauseName). ns ++ rest) (sym (ap (map split_name) a.next_is ∙ map-append split_name a.front (next_alternative a.taken ∷ []))),
     )
 
-pub range_after : (path after : List PathSplit) → AreInRange path → next_leaf path ≡ Some after → AreInRange after
-range_after path after range is =
-    all_after IsInRange (λ taken more low. record { first = omega arith; last = omega (arith, more) }) path after is range
+-- a split with an alternative left is in range in the next one too
+pub range_next : (taken : PathSplit) → taken.alternative < taken.alternatives → IsInRange taken → IsInRange (next_alternative taken)
+range_next taken more low = record { first = omega arith; last = omega (arith, more) }
+
+pub range_after : (path after : List PathSplit) → AreInRange path → Moved path after → AreInRange after
+range_after path after range moved = all_after IsInRange (λ taken cited is. record { first = is.first; last = is.last }) range_next path after moved range
 
 -- what holds of the names on a path holds of those on the path after
-pub names_after : (P : ClauseName → Type 0) (path after : List PathSplit) → next_leaf path ≡ Some after → All P (map split_name path) → All P (map split_name after)
+pub names_after : (P : ClauseName → Type 0) (path after : List PathSplit) → Moved path after → All P (map split_name path) → All P (map split_name after)
 names_after P path after is all =
     let front = names_front path after is in
     All-front P (map split_name after) front.0 (subst (All P) front.1 all)
 
-pub distinct_after : (path after : List PathSplit) → next_leaf path ≡ Some after → HasDistinctNames path → HasDistinctNames after
+pub distinct_after : (path after : List PathSplit) → Moved path after → HasDistinctNames path → HasDistinctNames after
 distinct_after path after is distinct =
     let front = names_front path after is in
     AllPairs-front ◌≢◌ (map split_name after) front.0 (subst (AllPairs ◌≢◌) front.1 distinct)

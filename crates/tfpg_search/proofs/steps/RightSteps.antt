@@ -1,34 +1,37 @@
 -- The steps that lead on from the leaf of a path are right after the steps that lead there.
-use Rattle.std.proofs.Common.{◌≡◌, List, [], ◌∷◌, ◌++◌, Option, Some, None, sym, ap, subst, ◌∙◌, inl, inr, append_assoc}
+use Rattle.std.proofs.Common.{◌≡◌, List, [], ◌∷◌, ◌++◌, Option, Some, None, refl, sym, ap, subst, ◌∙◌, inl, inr, append_assoc}
 use Rattle.std.specs.Prelude.{map}
 use Rattle.std.proofs.lemmas.List.{append-nil}
 use Rattle.std.proofs.lemmas.List.Elements.{All-push}
 use Rattle.tfpg_evidence.specs.declared.clause_name.ClauseName.{ClauseName}
-use Rattle.tfpg_evidence.specs.declared.reason.Reason.{Reason}
 use Rattle.tfpg_evidence.specs.declared.step.Step.{Step}
 use Rattle.tfpg_evidence.specs.declared.step.Step.TheVariants.{Split, Cycle, Again}
 use Rattle.tfpg_clause.specs.Case.{Case}
-use Rattle.tfpg_clause.specs.Trees.{Judged, new_split, IsClosedLeaf, IsRefutation, IsPresentLeaf}
-use Rattle.tfpg_clause.specs.Paths.{judged_by, with_step, with_steps, next_leaf, MovesTo}
+use Rattle.tfpg_clause.specs.Trees.{Judged, split_count, new_split, IsReusable, IsRefutation, IsPresentLeaf}
+use Rattle.tfpg_clause.specs.Paths.{judged_by, with_step, with_steps, MovesTo}
 use Rattle.tfpg_clause.specs.declared.path.PathSplit.{PathSplit}
-use Rattle.tfpg_search.specs.Live.{IsLiveAt, IsLive, HasDistinctNames, HasNoNameTwice}
+use Rattle.tfpg_search.specs.Live.{IsLiveAt, IsLive, AllowsReuse, HasDistinctNames, HasNoNameTwice}
 use Rattle.tfpg_search.specs.Searched.{IsSearchStep, AreSearchSteps}
 use Rattle.tfpg_search.specs.inside.Moves.{IsSearchStepAt, Leads, LeadsTo}
 use Rattle.tfpg_search.specs.inside.Picks.{IsAllowed}
 use Rattle.tfpg_search.specs.inside.ClauseLaws.{ClauseLaws}
 use Rattle.tfpg_base.proofs.lists.Cuts.{cut_last}
 use Rattle.tfpg_search.proofs.steps.DistinctNames.{new_name, distinct_push, distinct_after, range_after, range_push}
-use Rattle.tfpg_search.proofs.steps.PathAfter.{all_after}
+use Rattle.tfpg_search.proofs.steps.PathAfter.{Moved, moved_by, all_after}
 
 module _ (laws : ClauseLaws) (case : Case) where
   module _ (path : List PathSplit) (earlier : List Judged) (leaf : IsPresentLeaf case earlier path) where
     pub live_here : (name : ClauseName) → IsLiveAt case path name → IsLive case earlier name
     live_here name live = record { path = path; leaf = leaf; live = live }
 
+    -- where no subtree is reusable at this leaf, none is after the steps
+    pub none_allowed : (IsReusable path → ⊥) → AllowsReuse case earlier → ⊥
+    none_allowed none allows = none (subst IsReusable (laws.one_leaf case earlier allows.path path allows.leaf leaf) allows.reusable)
+
     right_here : (step : Step) → IsSearchStepAt case path step → IsSearchStep case earlier step
-    right_here (Split name) is = live_here name is
-    right_here (Cycle reasons) is = record { path = path; leaf = leaf; simple = is }
-    right_here Again is = is
+    right_here (Split name) is = (live_here name is.0, none_allowed is.1)
+    right_here (Cycle reasons) is = (record { path = path; leaf = leaf; simple = is.0 }, none_allowed is.1)
+    right_here Again is = record { path = path; leaf = leaf; reusable = is }
 
     -- the names on any path of the leaf are those on this one
     distinct_names : (other : List PathSplit) → IsPresentLeaf case earlier other → HasDistinctNames path → HasDistinctNames other
@@ -66,29 +69,30 @@ module _ (laws : ClauseLaws) (case : Case) where
         All-push (IsAllowed case.graph case.log) path split here.3 moves.1,
       )
 
-  after_cycle : (path : List PathSplit) (earlier : List Judged) → Here path earlier → (reasons : List Reason) (next : Option (List PathSplit)) → IsClosedLeaf case path reasons
-      → next_leaf path ≡ next → LeadsTo case (with_step earlier case.log (Cycle reasons)) next
-  after_cycle path earlier here reasons None closed none =
-      let steps : List Judged = with_step earlier case.log (Cycle reasons) in
-      let refutation : IsRefutation case steps = laws.leaf_ends case earlier path (Cycle reasons) here.0 (closed, sym none) in (
+  after_closing : (path : List PathSplit) (earlier : List Judged) → Here path earlier → (step : Step) (next : Option (List PathSplit)) → split_count (step ∷ []) ≡ 0
+      → MovesTo case path step next → LeadsTo case (with_step earlier case.log step) next
+  after_closing path earlier here step None closes moves =
+      let steps : List Judged = with_step earlier case.log step in
+      let refutation : IsRefutation case steps = laws.leaf_ends case earlier path step here.0 moves in (
         refutation,
-        names_push earlier (judged_by case.log (Cycle reasons)) here.1 (λ other there. absurd (laws.finished case steps refutation there.partial)),
+        names_push earlier (judged_by case.log step) here.1 (λ other there. absurd (laws.finished case steps refutation there.partial)),
       )
-  after_cycle path earlier here reasons (Some after) closed is =
-      let steps : List Judged = with_step earlier case.log (Cycle reasons) in
-      let leaf : IsPresentLeaf case steps after = laws.leaf_moves case earlier path after (Cycle reasons) here.0 (closed, sym is) in
-      let distinct : HasDistinctNames after = distinct_after path after is (distinct_path path earlier here.0 here.1) in (
+  after_closing path earlier here step (Some after) closes moves =
+      let steps : List Judged = with_step earlier case.log step in
+      let moved : Moved path after = moved_by case path after step closes moves in
+      let leaf : IsPresentLeaf case steps after = laws.leaf_moves case earlier path after step here.0 moves in
+      let distinct : HasDistinctNames after = distinct_after path after moved (distinct_path path earlier here.0 here.1) in (
         leaf,
-        names_push earlier (judged_by case.log (Cycle reasons)) here.1 (λ other there. distinct_names after steps leaf other there distinct),
-        range_after path after here.2 is,
-        all_after (IsAllowed case.graph case.log) (λ split more allowed. allowed) path after is here.3,
+        names_push earlier (judged_by case.log step) here.1 (λ other there. distinct_names after steps leaf other there distinct),
+        range_after path after here.2 moved,
+        all_after (IsAllowed case.graph case.log) (λ split cited allowed. allowed) (λ split more allowed. allowed) path after moved here.3,
       )
 
   pub after_step : (path : List PathSplit) (earlier : List Judged) → Here path earlier → (step : Step) (next : Option (List PathSplit)) → MovesTo case path step next → IsSearchStepAt case path step
       → LeadsTo case (with_step earlier case.log step) next
-  after_step path earlier here (Split name) next moves is = after_split path earlier here name next moves is
-  after_step path earlier here (Cycle reasons) next moves is = after_cycle path earlier here reasons next moves.0 (sym moves.1)
-  after_step path earlier here Again next moves is = absurd moves
+  after_step path earlier here (Split name) next moves is = after_split path earlier here name next moves is.0
+  after_step path earlier here (Cycle reasons) next moves is = after_closing path earlier here (Cycle reasons) next refl moves
+  after_step path earlier here Again next moves is = after_closing path earlier here Again next refl moves
 
   -- ---- all steps
 

@@ -1,5 +1,5 @@
 -- The system of the present leaf: what it demands of the times of the nodes, and for which reasons.
-use Rattle.std.specs.Prelude.{◌≡◌, ℕ, ◌*◌, pos, List, length, drop, Option, Some, slice_get, option_and_then}
+use Rattle.std.specs.Prelude.{◌≡◌, ℕ, ◌*◌, pos, List, length, map, drop, Option, Some, slice_get, option_and_then}
 use Rattle.tfpg_base.specs.declared.constraint.Constraint.{Constraint}
 use Rattle.tfpg_evidence.specs.declared.reason.Reason.{Reason}
 use Rattle.tfpg_evidence.specs.declared.reason.Reason.TheVariants.{Zero, Top}
@@ -9,6 +9,7 @@ use Rattle.tfpg_diff.specs.declared.why.Why.TheVariants.{Floor, Ceiling, Given}
 use Rattle.tfpg_diff.specs.declared.bounds.Bounds.{Bounds}
 use Rattle.tfpg_diff.specs.declared.pick.Pick.{Pick}
 use Rattle.tfpg_diff.specs.Demands.{Demands, Bounded}
+use Rattle.tfpg_search.specs.Work.{NodeBounds}
 
 -- What contracts see of it: the demands, and the reason of each tag. The tag of a node's lower bound is the node's
 -- number. The tag of its upper bound is that number plus the number of nodes. The tag of a pick is its index plus the
@@ -20,6 +21,13 @@ pub record Leaf : Type 0 where
 -- the reasons of the picks, in their order
 abbrev pub pick_reasons : Leaf → List Reason
 pick_reasons leaf = drop (2 * length leaf.demands.bounds) leaf.reasons
+
+-- the bounds of the nodes in the system
+abbrev pub bounds_in : Leaf → NodeBounds
+bounds_in leaf = record {
+  lows = map (λ (bounds : Bounds). bounds.floor) leaf.demands.bounds;
+  highs = map (λ (bounds : Bounds). bounds.ceiling) leaf.demands.bounds;
+}
 
 -- the constraint that a tag names, where these are the reasons of the tags
 abbrev pub tagged_by : (Reason → Option Constraint) → List Reason → Why → Option Constraint

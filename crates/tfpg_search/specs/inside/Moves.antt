@@ -11,12 +11,14 @@ use Rattle.tfpg_evidence.specs.declared.step.Step.TheVariants.{Split, Cycle, Aga
 use Rattle.tfpg_clause.specs.Case.{Case}
 use Rattle.tfpg_clause.specs.Facts.{fact}
 use Rattle.tfpg_clause.specs.Trees.{Judged, IsRefutation, IsPresentLeaf, split_count}
-use Rattle.tfpg_clause.specs.Paths.{MovesTo}
+use Rattle.tfpg_clause.specs.Paths.{MovesTo, IsReusable}
 use Rattle.tfpg_clause.specs.declared.path.PathSplit.{PathSplit}
 use Rattle.tfpg_base.specs.declared.no_memory.NoMemory.{NoMemory}
 use Rattle.tfpg_log.specs.Explains.{Explains}
 use Rattle.tfpg_diff.specs.Solution.{IsSolution}
 use Rattle.tfpg_search.specs.Live.{IsLiveAt, IsSimpleAt, HasNoNameTwice}
+use Rattle.tfpg_search.specs.Work.{AreFactBounds}
+use Rattle.tfpg_search.specs.inside.Leaf.{bounds_in}
 use Rattle.tfpg_search.specs.inside.Picks.{IsAllowed, AreInRange}
 use Rattle.tfpg_search.specs.SearchState.{SearchState, case_of_search}
 use Rattle.tfpg_search.specs.inside.AtItsLeaf.{IsAtItsLeaf, HasEnteredAll}
@@ -26,11 +28,12 @@ use Rattle.tfpg_search.specs.declared.found.Found.TheVariants.{Shown as FoundSho
 use Rattle.tfpg_search.specs.declared.search.Look.{Look}
 use Rattle.tfpg_search.specs.declared.search.Look.TheVariants.{Violated, Shown}
 
--- The step is one that a search makes at the leaf of this path: a live split, or a cycle in which no left side stands twice.
+-- The step is one that a search makes at the leaf of this path: a reuse where one is allowed, and else a live split, or a cycle
+-- in which no left side stands twice.
 abbrev pub IsSearchStepAt : Case → List PathSplit → Step → Type 0
-IsSearchStepAt case path (Split name) = IsLiveAt case path name
-IsSearchStepAt case path (Cycle reasons) = IsSimpleAt case path reasons
-IsSearchStepAt case path Again = ⊥
+IsSearchStepAt case path (Split name) = IsLiveAt case path name × (IsReusable path → ⊥)
+IsSearchStepAt case path (Cycle reasons) = IsSimpleAt case path reasons × (IsReusable path → ⊥)
+IsSearchStepAt case path Again = IsReusable path
 
 -- The steps lead from the leaf of this path to that leaf, where there is one: each is right, and one that a search makes.
 abbrev pub Leads : Case → Option (List PathSplit) → List Step → Option (List PathSplit) → Type 0
@@ -66,9 +69,11 @@ pub record KeepsSet (old new : SearchState) : Type 0 where
   pub reach : new.reach ≡ old.reach
   pub seen : new.seen ≡ old.seen
 
--- The system has all constraints of the leaf: each alternative on the path was entered, and its solutions meet each fact.
+-- The system has all constraints of the leaf: each alternative on the path was entered, its bounds are those that the facts
+-- give, and its solutions meet each fact.
 pub record IsLoaded (graph : Tfpg) (log : Logbook) (search : SearchState) : Type 0 where
   pub all_entered : HasEnteredAll search
+  pub bounds : AreFactBounds (case_of_search graph log search) (bounds_in search.leaf)
   pub facts : (times : List ℕ) → IsSolution search.leaf.demands times →
       (reason : Reason) (constraint : Constraint) → fact (case_of_search graph log search) reason ≡ Some constraint → Meets times constraint
 
@@ -85,10 +90,11 @@ Closing graph log call (Ok true) =
 Closing graph log call (Ok false) = Grows graph log call 0 None
 Closing graph log call (Err no_memory) = GrowsAnyhow graph log call
 
--- What loading the present leaf comes to: a loaded leaf, or none.
+-- What loading the present leaf comes to: a loaded leaf, at which no subtree is reusable, or none.
 abbrev pub Loading : Tfpg → Logbook → SearchCall → Result Bool NoMemory → Type 0
 Loading graph log call (Ok true) =
     IsAtItsLeaf graph log call.new × IsLoaded graph log call.new × Grows graph log call 0 (Some call.new.path)
+    × (IsReusable call.new.path → ⊥)
 Loading graph log call (Ok false) = Grows graph log call 0 None
 Loading graph log call (Err no_memory) = GrowsAnyhow graph log call
 
@@ -100,8 +106,8 @@ Sees graph log search (Shown trace) = Explains graph log search.set trace
 -- What a look comes to: what is seen at a loaded leaf; or no leaf.
 abbrev pub Looking : Tfpg → Logbook → SearchCall → Result (Option Look) NoMemory → Type 0
 Looking graph log call (Ok (Some look)) =
-    IsAtItsLeaf graph log call.new × HasEnteredAll call.new × Sees graph log call.new look
-    × Grows graph log call 0 (Some call.new.path)
+    IsAtItsLeaf graph log call.new × IsLoaded graph log call.new × Sees graph log call.new look
+    × Grows graph log call 0 (Some call.new.path) × (IsReusable call.new.path → ⊥)
 Looking graph log call (Ok None) = Grows graph log call 0 None
 Looking graph log call (Err no_memory) = GrowsAnyhow graph log call
 
@@ -113,12 +119,12 @@ Splitting graph log call (Err no_memory) = GrowsAnyhow graph log call
 -- What was found, after so many splits, where the steps lead to that leaf.
 abbrev pub FoundAtLeaf : Case → ℕ → SearchState → ℕ → Option (List PathSplit) → Result Found NoMemory → Type 0
 FoundAtLeaf case budget new splits end (Ok (FoundShown trace)) =
-    Explains case.graph case.log new.set trace × IsAtItsLeaf case.graph case.log new × HasEnteredAll new
-    × (end ≡ Some new.path)
+    Explains case.graph case.log new.set trace × IsAtItsLeaf case.graph case.log new × IsLoaded case.graph case.log new
+    × (end ≡ Some new.path) × (IsReusable new.path → ⊥)
 FoundAtLeaf case budget new splits end (Ok FoundClosed) = end ≡ None
 FoundAtLeaf case budget new splits end (Ok Spent) =
     (splits ≡ budget) × ((name : ClauseName) × IsLiveAt case new.path name) × IsAtItsLeaf case.graph case.log new
-    × HasEnteredAll new × (end ≡ Some new.path)
+    × IsLoaded case.graph case.log new × (end ≡ Some new.path) × (IsReusable new.path → ⊥)
 FoundAtLeaf case budget new splits end (Err no_memory) = Unit {0}
 
 -- What searching on comes to.

@@ -1,6 +1,6 @@
 //! How a search enters alternatives, and leaves them.
 
-ghost use Rattle.std.specs.Prelude.{◌≡◌, ◌≤◌, ◌++◌, ◌∷◌, ℕ, [], IfOk, OnOk, OnErr, IfErr, length, Some, take, slice_get};
+ghost use Rattle.std.specs.Prelude.{◌≡◌, ◌≤◌, ◌+◌, ◌*◌, ◌-◌, ◌++◌, ◌∷◌, ℕ, [], IfOk, OnOk, OnErr, IfErr, length, Some, take, slice_get};
 ghost use Rattle.tfpg_evidence.specs.declared.reason.Reason.{Reason};
 ghost use Rattle.tfpg_evidence.specs.declared.reason.Reason.TheVariants.{Pick};
 ghost use Rattle.tfpg_clause.specs.Facts.{fact};
@@ -37,6 +37,8 @@ impl Search {
         ensures keeps { KeepsSet self.old self.new }
         ensures path { self.new.path ≡ self.old.path }
         ensures entered { OnOk result (HasEnteredAll self.new) }
+        ensures bounds { self.new.leaf.demands.bounds ≡ self.old.leaf.demands.bounds }
+        ensures counts { work.new ≤ work.old + 3 * (length self.old.path - length self.old.entered) }
         ensures closes { IfErr result
             (Closes (stated (case_of_search graph.now log.now self.old) self.old.path)) }
     {
@@ -83,6 +85,8 @@ impl Search {
         ensures ok { OnOk result (pick_reasons self.new.leaf
             ≡ pick_reasons self.old.leaf ++ picks_from split 1
             (constraint_count_at graph.now log.now self.old.path split)) }
+        ensures bounds { self.new.leaf.demands.bounds ≡ self.old.leaf.demands.bounds }
+        ensures counts { work.new ≤ work.old + 3 }
         ensures closes { IfErr result
             (Closes (stated (case_of_search graph.now log.now self.old) self.old.path)) }
     {
@@ -117,6 +121,8 @@ impl Search {
         ensures ok { IfOk result
             (PushesOne (picked graph.now log.now self.old.path split number) (Pick split number)
             self.old.leaf self.new.leaf) }
+        ensures bounds { self.new.leaf.demands.bounds ≡ self.old.leaf.demands.bounds }
+        ensures counts { work.new ≤ work.old + 1 }
         ensures closes { IfErr result
             (Closes (stated (case_of_search graph.now log.now self.old) self.old.path)) }
     {
@@ -145,6 +151,7 @@ impl Search {
         ensures same { self.new
             ≡ record self.old { entered = take kept self.old.entered; leaf = self.new.leaf } }
         ensures leaf { Leaves (slice_get self.old.entered kept) self.old.leaf self.new.leaf }
+        ensures bounds { self.new.leaf.demands.bounds ≡ self.old.leaf.demands.bounds }
     {
         self.leaf.has_a_reason_for_each_pick();
         if kept < self.entered_count() {

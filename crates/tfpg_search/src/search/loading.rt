@@ -1,6 +1,6 @@
 //! The moves of a search: all that holds at the present leaf is brought into the system, the leaf is closed or split.
 
-ghost use Rattle.std.specs.Prelude.{◌≡◌, ◌++◌, ◌∷◌, ℕ, [], IfOk, OnOk, OnErr, IfErr, length, Option, Some, None, List};
+ghost use Rattle.std.specs.Prelude.{◌≡◌, ◌↔◌, ◌+◌, ◌<◌, ◌≤◌, ◌++◌, ◌∷◌, ℕ, [], IsTrue, IfOk, OnOk, OnErr, IfErr, length, Option, Some, None, List};
 ghost use Rattle.std.specs.Bool.{MatchBool};
 ghost use Rattle.tfpg_base.specs.Constraint.{Meets};
 ghost use Rattle.tfpg_diff.specs.Solution.{IsSolution};
@@ -8,12 +8,15 @@ ghost use Rattle.tfpg_base.specs.declared.constraint.Constraint.{Constraint};
 ghost use Rattle.tfpg_log.specs.Log.{IsLogOf};
 ghost use Rattle.tfpg_evidence.specs.declared.reason.Reason.{Reason};
 ghost use Rattle.tfpg_clause.specs.Facts.{fact};
-ghost use Rattle.tfpg_clause.specs.Trees.{stated};
-ghost use Rattle.tfpg_clause.specs.Paths.{next_leaf};
+ghost use Rattle.tfpg_clause.specs.Trees.{cited_by, stated, IsReusable};
+ghost use Rattle.tfpg_clause.specs.Paths.{next_leaf, above_last};
 ghost use Rattle.tfpg_search.specs.inside.Leaf.{pick_reasons, IsStated};
 ghost use Rattle.tfpg_search.specs.SearchState.{case_of_search};
 ghost use Rattle.tfpg_search.specs.inside.AtItsLeaf.{IsAtItsLeaf, HasEnteredAll};
 ghost use Rattle.tfpg_search.specs.Live.{IsLiveAt};
+ghost use Rattle.tfpg_search.specs.Work.{NodeBounds, AreFactBounds};
+ghost use Rattle.tfpg_search.specs.inside.Counted.{unset, due, IsPaid};
+ghost use Rattle.tfpg_search.specs.inside.Facts.{AreFactsIn};
 ghost use Rattle.tfpg_search.specs.Searched.{call_of};
 ghost use Rattle.tfpg_search.specs.inside.Closing.{IsSimpleCycle, Closes};
 ghost use Rattle.tfpg_search.specs.inside.LeafCalls.{AddsFacts};
@@ -26,8 +29,8 @@ use crate::search::{Look, Search};
 use std::sync::ledger::Ledger;
 use tfpg_base::{NoMemory, Steps};
 use tfpg_clause::laws::numbers_that_meet_all_give_a_trace;
-use tfpg_clause::{PathSplit, backtrack, violated};
-use tfpg_evidence::{ClauseName, Reasons, Step, StepList};
+use tfpg_clause::{PathSplit, backtrack, cite, is_reusable, reuse, violated};
+use tfpg_evidence::{ClauseName, Reason, Reasons, Step, StepList};
 use tfpg_graph::Graph;
 use tfpg_log::Log;
 
@@ -45,6 +48,8 @@ impl Search {
         requires stands { IsAtItsLeaf graph.now log.now self.old }
         ensures keeps { KeepsSet self.old self.new }
         ensures looking { Looking graph.now log.now (call_of self.old self.new steps.old steps.new) result }
+        ensures counts { (bounds : NodeBounds) → AreFactBounds (case_of_search graph.now log.now self.old) bounds →
+            IsPaid bounds (call_of self.old self.new steps.old steps.new) work.old work.new }
     {
         match self.load(graph, log, steps, work) {
             Ok(true) => {}
@@ -76,8 +81,8 @@ impl Search {
         }
     }
 
-    /// Brings all that holds at the present leaf into the system. Where no times meet it, the leaf is closed and the next
-    /// one taken. Returns whether there is a leaf left.
+    /// Brings all that holds at the present leaf into the system. Where a subtree is reusable at the leaf, or no times meet what
+    /// holds there, the leaf is closed and the next one taken. Returns whether there is a leaf left.
     fn load<L: Ledger>(
         &mut self,
         graph: &Graph,
@@ -89,8 +94,17 @@ impl Search {
         requires stands { IsAtItsLeaf graph.now log.now self.old }
         ensures keeps { KeepsSet self.old self.new }
         ensures loading { Loading graph.now log.now (call_of self.old self.new steps.old steps.new) result }
+        ensures counts { (bounds : NodeBounds) → AreFactBounds (case_of_search graph.now log.now self.old) bounds →
+            IsPaid bounds (call_of self.old self.new steps.old steps.new) work.old work.new }
     {
         loop {
+            if self.is_reusable() {
+                match self.reuse(graph, log, steps) {
+                    Ok(true) => continue,
+                    Ok(false) => return Ok(false),
+                    Err(NoMemory) => return Err(NoMemory),
+                }
+            }
             match self.add_all(graph, log, work) {
                 Ok(()) => return Ok(true),
                 Err(AddFault::NoMemory) => return Err(NoMemory),
@@ -116,6 +130,8 @@ impl Search {
         ensures keeps { KeepsSet self.old self.new }
         ensures path { self.new.path ≡ self.old.path }
         ensures loaded { OnOk result (IsLoaded graph.now log.now self.new) }
+        ensures counts { (bounds : NodeBounds) → AreFactBounds (case_of_search graph.now log.now self.old) bounds →
+            work.new + unset bounds self.new.leaf ≤ work.old + due bounds self.old + 1 }
         ensures closes { IfErr result
             (Closes (stated (case_of_search graph.now log.now self.old) self.old.path)) }
     {
@@ -135,6 +151,10 @@ impl Search {
         ensures same { self.new ≡ record self.old { leaf = self.new.leaf } }
         ensures adds { AddsFacts (fact (case_of_search graph.now log.now self.old)) self.old.leaf self.new.leaf
             result }
+        ensures facts { OnOk result ((node : ℕ) → node < length graph.now.nodes →
+            AreFactsIn (fact (case_of_search graph.now log.now self.old)) self.new.leaf.demands node) }
+        ensures counts { (bounds : NodeBounds) → AreFactBounds (case_of_search graph.now log.now self.old) bounds →
+            work.new + unset bounds self.new.leaf ≤ work.old + unset bounds self.old.leaf + 1 }
     {
         self.leaf.add_facts(graph, log, &self.reach, work)
     }
@@ -150,11 +170,16 @@ impl Search {
         requires stands { IsAtItsLeaf graph.now log.now self.old }
         requires cycle { IsSimpleCycle
             (stated (case_of_search graph.now log.now self.old) self.old.path) reasons }
+        requires not_reusable { IsReusable self.old.path → ⊥ }
         ensures keeps { KeepsSet self.old self.new }
         ensures closing { Closing graph.now log.now (call_of self.old self.new steps.old steps.new) result }
+        ensures bounds { self.new.leaf.demands.bounds ≡ self.old.leaf.demands.bounds }
+        ensures appended { OnOk result (length steps.new ≡ length steps.old + 1) }
+        ensures longer { length steps.old ≤ length steps.new }
     {
+        let goes_on = self.backtrack(reasons.as_slice());
         steps.push(Step::Cycle(reasons))?;
-        if !self.backtrack() {
+        if !goes_on {
             return Ok(false);
         }
         let kept = self.depth() - 1;
@@ -162,13 +187,49 @@ impl Search {
         Ok(true)
     }
 
-    /// Moves the path to the next leaf. Returns whether there is one.
-    fn backtrack(&mut self) -> bool
-        ensures same { self.new ≡ record self.old { path = self.new.path } }
-        ensures path { MatchBool result (next_leaf self.old.path ≡ Some self.new.path)
-            ((next_leaf self.old.path ≡ None) × (self.new.path ≡ [])) }
+    /// Reuses the subtree of the alternative before at the present leaf, and takes the next leaf. Returns whether there is one.
+    fn reuse(&mut self, graph: &Graph, log: &Log, steps: &mut StepList) -> Result<bool, NoMemory>
+        requires stands { IsAtItsLeaf graph.now log.now self.old }
+        requires reusable { IsReusable self.old.path }
+        ensures keeps { KeepsSet self.old self.new }
+        ensures closing { Closing graph.now log.now (call_of self.old self.new steps.old steps.new) result }
+        ensures bounds { self.new.leaf.demands.bounds ≡ self.old.leaf.demands.bounds }
+        ensures appended { OnOk result (length steps.new ≡ length steps.old + 1) }
+        ensures longer { length steps.old ≤ length steps.new }
     {
+        steps.push(Step::Again)?;
+        if !self.drop_last() {
+            return Ok(false);
+        }
+        let kept = self.depth() - 1;
+        self.leave(kept);
+        Ok(true)
+    }
+
+    /// Whether a subtree is reusable at the present leaf.
+    fn is_reusable(&self) -> bool
+        ensures { IsTrue result ↔ IsReusable self.now.path }
+    {
+        is_reusable(&self.path)
+    }
+
+    /// Marks what the reasons of a cycle cite, and moves the path to the next leaf. Returns whether there is one.
+    fn backtrack(&mut self, reasons: &[Reason]) -> bool
+        ensures same { self.new ≡ record self.old { path = self.new.path } }
+        ensures path { MatchBool result (next_leaf (cited_by reasons.now self.old.path) ≡ Some self.new.path)
+            ((next_leaf (cited_by reasons.now self.old.path) ≡ None) × (self.new.path ≡ [])) }
+    {
+        cite(&mut self.path, reasons);
         backtrack(&mut self.path)
+    }
+
+    /// Drops the deepest split, whose alternatives are closed, and moves the path to the next leaf. Returns whether there is one.
+    fn drop_last(&mut self) -> bool
+        ensures same { self.new ≡ record self.old { path = self.new.path } }
+        ensures path { MatchBool result (next_leaf (above_last self.old.path) ≡ Some self.new.path)
+            ((next_leaf (above_last self.old.path) ≡ None) × (self.new.path ≡ [])) }
+    {
+        reuse(&mut self.path)
     }
 
     /// Splits the present leaf on a clause. Its first alternative is the present leaf then, and not yet entered.
@@ -182,9 +243,13 @@ impl Search {
         requires stands { IsAtItsLeaf graph.now log.now self.old }
         requires entered { HasEnteredAll self.old }
         requires live { IsLiveAt (case_of_search graph.now log.now self.old) self.old.path name }
+        requires not_reusable { IsReusable self.old.path → ⊥ }
         ensures keeps { KeepsSet self.old self.new }
         ensures splitting { Splitting graph.now log.now
             (call_of self.old self.new steps.old steps.new) result }
+        ensures leaf { self.new.leaf ≡ self.old.leaf }
+        ensures appended { OnOk result (length steps.new ≡ length steps.old + 1) }
+        ensures longer { length steps.old ≤ length steps.new }
     {
         clause_laws();
         let Some(split) = PathSplit::on_clause(graph, log, name) else {

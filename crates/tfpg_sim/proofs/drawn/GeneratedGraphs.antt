@@ -215,7 +215,7 @@ IsDiscrepancy-kind_drawn node state =
   where
     small : IfSome (lag_drawn state) IsValidLag
     small = cond_both (eqb (draw 4 3 state) 0) None (Some (lag_up_to (draw 20 4 state))) (λ o. IfSome o IsValidLag) (λ _. tt)
-        (λ _. let below : draw 20 4 state < 20 = omega arith in record { least = refl; most = omega arith })
+        (λ _. let below : draw 20 4 state < 20 = omega arith in search arith)
 
 module _ (index : ℕ) (edges : List Edge) (drawn : AreDrawnEdges (FAILURE_COUNT + index) edges) where
   -- an edge into the next discrepancy is none of those so far

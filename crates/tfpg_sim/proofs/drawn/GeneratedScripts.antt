@@ -26,6 +26,7 @@ use Rattle.tfpg_graph.specs.Graph.{Tfpg, is_kind_at, is_failure, name_word, node
 use Rattle.tfpg_graph.proofs.lemmas.reading.spelling.SpelledEdges.{node_named-name_word}
 use Rattle.tfpg_log.specs.declared.event.Event.{Event}
 use Rattle.tfpg_log.specs.LogOfLines.{log_of_lines}
+use Rattle.tfpg_sim.specs.declared.draws.Lateness.{Lateness}
 use Rattle.tfpg_sim.specs.declared.entry.Entry.{Entry}
 use Rattle.tfpg_sim.specs.declared.entry.Entry.TheVariants.{Start, Mode, Sweep, Stop}
 use Rattle.tfpg_sim.specs.declared.simulated.Simulated.{Simulated}
@@ -213,7 +214,7 @@ alarm_keeps : (time : Option ℕ) (node : ℕ) (events : List Event) → length 
 alarm_keeps None node events = omega arith
 alarm_keeps (Some time) node events = omega (arith, ap length (put_there time node events), one_more time node events)
 
-alarms_keep : (entries : List Entry) (trace : List Activation) (lates : List (Option ℕ)) (stop count : ℕ)
+alarms_keep : (entries : List Entry) (trace : List Activation) (lates : List (Option Lateness)) (stop count : ℕ)
     → length (filter_map event_of_entry entries) ≤ length (with_alarms entries trace lates stop count)
 alarms_keep entries trace lates stop zero = omega arith
 alarms_keep entries trace lates stop (suc node) = omega (
@@ -223,7 +224,7 @@ alarms_keep entries trace lates stop (suc node) = omega (
 )
 
 -- the log of a drawn script has events
-pub drawn_events : (entries : List Entry) → IsDrawnScript entries → (trace : List Activation) (lates : List (Option ℕ)) (stop : ℕ) → 0 < length (log_events entries trace lates stop)
+pub drawn_events : (entries : List Entry) → IsDrawnScript entries → (trace : List Activation) (lates : List (Option Lateness)) (stop : ℕ) → 0 < length (log_events entries trace lates stop)
 drawn_events entries is trace lates stop =
     let some : 0 < length (filter_map event_of_entry entries) = ⊎_elim
     (λ one. subst (λ es. 0 < length (filter_map event_of_entry es)) (sym one) (omega arith))

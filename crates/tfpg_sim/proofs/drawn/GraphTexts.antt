@@ -13,7 +13,8 @@ use Rattle.tfpg_graph.specs.declared.edge.Edge.{Edge}
 use Rattle.tfpg_graph.specs.declared.kind.Kind.{Kind}
 use Rattle.tfpg_graph.specs.declared.kind.Kind.TheVariants.{Failure}
 use Rattle.tfpg_graph.specs.Graph.{Tfpg, Node, name_at}
-use Rattle.tfpg_graph.specs.Text.{node_text, edge_start_words, edge_line, modes_word, canonical_text, Spells}
+use Rattle.tfpg_graph.specs.declared.version.Version.TheVariants.{One}
+use Rattle.tfpg_graph.specs.Text.{node_text, edge_start_words, edge_line, modes_word, canonical_text, version_for, Spells}
 use Rattle.tfpg_graph.specs.Valid.{IsValid, IsValidEdge}
 use Rattle.tfpg_graph.proofs.lemmas.writing.Spelled.{Spells-canonical}
 use Rattle.tfpg_graph.proofs.lemmas.writing.TextPieces.{canonical_text-pieces}
@@ -29,33 +30,33 @@ named_nodes-append number (kind ∷ kinds) more =
     ∙ ap (λ n. named_nodes (number + 1) kinds ++ named_nodes n more) (let same : number + 1 + length kinds ≡ number + suc (length kinds) = omega arith in same))
 
 -- the text of nodes with one more kind
-pub node_texts-push : (number : ℕ) (kinds : List Kind) (kind : Kind) → flat_map node_text (named_nodes number (kinds ++ kind ∷ []))
-    ≡ flat_map node_text (named_nodes number kinds) ++ node_text (drawn_node (number + length kinds) kind)
+pub node_texts-push : (number : ℕ) (kinds : List Kind) (kind : Kind) → flat_map (node_text One) (named_nodes number (kinds ++ kind ∷ []))
+    ≡ flat_map (node_text One) (named_nodes number kinds) ++ node_text One (drawn_node (number + length kinds) kind)
 node_texts-push number kinds kind =
-    ap (flat_map node_text) (named_nodes-append number kinds (kind ∷ [])) ∙ flat_map-append node_text (named_nodes number kinds) (drawn_node (number + length kinds) kind ∷ [])
-    ∙ ap (λ t. flat_map node_text (named_nodes number kinds) ++ t) (append-nil (node_text (drawn_node (number + length kinds) kind)))
+    ap (flat_map (node_text One)) (named_nodes-append number kinds (kind ∷ [])) ∙ flat_map-append (node_text One) (named_nodes number kinds) (drawn_node (number + length kinds) kind ∷ [])
+    ∙ ap (λ t. flat_map (node_text One) (named_nodes number kinds) ++ t) (append-nil (node_text One (drawn_node (number + length kinds) kind)))
 
 -- the lines of the first nodes after the old bytes, and that of the next node
 pub nodes_next : (number index : ℕ) (kinds : List Kind) (d : Kind) (old mid new : List ℕ) → index < length kinds
-    → mid ≡ old ++ flat_map node_text (named_nodes number (take index kinds)) → new ≡ mid ++ node_text (drawn_node (number + index) (get_or kinds index d))
-    → new ≡ old ++ flat_map node_text (named_nodes number (take (index + 1) kinds))
+    → mid ≡ old ++ flat_map (node_text One) (named_nodes number (take index kinds)) → new ≡ mid ++ node_text One (drawn_node (number + index) (get_or kinds index d))
+    → new ≡ old ++ flat_map (node_text One) (named_nodes number (take (index + 1) kinds))
 nodes_next number index kinds d old mid new within before one =
-    one ∙ ap (λ t. t ++ node_text (drawn_node (number + index) (get_or kinds index d))) before
-    ∙ append_assoc old (flat_map node_text (named_nodes number (take index kinds))) (node_text (drawn_node (number + index) (get_or kinds index d)))
+    one ∙ ap (λ t. t ++ node_text One (drawn_node (number + index) (get_or kinds index d))) before
+    ∙ append_assoc old (flat_map (node_text One) (named_nodes number (take index kinds))) (node_text One (drawn_node (number + index) (get_or kinds index d)))
     ∙ ap (λ t. old ++ t)
-    (sym (ap (λ ks. flat_map node_text (named_nodes number ks)) (take_more kinds index d within) ∙ node_texts-push number (take index kinds) (get_or kinds index d)
-    ∙ ap (λ n. flat_map node_text (named_nodes number (take index kinds)) ++ node_text (drawn_node (number + n) (get_or kinds index d)))
+    (sym (ap (λ ks. flat_map (node_text One) (named_nodes number ks)) (take_more kinds index d within) ∙ node_texts-push number (take index kinds) (get_or kinds index d)
+    ∙ ap (λ n. flat_map (node_text One) (named_nodes number (take index kinds)) ++ node_text One (drawn_node (number + n) (get_or kinds index d)))
     (let same : length (take index kinds) ≡ index = omega (arith, length-take index kinds) in same)))
 
 -- the same of the failure modes
-pub failures_next : (index rarity : ℕ) (old mid new : List ℕ) → rarity ≡ index + 1 → mid ≡ old ++ flat_map node_text (named_nodes 0 (failure_kinds index))
-    → new ≡ mid ++ node_text (drawn_node index (Failure rarity)) → new ≡ old ++ flat_map node_text (named_nodes 0 (failure_kinds (index + 1)))
+pub failures_next : (index rarity : ℕ) (old mid new : List ℕ) → rarity ≡ index + 1 → mid ≡ old ++ flat_map (node_text One) (named_nodes 0 (failure_kinds index))
+    → new ≡ mid ++ node_text One (drawn_node index (Failure rarity)) → new ≡ old ++ flat_map (node_text One) (named_nodes 0 (failure_kinds (index + 1)))
 failures_next index rarity old mid new is before one =
-    one ∙ (λ i. before i ++ node_text (drawn_node index (Failure (is i))))
-    ∙ append_assoc old (flat_map node_text (named_nodes 0 (failure_kinds index))) (node_text (drawn_node index (Failure (index + 1))))
+    one ∙ (λ i. before i ++ node_text One (drawn_node index (Failure (is i))))
+    ∙ append_assoc old (flat_map (node_text One) (named_nodes 0 (failure_kinds index))) (node_text One (drawn_node index (Failure (index + 1))))
     ∙ ap (λ t. old ++ t)
-    (sym (ap (λ n. flat_map node_text (named_nodes 0 (failure_kinds n))) (add-one index) ∙ node_texts-push 0 (failure_kinds index) (Failure (index + 1))
-    ∙ ap (λ n. flat_map node_text (named_nodes 0 (failure_kinds index)) ++ node_text (drawn_node n (Failure (index + 1))))
+    (sym (ap (λ n. flat_map (node_text One) (named_nodes 0 (failure_kinds n))) (add-one index) ∙ node_texts-push 0 (failure_kinds index) (Failure (index + 1))
+    ∙ ap (λ n. flat_map (node_text One) (named_nodes 0 (failure_kinds index)) ++ node_text One (drawn_node n (Failure (index + 1))))
     (let same : 0 + length (failure_kinds index) ≡ index = omega (arith, length-failure_kinds index) in same)))
 
 module _ (kinds : List Kind) (edges : List Edge) where
@@ -79,24 +80,24 @@ module _ (kinds : List Kind) (edges : List Edge) where
   edge_is edge valid modes = λ i. with_line_end (line_of (edge_start_words (name_is edge.source valid.source i) (name_is edge.target valid.target i)
       edge.tmin edge.tmax ++ modes_are edge.modes modes i ∷ []))
 
-  nodes_are : flat_map node_text graph.nodes ≡ flat_map node_text (named_nodes 0 (failure_kinds FAILURE_COUNT)) ++ flat_map node_text (named_nodes FAILURE_COUNT kinds)
+  nodes_are : flat_map (node_text One) graph.nodes ≡ flat_map (node_text One) (named_nodes 0 (failure_kinds FAILURE_COUNT)) ++ flat_map (node_text One) (named_nodes FAILURE_COUNT kinds)
   nodes_are =
-      ap (flat_map node_text) (named_nodes-append 0 (failure_kinds FAILURE_COUNT) kinds
+      ap (flat_map (node_text One)) (named_nodes-append 0 (failure_kinds FAILURE_COUNT) kinds
       ∙ ap (λ n. named_nodes 0 (failure_kinds FAILURE_COUNT) ++ named_nodes n kinds) (let same : 0 + length (failure_kinds FAILURE_COUNT) ≡ FAILURE_COUNT = omega (arith, length-failure_kinds FAILURE_COUNT) in same))
-      ∙ flat_map-append node_text (named_nodes 0 (failure_kinds FAILURE_COUNT)) (named_nodes FAILURE_COUNT kinds)
+      ∙ flat_map-append (node_text One) (named_nodes 0 (failure_kinds FAILURE_COUNT)) (named_nodes FAILURE_COUNT kinds)
 
   -- The text is the canonical one.
-  pub text_is : IsValid graph → All HasDrawnModes edges → draft_text kinds edges ≡ canonical_text graph
-  text_is valid modes =
+  pub text_is : IsValid graph → All HasDrawnModes edges → version_for graph ≡ One → draft_text kinds edges ≡ canonical_text graph
+  text_is valid modes version =
       let end : List ℕ = text_line (codes "end" ∷ []) in
-      let first : List ℕ = flat_map node_text (named_nodes 0 (failure_kinds FAILURE_COUNT)) in
-      let others : List ℕ = flat_map node_text (named_nodes FAILURE_COUNT kinds) in
+      let first : List ℕ = flat_map (node_text One) (named_nodes 0 (failure_kinds FAILURE_COUNT)) in
+      let others : List ℕ = flat_map (node_text One) (named_nodes FAILURE_COUNT kinds) in
       ap (λ t. t ++ flat_map edge_text_by_number edges ++ end) (append_assoc drawn_head_text first others)
       ∙ ap (λ t. drawn_head_text ++ t ++ flat_map edge_text_by_number edges ++ end) (sym nodes_are)
-      ∙ ap (λ t. drawn_head_text ++ flat_map node_text graph.nodes ++ t ++ end)
+      ∙ ap (λ t. drawn_head_text ++ flat_map (node_text One) graph.nodes ++ t ++ end)
       (sym (flat_map-same (λ (edge : Edge). with_line_end (edge_line graph edge (modes_word graph edge.modes))) edge_text_by_number edges (λ k d within. edge_is (get_or edges k d) (valid.so_far.edges k d within) (modes k d within))))
-      ∙ sym (canonical_text-pieces graph)
+      ∙ sym (canonical_text-pieces graph One (sym version))
 
   -- So it spells the graph.
-  pub text_spells : (text : List ℕ) → text ≡ draft_text kinds edges → IsValid graph → All HasDrawnModes edges → Spells text graph
-  text_spells text is valid modes = subst (λ t. Spells t graph) (sym (is ∙ text_is valid modes)) (Spells-canonical graph valid)
+  pub text_spells : (text : List ℕ) → text ≡ draft_text kinds edges → IsValid graph → All HasDrawnModes edges → version_for graph ≡ One → Spells text graph
+  text_spells text is valid modes version = subst (λ t. Spells t graph) (sym (is ∙ text_is valid modes version)) (Spells-canonical graph valid)

@@ -1,6 +1,6 @@
 -- The lines of a simulated log are accepted, and make its events.
 use Rattle.std.proofs.Common.{◌≡◌, ℕ, ◌≤◌, cond, List, ◌∷◌, ◌++◌, length, get_or, All, Contains, Option, None, sym, ap, subst, arith, length-append}
-use Rattle.std.specs.Prelude.{count_by, is_some, option_map}
+use Rattle.std.specs.Prelude.{count_by, is_some}
 use Rattle.std.proofs.lemmas.List.Elements.{All-contains, Contains-append_right}
 use Rattle.std.proofs.lemmas.List.Sums.{sum_by-append, sum_by-cons}
 use Rattle.tfpg_base.proofs.lists.Elements.{Contains-head}
@@ -10,12 +10,12 @@ use Rattle.tfpg_graph.specs.Graph.{Tfpg}
 use Rattle.tfpg_graph.specs.Valid.{IsValid}
 use Rattle.tfpg_log.specs.declared.event.Event.{Event}
 use Rattle.tfpg_log.specs.declared.event.Event.TheVariants as event
-use Rattle.tfpg_log.specs.Log.{is_alarm_of, alarm_among, is_mode_change, time_of_event, IsEventOf}
-use Rattle.tfpg_base.proofs.lists.FirstFound.{find-All_fail}
-use Rattle.tfpg_log.specs.EventLines.{IsUnalarmed, IsNextEvent, AreNextEvents}
+use Rattle.tfpg_log.specs.Log.{is_mode_change, time_of_event, IsEventOf}
+use Rattle.tfpg_log.specs.EventLines.{IsNextEvent, AreNextEvents}
 use Rattle.tfpg_log.specs.LogOfLines.{log_of_events, log_of_lines}
 use Rattle.tfpg_log.proofs.logs_of_lines.AcceptedLines.{log_there as log_of_its_lines, lines_accepted as its_lines_accepted}
 use Rattle.tfpg_log.proofs.events.Order.{last_upto}
+use Rattle.tfpg_sim.specs.declared.draws.Lateness.{Lateness}
 use Rattle.tfpg_sim.specs.declared.entry.Entry.{Entry}
 use Rattle.tfpg_log.specs.AcceptedLog.{AreAccepted}
 use Rattle.tfpg_sim.specs.Draws.{latenesses}
@@ -24,18 +24,12 @@ use Rattle.tfpg_sim.specs.SimulatedLog.{log_text}
 use Rattle.tfpg_sim.specs.inside.Entries.{IsScript}
 use Rattle.tfpg_sim.proofs.logged.AlarmTimes.{length-latenesses, lateness_within, alarmed_at}
 use Rattle.tfpg_sim.proofs.logged.LoggedEvents.{IsLogged, AreLogged}
-use Rattle.tfpg_sim.proofs.logged.PutAlarms.{IsOther, Precedes, MayStandInOrder, before_each, Precedes-times}
+use Rattle.tfpg_sim.proofs.logged.PutAlarms.{Precedes, MayStandInOrder, before_each, Precedes-times}
 use Rattle.tfpg_sim.proofs.scripts.ScriptOrder.{small}
-
--- ---- what comes before an event
-
--- where no event is an alarm of the node, none is found
-no_alarm : (events : List Event) (node : ℕ) → All (IsOther node) events → alarm_among events node ≡ None
-no_alarm events node all = ap (option_map time_of_event) (find-All_fail (is_alarm_of node) events all)
 
 module _ (graph : Tfpg) (valid : IsValid graph) (entries : List Entry) (script : IsScript graph entries) (trace : List Activation) (number : ℕ) (events : List Event)
     (logged : AreLogged graph entries trace (latenesses graph number) (length (latenesses graph number)) events) where
-  abbrev lates : List (Option ℕ)
+  abbrev lates : List (Option Lateness)
   lates = latenesses graph number
 
   abbrev IsLoggedHere : Event → Type 0
@@ -53,8 +47,7 @@ module _ (graph : Tfpg) (valid : IsValid graph) (entries : List Entry) (script :
   own_event : (e : Event) → IsLoggedHere e → IsEventOf graph e
   own_event (event.Alarm time node) is =
       let alarm = alarmed_at entries trace (get_or lates node None) node (time_so_far entries) time is.1 in
-      let lag = lateness_within graph number node alarm.late (omega (arith, is.0, length-latenesses graph number)) alarm.lateness_is in
-      ap is_some lag.1
+      ap is_some (lateness_within graph number valid node alarm.late (omega (arith, is.0, length-latenesses graph number)) alarm.lateness_is).is
   own_event (event.Silent time node) is = absurd is
   own_event (event.Sweep time) is = tt
   own_event (event.Tick time) is = tt
@@ -68,20 +61,12 @@ module _ (graph : Tfpg) (valid : IsValid graph) (entries : List Entry) (script :
     earlier : All (λ x. Precedes x e) front
     earlier = before_each front back e (subst MayStandInOrder are logged.order)
 
-    none_before : (x : Event) → IsLoggedHere x → All (λ y. Precedes y x) front → IsUnalarmed (log_of_events front) x
-    none_before (event.Alarm time node) is all = no_alarm front node (λ k d within. (all k d within).1)
-    none_before (event.Silent time node) is all = absurd is
-    none_before (event.Sweep time) is all = tt
-    none_before (event.Tick time) is all = tt
-    none_before (event.Mode time mode) is all = tt
-
     -- The event may come next.
     pub comes_next : IsNextEvent graph (log_of_events front) e
     comes_next = record {
       own = own_event e its;
       not_back = last_upto front 0 (time_of_event e) (omega arith) (λ k d within. Precedes-times _ e (earlier k d within));
       in_range = let upto = by_stop e its in omega (arith, small graph entries script);
-      unalarmed = none_before e its earlier;
       room = let few = logged.few in
           let few_nodes = valid.so_far.few_nodes in
           omega (arith, length-append front (e ∷ back), ap length are, length-latenesses graph number);

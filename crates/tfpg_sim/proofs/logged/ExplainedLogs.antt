@@ -206,7 +206,7 @@ module _ (graph : Tfpg) (script : List ℕ) (number : ℕ) (simulated : Simulate
     };
     shows = λ index e at.
         let are = cut_at events index e at in
-        shown graph entries is_script trace number events logs (take index events) (drop (suc index) events) e are
+        shown graph valid entries is_script trace number events logs (take index events) (drop (suc index) events) e are
         (its graph valid entries is_script trace number events logs (take index events) (drop (suc index) events) e are);
   }
 

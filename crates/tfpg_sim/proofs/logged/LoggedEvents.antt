@@ -2,7 +2,7 @@
 use Rattle.std.proofs.Common.{◌≡◌, ℕ, zero, suc, ◌+◌, ◌-◌, ◌<◌, ◌≤◌, ⊎_elim, false, cond, List, [], ◌∷◌, length, get_or, filter_map, All, Contains, Option, Some, None, refl, sym, ap, ◌∙◌, subst, arith}
 use Rattle.std.specs.Prelude.{AllPairs, IsTrue, count_by, slice_index_or}
 use Rattle.std.specs.Option.{option_map_or}
-use Rattle.std.proofs.lemmas.Bool.{cases_eq, ne_eqb, false≢true}
+use Rattle.std.proofs.lemmas.Bool.{cases_eq, false≢true}
 use Rattle.std.proofs.lemmas.List.Elements.{All-nil, All-cons, All-head, All-tail, All-weaker, Contains-get_or}
 use Rattle.std.proofs.lemmas.List.Sums.{sum_by-cons}
 use Rattle.tfpg_base.proofs.lists.Elements.{AllPairs-head, AllPairs-tail, Contains-at}
@@ -12,6 +12,7 @@ use Rattle.tfpg_graph.specs.Graph.{Tfpg}
 use Rattle.tfpg_log.specs.declared.event.Event.{Event}
 use Rattle.tfpg_log.specs.declared.event.Event.TheVariants as event
 use Rattle.tfpg_log.specs.Log.{time_of_event, is_mode_change, mode_after}
+use Rattle.tfpg_sim.specs.declared.draws.Lateness.{Lateness}
 use Rattle.tfpg_sim.specs.declared.entry.Entry.{Entry}
 use Rattle.tfpg_sim.specs.declared.entry.Entry.TheVariants.{Start, Mode, Sweep, Tick, Stop}
 use Rattle.tfpg_base.specs.Choice.{last_of}
@@ -22,7 +23,7 @@ use Rattle.tfpg_sim.specs.Simulation.{event_of_entry}
 use Rattle.tfpg_sim.specs.SimulatedLog.{alarm_time, with_alarm, with_alarms}
 use Rattle.tfpg_sim.specs.inside.Entries.{IsScript}
 use Rattle.tfpg_sim.specs.Script.{IsEntryOf}
-use Rattle.tfpg_sim.proofs.logged.PutAlarms.{put, put_there, All-put, alarm_there, still_there, one_more, changes_same, modes_same, IsOther, Precedes, MayStandInOrder, order_put}
+use Rattle.tfpg_sim.proofs.logged.PutAlarms.{put, put_there, All-put, alarm_there, still_there, one_more, changes_same, modes_same, Precedes, MayStandInOrder, order_put}
 use Rattle.tfpg_sim.proofs.scripts.ReadScripts.{few_entries, few_changes}
 use Rattle.tfpg_sim.proofs.scripts.ScriptOrder.{all_by_last, in_order}
 
@@ -108,7 +109,7 @@ stop_last entries stops = by (last_of entries) refl
         is ∙ ap Some (stop_is n (sym (ap (λ o. option_map_or is_stop o false) is) ∙ stops)
         ∙ ap Stop (sym (ap (λ o. option_map_or time_of_entry o 0) is)))
 
-module _ (graph : Tfpg) (entries : List Entry) (trace : List Activation) (latenesses : List (Option ℕ)) where
+module _ (graph : Tfpg) (entries : List Entry) (trace : List Activation) (latenesses : List (Option Lateness)) where
   abbrev pub stop : ℕ
   stop = time_so_far entries
 
@@ -140,13 +141,6 @@ module _ (graph : Tfpg) (entries : List Entry) (trace : List Activation) (latene
   one_later count (event.Tick time) is = is
   one_later count (event.Mode time mode) is = is
 
-  other_node : (count : ℕ) (e : Event) → IsLogged count e → IsOther count e
-  other_node count (event.Alarm time node) is = ne_eqb node count (λ same. let less = is.0 in omega arith)
-  other_node count (event.Silent time node) is = refl
-  other_node count (event.Sweep time) is = refl
-  other_node count (event.Tick time) is = refl
-  other_node count (event.Mode time mode) is = refl
-
   -- the alarm of one more node, where it has one
   logged_more : (count : ℕ) (o : Option ℕ) (events : List Event) → alarm_at count ≡ o → AreLogged count events → AreLogged (suc count) (with_alarm o count events)
   logged_more count None events none so_far = record {
@@ -161,7 +155,7 @@ module _ (graph : Tfpg) (entries : List Entry) (trace : List Activation) (latene
     last = so_far.last;
   }
   logged_more count (Some time) events at so_far = subst (AreLogged (suc count)) (sym (put_there time count events)) (record {
-    order = order_put time count events (All-weaker (IsLogged count) (IsOther count) (other_node count) events so_far.each) so_far.order;
+    order = order_put time count events so_far.order;
     each = All-put time count (IsLogged (suc count)) events (omega arith, at) (All-weaker (IsLogged count) (IsLogged (suc count)) (one_later count) events so_far.each);
     alarmed = λ node when within is. ⊎_elim
         (λ here.

@@ -1,5 +1,5 @@
 -- The simulated trace keeps the propagation rules.
-use Rattle.std.proofs.Common.{◌≡◌, ℕ, ◌+◌, ◌-◌, ◌%◌, ◌<◌, ◌≤◌, ◌⊎◌, ⊎_elim, eqb, IsTrue, IfSome, List, length, Option, Some, None, slice_get, refl, sym, ◌∙◌, subst, arith}
+use Rattle.std.proofs.Common.{◌≡◌, ℕ, ◌+◌, ◌%◌, ◌<◌, ◌≤◌, ◌⊎◌, ⊎_elim, eqb, IsTrue, IfSome, List, length, Option, Some, None, slice_get, refl, sym, ◌∙◌, subst, arith}
 use Rattle.std.specs.List.{Contains}
 use Rattle.std.proofs.lemmas.List.Elements.{All-contains}
 use Rattle.tfpg_base.proofs.lists.Elements.{All-from_members, All-at}
@@ -22,13 +22,11 @@ use Rattle.tfpg_sim.specs.Script.{time_so_far}
 use Rattle.tfpg_sim.specs.Draws.{delays, delay_of, delay_count, generator, drawn, after_draw}
 use Rattle.tfpg_sim.specs.Simulation.{Carries, Arrives, IsFirst, IsSimulated, script_log}
 use Rattle.tfpg_sim.specs.declared.limits.TheConstants.{DELAY_STREAM}
+use Rattle.tfpg_sim.proofs.simulations.DrawLists.{drawn_upto}
 
 -- a delay is between the least and the greatest one
 delay_upto : (tmin value m : ℕ) (tmax : Option ℕ) → tmax ≡ Some m → tmin ≤ m → tmin + value % delay_count tmin tmax ≤ m
-delay_upto tmin value m tmax is order = subst (λ t. tmin + value % delay_count tmin t ≤ m) (sym is) (upto_greatest (m - tmin + 1) (omega arith) (omega arith))
-  where
-    upto_greatest : (count : ℕ) → 0 < count → tmin + count ≡ m + 1 → tmin + value % count ≤ m
-    upto_greatest count some same = let below : value % count < count = omega arith in omega arith
+delay_upto tmin value m tmax is order = subst (λ t. tmin + value % delay_count tmin t ≤ m) (sym is) (drawn_upto tmin m value order)
 
 -- The delay of an edge is drawn between its least and its greatest one.
 pub delay_at : (graph : Tfpg) (number n : ℕ) (edge : Edge) → IsValid graph → slice_get graph.edges n ≡ Some edge

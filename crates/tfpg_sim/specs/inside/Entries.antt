@@ -2,13 +2,19 @@
 use Rattle.std.specs.Prelude.{◌≡◌, ℕ, ◌≤◌, List, take, All, true, Option, Some, IfSome, slice_get}
 use Rattle.tfpg_base.specs.declared.limits.TheConstants.{MAX_TIME}
 use Rattle.tfpg_graph.specs.Graph.{Tfpg}
+use Rattle.tfpg_sim.specs.declared.draws.Lateness.{Lateness}
 use Rattle.tfpg_sim.specs.declared.entry.Entry.{Entry}
 use Rattle.tfpg_sim.specs.Script.{IsEntryOf}
 use Rattle.tfpg_sim.specs.inside.ScriptReading.{may_follow}
 
--- a lateness is not too large
-abbrev pub IsLatenessInRange : Option ℕ → Type 0
-IsLatenessInRange lateness = IfSome lateness (λ late. late ≤ MAX_TIME)
+-- an alarm is drawn no earlier than its least lag, and not too late
+pub record IsLatenessInRange (late : Lateness) : Type 0 where
+  pub in_order : late.least ≤ late.drawn
+  pub in_range : late.drawn ≤ MAX_TIME
+
+-- each lateness is so
+abbrev pub AreLatenessesInRange : List (Option Lateness) → Type 0
+AreLatenessesInRange latenesses = All (λ lateness. IfSome lateness IsLatenessInRange) latenesses
 
 -- These are lines of a script: each names what the graph has, and may come after those before it.
 pub record IsScript (graph : Tfpg) (entries : List Entry) : Type 0 where

@@ -4,6 +4,7 @@ use Rattle.std.specs.List.{flat_map}
 use Rattle.tfpg_base.specs.TextLine.{text_line}
 use Rattle.tfpg_graph.specs.declared.edge.Edge.{Edge}
 use Rattle.tfpg_graph.specs.declared.kind.Kind.{Kind}
+use Rattle.tfpg_graph.specs.declared.version.Version.TheVariants.{One}
 use Rattle.tfpg_graph.specs.Text.{edge_start_words, node_text}
 use Rattle.tfpg_sim.specs.Generated.{drawn_name, failure_kinds, named_nodes}
 use Rattle.tfpg_sim.specs.declared.limits.TheConstants.{FAILURE_COUNT}
@@ -27,8 +28,8 @@ edge_text_by_number edge =
 -- the text of these discrepancies and edges
 abbrev pub draft_text : List Kind → List Edge → List ℕ
 draft_text kinds edges =
-    drawn_head_text ++ flat_map node_text (named_nodes 0 (failure_kinds FAILURE_COUNT))
-    ++ flat_map node_text (named_nodes FAILURE_COUNT kinds)
+    drawn_head_text ++ flat_map (node_text One) (named_nodes 0 (failure_kinds FAILURE_COUNT))
+    ++ flat_map (node_text One) (named_nodes FAILURE_COUNT kinds)
     ++ flat_map edge_text_by_number edges ++ text_line (codes "end" ∷ [])
 
 -- the edge is active in the first mode alone, or in both

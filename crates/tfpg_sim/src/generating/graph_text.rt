@@ -9,7 +9,8 @@ ghost use Rattle.tfpg_sim.specs.Generated.{discrepancy_count, drawn_graph, failu
 ghost use Rattle.tfpg_sim.specs.declared.limits.TheConstants.{FAILURE_COUNT};
 ghost use Rattle.tfpg_sim.specs.inside.GraphText.{drawn_modes_word, edge_text_by_number, draft_text, HasDrawnModes};
 ghost use Rattle.tfpg_base.specs.TextLine.{text_line};
-ghost use Rattle.tfpg_graph.specs.Text.{node_text, node_words};
+ghost use Rattle.tfpg_graph.specs.Text.{node_text, node_words, version_for};
+ghost use Rattle.tfpg_graph.specs.declared.version.Version.TheVariants.{One};
 ghost use Rattle.tfpg_sim.specs.Generated.{drawn_name};
 
 use crate::generating::draft::Draft;
@@ -17,13 +18,14 @@ use crate::generating::drawn_name::drawn_name;
 use crate::limits::FAILURE_COUNT;
 use std::alloc::Global;
 use tfpg_base::NoMemory;
-use tfpg_graph::{Edge, Graph, GraphRefusal, Kind, append_edge_start, append_node, read};
+use tfpg_graph::{Edge, Graph, GraphRefusal, Kind, Version, append_edge_start, append_node, read};
 
 /// The graph of the draft, which is valid.
 pub(crate) fn drawn_graph(alloc: Global, draft: &Draft) -> Result<Graph, NoMemory>
     requires valid { IsValid (drawn_graph draft.now.kinds.items draft.now.edges.items) }
     requires few { length draft.now.kinds.items ≤ discrepancy_count MAX_CASE_SIZE }
     requires modes { All HasDrawnModes draft.now.edges.items }
+    requires version { version_for (drawn_graph draft.now.kinds.items draft.now.edges.items) ≡ One }
     ensures { IfOk result (λ graph. graph ≡ drawn_graph draft.now.kinds.items draft.now.edges.items) }
 {
     let text = draft_text(alloc, &draft.kinds, &draft.edges)?;
@@ -51,7 +53,7 @@ fn draft_text(alloc: Global, kinds: &[Kind], edges: &[Edge]) -> Result<Vec<u8>, 
 /// Appends the lines of the failure modes.
 fn append_failures(alloc: Global, into: &mut Vec<u8>) -> Result<(), NoMemory>
     ensures { Appends result into.old.items into.new.items
-        (flat_map node_text (named_nodes 0 (failure_kinds FAILURE_COUNT))) }
+        (flat_map (node_text One) (named_nodes 0 (failure_kinds FAILURE_COUNT))) }
 {
     for index in 0..FAILURE_COUNT {
         let rarity = u64::from(index) + 1;
@@ -64,7 +66,7 @@ fn append_failures(alloc: Global, into: &mut Vec<u8>) -> Result<(), NoMemory>
 fn append_discrepancies(alloc: Global, kinds: &[Kind], into: &mut Vec<u8>) -> Result<(), NoMemory>
     requires { length kinds.now ≤ discrepancy_count MAX_CASE_SIZE }
     ensures { Appends result into.old.items into.new.items
-        (flat_map node_text (named_nodes FAILURE_COUNT kinds.now)) }
+        (flat_map (node_text One) (named_nodes FAILURE_COUNT kinds.now)) }
 {
     for index in 0..kinds.len() {
         append_node_by_number(alloc, FAILURE_COUNT + index as u32, kinds[index], into)?;
@@ -79,10 +81,10 @@ fn append_node_by_number(
     kind: Kind,
     into: &mut Vec<u8>,
 ) -> Result<(), NoMemory>
-    ensures { Appends result into.old.items into.new.items (text_line (node_words (drawn_name node) kind)) }
+    ensures { Appends result into.old.items into.new.items (text_line (node_words One (drawn_name node) kind)) }
 {
     let name = drawn_name(alloc, node)?;
-    append_node(&name, kind, into)
+    append_node(Version::One, &name, kind, into)
 }
 
 /// Appends the lines of the edges.

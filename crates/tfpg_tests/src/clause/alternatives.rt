@@ -1,14 +1,18 @@
 //! Which names of clauses are allowed, and how many alternatives they have.
 
 use super::{CUT, GRAPH};
-use crate::given::log_of;
+use crate::given::on_log;
 use std::test::Fail;
 use tfpg_clause::{NotAClause, count};
 use tfpg_evidence::ClauseName;
-use tfpg_graph::read;
+use tfpg_graph::Graph;
+use tfpg_log::Log;
+
+/// A name, a name of a clause, and how many alternatives it has.
+type Row = (&'static str, ClauseName, Result<u32, NotAClause>);
 
 /// How many alternatives names have that are allowed at a log with cuts, and which are not.
-const COUNTS: [(&str, ClauseName, Result<u32, NotAClause>); 16] = [
+static COUNTS: [Row; 16] = [
     (
         "an OR node in a span of mode D",
         ClauseName::OrMay {
@@ -155,12 +159,22 @@ const COUNTS: [(&str, ClauseName, Result<u32, NotAClause>); 16] = [
     ),
 ];
 
-#[test]
-fn names_are_allowed_with_their_alternatives(rt: HostRuntime) -> Result<(), Fail> {
-    let graph = read(rt.alloc(), GRAPH)?;
-    let log = log_of(rt.alloc(), &graph, &CUT)?;
-    for (row, name, expected) in &COUNTS {
-        assert_eq!(rt; count(&graph, &log, *name), *expected, "{row}");
+/// Compares the count of each row.
+fn compare(graph: &Graph, log: &Log, rows: &[Row]) -> Result<(), Fail> {
+    for (name, clause, expected) in rows {
+        if count(graph, log, *clause) != *expected {
+            return Err(Fail::new(*name));
+        }
     }
     Ok(())
+}
+
+#[test]
+fn names_are_allowed_with_their_alternatives(rt: HostRuntime) -> Result<(), Fail> {
+    on_log(
+        rt.alloc(),
+        GRAPH,
+        &CUT,
+        |graph, log| compare(graph, log, &COUNTS),
+    )
 }

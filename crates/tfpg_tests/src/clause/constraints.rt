@@ -1,12 +1,13 @@
 //! The constraints of each kind of clause, by alternative and number.
 
 use super::{CUT, GRAPH, ONE_SPAN};
-use crate::given::log_of;
+use crate::given::on_log;
 use std::test::Fail;
 use tfpg_base::Constraint;
 use tfpg_clause::{NotAClause, constraint, count};
 use tfpg_evidence::ClauseName;
-use tfpg_graph::read;
+use tfpg_graph::Graph;
+use tfpg_log::Log;
 
 /// A must of an OR node by an edge whose greatest delay is 20, in a window from 0 to 30.
 const OR_MUST: ClauseName = ClauseName::OrMust {
@@ -15,8 +16,11 @@ const OR_MUST: ClauseName = ClauseName::OrMust {
     horizon: 30,
 };
 
+/// A name, an alternative, a number, and the constraint.
+type MustRow = (&'static str, u32, u32, Option<Constraint>);
+
 /// Its constraints by alternative and number.
-const OR_MUST_BOUNDS: [(&str, u32, u32, Option<Constraint>); 6] = [
+const OR_MUST_BOUNDS: [MustRow; 6] = [
     (
         "F1 starts late",
         1,
@@ -52,32 +56,45 @@ const OR_MUST_BOUNDS: [(&str, u32, u32, Option<Constraint>); 6] = [
     ("there is no second constraint", 3, 2, None),
 ];
 
-#[test]
-fn three_alternatives_of_a_must(rt: HostRuntime) -> Result<(), Fail> {
-    let graph = read(rt.alloc(), GRAPH)?;
-    let log = log_of(rt.alloc(), &graph, &ONE_SPAN)?;
-    assert_eq!(rt; count(&graph, &log, OR_MUST), Ok(3));
-    for (row, alternative, number, expected) in &OR_MUST_BOUNDS {
-        assert_eq!(rt;
-            constraint(&graph, &log, OR_MUST, *alternative, *number),
-            Ok(*expected),
-            "{row}"
-        );
+/// Compares the constraint of each row, where there is one.
+fn compare_must(graph: &Graph, log: &Log, rows: &[MustRow]) -> Result<(), Fail> {
+    for (name, alternative, number, expected) in rows {
+        if constraint(graph, log, OR_MUST, *alternative, *number) != Ok(*expected) {
+            return Err(Fail::new(*name));
+        }
     }
+    Ok(())
+}
+
+/// Compares how many alternatives there are, and what is said of a must without a greatest delay.
+fn compare_counts(graph: &Graph, log: &Log) -> Result<(), Fail> {
     let without_end = ClauseName::OrMust {
         edge: 2,
         span: 0,
         horizon: 30,
     };
-    assert_eq!(rt;
-        constraint(&graph, &log, without_end, 1, 1),
-        Err(NotAClause)
-    );
+    if count(graph, log, OR_MUST) != Ok(3) {
+        return Err(Fail::new("a must has three alternatives"));
+    }
+    if constraint(graph, log, without_end, 1, 1) != Err(NotAClause) {
+        return Err(Fail::new("a must without a greatest delay is no clause"));
+    }
     Ok(())
 }
 
+#[test]
+fn three_alternatives_of_a_must(rt: HostRuntime) -> Result<(), Fail> {
+    on_log(rt.alloc(), GRAPH, &ONE_SPAN, |graph, log| {
+        compare_counts(graph, log)?;
+        compare_must(graph, log, &OR_MUST_BOUNDS)
+    })
+}
+
+/// A name, a clause, an alternative, a number, and the constraint.
+type Row = (&'static str, ClauseName, u32, u32, Constraint);
+
 /// Constraints of clauses at a log with cuts, by name, alternative and number.
-const BOUNDS: [(&str, ClauseName, u32, u32, Constraint); 18] = [
+const BOUNDS: [Row; 18] = [
     (
         "A before the span",
         ClauseName::OrMay {
@@ -350,16 +367,22 @@ const BOUNDS: [(&str, ClauseName, u32, u32, Constraint); 18] = [
     ),
 ];
 
-#[test]
-fn each_kind_of_clause_has_its_constraints(rt: HostRuntime) -> Result<(), Fail> {
-    let graph = read(rt.alloc(), GRAPH)?;
-    let log = log_of(rt.alloc(), &graph, &CUT)?;
-    for (row, name, alternative, number, expected) in &BOUNDS {
-        assert_eq!(rt;
-            constraint(&graph, &log, *name, *alternative, *number),
-            Ok(Some(*expected)),
-            "{row}"
-        );
+/// Compares the constraint of each row.
+fn compare(graph: &Graph, log: &Log, rows: &[Row]) -> Result<(), Fail> {
+    for (name, clause, alternative, number, expected) in rows {
+        if constraint(graph, log, *clause, *alternative, *number) != Ok(Some(*expected)) {
+            return Err(Fail::new(*name));
+        }
     }
     Ok(())
+}
+
+#[test]
+fn each_kind_of_clause_has_its_constraints(rt: HostRuntime) -> Result<(), Fail> {
+    on_log(
+        rt.alloc(),
+        GRAPH,
+        &CUT,
+        |graph, log| compare(graph, log, &BOUNDS),
+    )
 }

@@ -1,18 +1,24 @@
 //! Which reasons state facts, and which.
 
+ghost use Rattle.tfpg_log.specs.Log.{IsLogOf};
+
 use super::GRAPH;
-use crate::given::{log_of, reach_of_first};
+use crate::given::{on_log, reach_of_first};
 use std::test::Fail;
 use tfpg_base::Constraint;
 use tfpg_clause::{NotAFact, fact};
 use tfpg_evidence::Reason;
-use tfpg_graph::read;
+use tfpg_graph::Graph;
+use tfpg_log::Log;
 
 /// Two silences, an alarm, and a sweep after it.
 const SILENCES: [&[u8]; 4] = [b"5 silent A", b"7 sweep", b"30 alarm A", b"40 sweep"];
 
+/// A name, a reason, and what it states.
+type Row = (&'static str, Reason, Result<Constraint, NotAFact>);
+
 /// What reasons state of the set of F1, which reaches all nodes but F2, at a log with silences and an alarm.
-const FACTS: [(&str, Reason, Result<Constraint, NotAFact>); 18] = [
+const FACTS: [Row; 18] = [
     (
         "no time before 0",
         Reason::Zero { node: 2 },
@@ -140,13 +146,25 @@ const FACTS: [(&str, Reason, Result<Constraint, NotAFact>); 18] = [
     ),
 ];
 
-#[test]
-fn reasons_state_facts(rt: HostRuntime) -> Result<(), Fail> {
-    let graph = read(rt.alloc(), GRAPH)?;
-    let log = log_of(rt.alloc(), &graph, &SILENCES)?;
-    let reach = reach_of_first(&graph)?;
-    for (row, reason, expected) in &FACTS {
-        assert_eq!(rt; fact(&graph, &log, &reach, *reason), *expected, "{row}");
+/// Compares what the reason of each row states of the set of the first failure mode.
+fn compare(graph: &Graph, log: &Log, rows: &[Row]) -> Result<(), Fail>
+    requires { IsLogOf graph.now log.now }
+{
+    let reach = reach_of_first(graph)?;
+    for (name, reason, expected) in rows {
+        if fact(graph, log, &reach, *reason) != *expected {
+            return Err(Fail::new(*name));
+        }
     }
     Ok(())
+}
+
+#[test]
+fn reasons_state_facts(rt: HostRuntime) -> Result<(), Fail> {
+    on_log(
+        rt.alloc(),
+        GRAPH,
+        &SILENCES,
+        |graph, log| compare(graph, log, &FACTS),
+    )
 }

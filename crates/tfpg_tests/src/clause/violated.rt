@@ -1,16 +1,19 @@
 //! Which clause some times violate first.
 
 use super::{CUT, GRAPH, ONE_SPAN};
-use crate::given::log_of;
+use crate::given::on_log;
 use std::test::Fail;
 use tfpg_base::NEVER;
 use tfpg_clause::violated;
 use tfpg_evidence::ClauseName;
-use tfpg_graph::{Graph, read};
+use tfpg_graph::Graph;
 use tfpg_log::Log;
 
-/// Times of F1, F2, A, B and C, and the first clause that they violate at a log of one span. A node with 31 is not active.
-const VIOLATED_IN_ONE_SPAN: [(&str, [u64; 5], Option<ClauseName>); 4] = [
+/// A name, times of F1, F2, A, B and C, and the first clause that they violate.
+type Row = (&'static str, [u64; 5], Option<ClauseName>);
+
+/// At a log of one span. A node with 31 is not active.
+const VIOLATED_IN_ONE_SPAN: [Row; 4] = [
     (
         "F1 is due at A by 25",
         [5, 31, 30, 31, 31],
@@ -34,7 +37,7 @@ const VIOLATED_IN_ONE_SPAN: [(&str, [u64; 5], Option<ClauseName>); 4] = [
 ];
 
 /// The same at a log with cuts. A node with 41 is not active.
-const VIOLATED_WITH_CUTS: [(&str, [u64; 5], Option<ClauseName>); 7] = [
+const VIOLATED_WITH_CUTS: [Row; 7] = [
     (
         "A in a span in which F2 does not reach it",
         [41, 18, 23, 41, 41],
@@ -92,24 +95,29 @@ fn first_violated(graph: &Graph, log: &Log, times: &[u64]) -> Option<Option<Clau
     None
 }
 
-#[test]
-fn times_violate_a_first_clause(rt: HostRuntime) -> Result<(), Fail> {
-    let graph = read(rt.alloc(), GRAPH)?;
-    let one_span = log_of(rt.alloc(), &graph, &ONE_SPAN)?;
-    for (row, times, expected) in &VIOLATED_IN_ONE_SPAN {
-        assert_eq!(rt;
-            first_violated(&graph, &one_span, times),
-            Some(*expected),
-            "{row}"
-        );
-    }
-    let cut = log_of(rt.alloc(), &graph, &CUT)?;
-    for (row, times, expected) in &VIOLATED_WITH_CUTS {
-        assert_eq!(rt;
-            first_violated(&graph, &cut, times),
-            Some(*expected),
-            "{row}"
-        );
+/// Compares the clause that the times of each row violate first.
+fn compare(graph: &Graph, log: &Log, rows: &[Row]) -> Result<(), Fail> {
+    for (name, times, expected) in rows {
+        if first_violated(graph, log, times) != Some(*expected) {
+            return Err(Fail::new(*name));
+        }
     }
     Ok(())
+}
+
+#[test]
+fn times_violate_a_first_clause(rt: HostRuntime) -> Result<(), Fail> {
+    on_log(rt.alloc(), GRAPH, &ONE_SPAN, |graph, log| {
+        compare(graph, log, &VIOLATED_IN_ONE_SPAN)
+    })
+}
+
+#[test]
+fn times_violate_a_first_clause_at_cuts(rt: HostRuntime) -> Result<(), Fail> {
+    on_log(
+        rt.alloc(),
+        GRAPH,
+        &CUT,
+        |graph, log| compare(graph, log, &VIOLATED_WITH_CUTS),
+    )
 }

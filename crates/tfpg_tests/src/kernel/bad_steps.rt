@@ -1,11 +1,15 @@
 //! Each cause of a bad step.
 
-use super::{LINES, MAY, Row, go_through, take_step};
-use crate::given::{ONE, log_of, reach_of_first};
+ghost use Rattle.tfpg_log.specs.Log.{IsLogOf};
+
+use super::{LINES, MAY, Row, checker_of, compare, go_through};
+use crate::given::{ONE, on_log};
+use std::alloc::Global;
 use std::test::Fail;
 use tfpg_evidence::{ClauseName, Reason, Step};
-use tfpg_graph::read;
-use tfpg_kernel::{BadStep, Checker, Taken};
+use tfpg_graph::Graph;
+use tfpg_kernel::{BadStep, Taken};
+use tfpg_log::Log;
 
 /// Steps that are bad in the first alternative of the first split, each with the first of its causes.
 const BAD: [Row; 13] = [
@@ -127,19 +131,33 @@ const BAD: [Row; 13] = [
     },
 ];
 
+/// Takes the bad steps in the first alternative of the first split.
+fn take_bad(alloc: Global, graph: &Graph, log: &Log) -> Result<(), Fail>
+    requires { IsLogOf graph.now log.now }
+{
+    let mut checker = checker_of(alloc, graph)?;
+    compare(
+        &mut checker,
+        graph,
+        log,
+        &Step::Split(MAY),
+        Taken::Partial,
+        "the first split",
+    )?;
+    let unknown = Taken::Bad(BadStep::NotReusable);
+    compare(
+        &mut checker,
+        graph,
+        log,
+        &Step::Again,
+        unknown,
+        "no subtree is reused",
+    )?;
+    go_through(alloc, &mut checker, graph, log, &BAD)
+}
+
 #[test]
 fn the_first_cause_of_a_bad_step_is_named(rt: HostRuntime) -> Result<(), Fail> {
-    let graph = read(rt.alloc(), ONE)?;
-    let log = log_of(rt.alloc(), &graph, &LINES)?;
-    let reach = reach_of_first(&graph)?;
-    let mut checker = Checker::new(rt.alloc(), reach);
-    assert_eq!(rt;
-        take_step(&mut checker, &graph, &log, &Step::Split(MAY))?,
-        Taken::Partial
-    );
-    assert_eq!(rt;
-        take_step(&mut checker, &graph, &log, &Step::Again)?,
-        Taken::Bad(BadStep::NotReusable)
-    );
-    go_through(&rt, rt.alloc(), &mut checker, &graph, &log, &BAD)
+    let alloc = rt.alloc();
+    on_log(alloc, ONE, &LINES, |graph, log| take_bad(alloc, graph, log))
 }

@@ -1,4 +1,4 @@
-use Rattle.std.proofs.Common.{◌≡◌, ℕ, zero, suc, ◌-◌, ◌<◌, ◌≤◌, length, take, get_or, List, ap, sym, subst, ◌∙◌, arith}
+use Rattle.std.proofs.Common.{false, ◌≡◌, ℕ, zero, suc, ◌-◌, ◌<◌, ◌≤◌, length, take, get_or, List, ap, sym, subst, ◌∙◌, arith}
 use Rattle.std.specs.Prelude.{IsSomeAnd}
 use Rattle.std.proofs.lemmas.Option.{slice_get-get_or}
 use Rattle.tfpg_evidence.specs.declared.clause_name.ClauseName.TheVariants.{OrMay}
@@ -10,7 +10,7 @@ use Rattle.tfpg_clause.proofs.path.unfinished.Goals as goal
 
 -- what the code reads past the end
 abbrev none : PathSplit
-none = record { name = OrMay 0 0 0; alternative = 0; alternatives = 0 }
+none = record { name = OrMay 0 0 0; alternative = 0; alternatives = 0; cited = false; reusable = false }
 
 one_less : (path : List PathSplit) (kept : ℕ) (d : PathSplit) → 0 < kept → kept ≤ length path → (get_or path (kept - 1) d).alternatives ≤ (get_or path (kept - 1) d).alternative
     → next_leaf path ≡ next_leaf (take kept path) → next_leaf path ≡ next_leaf (take (kept - 1) path)

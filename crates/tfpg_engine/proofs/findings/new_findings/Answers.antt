@@ -1,43 +1,80 @@
-use Rattle.std.proofs.Common.{◌<◌, length, ap, sym, subst, arith}
-use Rattle.tfpg_base.specs.Hypothesis.{Hypothesis, believing}
-use Rattle.tfpg_graph.specs.Graph.{AreFailures}
+use Rattle.std.proofs.Common.{◌<◌, length, get_or, refl, ap, sym, subst, arith, ◌∙◌}
+use Rattle.std.specs.Prelude.{All, IsTrue}
+use Rattle.tfpg_base.specs.Hypothesis.{Hypothesis}
+use Rattle.tfpg_graph.specs.Graph.{AreFailures, is_monitored}
 use Rattle.tfpg_base.proofs.lists.Elements.{All-at}
+use Rattle.tfpg_clause.specs.Case.{case_of}
 use Rattle.tfpg_engine.specs.inside.Inquiries.{inquiry_of}
+use Rattle.tfpg_engine.specs.inside.Slots.{CanGoOn}
 use Rattle.tfpg_engine.specs.inside.NewFindings.{AreFirstFindings}
-use Rattle.tfpg_engine.proofs.NewFindingIsRight.{none_found, found_by, slot_before}
+use Rattle.tfpg_engine.specs.inside.SlotWork.{IsLimitBySlots, AreSlotsWithin}
+use Rattle.tfpg_engine.proofs.FindingWork.{none_within, found_within}
+use Rattle.tfpg_engine.proofs.Ignoring.{same_ignoring, inquiry_ignoring}
+use Rattle.tfpg_engine.proofs.NewFindingIsRight.{none_found, found_by, found_ignoring, hypothesis_at, slot_before}
 use Rattle.tfpg_engine.proofs.findings.new_findings.Goals as goal
 
 pub loop-number-init : goal.loop-number-init
-loop-number-init g c =
-    subst (λ fs. AreFirstFindings (inquiry_of c.args.inquiry.now) c.args.table.now c.args.slots.now c.args.slots.now fs 0) (sym c.in_ok-findings.ensures.items)
-    (none_found (inquiry_of c.args.inquiry.now) c.args.table.now c.args.slots.now)
+loop-number-init g c = (
+  refl,
+  subst (λ fs. AreFirstFindings (inquiry_of c.args.inquiry.now c.args.log.now) c.args.table.now c.args.slots.now c.args.slots.now fs 0) (sym c.in_ok-findings.ensures.items)
+      (none_found (inquiry_of c.args.inquiry.now c.args.log.now) c.args.table.now c.args.slots.now),
+  subst (λ fs. AreSlotsWithin (inquiry_of c.args.inquiry.now c.args.log.now) c.args.table.now c.args.slots.now fs c.args.work.now c.args.work.now) (sym c.in_ok-findings.ensures.items)
+      (none_within (IsLimitBySlots (inquiry_of c.args.inquiry.now c.args.log.now) c.args.table.now c.args.slots.now) c.args.work.now),
+)
+
+pub new_finding-requires-clause-inquiry : goal.new_finding-requires-clause-inquiry
+new_finding-requires-clause-inquiry g c =
+    let at = hypothesis_at _ c.set.result c.doubts.result c.set.ensures c.doubts.ensures in
+    inquiry_ignoring (inquiry_of c.args.inquiry.now c.args.log.now) c.doubts.result c.ignore.new.self
+    (c.ignore.ensures ∙ same_ignoring c.loop-number.log c.args.log.now c.doubts.result c.loop-number.invariant.0)
+    (All-at (λ (hypothesis : Hypothesis). All (λ node. IsTrue (is_monitored c.args.inquiry.now.graph.now node)) hypothesis.doubts) c.args.table.now.hypotheses c.loop-number.number _ c.requires.table.doubts at) c.requires.inquiry
 
 pub new_finding-requires-clause-row : goal.new_finding-requires-clause-row
-new_finding-requires-clause-row g c = record {
-  members = All-at (λ (hypothesis : Hypothesis). AreFailures c.args.inquiry.now.graph.now hypothesis.set) c.args.table.now.hypotheses c.loop-number.number (believing c.set.result) c.requires.table.members c.set.ensures;
-  reach = c.requires.table.reached.exact c.loop-number.number (believing c.set.result) c.reach.result.now c.set.ensures c.reach.ensures;
-}
+new_finding-requires-clause-row g c =
+    let at = hypothesis_at _ c.set.result c.doubts.result c.set.ensures c.doubts.ensures in
+    record {
+      members = All-at (λ (hypothesis : Hypothesis). AreFailures c.args.inquiry.now.graph.now hypothesis.set) c.args.table.now.hypotheses c.loop-number.number _ c.requires.table.members at;
+      reach = c.requires.table.reached.exact c.loop-number.number _ c.reach.result.now at c.reach.ensures;
+    }
 
 pub new_finding-requires-clause-few : goal.new_finding-requires-clause-few
 new_finding-requires-clause-few g c =
-    omega (arith, ap length c.deref.ensures.value, c.loop-number.invariant.counted, c.loop-number-test.true, c.len-number-end.type_inv)
+    omega (arith, ap length c.deref.ensures.value, c.loop-number.invariant.1.counted, c.loop-number-test.true, c.len-number-end.type_inv)
 
 pub new_finding-requires-clause-goes_on : goal.new_finding-requires-clause-goes_on
 new_finding-requires-clause-goes_on g c =
     let within : c.loop-number.number < length c.args.table.now.hypotheses = omega (arith, c.loop-number-test.true, c.len-number-end.ensures.count) in
-    c.requires.go_on (record { number = c.loop-number.number; hypothesis = believing c.set.result; reach = c.reach.result.now }) _ (record { hypothesis = c.set.ensures; reach = c.reach.ensures })
-    (slot_before (inquiry_of c.args.inquiry.now) c.args.table.now c.args.slots.now c.loop-number.slots c.loop-number.findings.items c.loop-number.number c.loop-number.invariant
-    c.requires.one_each within c.index-slots-number.result)
+    let hypothesis : Hypothesis = record { set = c.set.result; doubts = c.doubts.result } in
+    let at = hypothesis_at _ c.set.result c.doubts.result c.set.ensures c.doubts.ensures in
+    let same = same_ignoring c.ignore.new.self c.args.log.now c.doubts.result (ap (λ l. l.events) c.ignore.ensures ∙ c.loop-number.invariant.0) in
+    subst (λ l. CanGoOn (case_of c.args.inquiry.now.graph.now l c.reach.result.now) hypothesis (get_or c.loop-number.slots c.loop-number.number c.index-slots-number.result)) (sym same)
+    (c.requires.go_on (record { number = c.loop-number.number; hypothesis = hypothesis; reach = c.reach.result.now }) _ (record { hypothesis = at; reach = c.reach.ensures })
+    (slot_before (inquiry_of c.args.inquiry.now c.args.log.now) c.args.table.now c.args.slots.now c.loop-number.slots c.loop-number.findings.items c.loop-number.number c.loop-number.invariant.1
+    c.requires.one_each within c.index-slots-number.result))
 
 pub loop-number-preserved : goal.loop-number-preserved
 loop-number-preserved g c =
     let within : c.loop-number.number < length c.args.table.now.hypotheses = omega (arith, c.loop-number-test.true, c.len-number-end.ensures.count) in
-    found_by (inquiry_of c.args.inquiry.now) c.args.table.now c.args.slots.now c.loop-number.slots c.loop-number.findings.items c.loop-number.number c.loop-number.invariant
-    c.requires.one_each within (believing c.set.result) c.reach.result.now c.index-slots-number.result c.new_finding.new.slot c.in_ok-finding.finding c.deref.result.now c.push.new.self.items
-    c.set.ensures c.reach.ensures c.deref.ensures.value c.in_ok-push.ensures.items c.in_ok-finding.ensures
+    let hypothesis : Hypothesis = record { set = c.set.result; doubts = c.doubts.result } in
+    let at = hypothesis_at _ c.set.result c.doubts.result c.set.ensures c.doubts.ensures in
+    let asked = inquiry_of c.args.inquiry.now c.args.log.now in
+    let is_new =
+    found_ignoring asked (record { number = c.loop-number.number; hypothesis = hypothesis; reach = c.reach.result.now }) c.ignore.new.self c.deref.result.now (get_or c.loop-number.slots c.loop-number.number c.index-slots-number.result)
+    c.new_finding.new.slot c.in_ok-finding.finding (c.ignore.ensures ∙ same_ignoring c.loop-number.log c.args.log.now c.doubts.result c.loop-number.invariant.0) c.in_ok-finding.ensures.found in (
+      ap (λ l. l.events) c.ignore.ensures ∙ c.loop-number.invariant.0,
+      found_by asked c.args.table.now c.args.slots.now c.loop-number.slots c.loop-number.findings.items c.loop-number.number c.loop-number.invariant.1
+          c.requires.one_each within hypothesis c.reach.result.now c.index-slots-number.result c.new_finding.new.slot c.in_ok-finding.finding c.deref.result.now c.push.new.self.items
+          at c.reach.ensures c.deref.ensures.value c.in_ok-push.ensures.items is_new,
+      found_within asked c.args.table.now c.args.slots.now c.loop-number.findings.items c.push.new.self.items hypothesis c.reach.result.now c.ignore.new.self
+          (get_or c.loop-number.slots c.loop-number.number c.index-slots-number.result) c.in_ok-finding.finding c.args.work.now c.loop-number.work c.new_finding.new.work c.loop-number.number
+          (c.ignore.ensures ∙ same_ignoring c.loop-number.log c.args.log.now c.doubts.result c.loop-number.invariant.0) (sym c.loop-number.invariant.1.counted) c.in_ok-push.ensures.items
+          (record { hypothesis = at; reach = c.reach.ensures })
+          (slot_before asked c.args.table.now c.args.slots.now c.loop-number.slots c.loop-number.findings.items c.loop-number.number c.loop-number.invariant.1 c.requires.one_each within c.index-slots-number.result)
+          c.loop-number.invariant.2 c.in_ok-finding.ensures.work,
+    )
 
 pub returns-clause-each : goal.returns-clause-each
 returns-clause-each g c = (
-  omega (arith, c.loop-number.invariant.counted, c.loop-number-test.false, c.loop-number.auto.number-end, c.len-number-end.ensures.count),
-  c.loop-number.invariant.each,
+  omega (arith, c.loop-number.invariant.1.counted, c.loop-number-test.false, c.loop-number.auto.number-end, c.len-number-end.ensures.count),
+  c.loop-number.invariant.1.each,
 )

@@ -15,8 +15,11 @@ use Rattle.tfpg_graph.specs.declared.kind.Kind.{Kind}
 use Rattle.tfpg_graph.specs.declared.kind.Lag.{Lag}
 use Rattle.tfpg_graph.specs.declared.kind.Kind.TheVariants.{Failure, Or, And}
 use Rattle.tfpg_graph.specs.declared.edge.Edge.{Edge}
+use Rattle.tfpg_graph.specs.declared.version.Version.{Version}
+use Rattle.tfpg_graph.specs.declared.version.Version.TheVariants.{One, Two}
+use Rattle.tfpg_graph.specs.Statements.{words_of_lag}
 use Rattle.tfpg_graph.specs.Graph.{Tfpg, Node, name_word}
-use Rattle.tfpg_graph.specs.Text.{header, mode_line, node_words, tmax_word, edge_line, modes_word, all_modes}
+use Rattle.tfpg_graph.specs.Text.{header, mode_line, lag_words, node_words, tmax_word, edge_line, modes_word, all_modes}
 use Rattle.tfpg_graph.specs.inside.writing.Written.{watch_words, modes_before, mode_names_before}
 use Rattle.tfpg_base.specs.declared.limits.TheConstants.{MAX_TIME}
 use Rattle.tfpg_graph.specs.Valid.{HasValidNumber, IsValidLag, IsValidEdge}
@@ -36,8 +39,9 @@ clean_number number small = decimal_lacks 10 number refl (omega arith)
 pub clean_words : (keyword : List ℕ) (words : List (List ℕ)) → HasNoLineEnd keyword → All HasNoLineEnd words → HasNoLineEnd (line_of (keyword ∷ words))
 clean_words keyword words own clean = All-join (λ byte. ends_line byte ≡ false) 32 (keyword ∷ words) refl (All-cons HasNoLineEnd keyword words own clean)
 
-pub clean_header : HasNoLineEnd header
-clean_header = clean_words (codes "tfpg") (codes "1" ∷ []) (clean_name (codes "tfpg") refl) (clean_one (codes "1") (number_lacks 10 (codes "1") refl refl))
+pub clean_header : (version : Version) → HasNoLineEnd (header version)
+clean_header One = clean_words (codes "tfpg") (codes "1" ∷ []) (clean_name (codes "tfpg") refl) (clean_one (codes "1") (number_lacks 10 (codes "1") refl refl))
+clean_header Two = clean_words (codes "tfpg") (codes "2" ∷ []) (clean_name (codes "tfpg") refl) (clean_one (codes "2") (number_lacks 10 (codes "2") refl refl))
 
 pub clean_end : HasNoLineEnd (codes "end")
 clean_end = clean_name (codes "end") refl
@@ -45,19 +49,26 @@ clean_end = clean_name (codes "end") refl
 pub clean_mode : (name : List ℕ) → IsTrue (is_name name) → HasNoLineEnd (mode_line name)
 clean_mode name named = clean_words (codes "mode") (name ∷ []) (clean_name (codes "mode") refl) (clean_one name (clean_name name named))
 
-clean_watch : (lag : Option Lag) → IfSome lag IsValidLag → All HasNoLineEnd (watch_words lag)
-clean_watch None small = clean_one (codes "hidden") (clean_name (codes "hidden") refl)
-clean_watch (Some lag) small =
-    All-cons HasNoLineEnd (codes "watch") (decimal lag.most ∷ []) (clean_name (codes "watch") refl) (clean_one (decimal lag.most) (clean_number lag.most small.most))
+clean_lag : (version : Version) (lag : Lag) → IsValidLag lag → All HasNoLineEnd (words_of_lag version (lag_words lag))
+clean_lag One lag small = clean_one (decimal lag.most) (clean_number lag.most small.most)
+clean_lag Two lag small =
+    All-cons HasNoLineEnd (decimal lag.least) (decimal lag.most ∷ []) (clean_number lag.least (omega (arith, small.in_order, small.most)))
+    (clean_one (decimal lag.most) (clean_number lag.most small.most))
 
-pub clean_node : (name : List ℕ) (kind : Kind) → IsTrue (is_name name) → HasValidNumber kind → HasNoLineEnd (line_of (node_words name kind))
-clean_node name (Failure rarity) named small =
+clean_watch : (version : Version) (lag : Option Lag) → IfSome lag IsValidLag → All HasNoLineEnd (watch_words version lag)
+clean_watch version None small = clean_one (codes "hidden") (clean_name (codes "hidden") refl)
+clean_watch version (Some lag) small =
+    All-cons HasNoLineEnd (codes "watch") (words_of_lag version (lag_words lag)) (clean_name (codes "watch") refl) (clean_lag version lag small)
+
+pub clean_node : (version : Version) (name : List ℕ) (kind : Kind) → IsTrue (is_name name) → HasValidNumber kind
+    → HasNoLineEnd (line_of (node_words version name kind))
+clean_node version name (Failure rarity) named small =
     clean_words (codes "failure") (name ∷ decimal rarity ∷ []) (clean_name (codes "failure") refl)
     (All-cons HasNoLineEnd name (decimal rarity ∷ []) (clean_name name named) (clean_one (decimal rarity) (clean_number rarity (omega arith))))
-clean_node name (Or lag) named small =
-    clean_words (codes "or") (name ∷ watch_words lag) (clean_name (codes "or") refl) (All-cons HasNoLineEnd name (watch_words lag) (clean_name name named) (clean_watch lag small))
-clean_node name (And lag) named small =
-    clean_words (codes "and") (name ∷ watch_words lag) (clean_name (codes "and") refl) (All-cons HasNoLineEnd name (watch_words lag) (clean_name name named) (clean_watch lag small))
+clean_node version name (Or lag) named small =
+    clean_words (codes "or") (name ∷ watch_words version lag) (clean_name (codes "or") refl) (All-cons HasNoLineEnd name (watch_words version lag) (clean_name name named) (clean_watch version lag small))
+clean_node version name (And lag) named small =
+    clean_words (codes "and") (name ∷ watch_words version lag) (clean_name (codes "and") refl) (All-cons HasNoLineEnd name (watch_words version lag) (clean_name name named) (clean_watch version lag small))
 
 clean_name_in : (nodes : List Node) (node : ℕ) → All (λ n. IsTrue (is_name n.name)) nodes → HasNoLineEnd (unwrap_or (option_map (λ n. n.name) (slice_get nodes node)) [])
 clean_name_in [] node named = All-nil (λ byte. eqb byte 10 ≡ false)

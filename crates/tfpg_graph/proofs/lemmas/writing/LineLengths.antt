@@ -13,26 +13,42 @@ use Rattle.tfpg_graph.specs.declared.kind.Kind.{Kind}
 use Rattle.tfpg_graph.specs.declared.kind.Lag.{Lag}
 use Rattle.tfpg_graph.specs.declared.kind.Kind.TheVariants.{Failure, Or, And}
 use Rattle.tfpg_graph.specs.declared.edge.Edge.{Edge}
+use Rattle.tfpg_graph.specs.declared.version.Version.{Version}
+use Rattle.tfpg_graph.specs.declared.version.Version.TheVariants.{One, Two}
 use Rattle.tfpg_graph.specs.declared.limits.TheConstants.{MAX_MODES}
 use Rattle.tfpg_graph.specs.Graph.{Tfpg, Node, name_word}
-use Rattle.tfpg_graph.specs.Text.{mode_line, node_words, tmax_word, edge_line, modes_word, all_modes}
+use Rattle.tfpg_graph.specs.Text.{header, mode_line, node_words, tmax_word, edge_line, modes_word, all_modes}
 use Rattle.tfpg_graph.specs.inside.writing.Written.{watch_words, modes_before, mode_names_before}
 use Rattle.tfpg_graph.specs.Valid.{HasValidNumber, IsValidLag, IsValidEdge}
 use Rattle.tfpg_graph.proofs.lemmas.writing.ModeBits.{modes_before-few}
 use Rattle.tfpg_base.proofs.lists.Passing.{length-filter_map, All-filter_map-slice_get}
 use Rattle.tfpg_base.proofs.lists.Joined.{length-join}
 
+pub short_header : (version : Version) → length (header version) ≤ LONGEST_LINE
+short_header One = omega arith
+short_header Two = omega arith
+
 pub short_mode : (name : List ℕ) → IsTrue (is_name name) → length (mode_line name) ≤ LONGEST_LINE
 short_mode name named = omega (arith, name_short name named)
 
-short_watch : (name : List ℕ) (lag : Option Lag) → length name ≤ LONGEST_NAME → IfSome lag IsValidLag → length (line_of (name ∷ watch_words lag)) ≤ 100
-short_watch name None named small = omega (arith, length-append name (32 ∷ codes "hidden"))
-short_watch name (Some lag) named small = omega (arith, length-append name (32 ∷ codes "watch" ++ 32 ∷ decimal lag.most), number_short lag.most small.most)
+short_watch : (version : Version) (name : List ℕ) (lag : Option Lag) → length name ≤ LONGEST_NAME → IfSome lag IsValidLag
+    → length (line_of (name ∷ watch_words version lag)) ≤ 100
+short_watch version name None named small = omega (arith, length-append name (32 ∷ codes "hidden"))
+short_watch One name (Some lag) named small = omega (arith, length-append name (32 ∷ codes "watch" ++ 32 ∷ decimal lag.most), number_short lag.most small.most)
+short_watch Two name (Some lag) named small =
+    omega (
+      arith,
+      length-append name (32 ∷ codes "watch" ++ 32 ∷ (decimal lag.least ++ 32 ∷ decimal lag.most)),
+      length-append (decimal lag.least) (32 ∷ decimal lag.most),
+      number_short lag.least (omega (arith, small.in_order, small.most)),
+      number_short lag.most small.most,
+    )
 
-pub short_node : (name : List ℕ) (kind : Kind) → IsTrue (is_name name) → HasValidNumber kind → length (line_of (node_words name kind)) ≤ LONGEST_LINE
-short_node name (Failure rarity) named small = omega (arith, name_short name named, length-append name (32 ∷ decimal rarity), number_short rarity (omega arith))
-short_node name (Or lag) named small = omega (arith, short_watch name lag (name_short name named) small)
-short_node name (And lag) named small = omega (arith, short_watch name lag (name_short name named) small)
+pub short_node : (version : Version) (name : List ℕ) (kind : Kind) → IsTrue (is_name name) → HasValidNumber kind
+    → length (line_of (node_words version name kind)) ≤ LONGEST_LINE
+short_node version name (Failure rarity) named small = omega (arith, name_short name named, length-append name (32 ∷ decimal rarity), number_short rarity (omega arith))
+short_node version name (Or lag) named small = omega (arith, short_watch version name lag (name_short name named) small)
+short_node version name (And lag) named small = omega (arith, short_watch version name lag (name_short name named) small)
 
 short_name_in : (nodes : List Node) (node : ℕ) → All (λ n. IsTrue (is_name n.name)) nodes → length (unwrap_or (option_map (λ n. n.name) (slice_get nodes node)) []) ≤ LONGEST_NAME
 short_name_in [] node named = omega arith

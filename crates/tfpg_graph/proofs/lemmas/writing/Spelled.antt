@@ -12,12 +12,14 @@ use Rattle.tfpg_base.proofs.lists.Zipped.{AllZip-map}
 use Rattle.tfpg_graph.specs.declared.kind.Kind.{Kind}
 use Rattle.tfpg_graph.specs.declared.kind.Kind.TheVariants.{Failure, Or, And}
 use Rattle.tfpg_graph.specs.Graph.{Tfpg}
-use Rattle.tfpg_graph.specs.Text.{header, mode_line, node_words, node_line, edge_line, modes_word, all_modes, SpellsModes, SpellsEdge, Spells, content_lines, canonical_lines, canonical_text}
+use Rattle.tfpg_graph.specs.declared.version.Version.{Version}
+use Rattle.tfpg_graph.specs.Text.{header, version_for, mode_line, node_words, node_line, edge_line, modes_word, all_modes, SpellsModes, SpellsEdge, Spells, content_lines, canonical_lines, canonical_text}
 use Rattle.tfpg_graph.specs.Statements.{is_empty_or_comment}
 use Rattle.tfpg_graph.specs.Valid.{IsValid, IsValidEdge}
 use Rattle.tfpg_graph.specs.inside.writing.Written.{modes_before, mode_names_before}
 use Rattle.tfpg_graph.proofs.lemmas.writing.ModeBits.{worth-all, modes_before-some, modes_before-within, modes_before-differ}
-use Rattle.tfpg_graph.proofs.lemmas.writing.LineLengths.{short_mode, short_node, short_modes, short_edge}
+use Rattle.tfpg_graph.proofs.lemmas.writing.LineLengths.{short_header, short_mode, short_node, short_modes, short_edge}
+use Rattle.tfpg_graph.proofs.lemmas.writing.WrittenVersion.{can_spell}
 use Rattle.tfpg_graph.proofs.lemmas.writing.CleanLines.{clean_header, clean_mode, clean_node, clean_edge, clean_end}
 
 -- the canonical word for some of the graph's modes spells them
@@ -31,10 +33,10 @@ SpellsModes-modes_word graph bits some own = by (bits == all_modes graph) refl
         let end : ℕ = length graph.modes in
         inr (modes_before bits end, modes_before-some bits end some own, modes_before-differ bits end, modes_before-within bits end, refl, worth-all bits end own)
 
-is_content-node : (name : List ℕ) (kind : Kind) → not (is_empty_or_comment (line_of (node_words name kind))) ≡ true
-is_content-node name (Failure rarity) = refl
-is_content-node name (Or lag) = refl
-is_content-node name (And lag) = refl
+is_content-node : (version : Version) (name : List ℕ) (kind : Kind) → not (is_empty_or_comment (line_of (node_words version name kind))) ≡ true
+is_content-node version name (Failure rarity) = refl
+is_content-node version name (Or lag) = refl
+is_content-node version name (And lag) = refl
 
 -- the lines of the edges
 abbrev edge_lines_of : Tfpg → List (List ℕ)
@@ -42,30 +44,30 @@ edge_lines_of graph = map (λ edge. edge_line graph edge (modes_word graph edge.
 
 -- the lines after the header
 abbrev lines_after : Tfpg → List (List ℕ)
-lines_after graph = map mode_line graph.modes ++ map node_line graph.nodes ++ edge_lines_of graph ++ codes "end" ∷ []
+lines_after graph = map mode_line graph.modes ++ map (node_line (version_for graph)) graph.nodes ++ edge_lines_of graph ++ codes "end" ∷ []
 
 -- what holds of each of these lines
-All-after : (P : List ℕ → Type 0) (graph : Tfpg) → All (λ mode. P (mode_line mode)) graph.modes → All (λ node. P (node_line node)) graph.nodes
+All-after : (P : List ℕ → Type 0) (graph : Tfpg) → All (λ mode. P (mode_line mode)) graph.modes → All (λ node. P (node_line (version_for graph) node)) graph.nodes
     → All (λ edge. P (edge_line graph edge (modes_word graph edge.modes))) graph.edges → P (codes "end") → All P (lines_after graph)
 All-after P graph modes nodes edges end =
-    All-append P (map mode_line graph.modes ++ map node_line graph.nodes ++ edge_lines_of graph) (codes "end" ∷ [])
-    (All-append P (map mode_line graph.modes ++ map node_line graph.nodes) (edge_lines_of graph)
-    (All-append P (map mode_line graph.modes) (map node_line graph.nodes) (All-map P mode_line graph.modes modes) (All-map P node_line graph.nodes nodes))
+    All-append P (map mode_line graph.modes ++ map (node_line (version_for graph)) graph.nodes ++ edge_lines_of graph) (codes "end" ∷ [])
+    (All-append P (map mode_line graph.modes ++ map (node_line (version_for graph)) graph.nodes) (edge_lines_of graph)
+    (All-append P (map mode_line graph.modes) (map (node_line (version_for graph)) graph.nodes) (All-map P mode_line graph.modes modes) (All-map P (node_line (version_for graph)) graph.nodes nodes))
     (All-map P (λ edge. edge_line graph edge (modes_word graph edge.modes)) graph.edges edges))
     (All-cons P (codes "end") [] end (All-nil P))
 
 -- none of them is skipped
 content_lines-after : (graph : Tfpg) → content_lines (lines_after graph) ≡ lines_after graph
 content_lines-after graph = filter-all (λ line. not (is_empty_or_comment line)) (lines_after graph)
-    (All-after (λ line. not (is_empty_or_comment line) ≡ true) graph (λ k d within. refl) (λ k d within. is_content-node _ _) (λ k d within. refl) refl)
+    (All-after (λ line. not (is_empty_or_comment line) ≡ true) graph (λ k d within. refl) (λ k d within. is_content-node _ _ _) (λ k d within. refl) refl)
 
 module _ (graph : Tfpg) (valid : IsValid graph) where
   -- no line is too long
   short : All (λ line. length line ≤ LONGEST_LINE) (canonical_lines graph)
-  short = All-cons (λ line. length line ≤ LONGEST_LINE) header (lines_after graph) (omega arith)
+  short = All-cons (λ line. length line ≤ LONGEST_LINE) (header (version_for graph)) (lines_after graph) (short_header (version_for graph))
       (All-after (λ line. length line ≤ LONGEST_LINE) graph
       (All-weaker (λ mode. IsTrue (is_name mode)) (λ mode. length (mode_line mode) ≤ LONGEST_LINE) short_mode graph.modes valid.so_far.mode_names)
-      (λ k d within. short_node _ _ (valid.so_far.node_names k d within) (valid.so_far.node_numbers k d within))
+      (λ k d within. short_node _ _ _ (valid.so_far.node_names k d within) (valid.so_far.node_numbers k d within))
       (All-weaker (IsValidEdge graph) (λ edge. length (edge_line graph edge (modes_word graph edge.modes)) ≤ LONGEST_LINE)
       (λ edge own. short_edge graph edge (modes_word graph edge.modes) valid.so_far.node_names own (short_modes graph edge.modes valid.so_far.mode_names valid.so_far.few_modes))
       graph.edges valid.so_far.edges)
@@ -73,10 +75,10 @@ module _ (graph : Tfpg) (valid : IsValid graph) where
 
   -- none has a line end in it
   clean : All HasNoLineEnd (canonical_lines graph)
-  clean = All-cons HasNoLineEnd header (lines_after graph) clean_header
+  clean = All-cons HasNoLineEnd (header (version_for graph)) (lines_after graph) (clean_header (version_for graph))
       (All-after HasNoLineEnd graph
       (All-weaker (λ mode. IsTrue (is_name mode)) (λ mode. HasNoLineEnd (mode_line mode)) clean_mode graph.modes valid.so_far.mode_names)
-      (λ k d within. clean_node _ _ (valid.so_far.node_names k d within) (valid.so_far.node_numbers k d within))
+      (λ k d within. clean_node _ _ _ (valid.so_far.node_names k d within) (valid.so_far.node_numbers k d within))
       (All-weaker (IsValidEdge graph) (λ edge. HasNoLineEnd (edge_line graph edge (modes_word graph edge.modes)))
       (λ edge own. clean_edge graph edge valid.so_far.node_names valid.so_far.mode_names own) graph.edges valid.so_far.edges)
       clean_end)
@@ -90,9 +92,10 @@ module _ (graph : Tfpg) (valid : IsValid graph) where
   -- a text whose lines are the canonical ones spells the graph
   pub Spells-lines : (text : List ℕ) → lines_of text ≡ canonical_lines graph → Spells text graph
   Spells-lines text lines = record {
+    version = version_for graph;
     after = lines_after graph;
     lines = lines;
-    said = record { edge_lines = edge_lines_of graph; edges = spelled_edges; all = content_lines-after graph };
+    said = record { edge_lines = edge_lines_of graph; edges = spelled_edges; all = content_lines-after graph; kinds = can_spell graph };
     short = All-same (λ line. length line ≤ LONGEST_LINE) (lines_of text) (canonical_lines graph) lines short;
   }
 

@@ -10,8 +10,8 @@ returns-in_err-append_node c = Appends-err_after _ _ _ _ _ _ c.from_residual.ens
 
 pub loop-node-preserved : goal.loop-node-preserved
 loop-node-preserved c =
-    appended_next node_text c.args.graph.now.nodes c.loop-node.node _ _ _ _
+    appended_next (node_text c.args.version) c.args.graph.now.nodes c.loop-node.node _ _ _ _
     (node_at c.args.graph.now c.loop-node.node _ _ c.name.ensures.at c.kind.ensures) c.loop-node.invariant c.in_ok-append_node.ensures
 
 pub returns : goal.returns
-returns c = appended_all node_text c.args.graph.now.nodes c.loop-node.node _ _ (omega arith) c.loop-node.invariant
+returns c = appended_all (node_text c.args.version) c.args.graph.now.nodes c.loop-node.node _ _ (omega arith) c.loop-node.invariant

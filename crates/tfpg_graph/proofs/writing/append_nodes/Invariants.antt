@@ -5,4 +5,4 @@ use Rattle.tfpg_graph.proofs.writing.append_nodes.Given as goal
 
 -- the lines of the nodes so far stand after the old bytes
 abbrev pub invariant-loop-node : goal.invariant-loop-node
-invariant-loop-node l = l.into.items ≡ l.fn.into.items ++ flat_map node_text (take l.node l.graph.nodes)
+invariant-loop-node l = l.into.items ≡ l.fn.into.items ++ flat_map (node_text l.version) (take l.node l.graph.nodes)

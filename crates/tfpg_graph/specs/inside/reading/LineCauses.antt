@@ -8,15 +8,36 @@ use Rattle.tfpg_base.specs.Set.{with_member}
 use Rattle.tfpg_graph.specs.declared.cause.GraphCause.{GraphCause}
 use Rattle.tfpg_graph.specs.declared.cause.GraphCause.TheVariants.{BadLine, BadName, DuplicateName, UnknownName, BadNumber, NumberTooLarge, MinOverMax, EdgeIntoFailure, SelfEdge, DuplicateEdge, NoModes, TooManyNodes, TooManyFailures, TooManyEdges, TooManyModes, TooManyIncoming}
 use Rattle.tfpg_graph.specs.Graph.{Tfpg, failures}
+use Rattle.tfpg_base.specs.declared.limits.TheConstants.{MAX_TIME}
 use Rattle.tfpg_graph.specs.declared.limits.TheConstants.{MAX_FAILURES}
-use Rattle.tfpg_graph.specs.Statements.{Statement, OrWords, DeclaresNode, DeclaresEdge}
-use Rattle.tfpg_graph.specs.Causes.{has_bad_name, has_duplicate_name, has_unknown_name, has_bad_number, has_large_number, has_min_over_max, enters_failure, is_self_edge, is_second_edge, names_no_mode, lacks_node_room, lacks_failure_room, lacks_edge_room, lacks_mode_room, lacks_incoming_room}
+use Rattle.tfpg_graph.specs.Statements.{Statement, NodeWords, OrWords, DeclaresNode, DeclaresEdge}
+use Rattle.tfpg_graph.specs.Causes.{is_over, has_bad_name, has_duplicate_name, has_unknown_name, has_bad_number, has_large_number, has_min_over_max, enters_failure, is_self_edge, is_second_edge, names_no_mode, lacks_node_room, lacks_failure_room, lacks_edge_room, lacks_mode_room, lacks_incoming_room}
 
 -- the tests of words in the place of numbers, each with the greatest that it may be
 abbrev pub number_causes : List (List ℕ × ℕ) → List (Option GraphCause)
 number_causes numbers =
     then_some (not (list_all (λ number. is_number number.0) numbers)) BadNumber
     ∷ then_some (list_any (λ number. nat_lt number.1 (digits_value 10 number.0)) numbers) NumberTooLarge
+    ∷ []
+
+-- the tests of the words for a least and a greatest time
+abbrev pub range_causes : List ℕ → List ℕ → List (Option GraphCause)
+range_causes least greatest =
+    then_some (not (list_all is_number (least ∷ greatest ∷ []))) BadNumber
+    ∷ then_some (list_any (λ word. nat_lt MAX_TIME (digits_value 10 word)) (least ∷ greatest ∷ [])) NumberTooLarge
+    ∷ then_some (is_over least greatest) MinOverMax
+    ∷ []
+
+-- a line that declares a node of these words, whatever its name
+abbrev pub node_of_words : NodeWords → Statement
+node_of_words words = DeclaresNode [] words
+
+-- the tests of a node's numbers
+abbrev pub node_number_causes : NodeWords → List (Option GraphCause)
+node_number_causes words =
+    then_some (has_bad_number (node_of_words words)) BadNumber
+    ∷ then_some (has_large_number (node_of_words words)) NumberTooLarge
+    ∷ then_some (has_min_over_max (node_of_words words)) MinOverMax
     ∷ []
 
 -- a line that declares a node of this name, whatever else it says of it
@@ -43,8 +64,7 @@ node_name_causes graph name =
 -- the tests of whether there is room for a node of this kind
 abbrev pub node_room_causes : Tfpg → Bool → List (Option GraphCause)
 node_room_causes graph failure =
-    then_some false MinOverMax
-    ∷ then_some false EdgeIntoFailure
+    then_some false EdgeIntoFailure
     ∷ then_some false SelfEdge
     ∷ then_some false DuplicateEdge
     ∷ then_some false NoModes

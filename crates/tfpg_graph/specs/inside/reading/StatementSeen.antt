@@ -1,8 +1,8 @@
 -- What the code reads of a line, seen as the definition of causes says it.
-use Rattle.std.specs.Prelude.{ℕ, List, Bool, Option, Some, None}
-use Rattle.std.specs.Borrow.{Bor}
+use Rattle.std.specs.Prelude.{Bool, Option, Some, None}
 use Rattle.tfpg_graph.specs.declared.reading.statement.Statement.{Statement}
 use Rattle.tfpg_graph.specs.declared.reading.statement.Statement.TheVariants as code
+use Rattle.tfpg_graph.specs.declared.reading.statement.LagWords.{LagWords}
 use Rattle.tfpg_graph.specs.declared.reading.statement.NodeWords.{NodeWords}
 use Rattle.tfpg_graph.specs.declared.reading.statement.NodeWords.TheVariants as words
 use Rattle.tfpg_graph.specs.declared.reading.statement.EdgeWords.{EdgeWords}
@@ -11,16 +11,16 @@ use Rattle.tfpg_graph.specs.declared.reading.find_line.Declaring.TheVariants as 
 use Rattle.tfpg_graph.specs.Statements.{FailureWords, OrWords, AndWords, DeclaresMode, DeclaresNode, DeclaresEdge, Ends, declares_node, declares_edge}
 use Rattle.tfpg_graph.specs.Statements as definition
 
--- a word that may be absent
-abbrev pub word_seen : Option (Bor (List ℕ)) → Option (List ℕ)
-word_seen None = None
-word_seen (Some word) = Some word.now
+-- the words for a lag, where there are any
+abbrev pub lag_seen : Option LagWords → Option definition.LagWords
+lag_seen None = None
+lag_seen (Some lag) = Some (record { least = lag.least.now; most = lag.most.now })
 
 -- the words that say what a node is
 abbrev pub node_words_of : NodeWords → definition.NodeWords
 node_words_of (words.Failure rarity) = FailureWords rarity.now
-node_words_of (words.Or lag) = OrWords (word_seen lag)
-node_words_of (words.And lag) = AndWords (word_seen lag)
+node_words_of (words.Or lag) = OrWords (lag_seen lag)
+node_words_of (words.And lag) = AndWords (lag_seen lag)
 
 -- the words of an edge's line
 abbrev pub edge_said : EdgeWords → definition.Statement

@@ -4,17 +4,18 @@ use Rattle.std.specs.List.{range_with_len}
 use Rattle.tfpg_base.specs.Lines.{with_line_end}
 use Rattle.tfpg_graph.specs.declared.kind.Lag.{Lag}
 use Rattle.tfpg_graph.specs.declared.edge.Edge.{Edge}
+use Rattle.tfpg_graph.specs.declared.version.Version.{Version}
 use Rattle.tfpg_graph.specs.Graph.{Tfpg, has_mode_bit}
 use Rattle.tfpg_graph.specs.Statements.{words_of_watch}
-use Rattle.tfpg_graph.specs.Text.{lag_word, mode_line, edge_line, modes_word}
+use Rattle.tfpg_graph.specs.Text.{lag_words, mode_line, edge_line, modes_word}
 
 -- the line of a mode, with its line end
 abbrev pub mode_text : List ℕ → List ℕ
 mode_text name = with_line_end (mode_line name)
 
 -- a discrepancy's last words, by its lag
-abbrev pub watch_words : Option Lag → List (List ℕ)
-watch_words lag = words_of_watch (option_map lag_word lag)
+abbrev pub watch_words : Version → Option Lag → List (List ℕ)
+watch_words version lag = words_of_watch version (option_map lag_words lag)
 
 -- the line of an edge, with its line end
 abbrev pub edge_text : Tfpg → Edge → List ℕ

@@ -1,4 +1,4 @@
-use Rattle.std.proofs.Common.{arith, sym, ◌∙◌}
+use Rattle.std.proofs.Common.{◌+◌, ◌*◌, arith, sym, ◌∙◌}
 use Rattle.std.proofs.lemmas.Bool.{false≢true}
 use Rattle.tfpg_hyp.proofs.Ranks.{cost-none, cost-with, cost-without, cost-all}
 use Rattle.tfpg_hyp.proofs.ranking.cost.Goals as goal
@@ -22,5 +22,7 @@ loop-position-preserved c =
     ]
 
 pub returns : goal.returns
-returns c = cost-all c.args.graph.now c.args.set c.loop-position.position c.loop-position.cost
-    (λ k d within. omega (arith, c.requires k d within, c.failure_count-position-end.ensures, c.loop-position-test.false)) c.loop-position.invariant.0
+returns c =
+    let worth = cost-all c.args.graph.now c.args.set c.loop-position.position c.loop-position.cost
+    (λ k d within. omega (arith, c.requires k d within, c.failure_count-position-end.ensures, c.loop-position-test.false)) c.loop-position.invariant.0 in
+    λ i. worth i + 1000 * (c.from.ensures ∙ c.len.ensures.count) i

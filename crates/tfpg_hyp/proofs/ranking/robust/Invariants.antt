@@ -4,4 +4,4 @@ use Rattle.tfpg_hyp.proofs.Ranks.{AreCounted}
 use Rattle.tfpg_hyp.proofs.ranking.robust.Given as goal
 
 abbrev pub invariant-loop-node : goal.invariant-loop-node
-invariant-loop-node l = AreCounted l.graph l.log (below l.node l.reach) l.alarmed l.monitored × (l.alarmed ≤ l.monitored) × (l.monitored ≤ l.node)
+invariant-loop-node l = AreCounted l.graph l.log l.fn.doubts (below l.node l.reach) l.alarmed l.monitored × (l.alarmed ≤ l.monitored) × (l.monitored ≤ l.node)

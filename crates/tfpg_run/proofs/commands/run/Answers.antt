@@ -1,7 +1,9 @@
+use Rattle.std.proofs.Common.{sym, ◌∙◌}
 use Rattle.std.specs.Prelude.{map, string_bytes}
 use Rattle.tfpg_words.specs.Meaning.{meaning}
 use Rattle.tfpg_words.specs.Plans.{meaning_of}
 use Rattle.tfpg_run.specs.World.{world}
+use Rattle.tfpg_run.proofs.Stops.{runs_within}
 use Rattle.tfpg_run.proofs.Completing.{by_work, run_completes}
 use Rattle.tfpg_run.proofs.commands.run.Goals as goal
 
@@ -13,3 +15,9 @@ returns-in-Ok-clause-completes g c meant e can calm =
     run_completes c.a_text_has_at_most_one_first_fault.ensures.none before now calm words meant c.end_of.result e can
     (by_work words (meaning_of c.in-Ok.planned.command) before now c.perform.result c.end_of.result
     c.in-Ok.ensures c.end_of.ensures c.perform.ensures.done c.perform.ensures.stopped)
+
+pub returns-in-Ok-clause-work : goal.returns-in-Ok-clause-work
+returns-in-Ok-clause-work g c meant e done =
+    let before = world (g.F.Shelf.state c.args.shelf.now) (g.S.Source.state c.args.input.now) (g.K.Sink.state c.args.out.now) in
+    let now = world (g.F.Shelf.state c.perform.new.shelf) (g.S.Source.state c.perform.new.input) (g.K.Sink.state c.perform.new.out) in
+    runs_within meant (meaning_of c.in-Ok.planned.command) before now c.args.work.now c.perform.new.work (sym e ∙ c.in-Ok.ensures) (c.perform.ensures.work (sym c.end_of.ensures ∙ done))

@@ -1,4 +1,4 @@
-use Rattle.tfpg_run.proofs.lemmas.diagnose.StaysRejected.{RefutationLaws, stays_rejected}
+use Rattle.tfpg_run.proofs.lemmas.diagnose.StaysRejected.{stays_rejected}
 use Rattle.tfpg_run.proofs.laws.a_rejected_set_stays_rejected.Goals as goal
 
 pub returns-clause-rejected : goal.returns-clause-rejected

@@ -17,7 +17,8 @@ use Rattle.tfpg_evidence.specs.declared.round.Round.{Round}
 use Rattle.tfpg_evidence.specs.RoundOf.{IsRoundOf}
 use Rattle.tfpg_hyp.specs.Rounds.{IsRound, HasNoneOpen}
 use Rattle.tfpg_hyp.specs.Fitting.{SayWhichSetsFit, AreStatusesOfMinimalSets}
-use Rattle.tfpg_engine.specs.EngineState.{EngineState, GivesRound, Brings}
+use Rattle.tfpg_engine.specs.EngineState.{EngineState, GivesRound, Brings, CountsCalls}
+use Rattle.tfpg_engine.specs.Work.{IsRoundLimit, IsRoundWithin}
 use Rattle.tfpg_engine.specs.declared.told.Told.{Told}
 use Rattle.tfpg_engine.specs.declared.told.Told.TheVariants as told
 use Rattle.tfpg_report.specs.declared.refused_line.RefusedLine.TheVariants.{TooLong, Offer}
@@ -25,19 +26,20 @@ use Rattle.tfpg_report.specs.Blocks.{RefusedBlock, RoundBlock, refused_text, rou
 use Rattle.tfpg_check.specs.Report.{Progress, IsBlockOf, event_of_line, event_of_reply}
 use Rattle.tfpg_check.proofs.Progressing.{progress_with}
 use Rattle.tfpg_run.specs.diagnose.RightReport.{RoundSays}
+use Rattle.tfpg_run.specs.diagnose.Work.{IsBlockWithin}
 use Rattle.tfpg_run.specs.inside.diagnose.LineBlocks.{EngineReports, HasBlock, numbered}
 
 -- what a line gives that is not too long
-short_line : (graph : Tfpg) (log : Logbook) (line : List ℕ) (reply : Offered) → length line ≤ LONGEST_LINE → reply_to graph log line ≡ reply → event_of_line graph log line ≡ event_of_reply reply
+pub short_line : (graph : Tfpg) (log : Logbook) (line : List ℕ) (reply : Offered) → length line ≤ LONGEST_LINE → reply_to graph log line ≡ reply → event_of_line graph log line ≡ event_of_reply reply
 short_line graph log line reply le e = let short : is_too_long line ≡ false = le-ltb _ _ le in rw (short, e) refl
 
-short_log : (graph : Tfpg) (log : Logbook) (line : List ℕ) → length line ≤ LONGEST_LINE → log_after graph log line ≡ log_after_reply log (reply_to graph log line)
+pub short_log : (graph : Tfpg) (log : Logbook) (line : List ℕ) → length line ≤ LONGEST_LINE → log_after graph log line ≡ log_after_reply log (reply_to graph log line)
 short_log graph log line le = let short : is_too_long line ≡ false = le-ltb _ _ le in rw short refl
 
 -- ---- from what is said of the engine to what is said of the report
 
 -- what holds of an engine's graph, numbers and log holds of those of the report
-along : (P : Tfpg → Terms → Logbook → Type 0) (g graph : Tfpg) (other terms : Terms) (l log : Logbook) → g ≡ graph → other ≡ terms → l ≡ log → P g other l → P graph terms log
+pub along : (P : Tfpg → Terms → Logbook → Type 0) (g graph : Tfpg) (other terms : Terms) (l log : Logbook) → g ≡ graph → other ≡ terms → l ≡ log → P g other l → P graph terms log
 along P g graph other terms l log e f i holds =
     subst (P graph terms) i (subst₂ (λ (x : Tfpg) (y : Terms). P x y l) e f holds)
 
@@ -94,7 +96,7 @@ module _ (number : ℕ) (line : List ℕ) (rounds : List Round) (round : Round) 
 
 module _ (graph : Tfpg) (terms : Terms) (before : Progress) (number : ℕ) (line bytes : List ℕ) where
   -- the block of a line that is too long
-  pub block_of_long_line : (engine : EngineState) → LONGEST_LINE < length line → EngineReports graph terms engine before → bytes ≡ refused_text number TooLong
+  abbrev pub block_of_long_line : (engine : EngineState) → LONGEST_LINE < length line → EngineReports graph terms engine before → bytes ≡ refused_text number TooLong
       → HasBlock graph terms before (numbered number line) bytes engine
   block_of_long_line engine lt reports text =
       let long : is_too_long line ≡ true = lt-ltb _ _ lt in
@@ -112,7 +114,7 @@ module _ (graph : Tfpg) (terms : Terms) (before : Progress) (number : ℕ) (line
 
   module _ (old new : EngineState) (short : length line ≤ LONGEST_LINE) (reports : EngineReports graph terms old before) where
     -- the block of a line that the log refused
-    pub block_of_refusal : (refusal : Refusal) → reply_to old.graph old.log line ≡ Refused refusal → new ≡ old → bytes ≡ refused_text number (Offer refusal)
+    abbrev pub block_of_refusal : (refusal : Refusal) → reply_to old.graph old.log line ≡ Refused refusal → new ≡ old → bytes ≡ refused_text number (Offer refusal)
         → HasBlock graph terms before (numbered number line) bytes new
     block_of_refusal refusal refuses same text =
         let refused : reply_to graph before.log line ≡ Refused refusal =
@@ -130,7 +132,7 @@ module _ (graph : Tfpg) (terms : Terms) (before : Progress) (number : ℕ) (line
         }
 
     -- the block of a round
-    pub block_of_round : (round : Round) → GivesRound number line before.rounds round old new → RoundSays old.graph old.terms before.rounds new.log round
+    abbrev pub block_of_round : (round : Round) → GivesRound number line before.rounds round old new → RoundSays old.graph old.terms before.rounds new.log round
         → new.graph ≡ old.graph → new.terms ≡ old.terms → bytes ≡ round_text new.graph round
         → HasBlock graph terms before (numbered number line) bytes new
     block_of_round round gives says same_graph same_terms text =
@@ -158,3 +160,30 @@ module _ (graph : Tfpg) (terms : Terms) (before : Progress) (number : ℕ) (line
             represents = gives.represents;
           };
         }
+
+    -- the same, with the calls that they took
+    pub refused_within : (refusal : Refusal) (refuses : reply_to old.graph old.log line ≡ Refused refusal) (same : new ≡ old) (text : bytes ≡ refused_text number (Offer refusal)) (start end : ℕ) → end ≡ start
+        → (has : HasBlock graph terms before (numbered number line) bytes new) × IsBlockWithin graph before line has.block start end
+    refused_within refusal refuses same text start end none = (block_of_refusal refusal refuses same text, (0, refl, omega (arith, none)))
+
+    pub round_within : (round : Round) (gives : GivesRound number line before.rounds round old new) (says : RoundSays old.graph old.terms before.rounds new.log round)
+        (same_graph : new.graph ≡ old.graph) (same_terms : new.terms ≡ old.terms) (text : bytes ≡ round_text new.graph round) (start end : ℕ) → IsRoundWithin new.graph new.log before.rounds round start end
+        → (has : HasBlock graph terms before (numbered number line) bytes new) × IsBlockWithin graph before line has.block start end
+    round_within round gives says same_graph same_terms text start end within =
+        let event = gives.event in
+        let accepted : reply_to graph before.log line ≡ Accepted event =
+        subst₂ (λ (g : Tfpg) (l : Logbook). reply_to g l line ≡ Accepted event) reports.graph_is reports.log_is gives.accepted in
+        let log_is : new.log ≡ with_event before.log event = gives.log ∙ ap (λ (l : Logbook). with_event l event) reports.log_is in
+        let after_is : log_after graph before.log line ≡ with_event before.log event = short_log graph before.log line short ∙ ap (log_after_reply before.log) accepted in (
+          block_of_round round gives says same_graph same_terms text,
+          (within.0, subst₂ (λ (g : Tfpg) (l : Logbook). IsRoundLimit g l before.rounds round within.0) (same_graph ∙ reports.graph_is) (log_is ∙ sym after_is) within.1, within.2),
+        )
+
+-- ---- the calls of an event
+
+pub counts_refusal : (engine : EngineState) (rounds : List Round) (refusal : Refusal) (t : Told) (start end : ℕ) → t ≡ told.Refused refusal → CountsCalls engine rounds (Ok t) start end → end ≡ start
+counts_refusal engine rounds refusal t start end e counts = subst (λ (x : Told). CountsCalls engine rounds (Ok x) start end) e counts
+
+pub counts_round : (engine : EngineState) (rounds : List Round) (round : Round) (t : Told) (start end : ℕ) → t ≡ told.Round round → CountsCalls engine rounds (Ok t) start end
+    → IsRoundWithin engine.graph engine.log rounds round start end
+counts_round engine rounds round t start end e counts = subst (λ (x : Told). CountsCalls engine rounds (Ok x) start end) e counts

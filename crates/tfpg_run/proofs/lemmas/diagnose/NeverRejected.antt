@@ -14,7 +14,7 @@ use Rattle.tfpg_graph.specs.Valid.{IsValid}
 use Rattle.tfpg_log.specs.declared.event.Event.{Event}
 use Rattle.tfpg_log.specs.declared.event.Offered.{Offered}
 use Rattle.tfpg_log.specs.declared.event.Offered.TheVariants.{Accepted, Refused}
-use Rattle.tfpg_log.specs.Log.{Logbook, GoesOn, IsLogOf, IsOrdered}
+use Rattle.tfpg_log.specs.Log.{Logbook, GoesOn, IsLogOf, IsOrdered, ignoring}
 use Rattle.tfpg_log.specs.Accepted.{reply_to}
 use Rattle.tfpg_log.specs.LogOfLines.{log_after_reply, log_after, log_of_lines, new_log}
 use Rattle.tfpg_log.specs.Explains.{Fits}
@@ -25,7 +25,7 @@ use Rattle.tfpg_evidence.specs.declared.finding.Status.TheVariants.{Ranked, Cove
 use Rattle.tfpg_evidence.specs.declared.round.Round.{Round}
 use Rattle.tfpg_evidence.specs.Findings.{hypothesis_of}
 use Rattle.tfpg_evidence.specs.RoundOf.{is_rejected}
-use Rattle.tfpg_clause.specs.Case.{case_of}
+use Rattle.tfpg_clause.specs.Case.{Case, case_of}
 use Rattle.tfpg_clause.specs.Trees.{Judged, IsRefutation}
 use Rattle.tfpg_hyp.specs.Rounds.{IsRound, HasEvidence, steps_so_far}
 use Rattle.tfpg_hyp.specs.Views.{case_for}
@@ -80,6 +80,10 @@ module _ (graph : Tfpg) where
       (sym (fold-append (log_after graph) new_log (take count lines) (drop count lines)) ∙ ap (log_of_lines graph) (take-append-drop count lines))
       (GoesOn-lines (log_of_lines graph (take count lines)) (drop count lines))
 
+  -- the log of lines ignores nothing
+  pub ignores_none : (lines : List (List ℕ)) → log_of_lines graph lines ≡ ignoring (log_of_lines graph lines) []
+  ignores_none lines = λ i. record { events = (log_of_lines graph lines).events; ignored = (GoesOn-first lines 0).ignored i }
+
 -- ---- the rounds of a report
 
 module _ (graph : Tfpg) (terms : Terms) (lines : List (List ℕ)) (blocks : List Block) (are : AreBlocks graph terms lines blocks)
@@ -98,8 +102,7 @@ module _ (graph : Tfpg) (terms : Terms) (lines : List (List ℕ)) (blocks : List
 
       -- no evidence of its is a refutation
       not_rejected_by : IsReach graph set Reached → (status : Status)
-          → HasEvidence (case_for graph (log_of_lines graph (take (index + 1) lines)) (evidence Here number finding there).0 Reached) terms.budget round.findings
-          (steps_so_far number (Earlier ++ round ∷ [])) finding status
+          → HasEvidence (case_of graph (log_of_lines graph (take (index + 1) lines)) Reached) terms.budget round.findings (steps_so_far number (Earlier ++ round ∷ [])) finding status
           → is_rejected status ≡ false
       not_rejected_by reach_is Rejected refuted =
           absurd
@@ -112,9 +115,14 @@ module _ (graph : Tfpg) (terms : Terms) (lines : List (List ℕ)) (blocks : List
       not_rejected_at : hypothesis_of finding ≡ believing set → is_rejected finding.status ≡ false
       not_rejected_at on_set =
           let own = evidence Here number finding there in
+          let log = log_of_lines graph (take (index + 1) lines) in
+          let same_hypothesis : own.0 ≡ believing set = sym own.2.hypothesis_is ∙ on_set in
+          let same_case : case_for graph log own.0 Reached ≡ case_of graph log Reached =
+          ap (λ (hypothesis : Hypothesis). case_for graph log hypothesis Reached) same_hypothesis ∙ ap (λ (l : Logbook). case_of graph l Reached) (sym (ignores_none graph (take (index + 1) lines))) in
           not_rejected_by
-          (subst (λ (members : List ℕ). IsReach graph members Reached) (ap (λ (hypothesis : Hypothesis). hypothesis.set) (sym own.2.hypothesis_is ∙ on_set)) own.2.reach_is)
-          finding.status own.2.evidence
+          (subst (λ (hypothesis : Hypothesis). IsReach graph hypothesis.set Reached) same_hypothesis own.2.reach_is)
+          finding.status
+          (subst (λ (case : Case). HasEvidence case terms.budget round.findings (steps_so_far number (Earlier ++ round ∷ [])) finding finding.status) same_case own.2.evidence)
 
     pub not_rejected : (finding : Finding) → Contains round.findings finding → hypothesis_of finding ≡ believing set → is_rejected finding.status ≡ false
     not_rejected finding member on_set =

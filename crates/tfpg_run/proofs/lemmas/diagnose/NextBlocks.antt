@@ -28,11 +28,13 @@ use Rattle.tfpg_run.specs.declared.fault.StreamFault.TheVariants as faults
 use Rattle.tfpg_run.specs.inside.Faults.{stream_fault_of_lines}
 use Rattle.tfpg_run.specs.diagnose.ForNow.{LosesNone}
 use Rattle.tfpg_run.specs.diagnose.RightReport.{BlockSays, RoundsSay, IsRightReport}
-use Rattle.tfpg_run.specs.Outputs.{HasOutputOfFirstLines, BeginsOutputOfInput, LineByLineEnds}
+use Rattle.tfpg_run.specs.Outputs.{HasOutputOfFirstLines, BeginsOutputOfInput, LineByLineEnds, WorksLineByLine}
 use Rattle.tfpg_run.specs.diagnose.Diagnosing.{Diagnoses}
+use Rattle.tfpg_run.specs.diagnose.Work.{IsBlockLimit, IsBlockWithin, AreBlocksWithin, IsReportWithin}
+use Rattle.std.proofs.lemmas.List.Sums.{sum_by_push}
 use Rattle.tfpg_run.specs.Streams.{Streams}
 use Rattle.tfpg_run.specs.inside.diagnose.LineBlocks.{EngineReports, HasBlock, numbered}
-use Rattle.tfpg_run.specs.inside.diagnose.UnderWay.{IsDiagnosing, diagnosis_at}
+use Rattle.tfpg_run.specs.inside.diagnose.UnderWay.{IsDiagnosing, IsDiagnosingWithin, diagnosis_at}
 use Rattle.tfpg_run.proofs.lemmas.diagnose.LineBlocks.{block_of_long_line}
 use Rattle.tfpg_base.proofs.lists.Cuts.{front_is_within, front_before, front_with}
 use Rattle.tfpg_run.proofs.InputLines.{rest_of, rest_is_left, front_of_input, came_to_end, few_lines}
@@ -41,12 +43,12 @@ use Rattle.tfpg_run.proofs.Putting.{Puts-append, Puts-same_held}
 -- ---- one block more
 
 -- How far a report has come after one block more is a law of reports.
-abbrev GoesOnByBlocks : Type 0
+abbrev pub GoesOnByBlocks : Type 0
 GoesOnByBlocks = (graph : Tfpg) (lines : List (List ℕ)) (blocks : List Block) (line : List ℕ) (block : Block)
     → progress_of graph (lines ++ line ∷ []) (blocks ++ block ∷ []) ≡ progress_after graph (progress_of graph lines blocks) line block
 
 -- no line has no block
-AreBlocks-none : (graph : Tfpg) (terms : Terms) → AreBlocks graph terms [] []
+pub AreBlocks-none : (graph : Tfpg) (terms : Terms) → AreBlocks graph terms [] []
 AreBlocks-none graph terms = record { one_each = refl; each = λ index line block at there. absurd (omega (arith, slice_get_within {A = List ℕ} [] index line at)) }
 
 -- what holds of each line and of its block, after what the report had come to
@@ -98,7 +100,7 @@ RoundsSay-push graph terms lines blocks last end one_each say says =
     holds_of_one_more graph (λ before index line block. BlockSays graph terms before line block) lines blocks last end one_each say says
 
 -- no line has no round
-RoundsSay-none : (graph : Tfpg) (terms : Terms) → RoundsSay graph terms [] []
+pub RoundsSay-none : (graph : Tfpg) (terms : Terms) → RoundsSay graph terms [] []
 RoundsSay-none graph terms index line block at there = absurd (omega (arith, slice_get_within {A = List ℕ} [] index line at))
 
 -- the text of one block more
@@ -141,6 +143,36 @@ begins graph terms input taken given blocks front has_reports few are say no_los
   more = rest;
   begins = subst (HasOutputOfFirstLines (IsRightReport graph terms) input taken) e (right_for_first graph terms input taken given blocks front has_reports few are say no_losses);
 }
+
+-- ---- the counted calls
+
+-- without a block there is none
+blocks_within-none : (graph : Tfpg) (count : ℕ) → AreBlocksWithin graph [] [] count count
+blocks_within-none graph count = record {
+  limits = [];
+  are = record { one_each = refl; each = λ index line block limit at there own. absurd (omega (arith, slice_get_within {A = List ℕ} [] index line at)) };
+  within = omega arith;
+}
+
+-- with one block more that keeps within its limit, all keep within theirs
+blocks_within-push : (graph : Tfpg) (lines : List (List ℕ)) (blocks : List Block) (last : List ℕ) (end : Block) (start middle finish : ℕ) → length blocks ≡ length lines → AreBlocksWithin graph lines blocks start middle
+    → IsBlockWithin graph (progress_of graph lines blocks) last end middle finish → AreBlocksWithin graph (lines ++ last ∷ []) (blocks ++ end ∷ []) start finish
+blocks_within-push graph lines blocks last end start middle finish one_each is own =
+    let limit = own.0 in
+    let limits = is.limits ++ limit ∷ [] in
+    let at_end : length lines ≡ length is.limits = omega (arith, one_each, is.are.one_each) in
+    record {
+      limits = limits;
+      are = record {
+        one_each = omega (arith, is.are.one_each, length-append is.limits (limit ∷ []), length-append blocks (end ∷ []));
+        each = λ index line block l at there limited.
+            holds_of_one_more graph (λ before index line block. (l : ℕ) → slice_get limits index ≡ Some l → IsBlockLimit graph before line block l) lines blocks last end one_each
+            (λ i x b a t m here. is.are.each i x b m a t (sym (slice_get-push_before is.limits limit i (omega (arith, slice_get_within blocks i b t, is.are.one_each))) ∙ here))
+            (λ m here. subst (IsBlockLimit graph (progress_of graph lines blocks) last end) (same_Some limit m (sym (slice_get-push_at is.limits limit (length lines) at_end) ∙ here)) own.1)
+            index line block at there l limited;
+      };
+      within = omega (arith, is.within, own.2, sum_by_push (λ (n : ℕ). n) is.limits limit);
+    }
 
 -- ---- ends
 
@@ -191,6 +223,36 @@ ends_done graph terms before now lines lines' engine input under continues =
       no_fault = record { input = end.no_fault ∙ under.no_fault.input; output = under.no_fault.output };
     })
 
+-- so it does within the limits of all rounds
+pub done_within : (graph : Tfpg) (terms : Terms) (before now : Streams) (lines : LinesState) (engine : EngineState) (input : SourceState) (lines' : LinesState)
+    (under : IsDiagnosing graph terms before (diagnosis_at now lines engine)) (l : Line) → Continues under.reading under.reading.ended now.input input (Ok l) lines' → l ≡ line.End → (start end : ℕ)
+    → AreBlocksWithin graph under.reading.given under.blocks start end → WorksLineByLine (IsReportWithin graph terms start end) before (asked now input) (Ok tt)
+done_within graph terms before now lines engine input lines' under l continues e start finish within =
+    let reading = under.reading in
+    let end = came_to_end reading now.input input lines lines' under.few under.goes_on under.represents
+    (subst (λ (x : Line). Continues under.reading under.reading.ended now.input input (Ok x) lines') e continues) in
+    record {
+      taken = reading.taken ++ end.more;
+      takes = Takes-append before.input now.input input reading.taken end.more under.takes end.takes;
+      written = report_text graph terms under.blocks;
+      writes = under.writes;
+      ends = record {
+        right = record {
+          blocks = under.blocks;
+          report = record {
+            has_reports = under.has_reports;
+            few_lines = subst (λ (ls : List (List ℕ)). length ls ≤ MAX_LINE_NUMBER) (sym end.all) (few_numbered reading.taken reading.given under.front under.few);
+            are_blocks = subst (λ (ls : List (List ℕ)). AreBlocks graph terms ls under.blocks) (sym end.all) under.are_blocks;
+            text = refl;
+          };
+          within = subst (λ (ls : List (List ℕ)). AreBlocksWithin graph ls under.blocks start finish) (sym end.all) within;
+        };
+        few = end.few;
+        at_end = end.end;
+        no_fault = record { input = end.no_fault ∙ under.no_fault.input; output = under.no_fault.output };
+      };
+    }
+
 -- ---- a line that was read
 
 module _ (graph : Tfpg) (terms : Terms) (before now : Streams) (lines : LinesState) (engine : EngineState) (input : SourceState) (reader : LinesState)
@@ -215,20 +277,20 @@ module _ (graph : Tfpg) (terms : Terms) (before now : Streams) (lines : LinesSta
 
   module _ (number : ℕ) (bytes : List ℕ) (later : EngineState) (output : SinkState)
       (number_is : number ≡ reader.number) (block : HasBlock graph terms (progress_of graph under.reading.given under.blocks) (numbered number gave.first) bytes later) where
-    blocks_are : AreBlocks graph terms (under.reading.given ++ gave.first ∷ []) (under.blocks ++ block.block ∷ [])
+    pub blocks_are : AreBlocks graph terms (under.reading.given ++ gave.first ∷ []) (under.blocks ++ block.block ∷ [])
     blocks_are =
         let given = under.reading.given in
         let index : number ≡ 1 + length given = omega (arith, number_is, gave.stands.number, length-append given (gave.first ∷ [])) in
         AreBlocks-push graph terms given under.blocks gave.first block.block number under.are_blocks index block.is_block
 
-    rounds_say : RoundsSay graph terms (under.reading.given ++ gave.first ∷ []) (under.blocks ++ block.block ∷ [])
+    pub rounds_say : RoundsSay graph terms (under.reading.given ++ gave.first ∷ []) (under.blocks ++ block.block ∷ [])
     rounds_say = RoundsSay-push graph terms under.reading.given under.blocks gave.first block.block under.are_blocks.one_each under.say block.says
 
-    none_lost : AllByRecursion LosesNone (under.blocks ++ block.block ∷ [])
+    pub none_lost : AllByRecursion LosesNone (under.blocks ++ block.block ∷ [])
     none_lost = AllByRecursion-push LosesNone under.blocks block.block under.no_losses block.no_losses
 
     -- where the block is written, the diagnosis is under way still
-    pub gave_block : GoesOnByBlocks → Puts now.output output bytes → output.faults ≡ now.output.faults
+    abbrev pub gave_block : GoesOnByBlocks → Puts now.output output bytes → output.faults ≡ now.output.faults
         → IsDiagnosing graph terms before (diagnosis_at (record { input = input; output = output }) reader later)
     gave_block goes_on puts no_fault =
         let reading = under.reading in
@@ -251,6 +313,15 @@ module _ (graph : Tfpg) (terms : Terms) (before now : Streams) (lines : LinesSta
           reports = subst (EngineReports graph terms later) (sym (goes_on graph given under.blocks gave.first block.block)) block.reports;
           no_fault = record { input = gave.no_fault ∙ under.no_fault.input; output = no_fault ∙ under.no_fault.output };
         }
+
+    -- so it is within its limits, where the block is within its own
+    pub gave_within : GoesOnByBlocks → Puts now.output output bytes → output.faults ≡ now.output.faults → (start middle finish : ℕ) → AreBlocksWithin graph under.reading.given under.blocks start middle
+        → IsBlockWithin graph (progress_of graph under.reading.given under.blocks) gave.first block.block middle finish
+        → IsDiagnosingWithin graph terms before (diagnosis_at (record { input = input; output = output }) reader later) start finish
+    gave_within goes_on puts no_fault start middle finish within own = record {
+      under = gave_block goes_on puts no_fault;
+      within = blocks_within-push graph under.reading.given under.blocks gave.first block.block start middle finish under.are_blocks.one_each within own;
+    }
 
     -- it is one line on
     pub gave_one_more : reader.number ≡ lines.number + 1
@@ -329,6 +400,30 @@ module _ (graph : Tfpg) (terms : Terms) (before now : Streams) (lines : LinesSta
         block = block_of_long_line graph terms (progress_of graph under.reading.given under.blocks) number met.0.first bytes engine met.1 under.reports text;
       }
 
+  -- the same, with the calls that they took
+  pub text_within : (number : ℕ) (text bytes : List ℕ) (later : EngineState) (start finish : ℕ) → l ≡ line.Text → text ≡ reader.text
+      → ((before : Progress) → EngineReports graph terms engine before → length text ≤ LONGEST_LINE
+      → (has : HasBlock graph terms before (numbered number text) bytes later) × IsBlockWithin graph before text has.block start finish)
+      → (gave : GaveLine under.reading now.input input reader) × (has : HasBlock graph terms (progress_of graph under.reading.given under.blocks) (numbered number gave.first) bytes later)
+      × IsBlockWithin graph (progress_of graph under.reading.given under.blocks) gave.first has.block start finish
+  text_within number text bytes later start finish e t gives =
+      let met = met_text e in
+      let text_is : text ≡ met.0.first = t ∙ met.2 in
+      let short : length text ≤ LONGEST_LINE = subst (λ (x : List ℕ). length x ≤ LONGEST_LINE) (sym text_is) met.1 in
+      let at = progress_of graph under.reading.given under.blocks in
+      let own = subst (λ (x : List ℕ). (has : HasBlock graph terms at (numbered number x) bytes later) × IsBlockWithin graph at x has.block start finish) text_is (gives at under.reports short) in
+      (met.0, own.0, own.1)
+
+  pub long_within : (number : ℕ) (bytes : List ℕ) (count : ℕ) → l ≡ line.TooLong → bytes ≡ refused_text number TooLong
+      → (gave : GaveLine under.reading now.input input reader) × (has : HasBlock graph terms (progress_of graph under.reading.given under.blocks) (numbered number gave.first) bytes engine)
+      × IsBlockWithin graph (progress_of graph under.reading.given under.blocks) gave.first has.block count count
+  long_within number bytes count e text =
+      let met = met_long e in (
+        met.0,
+        block_of_long_line graph terms (progress_of graph under.reading.given under.blocks) number met.0.first bytes engine met.1 under.reports text,
+        (0, refl, omega arith),
+      )
+
 -- ---- the whole course
 
 -- no more lines are read than bytes may be taken, but for a last one
@@ -342,7 +437,7 @@ pub head_as : (other terms : Terms) (bytes : List ℕ) → other ≡ terms → b
 head_as other terms bytes e is = subst (λ (x : Terms). bytes ≡ head_text x) e is
 
 -- a diagnosis begins
-pub begins_under_way : (graph : Tfpg) (terms : Terms) (before : Streams) (lines : LinesState) (engine : EngineState) (output : SinkState)
+abbrev pub begins_under_way : (graph : Tfpg) (terms : Terms) (before : Streams) (lines : LinesState) (engine : EngineState) (output : SinkState)
     → HasReports graph terms → LinesRepresent lines new_reading → EngineReports graph terms engine new_progress → Puts before.output output (head_text terms) → output.faults ≡ before.output.faults
     → IsDiagnosing graph terms before (diagnosis_at (record { input = before.input; output = output }) lines engine)
 begins_under_way graph terms before lines engine output has_reports unread new puts no_fault = record {
@@ -360,6 +455,15 @@ begins_under_way graph terms before lines engine output has_reports unread new p
   say = RoundsSay-none graph terms;
   reports = new;
   no_fault = record { input = refl; output = no_fault };
+}
+
+-- it has made no counted call
+pub begins_within : (graph : Tfpg) (terms : Terms) (before : Streams) (lines : LinesState) (engine : EngineState) (output : SinkState) (count : ℕ)
+    → HasReports graph terms → LinesRepresent lines new_reading → EngineReports graph terms engine new_progress → Puts before.output output (head_text terms) → output.faults ≡ before.output.faults
+    → IsDiagnosingWithin graph terms before (diagnosis_at (record { input = before.input; output = output }) lines engine) count count
+begins_within graph terms before lines engine output count has_reports unread new puts no_fault = record {
+  under = begins_under_way graph terms before lines engine output has_reports unread new puts no_fault;
+  within = blocks_within-none graph count;
 }
 
 -- a diagnosis ends before it has written its first line whole

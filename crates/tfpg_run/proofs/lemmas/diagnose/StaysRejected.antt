@@ -10,7 +10,7 @@ use Rattle.tfpg_base.proofs.lists.Cuts.{take-next}
 use Rattle.tfpg_graph.specs.Graph.{Tfpg}
 use Rattle.tfpg_graph.specs.Reach.{IsReach}
 use Rattle.tfpg_graph.proofs.lemmas.reach.Reaches.{reach_is_one}
-use Rattle.tfpg_log.specs.Log.{Logbook, IsOrdered, GoesOn}
+use Rattle.tfpg_log.specs.Log.{Logbook, IsOrdered, GoesOn, ignoring}
 use Rattle.tfpg_log.specs.LogOfLines.{log_of_lines}
 use Rattle.tfpg_log.proofs.logs_of_lines.LogsOfLines.{ordered-log_of_lines}
 use Rattle.tfpg_evidence.specs.declared.finding.Finding.{Finding}
@@ -18,7 +18,7 @@ use Rattle.tfpg_evidence.specs.declared.finding.Status.{Status}
 use Rattle.tfpg_evidence.specs.declared.finding.Status.TheVariants.{Ranked, Covered, Rejected, Open}
 use Rattle.tfpg_evidence.specs.declared.round.Round.{Round}
 use Rattle.tfpg_evidence.specs.declared.step.Step.{Step}
-use Rattle.tfpg_clause.specs.Case.{Case, case_of}
+use Rattle.tfpg_clause.specs.Case.{Case}
 use Rattle.tfpg_clause.specs.Laws.{FrontsOfPartialTreesArePartial, FrontsOfRefutationsArePartial, RefutationsStay, RefutationsAreNotPartial}
 use Rattle.tfpg_clause.specs.Trees.{Judged, IsRefutation, IsPartial}
 use Rattle.tfpg_hyp.specs.Rounds.{IsRound, HasEvidence, steps_in, steps_so_far}
@@ -96,13 +96,21 @@ module _ (laws : RefutationLaws) where
         let own_later = evidence is_second number other at_second in
         reach_is_one graph own_later.0.set Reached (subst (λ (hypothesis : Hypothesis). IsReach graph hypothesis.set Reached) same_hypothesis own.2.reach_is) ReachedLater own_later.2.reach_is
 
+    -- what the evidence of the later round is about
+    abbrev CaseLater : Case
+    CaseLater = case_for graph later (evidence is_second number other at_second).0 ReachedLater
+
     -- the steps up to the first round are a refutation, also at the later log
-    refuted : IsRefutation (case_of graph later ReachedLater) Steps
+    refuted : IsRefutation CaseLater Steps
     refuted =
         let own = evidence is_first number finding at_first in
-        laws.stays (case_of graph log ReachedLater) later Steps ordered goes_on
-        (subst (λ (reach : List ℕ). IsRefutation (case_of graph log reach) Steps) same_reach
-        (subst (HasEvidence (case_for graph log own.0 Reached) terms.budget first.findings Steps finding) rejected own.2.evidence))
+        let own_later = evidence is_second number other at_second in
+        let first_refuted : IsRefutation (case_for graph log own.0 Reached) Steps = subst (HasEvidence (case_for graph log own.0 Reached) terms.budget first.findings Steps finding) rejected own.2.evidence in
+        laws.stays (case_for graph log own_later.0 ReachedLater) (ignoring later own_later.0.doubts) Steps
+        (record { in_order = ordered.in_order; in_range = ordered.in_range })
+        (record { more = goes_on.more; events = goes_on.events; ignored = refl })
+        (subst (λ (reach : List ℕ). IsRefutation (case_for graph log own_later.0 reach) Steps) same_reach
+        (subst (λ (hypothesis : Hypothesis). IsRefutation (case_for graph log hypothesis Reached) Steps) same_hypothesis first_refuted))
 
     all_steps : steps_so_far number (((rounds ++ first ∷ []) ++ between) ++ second ∷ []) ≡ Steps ++ More
     all_steps =
@@ -111,8 +119,8 @@ module _ (laws : RefutationLaws) where
 
     both : (other.status ≡ Rejected) × (More ≡ [])
     both =
-        rejected_by (case_of graph later ReachedLater) terms.budget second.findings Steps More other refuted other.status
-        (subst (λ (steps : List Judged). HasEvidence (case_of graph later ReachedLater) terms.budget second.findings steps other other.status) all_steps
+        rejected_by CaseLater terms.budget second.findings Steps More other refuted other.status
+        (subst (λ (steps : List Judged). HasEvidence CaseLater terms.budget second.findings steps other other.status) all_steps
         (evidence is_second number other at_second).2.evidence)
 
     no_step_later : other.steps ≡ []

@@ -1,8 +1,8 @@
 -- How judging a map ends where there is a verdict.
-use Rattle.std.proofs.Common.{◌≡◌, ℕ, List, ◌++◌, Ok, Err, sym, ◌∙◌}
+use Rattle.std.proofs.Common.{◌≡◌, ℕ, List, ◌++◌, All, IsTrue, Ok, Err, sym, subst, ◌∙◌}
 use Rattle.tfpg_base.specs.Outside.{SourceState, SinkState, Rose, Puts}
-use Rattle.tfpg_graph.specs.Graph.{Tfpg}
-use Rattle.tfpg_log.specs.Log.{Logbook}
+use Rattle.tfpg_graph.specs.Graph.{Tfpg, is_monitored}
+use Rattle.tfpg_log.specs.Log.{Logbook, IsLogOf, ignoring}
 use Rattle.tfpg_trace.specs.declared.verdict.Verdict.{Verdict}
 use Rattle.tfpg_trace.specs.FirstFault.{IsVerdict}
 use Rattle.tfpg_run.specs.declared.fault.JudgeFault.TheVariants.{Stream}
@@ -11,12 +11,13 @@ use Rattle.tfpg_run.specs.declared.map.Map.{Map}
 use Rattle.tfpg_run.specs.explain.Judging.{HasVerdict, JudgesMap}
 use Rattle.tfpg_run.specs.Streams.{Streams, streams}
 use Rattle.tfpg_run.specs.explain.Verdicts.{verdict_text}
+use Rattle.tfpg_run.specs.inside.map.Lines.{hypothesis_with}
 use Rattle.tfpg_run.specs.inside.map.Reading.{ReadsMap}
 
 module _ (graph : Tfpg) (log : Logbook) (before : Streams) (input : SourceState) (map : Map) (reads : ReadsMap graph before.input input map)
-    (v : Verdict) (right : IsVerdict graph log map.set map.trace v) where
+    (v : Verdict) (right : IsVerdict graph (ignoring log map.members.doubts) map.members.set map.trace v) where
   has_verdict : (text : List ℕ) → text ≡ verdict_text graph v → HasVerdict graph log input reads.taken text
-  has_verdict text is = record { set = map.set; trace = map.trace; gives = reads.gives; verdict = v; right = right; text_is = is }
+  has_verdict text is = record { hypothesis = hypothesis_with map.members; trace = map.trace; gives = reads.gives; verdict = v; right = right; text_is = is }
 
   -- the verdict is written
   pub judges_well : (line text : List ℕ) (output : SinkState) → line ≡ verdict_text graph v → text ≡ line → Puts before.output output text
@@ -35,3 +36,7 @@ module _ (graph : Tfpg) (log : Logbook) (before : Streams) (input : SourceState)
     takes = reads.takes;
     ends = (record { front = front; rest = rest; right = has_verdict (front ++ rest) (sym parts ∙ line_is); writes = puts; rose = rose }, reads.no_fault);
   }
+
+-- the log that ignores the monitors of a map is of its graph
+pub ignoring_of : (graph : Tfpg) (log now : Logbook) (doubts : List ℕ) → IsLogOf graph log → All (λ node. IsTrue (is_monitored graph node)) doubts → now ≡ ignoring log doubts → IsLogOf graph now
+ignoring_of graph log now doubts of monitored is = subst (IsLogOf graph) (sym is) (record { own = of.own; ignored = monitored })

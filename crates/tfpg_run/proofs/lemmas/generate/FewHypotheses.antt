@@ -1,4 +1,4 @@
--- Of 16 failure modes there are 137 sets of at most 2.
+-- Of 16 failure modes there are 137 sets of at most 2, whatever is monitored.
 use Rattle.std.proofs.Common.{◌≡◌, ℕ, ◌<◌, length, refl, sym, arith}
 use Rattle.tfpg_graph.specs.Graph.{Tfpg, failures}
 use Rattle.tfpg_hyp.specs.Hypotheses.{HasHypotheses}
@@ -11,5 +11,5 @@ use Rattle.tfpg_run.specs.generate.Diagnosed.{generated_terms}
 -- they are not too many
 pub few_hypotheses : (graph : Tfpg) (count : ℕ) → length (failures graph) ≡ FAILURE_COUNT → MAX_HYPOTHESES < count → HasHypotheses graph generated_terms count → ⊥
 few_hypotheses graph count failing many has =
-    let same : count ≡ 137 = one_count graph generated_terms count 137 has (HasHypotheses-counted graph generated_terms GENERATED_K refl FAILURE_COUNT 137 (sym failing) refl) in
+    let same : count ≡ 137 = one_count graph generated_terms count 137 has (HasHypotheses-counted graph generated_terms GENERATED_K 0 refl refl FAILURE_COUNT _ 137 (sym failing) refl refl) in
     omega (arith, same, many)

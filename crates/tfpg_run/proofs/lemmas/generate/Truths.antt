@@ -13,10 +13,12 @@ use Rattle.tfpg_log.specs.Explains.{Explains, Fits}
 use Rattle.tfpg_log.proofs.logs_of_lines.LogsOfLines.{of-log_of_lines, ordered-log_of_lines}
 use Rattle.tfpg_evidence.specs.declared.finding.Finding.{Finding}
 use Rattle.tfpg_evidence.specs.declared.round.Round.{Round}
+use Rattle.tfpg_evidence.specs.Findings.{hypothesis_of}
 use Rattle.tfpg_evidence.specs.RoundOf.{is_rejected}
-use Rattle.tfpg_base.specs.Hypothesis.{Hypothesis, believing}
+use Rattle.tfpg_base.specs.Hypothesis.{believing}
 use Rattle.tfpg_hyp.specs.Table.{IsHypothesis}
 use Rattle.tfpg_hyp.specs.Rounds.{IsRound}
+use Rattle.tfpg_hyp.specs.Views.{HypothesisFits}
 use Rattle.tfpg_sim.specs.declared.limits.TheConstants.{FAILURE_COUNT}
 use Rattle.tfpg_sim.specs.declared.simulated.Simulated.{Simulated}
 use Rattle.tfpg_sim.specs.Generated.{generated_graph, generated_script}
@@ -33,12 +35,13 @@ use Rattle.tfpg_run.specs.generate.Summary.{drawing, summary_text}
 use Rattle.tfpg_run.specs.inside.generate.Diagnosed.{HasDiagnosed}
 use Rattle.tfpg_run.specs.inside.generate.Drawn.{IsDrawn}
 use Rattle.tfpg_run.specs.inside.generate.Summary.{HasFindingOn, SaysOfRound}
+use Rattle.tfpg_run.proofs.lemmas.diagnose.NeverRejected.{ignores_none}
 
 -- no round rejects a set that fits
 abbrev pub RejectsNoneThatFits : Type 0
 RejectsNoneThatFits =
     (graph : Tfpg) (terms : Terms) (line : ℕ) (rounds : List Round) (log : Logbook) (round : Round) → IsValid graph → IsLogOf graph log → IsOrdered log → IsRound graph terms rounds log line round
-    → (number : ℕ) (finding : Finding) → slice_get round.findings number ≡ Some finding → Fits graph log finding.set → IsTrue (is_rejected finding.status) → ⊥
+    → (number : ℕ) (finding : Finding) → slice_get round.findings number ≡ Some finding → HypothesisFits graph log (hypothesis_of finding) → IsTrue (is_rejected finding.status) → ⊥
 
 module _ (graph : Tfpg) (lines : List (List ℕ)) (d : Diagnosis) (has : HasDiagnosed graph lines d) (some : 0 < length lines) where
   -- there is a last round
@@ -66,7 +69,7 @@ module _ (graph : Tfpg) (lines : List (List ℕ)) (d : Diagnosis) (has : HasDiag
         | inl there ↦ record {
           finding = there.0;
           there = Contains-at last_there.0.findings member.0 there.0 there.2;
-          on_set = ap (λ (h : Hypothesis). h.set) (is.findings member.0 (believing set) there.0 at there.2).hypothesis_is;
+          on_set = (is.findings member.0 (believing set) there.0 at there.2).hypothesis_is;
         }
         | inr past ↦ absurd (omega (arith, past.0, complete, member.1))
       ]
@@ -76,7 +79,7 @@ module _ (graph : Tfpg) (lines : List (List ℕ)) (d : Diagnosis) (has : HasDiag
 
   -- A set that fits is not rejected.
   truth_not_rejected : (set : List ℕ) (finding : Finding) → RejectsNoneThatFits → IsValid graph → Fits graph (log_of_lines graph lines) set → Contains last_there.0.findings finding
-      → finding.set ≡ set → is_rejected finding.status ≡ false
+      → hypothesis_of finding ≡ believing set → is_rejected finding.status ≡ false
   truth_not_rejected set finding none valid fits member of_set = by (is_rejected finding.status) refl
     where
       by : (b : Bool) → is_rejected finding.status ≡ b → is_rejected finding.status ≡ false
@@ -85,7 +88,7 @@ module _ (graph : Tfpg) (lines : List (List ℕ)) (d : Diagnosis) (has : HasDiag
           absurd
           (none graph generated_terms (length has.rounds - 1 + 1) (take (length has.rounds - 1) has.rounds) (log_of_lines graph lines) last_there.0 valid (of-log_of_lines graph lines)
           (ordered-log_of_lines graph lines) last_is_round member.0 finding (slice_get-get_or last_there.0.findings member.0 finding member.1 ∙ ap Some member.2)
-          (subst (Fits graph (log_of_lines graph lines)) (sym of_set) fits) is)
+          (subst (HypothesisFits graph (log_of_lines graph lines)) (sym of_set) (subst (λ (l : Logbook). Fits graph l set) (ignores_none graph lines) fits)) is)
 
   -- the rounds before the last, and the last
   cut_rounds : has.rounds ≡ take (length has.rounds - 1) has.rounds ++ last_there.0 ∷ []
@@ -116,7 +119,7 @@ summary_is number size simulated d text none valid simulation explains has some 
       rounds = subst (AreRoundsOf graph generated_terms lines) cut has.rounds_are;
       truth = said.has.finding;
       found = said.has.there;
-      of_set = said.has.on_set;
+      of_truth = said.has.on_set;
       not_rejected = truth_not_rejected graph lines d has some simulated.set said.has.finding none valid (simulated.trace, explains) said.has.there said.has.on_set;
       text_is = said.text_is
           ∙ ap (λ (g : Tfpg). summary_text (drawing number size g (length d.engine.log.events)) (length d.engine.log.events) last.0.counts simulated.set said.has.finding.status) has.graph_is
@@ -165,7 +168,12 @@ module _ (number size : ℕ) (graph : Tfpg) (simulated : Simulated) (drawn : IsD
     found_there =
         let set = generated_set number size number simulated drawn.some drawn.few simulation_here in
         truth_there (generated_graph number size) (lines_of simulated.log) d has_here log_here simulated.set
-        (record { of_graph = record { rising = set.0.rising; members = members_here }; size = set.1; believes = refl })
+        (record {
+          of_graph = record { rising = set.0.rising; members = members_here };
+          doubts_of_graph = record { rising = λ i j d before within. absurd (omega arith); monitored = λ i d within. absurd (omega arith) };
+          size = (let small = set.1 in omega (arith, small));
+          few_doubts = omega arith;
+        })
 
     -- by which the three lines say what became of it
     pub summary_there : (text : List ℕ) → RejectsNoneThatFits

@@ -6,14 +6,17 @@ use Rattle.std.proofs.lemmas.List.Elements.{All-nil, All-cons, All-head, All-tai
 use Rattle.std.proofs.lemmas.List.Quantifiers.{all_pairs_push}
 use Rattle.tfpg_base.specs.declared.activation.Activation.{Activation}
 use Rattle.tfpg_base.specs.declared.limits.TheConstants.{LONGEST_LINE}
+use Rattle.tfpg_base.specs.Hypothesis.{Hypothesis, believing}
 use Rattle.tfpg_base.specs.Trace.{time_of, with_time}
 use Rattle.tfpg_base.proofs.lists.Elements.{Contains-head, Contains-middle, Contains-tail, AllPairs-head, AllPairs-tail}
 use Rattle.tfpg_base.proofs.Traces.{time_of-with_time, time_of-with_time_other, IsRisingByNode-with_time}
-use Rattle.tfpg_graph.specs.Graph.{Tfpg, IsSetOf}
+use Rattle.tfpg_graph.specs.Graph.{Tfpg}
 use Rattle.tfpg_graph.specs.Valid.{IsValid}
 use Rattle.tfpg_report.specs.Blocks.{activation_line}
+use Rattle.tfpg_report.specs.SetText.{IsHypothesisOf}
 use Rattle.tfpg_run.specs.map.Spelling.{IsActivationOf, SpellsMap, BeginsMap, set_line}
-use Rattle.tfpg_run.specs.inside.map.Lines.{HasRead, TakesActivation, IsNoActivation}
+use Rattle.tfpg_run.specs.declared.map.Members.{Members}
+use Rattle.tfpg_run.specs.inside.map.Lines.{HasRead, TakesActivation, IsNoActivation, hypothesis_with}
 use Rattle.tfpg_run.proofs.lemmas.map.LineWords.{one_node}
 
 -- ---- lists of activations
@@ -50,8 +53,9 @@ time_of-push (first ∷ others) activation node e = by (first.node == activation
 -- ---- a line more
 
 -- the line of a set begins a map
-pub SpellsMap-set : (graph : Tfpg) (line set : List ℕ) → IsSetOf graph set → line ≡ set_line graph set → length line ≤ LONGEST_LINE → SpellsMap graph (line ∷ []) set []
-SpellsMap-set graph line set of spelled short = record {
+pub SpellsMap-set : (graph : Tfpg) (line : List ℕ) (hypothesis : Hypothesis) → IsHypothesisOf graph hypothesis → line ≡ set_line graph hypothesis → length line ≤ LONGEST_LINE
+    → SpellsMap graph (line ∷ []) hypothesis []
+SpellsMap-set graph line hypothesis of spelled short = record {
   of_graph = of;
   listed = [];
   of_nodes = All-nil (IsActivationOf graph);
@@ -63,9 +67,9 @@ SpellsMap-set graph line set of spelled short = record {
 }
 
 -- and the line of a further activation goes on with one
-pub SpellsMap-more : (graph : Tfpg) (lines : List (List ℕ)) (set : List ℕ) (trace now : List Activation) (line : List ℕ) → SpellsMap graph lines set trace
-    → TakesActivation graph trace line now → length line ≤ LONGEST_LINE → SpellsMap graph (lines ++ line ∷ []) set now
-SpellsMap-more graph lines set trace now line spells takes short =
+pub SpellsMap-more : (graph : Tfpg) (lines : List (List ℕ)) (hypothesis : Hypothesis) (trace now : List Activation) (line : List ℕ) → SpellsMap graph lines hypothesis trace
+    → TakesActivation graph trace line now → length line ≤ LONGEST_LINE → SpellsMap graph (lines ++ line ∷ []) hypothesis now
+SpellsMap-more graph lines hypothesis trace now line spells takes short =
     let activation = takes.activation in
     let nowhere : time_of spells.listed activation.node ≡ None = sym (spells.same_times activation.node) ∙ takes.new_node in
     record {
@@ -74,8 +78,8 @@ SpellsMap-more graph lines set trace now line spells takes short =
       of_nodes = All-append (IsActivationOf graph) spells.listed (activation ∷ []) spells.of_nodes (All-cons (IsActivationOf graph) activation [] takes.of_graph (All-nil _));
       once = all_pairs_push (λ earlier later. earlier.node ≢ later.node) spells.listed activation spells.once (listed_nowhere spells.listed activation.node nowhere);
       spelled = ap (λ (ls : List (List ℕ)). ls ++ line ∷ []) spells.spelled
-          ∙ ap (λ (l : List ℕ). (set_line graph set ∷ map (activation_line graph) spells.listed) ++ l ∷ []) takes.spelled
-          ∙ ap (λ (ls : List (List ℕ)). set_line graph set ∷ ls) (sym (map-append (activation_line graph) spells.listed (activation ∷ [])));
+          ∙ ap (λ (l : List ℕ). (set_line graph hypothesis ∷ map (activation_line graph) spells.listed) ++ l ∷ []) takes.spelled
+          ∙ ap (λ (ls : List (List ℕ)). set_line graph hypothesis ∷ ls) (sym (map-append (activation_line graph) spells.listed (activation ∷ [])));
       short = All-append (λ l. length l ≤ LONGEST_LINE) lines (line ∷ []) spells.short (All-cons (λ l. length l ≤ LONGEST_LINE) line [] short (All-nil _));
       rising = subst (λ (t : List Activation). AllPairs (λ earlier later. earlier.node < later.node) t) (sym takes.now_is) (IsRisingByNode-with_time trace activation.node activation.time spells.rising);
       same_times = λ node.
@@ -124,11 +128,11 @@ next_listed graph valid (first ∷ listed) (other ∷ others) line more these th
     }
 
 -- no map goes on with a line that spells no activation of a node that has none
-pub no_map-activation : (graph : Tfpg) → IsValid graph → (lines : List (List ℕ)) (set : List ℕ) (trace : List Activation) (line : List ℕ) → SpellsMap graph lines set trace
+pub no_map-activation : (graph : Tfpg) → IsValid graph → (lines : List (List ℕ)) (hypothesis : Hypothesis) (trace : List Activation) (line : List ℕ) → SpellsMap graph lines hypothesis trace
     → IsNoActivation graph trace line → BeginsMap graph (lines ++ line ∷ []) → ⊥
-no_map-activation graph valid lines set trace line spells none begins =
+no_map-activation graph valid lines hypothesis trace line spells none begins =
     let whole = begins.1.2 in
-    let same : set_line graph set ∷ (map (activation_line graph) spells.listed ++ line ∷ begins.0) ≡ set_line graph begins.1.0 ∷ map (activation_line graph) whole.listed =
+    let same : set_line graph hypothesis ∷ (map (activation_line graph) spells.listed ++ line ∷ begins.0) ≡ set_line graph begins.1.0 ∷ map (activation_line graph) whole.listed =
     sym (append_assoc lines (line ∷ []) begins.0 ∙ ap (λ (ls : List (List ℕ)). ls ++ line ∷ begins.0) spells.spelled) ∙ whole.spelled in
     let tail : map (activation_line graph) spells.listed ++ line ∷ begins.0 ≡ map (activation_line graph) whole.listed = cc in
     let next = next_listed graph valid spells.listed whole.listed line begins.0 spells.of_nodes whole.of_nodes whole.once tail in
@@ -142,27 +146,36 @@ no_map-long graph lines line long begins =
 
 -- ---- as the code comes to it
 
+-- the text of the set without a member begins a map
+none_of : (graph : Tfpg) → IsHypothesisOf graph (believing [])
+none_of graph = record {
+  set = record { rising = λ i j d lt below. absurd (omega arith); members = All-nil _ };
+  rising = λ i j d lt below. absurd (omega arith);
+  monitored = All-nil _;
+}
+
 -- the lines that were read begin a map
-pub HasRead-begins : (graph : Tfpg) (set : Option (List ℕ)) (trace : List Activation) (lines : List (List ℕ)) → HasRead graph set trace lines → BeginsMap graph lines
+pub HasRead-begins : (graph : Tfpg) (members : Option Members) (trace : List Activation) (lines : List (List ℕ)) → HasRead graph members trace lines → BeginsMap graph lines
 HasRead-begins graph None trace lines read = (
-  set_line graph [] ∷ [],
+  set_line graph (believing []) ∷ [],
   (
+    believing [],
     [],
-    [],
-    subst (λ (ls : List (List ℕ)). SpellsMap graph (ls ++ set_line graph [] ∷ []) [] []) (sym read.0)
-        (SpellsMap-set graph (set_line graph []) [] (record { rising = λ i j d lt below. absurd (omega arith); members = All-nil _ }) refl (omega arith)),
+    subst (λ (ls : List (List ℕ)). SpellsMap graph (ls ++ set_line graph (believing []) ∷ []) (believing []) []) (sym read.0)
+        (SpellsMap-set graph (set_line graph (believing [])) (believing []) (none_of graph) refl (omega arith)),
   ),
 )
-HasRead-begins graph (Some set) trace lines read = ([], (set, trace, subst (λ (ls : List (List ℕ)). SpellsMap graph ls set trace) (sym (append-nil lines)) read))
+HasRead-begins graph (Some members) trace lines read =
+    ([], (hypothesis_with members, trace, subst (λ (ls : List (List ℕ)). SpellsMap graph ls (hypothesis_with members) trace) (sym (append-nil lines)) read))
 
 -- one more line
-pub HasRead-more : (graph : Tfpg) (set : List ℕ) (seen : Option (List ℕ)) (trace now : List Activation) (lines : List (List ℕ)) (line : List ℕ) → seen ≡ Some set → HasRead graph seen trace lines
-    → TakesActivation graph trace line now → length line ≤ LONGEST_LINE → HasRead graph (Some set) now (lines ++ line ∷ [])
-HasRead-more graph set seen trace now lines line is read takes short =
-    SpellsMap-more graph lines set trace now line (subst (λ (s : Option (List ℕ)). HasRead graph s trace lines) is read) takes short
+pub HasRead-more : (graph : Tfpg) (members : Members) (seen : Option Members) (trace now : List Activation) (lines : List (List ℕ)) (line : List ℕ) → seen ≡ Some members → HasRead graph seen trace lines
+    → TakesActivation graph trace line now → length line ≤ LONGEST_LINE → HasRead graph (Some members) now (lines ++ line ∷ [])
+HasRead-more graph members seen trace now lines line is read takes short =
+    SpellsMap-more graph lines (hypothesis_with members) trace now line (subst (λ (s : Option Members). HasRead graph s trace lines) is read) takes short
 
 -- a line that is at fault
-pub HasRead-fault : (graph : Tfpg) → IsValid graph → (set : List ℕ) (seen : Option (List ℕ)) (trace : List Activation) (lines : List (List ℕ)) (line : List ℕ) → seen ≡ Some set
+pub HasRead-fault : (graph : Tfpg) → IsValid graph → (members : Members) (seen : Option Members) (trace : List Activation) (lines : List (List ℕ)) (line : List ℕ) → seen ≡ Some members
     → HasRead graph seen trace lines → IsNoActivation graph trace line → BeginsMap graph (lines ++ line ∷ []) → ⊥
-HasRead-fault graph valid set seen trace lines line is read none =
-    no_map-activation graph valid lines set trace line (subst (λ (s : Option (List ℕ)). HasRead graph s trace lines) is read) none
+HasRead-fault graph valid members seen trace lines line is read none =
+    no_map-activation graph valid lines (hypothesis_with members) trace line (subst (λ (s : Option Members). HasRead graph s trace lines) is read) none

@@ -1,9 +1,10 @@
 -- Reading the map of the input, one line after another.
-use Rattle.std.proofs.Common.{◌≡◌, ℕ, ◌+◌, ◌<◌, ◌≤◌, List, [], ◌∷◌, ◌++◌, length, take, get_or, All, Option, None, Result, Ok, Err, refl, sym, ap, subst, ◌∙◌, arith, inl, inr}
+use Rattle.std.proofs.Common.{◌≡◌, ℕ, ◌+◌, ◌<◌, ◌≤◌, List, [], ◌∷◌, ◌++◌, length, take, get_or, All, IsTrue, Option, None, Result, Ok, Err, refl, sym, ap, subst, ◌∙◌, arith, inl, inr}
 use Rattle.std.specs.Prelude.{IfOk, IfErr}
 use Rattle.std.proofs.lemmas.List.{append-nil, length-append}
 use Rattle.std.proofs.lemmas.List.Elements.{Contains-get_or}
 use Rattle.tfpg_base.specs.declared.activation.Activation.{Activation}
+use Rattle.tfpg_base.specs.Hypothesis.{Hypothesis}
 use Rattle.tfpg_base.specs.declared.line.Line.{Line}
 use Rattle.tfpg_base.specs.declared.line.Line.TheVariants as line
 use Rattle.tfpg_base.specs.declared.line.LineFault.{LineFault}
@@ -14,13 +15,14 @@ use Rattle.tfpg_base.specs.Outside.{SourceState, Rose}
 use Rattle.tfpg_base.proofs.ReadingOn.{GaveLine, Continues-turn, Continues-text, Continues-too_long}
 use Rattle.tfpg_base.proofs.Taking.{Takes-append}
 use Rattle.tfpg_base.proofs.TraceTimes.{time_there, time_holds}
-use Rattle.tfpg_graph.specs.Graph.{Tfpg}
+use Rattle.tfpg_graph.specs.Graph.{Tfpg, is_monitored}
 use Rattle.tfpg_run.specs.map.Spelling.{SpellsMap, BeginsMap, IsActivationOf}
 use Rattle.tfpg_run.specs.declared.map.Map.{Map}
 use Rattle.tfpg_run.specs.declared.map.MapReader.{MapReader}
+use Rattle.tfpg_run.specs.declared.map.Members.{Members}
 use Rattle.tfpg_run.specs.declared.map.NoMap.{NoMap}
 use Rattle.tfpg_run.specs.declared.map.NoMap.TheVariants as none
-use Rattle.tfpg_run.specs.inside.map.Lines.{HasRead, MapRepresents}
+use Rattle.tfpg_run.specs.inside.map.Lines.{HasRead, MapRepresents, hypothesis_with}
 use Rattle.tfpg_run.specs.inside.map.Reading.{IsReadingMap, HasReadAll, ReadsMap, ReturnsMap, LacksMap, map_reading_at}
 use Rattle.tfpg_base.proofs.lists.Cuts.{front_is_within, front_before, front_with}
 use Rattle.tfpg_run.proofs.InputLines.{rest_of, rest_is_left, rest_at_end, front_of_input, came_to_end, few_lines}
@@ -39,7 +41,7 @@ few_read graph before now lines map under =
 module _ (graph : Tfpg) (before now : SourceState) (lines lines' : LinesState) (map : MapReader) (input : SourceState) (under : IsReadingMap graph before (map_reading_at now lines map)) where
   -- the lines so far begin a map
   so_far : BeginsMap graph under.reading.given
-  so_far = HasRead-begins graph map.set map.trace under.reading.given under.read
+  so_far = HasRead-begins graph map.members map.trace under.reading.given under.read
 
   -- the reader of lines reports a fault
   pub lacks_by_fault : (f : LineFault) → Continues under.reading under.reading.ended now input (Err f) lines' → LacksMap graph before input (none.Lines f)
@@ -172,9 +174,9 @@ module _ (graph : Tfpg) (before now : SourceState) (lines lines' : LinesState) (
 -- ---- the map
 
 -- a map names only nodes of the graph
-pub spelled_in_graph : (graph : Tfpg) (lines : List (List ℕ)) (set : List ℕ) (trace : List Activation) → SpellsMap graph lines set trace
+pub spelled_in_graph : (graph : Tfpg) (lines : List (List ℕ)) (hypothesis : Hypothesis) (trace : List Activation) → SpellsMap graph lines hypothesis trace
     → All (λ activation. activation.node < length graph.nodes) trace
-spelled_in_graph graph lines set trace spells index d within =
+spelled_in_graph graph lines hypothesis trace spells index d within =
     let activation = get_or trace index d in
     let timed = time_there trace spells.rising activation (Contains-get_or trace index d within) in
     (time_holds (IsActivationOf graph) spells.listed activation.node activation.time spells.of_nodes (sym (spells.same_times activation.node) ∙ timed)).in_graph
@@ -186,8 +188,8 @@ module _ (graph : Tfpg) (before now : SourceState) (reader : MapReader) (all : H
     taken = all.taken;
     takes = all.takes;
     gives = record {
-      spells = subst (λ (set : Option (List ℕ)). HasRead graph set map.trace (lines_of all.taken)) returns.0
-          (subst (λ (trace : List Activation). HasRead graph reader.set trace (lines_of all.taken)) returns.1 all.read);
+      spells = subst (λ (members : Option Members). HasRead graph members map.trace (lines_of all.taken)) returns.0
+          (subst (λ (trace : List Activation). HasRead graph reader.members trace (lines_of all.taken)) returns.1 all.read);
       few = all.few;
       at_end = all.at_end;
     };
@@ -198,7 +200,7 @@ module _ (graph : Tfpg) (before now : SourceState) (reader : MapReader) (all : H
   pub gives_none : (result : Result Map NoMap) → ReturnsMap reader result → IfErr result (LacksMap graph before now)
   gives_none (Ok map) returns = tt
   gives_none (Err fault) returns =
-      let read : HasRead graph None reader.trace (lines_of all.taken) = subst (λ (set : Option (List ℕ)). HasRead graph set reader.trace (lines_of all.taken)) returns.0 all.read in
+      let read : HasRead graph None reader.trace (lines_of all.taken) = subst (λ (members : Option Members). HasRead graph members reader.trace (lines_of all.taken)) returns.0 all.read in
       let whole : all.taken ++ rest_of now ≡ all.taken = ap (λ (rest : List ℕ). all.taken ++ rest) (rest_at_end now all.at_end) ∙ append-nil all.taken in
       subst (LacksMap graph before now) (sym returns.1) (record {
         taken = all.taken;
@@ -215,5 +217,11 @@ module _ (graph : Tfpg) (before now : SourceState) (reader : MapReader) (all : H
 -- a map that was read names only nodes of the graph
 pub map_in_graph : (graph : Tfpg) (before now : SourceState) (result : Result Map NoMap) → IfOk result (ReadsMap graph before now)
     → IfOk result (λ map. All (λ activation. activation.node < length graph.nodes) map.trace)
-map_in_graph graph before now (Ok map) reads = spelled_in_graph graph (lines_of reads.taken) map.set map.trace reads.gives.spells
+map_in_graph graph before now (Ok map) reads = spelled_in_graph graph (lines_of reads.taken) (hypothesis_with map.members) map.trace reads.gives.spells
 map_in_graph graph before now (Err fault) reads = tt
+
+-- and ignores only monitored ones
+pub map_of_monitors : (graph : Tfpg) (before now : SourceState) (result : Result Map NoMap) → IfOk result (ReadsMap graph before now)
+    → IfOk result (λ map. All (λ node. IsTrue (is_monitored graph node)) map.members.doubts)
+map_of_monitors graph before now (Ok map) reads = reads.gives.spells.of_graph.monitored
+map_of_monitors graph before now (Err fault) reads = tt

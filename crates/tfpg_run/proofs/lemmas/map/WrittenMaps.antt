@@ -1,72 +1,67 @@
 -- The text of a map spells it.
 use Rattle.std.proofs.Common.{◌≡◌, ℕ, ◌+◌, ◌*◌, ◌<◌, ◌≤◌, List, [], ◌∷◌, ◌++◌, length, map, flat_map, All, Bool, true, false, IsTrue, eqb, codes, refl, sym, ap, subst, ◌∙◌, arith, length-append}
 use Rattle.std.specs.Prelude.{decimal}
-use Rattle.std.specs.List.{join_with_byte}
-use Rattle.std.proofs.lemmas.List.{length-map}
+use Rattle.std.proofs.lemmas.List.{append-nil, length-map}
 use Rattle.std.proofs.lemmas.List.Elements.{All-nil, All-cons, All-head, All-tail, All-weaker, All-append}
 use Rattle.std.proofs.lemmas.List.Folds.{flat_map-map}
+use Rattle.tfpg_base.specs.Hypothesis.{Hypothesis, believing}
 use Rattle.tfpg_base.specs.declared.activation.Activation.{Activation}
 use Rattle.tfpg_base.specs.Lines.{HasNoLineEnd, lines_of, with_line_end}
 use Rattle.tfpg_base.specs.declared.limits.TheConstants.{LONGEST_LINE, MAX_TIME}
 use Rattle.tfpg_base.specs.Trace.{IsRisingByNode}
+use Rattle.tfpg_base.proofs.LinesOf.{lines_again}
 use Rattle.tfpg_base.proofs.Separators.{name_lacks}
 use Rattle.tfpg_base.proofs.lists.Lacking.{lacks_checked, decimal_lacks}
 use Rattle.tfpg_base.proofs.WordLengths.{name_short, number_short}
 use Rattle.tfpg_base.proofs.lists.Distinct.{length-le_distinct}
-use Rattle.tfpg_base.proofs.lists.Joined.{All-join, length-join}
+use Rattle.tfpg_base.proofs.lists.Joined.{length-join}
 use Rattle.tfpg_base.proofs.lists.Ordered.{Rises-differ}
-use Rattle.tfpg_graph.specs.Graph.{Tfpg, name_word, failures, IsSetOf, failure_word}
+use Rattle.tfpg_graph.specs.Graph.{Tfpg, name_word, failures, IsSetOf, failure_word, is_monitored}
 use Rattle.tfpg_graph.specs.Valid.{IsValid}
 use Rattle.tfpg_graph.proofs.lemmas.reading.spelling.SpelledEdges.{is_name-name_word}
 use Rattle.tfpg_log.specs.Log.{Logbook, IsOrdered, now_of}
 use Rattle.tfpg_log.specs.Explains.{Explains}
 use Rattle.tfpg_clause.proofs.logs.TimesInRange.{now_in_range}
 use Rattle.tfpg_sim.specs.declared.simulated.Simulated.{Simulated}
-use Rattle.tfpg_base.proofs.LinesOf.{lines_again}
-use Rattle.tfpg_report.specs.Blocks.{set_word, activation_line}
+use Rattle.tfpg_report.specs.Blocks.{activation_line}
+use Rattle.tfpg_report.specs.SetText.{IsHypothesisOf, hyphen_or_joined, member_words, set_word}
+use Rattle.tfpg_report.proofs.MemberWords.{IsMemberWord, member_short, member_words_are}
+use Rattle.tfpg_report.proofs.SetWords.{set_word-no_line_end}
 use Rattle.tfpg_run.specs.map.Spelling.{IsActivationOf, SpellsMap, set_line}
 use Rattle.tfpg_run.specs.map.MapText.{map_text}
 use Rattle.tfpg_run.specs.simulate.Simulating.{simulated_text}
-use Rattle.tfpg_run.proofs.lemmas.map.LineWords.{failure_word-is_name}
 
 -- a text without a line end, of at most so many bytes
 record IsLinePart (limit : ℕ) (text : List ℕ) : Type 0 where
   lacks : HasNoLineEnd text
   few : length text ≤ limit
 
--- names with commas between
-joined : (names : List (List ℕ)) → All (IsLinePart 32) names → IsLinePart (length names * 33) (join_with_byte 44 names)
-joined names are = record {
-  lacks = All-join (λ byte. eqb byte 10 ≡ false) 44 names refl (All-weaker (IsLinePart 32) HasNoLineEnd (λ name part. part.lacks) names are);
-  few = omega (arith, length-join 44 32 names (All-weaker (IsLinePart 32) (λ name. length name ≤ 32) (λ name part. part.few) names are));
-}
+-- words for members, as the text of a set, are not long
+members_short : (words : List (List ℕ)) → All IsMemberWord words → length (hyphen_or_joined words) ≤ 34 * length words + 1
+members_short [] are = omega arith
+members_short (word ∷ words) are = omega (arith, length-join 44 33 (word ∷ words) (All-weaker IsMemberWord (λ w. length w ≤ 33) member_short (word ∷ words) are))
 
 module _ (graph : Tfpg) (valid : IsValid graph) where
   -- ---- the line of a set
 
-  names_are : (set : List ℕ) → All (λ position. position < length (failures graph)) set → All (IsLinePart 32) (map (failure_word graph) set)
-  names_are [] members = All-nil (IsLinePart 32)
-  names_are (position ∷ positions) members =
-      let named = failure_word-is_name graph valid position (All-head (λ p. p < length (failures graph)) position positions members) in
-      All-cons (IsLinePart 32) (failure_word graph position) (map (failure_word graph) positions)
-      (record { lacks = name_lacks 10 (failure_word graph position) refl named; few = name_short (failure_word graph position) named })
-      (names_are positions (All-tail (λ p. p < length (failures graph)) position positions members))
+  set_line_is : (hypothesis : Hypothesis) → IsHypothesisOf graph hypothesis → length (set_line graph hypothesis) ≤ LONGEST_LINE → IsLinePart LONGEST_LINE (set_line graph hypothesis)
+  set_line_is hypothesis of short = record {
+    lacks = All-append (λ byte. eqb byte 10 ≡ false) (codes "set") (32 ∷ set_word graph hypothesis) (lacks_checked 10 (codes "set") refl)
+        (All-cons (λ byte. eqb byte 10 ≡ false) 32 (set_word graph hypothesis) refl (set_word-no_line_end graph valid hypothesis of));
+    few = short;
+  }
 
-  set_word_is : (set : List ℕ) → All (λ position. position < length (failures graph)) set → IsLinePart (length set * 33 + 1) (set_word graph set)
-  set_word_is [] members = record { lacks = lacks_checked 10 (codes "-") refl; few = omega arith }
-  set_word_is (position ∷ positions) members =
-      let part = joined (map (failure_word graph) (position ∷ positions)) (names_are (position ∷ positions) members) in
-      record { lacks = part.lacks; few = omega (arith, part.few, length-map (position ∷ positions) (failure_word graph)) }
+  -- a set of failure modes, without an ignored monitor
+  of_believing : (set : List ℕ) → IsSetOf graph set → IsHypothesisOf graph (believing set)
+  of_believing set of = record { set = of; rising = λ i j d lt below. absurd (omega arith); monitored = All-nil (λ node. IsTrue (is_monitored graph node)) }
 
-  set_line_is : (set : List ℕ) → IsSetOf graph set → IsLinePart LONGEST_LINE (set_line graph set)
-  set_line_is set of =
-      let word = set_word_is set of.members in
+  -- its line is not too long
+  believing_short : (set : List ℕ) → IsSetOf graph set → length (set_line graph (believing set)) ≤ LONGEST_LINE
+  believing_short set of =
+      let words = member_words graph (believing set) in
       let count = length-le_distinct set (length (failures graph)) (Rises-differ set of.rising) of.members in
-      record {
-        lacks = All-append (λ byte. eqb byte 10 ≡ false) (codes "set") (32 ∷ set_word graph set) (lacks_checked 10 (codes "set") refl)
-            (All-cons (λ byte. eqb byte 10 ≡ false) 32 (set_word graph set) refl word.lacks);
-        few = omega (arith, word.few, count, valid.so_far.few_failures);
-      }
+      let as_many : length words ≡ length set = ap length (append-nil (map (failure_word graph) set)) ∙ length-map set (failure_word graph) in
+      omega (arith, members_short words (member_words_are graph (believing set) valid (of_believing set of)), as_many, count, valid.so_far.few_failures)
 
   -- ---- the lines of activations
 
@@ -92,21 +87,21 @@ module _ (graph : Tfpg) (valid : IsValid graph) where
 
   -- ---- the whole text
 
-  module _ (set : List ℕ) (trace : List Activation) (of : IsSetOf graph set) (of_nodes : All (IsActivationOf graph) trace) where
+  module _ (hypothesis : Hypothesis) (trace : List Activation) (of : IsHypothesisOf graph hypothesis) (short : length (set_line graph hypothesis) ≤ LONGEST_LINE) (of_nodes : All (IsActivationOf graph) trace) where
     abbrev lines : List (List ℕ)
-    lines = set_line graph set ∷ map (activation_line graph) trace
+    lines = set_line graph hypothesis ∷ map (activation_line graph) trace
 
     lines_are : All (IsLinePart LONGEST_LINE) lines
-    lines_are = All-cons (IsLinePart LONGEST_LINE) (set_line graph set) (map (activation_line graph) trace) (set_line_is set of) (activation_lines_are trace of_nodes)
+    lines_are = All-cons (IsLinePart LONGEST_LINE) (set_line graph hypothesis) (map (activation_line graph) trace) (set_line_is hypothesis of short) (activation_lines_are trace of_nodes)
 
-    text_is : map_text graph set trace ≡ flat_map with_line_end lines
-    text_is = ap (λ (text : List ℕ). with_line_end (set_line graph set) ++ text) (sym (flat_map-map with_line_end (activation_line graph) trace))
+    text_is : map_text graph hypothesis trace ≡ flat_map with_line_end lines
+    text_is = ap (λ (text : List ℕ). with_line_end (set_line graph hypothesis) ++ text) (sym (flat_map-map with_line_end (activation_line graph) trace))
 
-    spelled : lines_of (map_text graph set trace) ≡ lines
+    spelled : lines_of (map_text graph hypothesis trace) ≡ lines
     spelled =
         ap lines_of text_is ∙ lines_again lines (All-weaker (IsLinePart LONGEST_LINE) HasNoLineEnd (λ line part. part.lacks) lines lines_are)
 
-    spells : IsRisingByNode trace → SpellsMap graph (lines_of (map_text graph set trace)) set trace
+    spells : IsRisingByNode trace → SpellsMap graph (lines_of (map_text graph hypothesis trace)) hypothesis trace
     spells rising = record {
       of_graph = of;
       listed = trace;
@@ -119,10 +114,16 @@ module _ (graph : Tfpg) (valid : IsValid graph) where
       same_times = λ node. refl;
     }
 
--- The text of a map of a valid graph spells it.
-pub written_map : (graph : Tfpg) (set : List ℕ) (trace : List Activation) → IsValid graph → IsSetOf graph set → All (IsActivationOf graph) trace → IsRisingByNode trace
-    → SpellsMap graph (lines_of (map_text graph set trace)) set trace
-written_map graph set trace valid of of_nodes rising = spells graph valid set trace of of_nodes rising
+-- The text of a map of a valid graph spells it, where the line of its set is not too long.
+pub written_map : (graph : Tfpg) (hypothesis : Hypothesis) (trace : List Activation) → IsValid graph → IsHypothesisOf graph hypothesis → All (IsActivationOf graph) trace → IsRisingByNode trace
+    → length (set_line graph hypothesis) ≤ LONGEST_LINE → SpellsMap graph (lines_of (map_text graph hypothesis trace)) hypothesis trace
+written_map graph hypothesis trace valid of of_nodes rising short = spells graph valid hypothesis trace of short of_nodes rising
+
+-- It never is where no monitor is ignored.
+pub written_believing : (graph : Tfpg) (set : List ℕ) (trace : List Activation) → IsValid graph → IsSetOf graph set → All (IsActivationOf graph) trace → IsRisingByNode trace
+    → SpellsMap graph (lines_of (map_text graph (believing set) trace)) (believing set) trace
+written_believing graph set trace valid of of_nodes rising =
+    written_map graph (believing set) trace valid (of_believing graph valid set of) of_nodes rising (believing_short graph valid set of)
 
 -- ---- the map of a trace that explains a log
 
@@ -141,15 +142,15 @@ explaining_activations graph now (first ∷ others) small within by_now =
 
 -- The text of the map of a trace that explains a log spells it.
 pub explaining_map : (graph : Tfpg) (log : Logbook) (set : List ℕ) (trace : List Activation) → IsValid graph → IsOrdered log → IsSetOf graph set → Explains graph log set trace
-    → SpellsMap graph (lines_of (map_text graph set trace)) set trace
+    → SpellsMap graph (lines_of (map_text graph (believing set) trace)) (believing set) trace
 explaining_map graph log set trace valid ordered of explains =
-    written_map graph set trace valid of
+    written_believing graph set trace valid of
     (explaining_activations graph (now_of log) trace (now_in_range log ordered) explains.trace_of.1 explains.by_now)
     explains.trace_of.0
 
 -- What is written of a simulation spells its map, where its trace is asked for.
 pub simulation_spells : (graph : Tfpg) (log : Logbook) (simulated : Simulated) (trace : Bool) (text : List ℕ) → IsValid graph → IsOrdered log → IsSetOf graph simulated.set
-    → Explains graph log simulated.set simulated.trace → text ≡ simulated_text graph trace simulated → IsTrue trace → SpellsMap graph (lines_of text) simulated.set simulated.trace
+    → Explains graph log simulated.set simulated.trace → text ≡ simulated_text graph trace simulated → IsTrue trace → SpellsMap graph (lines_of text) (believing simulated.set) simulated.trace
 simulation_spells graph log simulated true text valid ordered of explains is asked =
-    subst (λ (t : List ℕ). SpellsMap graph (lines_of t) simulated.set simulated.trace) (sym is) (explaining_map graph log simulated.set simulated.trace valid ordered of explains)
+    subst (λ (t : List ℕ). SpellsMap graph (lines_of t) (believing simulated.set) simulated.trace) (sym is) (explaining_map graph log simulated.set simulated.trace valid ordered of explains)
 simulation_spells graph log simulated false text valid ordered of explains is asked = cc

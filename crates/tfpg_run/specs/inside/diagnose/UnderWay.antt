@@ -16,6 +16,8 @@ use Rattle.tfpg_run.specs.diagnose.ForNow.{LosesNone}
 use Rattle.tfpg_run.specs.diagnose.RightReport.{RoundsSay}
 use Rattle.tfpg_run.specs.inside.diagnose.LineBlocks.{EngineReports}
 use Rattle.tfpg_run.specs.diagnose.Diagnosing.{Diagnoses}
+use Rattle.tfpg_run.specs.diagnose.Work.{AreBlocksWithin, IsReportWithin}
+use Rattle.tfpg_run.specs.Outputs.{WorksLineByLine}
 use Rattle.tfpg_run.specs.Streams.{Streams, CountsUnchanged}
 
 -- a diagnosis at one moment: the streams, the reader of lines and the engine
@@ -45,6 +47,18 @@ pub record IsDiagnosing (graph : Tfpg) (terms : Terms) (before : Streams) (now :
   pub say : RoundsSay graph terms reading.given blocks
   pub reports : EngineReports graph terms now.engine (progress_of graph reading.given blocks)
   pub no_fault : CountsUnchanged before now.streams
+
+-- A diagnosis has come to this, and since it began the count of calls went from one number to the other, within the limits of its
+-- blocks.
+pub record IsDiagnosingWithin (graph : Tfpg) (terms : Terms) (before : Streams) (now : DiagnosisState) (start end : ℕ) : Type 0 where
+  pub under : IsDiagnosing graph terms before now
+  pub within : AreBlocksWithin graph under.reading.given under.blocks start end
+
+-- What writing the next block leads to, where the count of calls went from one number to the other since the diagnosis began.
+abbrev pub ComesToWithin : Tfpg → Terms → Streams → DiagnosisState → ℕ → ℕ → NextBlock → Type 0
+ComesToWithin graph terms before now start end Written = IsDiagnosingWithin graph terms before now start end
+ComesToWithin graph terms before now start end Ended =
+    WorksLineByLine (IsReportWithin graph terms start end) before now.streams (Ok tt)
 
 -- What writing the block after the line of this number leads to: the diagnosis is under way still, one line on; or it is done.
 abbrev pub ComesTo : Tfpg → Terms → Streams → ℕ → DiagnosisState → NextBlock → Type 0

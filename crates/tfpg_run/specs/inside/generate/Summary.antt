@@ -1,14 +1,16 @@
 -- What the code knows when it writes the three lines of `generate`.
 use Rattle.std.specs.Prelude.{◌≡◌, ℕ, List, Contains}
+use Rattle.tfpg_base.specs.Hypothesis.{believing}
 use Rattle.tfpg_evidence.specs.declared.finding.Finding.{Finding}
 use Rattle.tfpg_evidence.specs.declared.round.Round.{Round}
+use Rattle.tfpg_evidence.specs.Findings.{hypothesis_of}
 use Rattle.tfpg_run.specs.generate.Summary.{Drawing, summary_text}
 
--- the round has a finding on the set
+-- the round has a finding on the set, which believes each monitor
 pub record HasFindingOn (set : List ℕ) (round : Round) : Type 0 where
   pub finding : Finding
   pub there : Contains round.findings finding
-  pub on_set : finding.set ≡ set
+  pub on_set : hypothesis_of finding ≡ believing set
 
 -- The text is the three lines by this round, the last of as many as there are lines, and by its finding on the set.
 pub record SaysOfRound (drawn : Drawing) (set text : List ℕ) (round : Round) : Type 0 where

@@ -1,10 +1,13 @@
 -- What the reader of maps reads of a line, and what it has read so far.
-use Rattle.std.specs.Prelude.{◌≡◌, ℕ, ◌≤◌, List, [], ◌∷◌, All, if◌then◌else◌, Option, Some, None, option_and_then, codes, bytes_eq}
+use Rattle.std.specs.Prelude.{◌≡◌, ℕ, ◌<◌, ◌≤◌, List, [], ◌∷◌, length, All, Bool, false, IsTrue, ◌==◌, if◌then◌else◌, Option, Some, None, option_and_then, codes, bytes_eq}
+use Rattle.std.specs.Bool.{then_some}
 use Rattle.tfpg_base.specs.declared.activation.Activation.{Activation}
+use Rattle.tfpg_base.specs.Hypothesis.{Hypothesis}
 use Rattle.tfpg_base.specs.Set.{Rises}
 use Rattle.tfpg_base.specs.Trace.{time_of, with_time}
-use Rattle.tfpg_graph.specs.Graph.{Tfpg, node_named, AreFailures, position_of_failure}
+use Rattle.tfpg_graph.specs.Graph.{Tfpg, node_named, failures, is_monitored, position_of_failure}
 use Rattle.tfpg_run.specs.declared.map.MapReader.{MapReader}
+use Rattle.tfpg_run.specs.declared.map.Members.{Members}
 use Rattle.tfpg_report.specs.Blocks.{activation_line}
 use Rattle.tfpg_run.specs.map.Spelling.{SpellsMap, IsActivationOf}
 
@@ -27,11 +30,37 @@ words_after_at (keyword ∷ name ∷ time ∷ more ∷ others) = None
 abbrev pub position_named : Tfpg → List ℕ → Option ℕ
 position_named graph name = option_and_then (position_of_failure graph) (node_named graph name)
 
--- rising positions of failure modes, none before this one
-pub record AreRisingFrom (graph : Tfpg) (least : ℕ) (positions : List ℕ) : Type 0 where
-  pub rising : Rises positions
-  pub not_before : All (λ position. least ≤ position) positions
-  pub members : AreFailures graph positions
+-- the monitored node of this name
+abbrev pub monitor_named : Tfpg → List ℕ → Option ℕ
+monitor_named graph name = option_and_then (λ node. then_some (is_monitored graph node) node) (node_named graph name)
+
+-- whether a word begins with an exclamation mark
+abbrev pub is_marked : List ℕ → Bool
+is_marked [] = false
+is_marked (first ∷ others) = first == 33
+
+-- the monitored node of the name after the exclamation mark
+abbrev pub doubt_named : Tfpg → List ℕ → Option ℕ
+doubt_named graph [] = None
+doubt_named graph (mark ∷ name) = if mark == 33 then monitor_named graph name else None
+
+-- the number is the position of a failure mode
+abbrev pub IsPosition : Tfpg → ℕ → Type 0
+IsPosition graph position = position < length (failures graph)
+
+-- the number is that of a monitored node
+abbrev pub IsMonitor : Tfpg → ℕ → Type 0
+IsMonitor graph node = IsTrue (is_monitored graph node)
+
+-- rising numbers of this kind, none before this one
+pub record AreRisingFrom (IsOne : ℕ → Type 0) (least : ℕ) (numbers : List ℕ) : Type 0 where
+  pub rising : Rises numbers
+  pub not_before : All (λ number. least ≤ number) numbers
+  pub members : All IsOne numbers
+
+-- the hypothesis with these members
+abbrev pub hypothesis_with : Members → Hypothesis
+hypothesis_with members = record { set = members.set; doubts = members.doubts }
 
 -- The line spells an activation of a node that had none, and the trace has it now.
 pub record TakesActivation (graph : Tfpg) (before : List Activation) (line : List ℕ)
@@ -48,11 +77,11 @@ IsNoActivation graph trace line =
     (activation : Activation) → IsActivationOf graph activation → line ≡ activation_line graph activation
     → time_of trace activation.node ≡ None → ⊥
 
--- the reader with this set and trace has read these lines
-abbrev pub HasRead : Tfpg → Option (List ℕ) → List Activation → List (List ℕ) → Type 0
+-- the reader with these members and this trace has read these lines
+abbrev pub HasRead : Tfpg → Option Members → List Activation → List (List ℕ) → Type 0
 HasRead graph None trace lines = (lines ≡ []) × (trace ≡ [])
-HasRead graph (Some set) trace lines = SpellsMap graph lines set trace
+HasRead graph (Some members) trace lines = SpellsMap graph lines (hypothesis_with members) trace
 
 -- The reader represents these lines.
 abbrev pub MapRepresents : Tfpg → MapReader → List (List ℕ) → Type 0
-MapRepresents graph reader lines = HasRead graph reader.set reader.trace lines
+MapRepresents graph reader lines = HasRead graph reader.members reader.trace lines

@@ -1,5 +1,5 @@
 -- Reading the map of the input, under way and ended.
-use Rattle.std.specs.Prelude.{◌≡◌, ◌⊎◌, ℕ, ◌+◌, ◌<◌, ◌≤◌, List, length, take, Some, None, Result, Ok, Err}
+use Rattle.std.specs.Prelude.{◌≡◌, ◌⊎◌, ℕ, ◌+◌, ◌≤◌, List, length, take, Some, None, Result, Ok, Err}
 use Rattle.tfpg_base.specs.declared.line.Line.TheVariants as line
 use Rattle.tfpg_base.specs.Lines.{Reading, LinesState, LinesRepresent, lines_of, whole_lines}
 use Rattle.tfpg_base.specs.declared.limits.TheConstants.{MAX_BYTES}
@@ -14,7 +14,7 @@ use Rattle.tfpg_run.specs.declared.map.NoMap.TheVariants.{Refused, Lines, NoMemo
 use Rattle.tfpg_base.specs.declared.line.LineFault.TheVariants.{ReadFault, TooMuchInput}
 use Rattle.tfpg_run.specs.declared.map.reading.NextLine.{NextLine}
 use Rattle.tfpg_run.specs.declared.map.reading.NextLine.TheVariants.{Read, Ended}
-use Rattle.tfpg_run.specs.inside.map.Lines.{MapRepresents}
+use Rattle.tfpg_run.specs.inside.map.Lines.{MapRepresents, hypothesis_with}
 
 -- the reading of a map at one moment: the input, the reader of lines and the reader of the map
 pub record MapReadingState : Type 0 where
@@ -55,13 +55,13 @@ ReadsOn graph before number now Ended = HasReadAll graph before now.input now.ma
 pub record ReadsMap (graph : Tfpg) (before now : SourceState) (map : Map) : Type 0 where
   pub taken : List ℕ
   pub takes : Takes before now taken
-  pub gives : GivesMap graph now taken map.set map.trace
+  pub gives : GivesMap graph now taken (hypothesis_with map.members) map.trace
   pub no_fault : now.faults ≡ before.faults
 
 -- what a reader that has read all lines gives: its map, or that there is no line
 abbrev pub ReturnsMap : MapReader → Result Map NoMap → Type 0
-ReturnsMap reader (Ok map) = (reader.set ≡ Some map.set) × (reader.trace ≡ map.trace)
-ReturnsMap reader (Err fault) = (reader.set ≡ None) × (fault ≡ Refused 1)
+ReturnsMap reader (Ok map) = (reader.members ≡ Some map.members) × (reader.trace ≡ map.trace)
+ReturnsMap reader (Err fault) = (reader.members ≡ None) × (fault ≡ Refused 1)
 
 -- what shows why there is no map, where these bytes were taken
 abbrev pub ShowsNoMap : Tfpg → SourceState → SourceState → List ℕ → NoMap → Type 0

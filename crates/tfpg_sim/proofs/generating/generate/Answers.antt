@@ -2,6 +2,8 @@ use Rattle.std.proofs.Common.{◌*◌, length, All, ap, subst, sym, ◌∙◌, a
 use Rattle.tfpg_graph.specs.Valid.{IsValid}
 use Rattle.tfpg_sim.specs.Generated.{draft_after, draft_of, drawn_graph, script_drawn}
 use Rattle.tfpg_sim.specs.inside.GraphText.{HasDrawnModes}
+use Rattle.tfpg_graph.specs.Text.{version_for}
+use Rattle.tfpg_sim.proofs.drawn.DrawnVersions.{generated_version}
 use Rattle.tfpg_sim.proofs.drawn.GeneratedGraphs.{generated_valid, generated_kinds, generated_modes}
 use Rattle.tfpg_sim.proofs.generating.generate.Goals as goal
 
@@ -24,6 +26,13 @@ pub drawn_graph-requires-clause-modes : goal.drawn_graph-requires-clause-modes
 drawn_graph-requires-clause-modes c =
     let edges = c.in_ok-draft.ensures.edges ∙ ap (λ s. (draft_after s (4 * c.args.size)).edges) c.new-state.ensures in
     subst (All HasDrawnModes) (sym edges) (generated_modes c.args.number c.args.size)
+
+pub drawn_graph-requires-clause-version : goal.drawn_graph-requires-clause-version
+drawn_graph-requires-clause-version c =
+    let size = c.args.size in
+    let kinds = c.in_ok-draft.ensures.kinds ∙ ap (λ s. (draft_after s (4 * size)).kinds) c.new-state.ensures in
+    let edges = c.in_ok-draft.ensures.edges ∙ ap (λ s. (draft_after s (4 * size)).edges) c.new-state.ensures in
+    (λ i. version_for (drawn_graph (kinds i) (edges i))) ∙ generated_version c.args.number size
 
 pub returns-clause-graph : goal.returns-clause-graph
 returns-clause-graph c =

@@ -12,7 +12,7 @@ within words means is = subst (λ (r : Result Meaning UsageCause). IfOk r AreInL
 pub returns-clause-diagnose : goal.returns-clause-diagnose
 returns-clause-diagnose c words terms graph is =
     let are = within words (Diagnose terms graph) is in
-    record { few_members = are.0.high; some_splits = are.1.low; few_splits = are.1.high }
+    record { few_members = are.0.0.high; few_doubts = are.0.1.high; some_splits = are.1.low; few_splits = are.1.high }
 
 pub returns-clause-simulate : goal.returns-clause-simulate
 returns-clause-simulate c words draw trace graph script is = (within words (Simulate draw trace graph script) is).high

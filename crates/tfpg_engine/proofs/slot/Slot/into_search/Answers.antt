@@ -1,8 +1,8 @@
+use Rattle.tfpg_engine.specs.inside.Inquiries.{hypothesis_listed}
 use Rattle.tfpg_engine.proofs.KeptStaysRight.{begins_untouched}
 use Rattle.tfpg_engine.proofs.slot.Slot.into_search.Goals as goal
 
-pub returns-in-Untouched : goal.returns-in-Untouched
-returns-in-Untouched c = record {
-  represents = begins_untouched c.args.graph.now c.args.listed.now.set c.args.listed.now.reach.now c.args.self c.new.result c.in-Untouched.is
-      c.new.ensures.set c.new.ensures.reach c.new.ensures.seen c.new.ensures.represents;
-}
+pub returns-in-Untouched-clause-represents : goal.returns-in-Untouched-clause-represents
+returns-in-Untouched-clause-represents c =
+    begins_untouched c.args.graph.now (hypothesis_listed c.args.listed.now) c.args.listed.now.reach.now c.args.self c.new.result c.in-Untouched.is
+    c.new.ensures.set c.new.ensures.reach c.new.ensures.seen c.new.ensures.represents

@@ -7,8 +7,9 @@ use Rattle.tfpg_base.specs.declared.limits.TheConstants.{MAX_TIME}
 use Rattle.tfpg_base.specs.Words.{is_number, number_of}
 use Rattle.tfpg_graph.specs.declared.cause.GraphCause.{GraphCause}
 use Rattle.tfpg_graph.specs.Graph.{Tfpg, node_named}
-use Rattle.tfpg_graph.specs.Statements.{NodeWords, FailureWords, OrWords, AndWords, Statement, DeclaresMode, DeclaresNode, DeclaresEdge, Ends, statement_of, statements_of, is_skipped, ends_text}
-use Rattle.tfpg_graph.specs.Declares.{lag_of_word, kind_of_words, tmax_of_word, delays_of_words, ends_named, declared_by}
+use Rattle.tfpg_graph.specs.Text.{version_of}
+use Rattle.tfpg_graph.specs.Statements.{LagWords, NodeWords, FailureWords, OrWords, AndWords, Statement, DeclaresMode, DeclaresNode, DeclaresEdge, Ends, statement_of, is_skipped, ends_text}
+use Rattle.tfpg_graph.specs.Declares.{lag_of_words, numbers_of_words, kind_of_words, tmax_of_word, delays_of_words, ends_named, said_by, declared_by}
 use Rattle.tfpg_base.specs.Choice.{first_of}
 use Rattle.tfpg_graph.specs.Causes.{causes, numbers_in, cause_at}
 use Rattle.tfpg_graph.specs.inside.reading.Turns.{HasValue, is_misplaced}
@@ -18,18 +19,22 @@ use Rattle.tfpg_graph.proofs.lemmas.reading.causes.WithoutCause.{HasNoCause-from
 use Rattle.tfpg_graph.proofs.lemmas.reading.graphs.DeclaredBy.{AllHaveValues, is_misplaced-said}
 use Rattle.tfpg_graph.proofs.lemmas.reading.causes.CauseAt.{cause-unended}
 
-lag-some : (lag : Option (List ℕ))
+lag-some : (lag : Option LagWords)
     → list_all (λ number. is_number number.0) (numbers_in (DeclaresNode [] (OrWords lag))) ≡ true
-    → is_some (lag_of_word lag) ≡ true
+    → is_some (lag_of_words lag) ≡ true
 lag-some None numbers = refl
-lag-some (Some word) numbers = is_some-option_map _ (number_of word) ∙ is_some-number_of word (and_parts (is_number word) true numbers).0
+lag-some (Some words) numbers =
+    let are = and_parts (is_number words.least) _ numbers in
+    is_some-option_map _ (numbers_of_words words.least words.most)
+    ∙ is_some-both _ (number_of words.least) (number_of words.most) (is_some-number_of words.least are.0)
+    (is_some-number_of words.most (and_parts (is_number words.most) true are.1).0)
 
 kind-some : (name : List ℕ) (words : NodeWords)
     → list_all (λ number. is_number number.0) (numbers_in (DeclaresNode name words)) ≡ true
     → is_some (kind_of_words words) ≡ true
 kind-some name (FailureWords rarity) numbers = is_some-option_map _ (number_of rarity) ∙ is_some-number_of rarity (and_parts (is_number rarity) true numbers).0
-kind-some name (OrWords lag) numbers = is_some-option_map _ (lag_of_word lag) ∙ lag-some lag numbers
-kind-some name (AndWords lag) numbers = is_some-option_map _ (lag_of_word lag) ∙ lag-some lag numbers
+kind-some name (OrWords lag) numbers = is_some-option_map _ (lag_of_words lag) ∙ lag-some lag numbers
+kind-some name (AndWords lag) numbers = is_some-option_map _ (lag_of_words lag) ∙ lag-some lag numbers
 
 tmax-some : (word : List ℕ)
     → list_all (λ (number : List ℕ × ℕ). is_number number.0) (cond (bytes_eq word (codes "inf")) [] ((word, MAX_TIME) ∷ [])) ≡ true
@@ -61,10 +66,10 @@ abbrev pub cause_declared : Tfpg → Statement → Option GraphCause
 cause_declared graph said = first_of (causes (is_misplaced graph said) graph said)
 
 -- The cause of a line that says something, where each statement before it has its value and none ends the text.
-pub cause-said : (lines : List (List ℕ)) (line : List ℕ) (said : Statement) → AllHaveValues (statements_of lines)
-    → 0 < length lines → list_any ends_text (statements_of lines) ≡ false
-    → is_skipped line ≡ false → statement_of line ≡ Some said
+pub cause-said : (lines : List (List ℕ)) (line : List ℕ) (said : Statement) → AllHaveValues (said_by lines)
+    → 0 < length lines → list_any ends_text (said_by lines) ≡ false
+    → is_skipped line ≡ false → statement_of (version_of lines) line ≡ Some said
     → cause_at (lines ++ line ∷ []) (length lines) ≡ cause_declared (declared_by lines) said
 cause-said lines line said values some unended read says =
     cause-unended lines line some (Some said) unended read says
-    ∙ ap (λ misplaced. first_of (causes misplaced (declared_by lines) said)) (sym (is_misplaced-said (statements_of lines) values unended said))
+    ∙ ap (λ misplaced. first_of (causes misplaced (declared_by lines) said)) (sym (is_misplaced-said (said_by lines) values unended said))

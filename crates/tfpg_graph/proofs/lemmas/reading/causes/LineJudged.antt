@@ -8,10 +8,10 @@ use Rattle.tfpg_graph.specs.declared.kind.Lag.{Lag}
 use Rattle.tfpg_graph.specs.declared.kind.Kind.TheVariants.{Failure, Or, And}
 use Rattle.tfpg_graph.specs.Graph.{Tfpg, is_failure}
 use Rattle.tfpg_graph.specs.Statements.{NodeWords, FailureWords, OrWords, AndWords, DeclaresNode, DeclaresEdge}
-use Rattle.tfpg_graph.specs.Declares.{kind_of_words, lag_of_word}
+use Rattle.tfpg_graph.specs.Declares.{kind_of_words, lag_of_words}
 use Rattle.tfpg_base.specs.Choice.{first_of}
-use Rattle.tfpg_graph.specs.Causes.{causes, node_number, are_failure_words}
-use Rattle.tfpg_graph.specs.inside.reading.LineCauses.{number_causes, node_name_causes, node_room_causes, edge_name_causes, edge_unknown_causes, delay_causes, end_causes, edge_room_causes}
+use Rattle.tfpg_graph.specs.Causes.{causes, are_failure_words}
+use Rattle.tfpg_graph.specs.inside.reading.LineCauses.{node_number_causes, node_name_causes, node_room_causes, edge_name_causes, edge_unknown_causes, delay_causes, end_causes, edge_room_causes}
 use Rattle.tfpg_graph.specs.inside.reading.Turns.{is_misplaced}
 use Rattle.tfpg_base.proofs.lists.Choices.{first_of-append_some, first_of-append_none}
 
@@ -32,8 +32,8 @@ and_word (Some l) kind is = ap is_failure (let same : And l ≡ kind = cc in sam
 -- whether the words are those of a failure mode
 failure_words : (words : NodeWords) (kind : Kind) → kind_of_words words ≡ Some kind → are_failure_words words ≡ is_failure kind
 failure_words (FailureWords rarity) kind is = failure_word (number_of rarity) kind is
-failure_words (OrWords lag) kind is = or_word (lag_of_word lag) kind is
-failure_words (AndWords lag) kind is = and_word (lag_of_word lag) kind is
+failure_words (OrWords lag) kind is = or_word (lag_of_words lag) kind is
+failure_words (AndWords lag) kind is = and_word (lag_of_words lag) kind is
 
 module _ (graph : Tfpg) (name : List ℕ) (words : NodeWords) where
   -- the first cause of the line
@@ -42,20 +42,20 @@ module _ (graph : Tfpg) (name : List ℕ) (words : NodeWords) where
 
   -- the tests after those of the name
   abbrev node_rest : List (Option GraphCause)
-  node_rest = number_causes (node_number words) ++ node_room_causes graph (are_failure_words words)
+  node_rest = node_number_causes words ++ node_room_causes graph (are_failure_words words)
 
   pub node_cause-name : (cause : GraphCause) → first_of (node_name_causes graph name) ≡ Some cause → node_cause ≡ Some cause
   node_cause-name cause is = first_of-append_some (node_name_causes graph name) node_rest cause is
 
   module _ (named : first_of (node_name_causes graph name) ≡ None) where
-    pub node_cause-number : (cause : GraphCause) → first_of (number_causes (node_number words)) ≡ Some cause → node_cause ≡ Some cause
+    pub node_cause-number : (cause : GraphCause) → first_of (node_number_causes words) ≡ Some cause → node_cause ≡ Some cause
     node_cause-number cause is =
-        first_of-append_none (node_name_causes graph name) node_rest named ∙ first_of-append_some (number_causes (node_number words)) (node_room_causes graph (are_failure_words words)) cause is
+        first_of-append_none (node_name_causes graph name) node_rest named ∙ first_of-append_some (node_number_causes words) (node_room_causes graph (are_failure_words words)) cause is
 
-    pub node_cause-room : (kind : Kind) → first_of (number_causes (node_number words)) ≡ None → kind_of_words words ≡ Some kind → node_cause ≡ first_of (node_room_causes graph (is_failure kind))
+    pub node_cause-room : (kind : Kind) → first_of (node_number_causes words) ≡ None → kind_of_words words ≡ Some kind → node_cause ≡ first_of (node_room_causes graph (is_failure kind))
     node_cause-room kind numbers is =
         first_of-append_none (node_name_causes graph name) node_rest named
-        ∙ first_of-append_none (number_causes (node_number words)) (node_room_causes graph (are_failure_words words)) numbers
+        ∙ first_of-append_none (node_number_causes words) (node_room_causes graph (are_failure_words words)) numbers
         ∙ ap (λ failure. first_of (node_room_causes graph failure)) (failure_words words kind is)
 
 -- ---- an edge

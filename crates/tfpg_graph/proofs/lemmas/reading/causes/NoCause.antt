@@ -12,11 +12,12 @@ use Rattle.tfpg_base.specs.Words.{is_name, is_number}
 use Rattle.tfpg_base.proofs.Numbers.{is_number-decimal, decimal-differs}
 use Rattle.tfpg_graph.specs.declared.cause.GraphCause.TheVariants.{BadLine, BadName, DuplicateName, UnknownName, BadNumber, NumberTooLarge, MinOverMax, EdgeIntoFailure, SelfEdge, DuplicateEdge, NoModes, TooManyNodes, TooManyFailures, TooManyEdges, TooManyModes, TooManyIncoming}
 use Rattle.tfpg_graph.specs.declared.kind.Kind.{Kind}
+use Rattle.tfpg_graph.specs.declared.kind.Lag.{Lag}
 use Rattle.tfpg_graph.specs.declared.kind.Kind.TheVariants.{Failure, Or, And}
 use Rattle.tfpg_graph.specs.Graph.{Tfpg, is_kind_at, is_failure, failures, incoming, node_named, mode_named, edge_from_to}
 use Rattle.tfpg_graph.specs.Text.{tmax_word, words_of_kind}
 use Rattle.tfpg_base.specs.declared.limits.TheConstants.{MAX_TIME}
-use Rattle.tfpg_graph.specs.Valid.{HasValidNumber}
+use Rattle.tfpg_graph.specs.Valid.{IsValidLag, HasValidNumber}
 use Rattle.tfpg_graph.specs.declared.limits.TheConstants.{MAX_NODES, MAX_FAILURES, MAX_EDGES, MAX_INCOMING, MAX_MODES, MAX_RARITY}
 use Rattle.tfpg_graph.specs.Statements.{Statement, DeclaresMode, DeclaresNode, DeclaresEdge, Ends}
 use Rattle.tfpg_graph.specs.Declares.{modes_listed}
@@ -115,19 +116,44 @@ HasNoCause-end out_of_order graph in_order = record {
 -- ---- a node
 
 module _ (name : List ℕ) where
-  node_numbers : (kind : Kind) → HasValidNumber kind → has_bad_number (DeclaresNode name (words_of_kind kind)) ≡ false
-  node_numbers (Failure rarity) small = ap (λ b. not (b && true)) (is_number-decimal rarity (omega arith))
-  node_numbers (Or None) small = refl
-  node_numbers (Or (Some lag)) small = ap (λ b. not (b && true)) (is_number-decimal lag.most (omega (arith, small.most)))
-  node_numbers (And None) small = refl
-  node_numbers (And (Some lag)) small = ap (λ b. not (b && true)) (is_number-decimal lag.most (omega (arith, small.most)))
+  lag_numbers_right : (lag : Lag) → IsValidLag lag → has_bad_number (DeclaresNode name (words_of_kind (Or (Some lag)))) ≡ false
+  lag_numbers_right lag small = λ i. not (is_number-decimal lag.least (omega (arith, small.in_order, small.most)) i
+      && (is_number-decimal lag.most (omega (arith, small.most)) i && true))
+
+  lag_small : (lag : Lag) → IsValidLag lag → has_large_number (DeclaresNode name (words_of_kind (Or (Some lag)))) ≡ false
+  lag_small lag small = λ i. digits_value-decimal_within MAX_TIME lag.least (omega (arith, small.in_order, small.most)) (omega (arith, small.in_order, small.most)) i
+      || (digits_value-decimal_within MAX_TIME lag.most small.most (omega arith) i || false)
+
+  lag_in_order : (lag : Lag) → IsValidLag lag → has_min_over_max (DeclaresNode name (words_of_kind (Or (Some lag)))) ≡ false
+  lag_in_order lag small =
+      le-ltb (digits_value 10 (decimal lag.most)) (digits_value 10 (decimal lag.least))
+      (omega (
+        arith,
+        (decimal_is_IsNumeral lag.most (omega (arith, small.most))).1,
+        (decimal_is_IsNumeral lag.least (omega (arith, small.in_order, small.most))).1,
+        small.in_order,
+      ))
+
+  node_numbers_right : (kind : Kind) → HasValidNumber kind → has_bad_number (DeclaresNode name (words_of_kind kind)) ≡ false
+  node_numbers_right (Failure rarity) small = ap (λ b. not (b && true)) (is_number-decimal rarity (omega arith))
+  node_numbers_right (Or None) small = refl
+  node_numbers_right (Or (Some lag)) small = lag_numbers_right lag small
+  node_numbers_right (And None) small = refl
+  node_numbers_right (And (Some lag)) small = lag_numbers_right lag small
 
   node_small : (kind : Kind) → HasValidNumber kind → has_large_number (DeclaresNode name (words_of_kind kind)) ≡ false
   node_small (Failure rarity) small = ap (λ b. b || false) (digits_value-decimal_within MAX_RARITY rarity small (omega arith))
   node_small (Or None) small = refl
-  node_small (Or (Some lag)) small = ap (λ b. b || false) (digits_value-decimal_within MAX_TIME lag.most small.most (omega arith))
+  node_small (Or (Some lag)) small = lag_small lag small
   node_small (And None) small = refl
-  node_small (And (Some lag)) small = ap (λ b. b || false) (digits_value-decimal_within MAX_TIME lag.most small.most (omega arith))
+  node_small (And (Some lag)) small = lag_small lag small
+
+  node_in_order : (kind : Kind) → HasValidNumber kind → has_min_over_max (DeclaresNode name (words_of_kind kind)) ≡ false
+  node_in_order (Failure rarity) small = refl
+  node_in_order (Or None) small = refl
+  node_in_order (Or (Some lag)) small = lag_in_order lag small
+  node_in_order (And None) small = refl
+  node_in_order (And (Some lag)) small = lag_in_order lag small
 
 failure_room_for : (kind : Kind) (count : ℕ) → (IsTrue (is_failure kind) → count < MAX_FAILURES)
     → (are_failure_words (words_of_kind kind) && nat_le MAX_FAILURES count) ≡ false
@@ -144,9 +170,9 @@ HasNoCause-node out_of_order graph name kind in_order named new number room fail
   named = ap (λ b. not (b && true)) named;
   new = ap is_some new;
   known = refl;
-  numbers = node_numbers name kind number;
+  numbers = node_numbers_right name kind number;
   small = node_small name kind number;
-  min_below_max = refl;
+  min_below_max = node_in_order name kind number;
   into_discrepancy = refl;
   onward = refl;
   first = refl;

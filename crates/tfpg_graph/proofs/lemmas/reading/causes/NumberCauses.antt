@@ -1,5 +1,5 @@
 -- Words in the place of numbers: their causes and their values.
-use Rattle.std.proofs.Common.{◌≡◌, ℕ, Bool, true, false, cond, not, ◌&&◌, ◌||◌, List, [], ◌∷◌, Option, Some, None, Result, Ok, Err, refl, arith, nat_lt, codes}
+use Rattle.std.proofs.Common.{◌≡◌, ℕ, Bool, true, false, cond, not, ◌&&◌, ◌||◌, List, [], ◌∷◌, Option, Some, None, Result, Ok, Err, refl, ap, ◌∙◌, arith, nat_lt, codes}
 use Rattle.std.specs.Str.{bytes_eq}
 use Rattle.std.specs.Str.Parse.{digits_value}
 use Rattle.tfpg_base.specs.Words.{is_number, number_of, number_up_to}
@@ -7,12 +7,15 @@ use Rattle.tfpg_base.specs.declared.word.Number.TheVariants.{Value}
 use Rattle.tfpg_graph.specs.declared.cause.GraphCause.{GraphCause}
 use Rattle.tfpg_graph.specs.declared.cause.GraphCause.TheVariants.{BadNumber, NumberTooLarge, MinOverMax}
 use Rattle.tfpg_base.specs.declared.limits.TheConstants.{MAX_TIME}
-use Rattle.tfpg_graph.specs.Declares.{delays_of_words}
+use Rattle.tfpg_graph.specs.declared.limits.TheConstants.{MAX_RARITY}
+use Rattle.tfpg_graph.specs.Statements.{FailureWords}
+use Rattle.tfpg_graph.specs.Declares.{numbers_of_words, delays_of_words}
 use Rattle.std.specs.Bool.{then_some}
+use Rattle.std.specs.Option.{option_map, option_and_then}
 use Rattle.std.proofs.lemmas.Bool.{le-ltb}
 use Rattle.std.proofs.lemmas.Option.{cond_some}
 use Rattle.tfpg_base.specs.Choice.{first_of}
-use Rattle.tfpg_graph.specs.inside.reading.LineCauses.{number_causes, delay_causes}
+use Rattle.tfpg_graph.specs.inside.reading.LineCauses.{number_causes, range_causes, node_number_causes, delay_causes}
 use Rattle.tfpg_graph.specs.inside.reading.Turns.{ReadAs}
 use Rattle.tfpg_base.proofs.Numbers.{number_up_to-value}
 
@@ -35,14 +38,40 @@ word_read word number read =
     let parts = cond_some (is_number word) (digits_value 10 word) number found.0 in
     (parts.0, le-ltb MAX_TIME (digits_value 10 word) (omega (arith, parts.1, found.1)), parts.1)
 
-in_order : (over : Bool) (least greatest : ℕ) → ReadAs (first_of (None ∷ None ∷ then_some over MinOverMax ∷ [])) (Some (least, Some greatest)) (cond {A = Result (ℕ × Option ℕ) GraphCause} over (Err MinOverMax) (Ok (least, Some greatest)))
+in_order : (over : Bool) (least greatest : ℕ)
+    → ReadAs (first_of (None ∷ None ∷ then_some over MinOverMax ∷ [])) (Some (least, greatest)) (cond {A = Result (ℕ × ℕ) GraphCause} over (Err MinOverMax) (Ok (least, greatest)))
 in_order true least greatest = refl
 in_order false least greatest = (refl, refl)
 
 -- where both are numbers, their order decides
-pub delays-values : (tmin tmax : List ℕ) (least greatest : ℕ) → bytes_eq tmax (codes "inf") ≡ false → number_up_to MAX_TIME (number_of tmin) ≡ Value least → number_up_to MAX_TIME (number_of tmax) ≡ Value greatest
-    → ReadAs (first_of (delay_causes tmin tmax)) (delays_of_words tmin tmax) (cond {A = Result (ℕ × Option ℕ) GraphCause} (nat_lt greatest least) (Err MinOverMax) (Ok (least, Some greatest)))
-delays-values tmin tmax least greatest some first second =
-    let a = word_read tmin least first in
-    let b = word_read tmax greatest second in
-    rw (some, a.0, a.1, a.2, b.0, b.1, b.2) (in_order (nat_lt greatest least) least greatest)
+pub range-values : (least_word greatest_word : List ℕ) (least greatest : ℕ) → number_up_to MAX_TIME (number_of least_word) ≡ Value least
+    → number_up_to MAX_TIME (number_of greatest_word) ≡ Value greatest
+    → ReadAs (first_of (range_causes least_word greatest_word)) (numbers_of_words least_word greatest_word)
+    (cond {A = Result (ℕ × ℕ) GraphCause} (nat_lt greatest least) (Err MinOverMax) (Ok (least, greatest)))
+range-values least_word greatest_word least greatest first second =
+    let a = word_read least_word least first in
+    let b = word_read greatest_word greatest second in
+    rw (a.0, a.1, a.2, b.0, b.1, b.2) (in_order (nat_lt greatest least) least greatest)
+
+-- where there is a greatest delay, the causes are those of the two numbers
+pub delays-range : (tmin tmax : List ℕ) → bytes_eq tmax (codes "inf") ≡ false → first_of (delay_causes tmin tmax) ≡ first_of (range_causes tmin tmax)
+delays-range tmin tmax some = rw some refl
+
+-- and the delays are the two numbers
+pub delays-numbers : (tmin tmax : List ℕ) → bytes_eq tmax (codes "inf") ≡ false
+    → delays_of_words tmin tmax ≡ option_map (λ range. (range.0, Some range.1)) (numbers_of_words tmin tmax)
+delays-numbers tmin tmax some =
+    ap (λ (b : Bool). option_and_then {U = ℕ × Option ℕ} (λ least. option_map (λ greatest. (least, greatest)) (cond b (Some None) (option_map Some (number_of tmax)))) (number_of tmin)) some
+    ∙ by (number_of tmin) (number_of tmax)
+  where
+    by : (least greatest : Option ℕ)
+        → option_and_then {U = ℕ × Option ℕ} (λ l. option_map (λ g. (l, g)) (option_map Some greatest)) least
+        ≡ option_map (λ (range : ℕ × ℕ). (range.0, Some range.1)) (option_and_then {U = ℕ × ℕ} (λ l. option_map (λ g. (l, g)) greatest) least)
+    by None greatest = refl
+    by (Some least) None = refl
+    by (Some least) (Some greatest) = refl
+
+-- one number alone has no order
+pub failure-number : (rarity : List ℕ) (cause : GraphCause) → first_of (number_causes ((rarity, MAX_RARITY) ∷ [])) ≡ Some cause
+    → first_of (node_number_causes (FailureWords rarity)) ≡ Some cause
+failure-number rarity cause e = one_word (is_number rarity) (nat_lt MAX_RARITY (digits_value 10 rarity)) cause e

@@ -12,11 +12,11 @@ use Rattle.tfpg_graph.specs.declared.cause.GraphFault.{GraphFault}
 use Rattle.tfpg_graph.specs.declared.reading.reader.Part.TheVariants.{Declarations, Ended}
 use Rattle.tfpg_graph.specs.declared.reading.reader.Reader.{Reader}
 use Rattle.tfpg_graph.specs.Graph.{Tfpg, is_discrepancy, incoming}
-use Rattle.tfpg_graph.specs.Text.{Spells}
+use Rattle.tfpg_graph.specs.Text.{version_of, Spells}
 use Rattle.tfpg_graph.specs.Valid.{IsValid, IsValidSoFar, HasIncomingBefore, HasNoZeroCycle}
 use Rattle.tfpg_graph.specs.ZeroCycle.{LiesOnZeroCycle}
-use Rattle.tfpg_graph.specs.Statements.{Statement, statements_of, declares_node, declares_edge, ends_text}
-use Rattle.tfpg_graph.specs.Declares.{declared_by}
+use Rattle.tfpg_graph.specs.Statements.{Statement, declares_node, declares_edge, ends_text}
+use Rattle.tfpg_graph.specs.Declares.{said_by, declared_by}
 use Rattle.tfpg_graph.specs.Faults.{IsClean, IsLineFault, says, IsLineSaying, IsWholeFault, IsFirstFault}
 use Rattle.tfpg_graph.specs.inside.reading.Turns.{nothing_read, turn, part_after, HasValue, ReaderRepresents}
 use Rattle.tfpg_graph.proofs.lemmas.reading.faults.FirstFaults.{IsLineFault-err, IsClean-some}
@@ -38,6 +38,7 @@ record AreRead (lines : List (List ℕ)) : Type 0 where
 nothing_stands : ReaderRepresents nothing_read []
 nothing_stands = record {
   clean = λ index within. absurd (omega arith);
+  version = refl;
   graph = refl;
   part = refl;
   values = All-nil (HasValue (declared_by []));
@@ -92,10 +93,10 @@ count_reached test (line ∷ lines) count within =
         )
 
 -- the line that says such a thing after so many others
-line_saying : (test : Statement → Bool) (lines : List (List ℕ)) (count : ℕ) → count < count_by (says test) lines
+line_saying : (test : Statement → Bool) (lines : List (List ℕ)) (count : ℕ) → count < count_by (says (version_of lines) test) lines
     → (line : ℕ) × IsLineSaying test lines count line
 line_saying test lines count within =
-    let found = count_reached (says test) lines count within in
+    let found = count_reached (says (version_of lines) test) lines count within in
     (found.0 + 1, record { index = found.0; number = refl; within = found.1; here = found.2; before = found.3 })
 
 -- ---- what is wrong with the whole text
@@ -133,7 +134,7 @@ module _ (lines : List (List ℕ)) (some : 0 < length lines) (read : AreRead lin
   whole_or_fault = incoming_first (first_below (Lacks (declared_by lines)) (Has (declared_by lines)) (has_or_lacks (declared_by lines)) (length (declared_by lines).nodes))
     where
       ending : HasIncomingBefore (declared_by lines) (length (declared_by lines).nodes) → HasNoZeroCycle (declared_by lines)
-          → (ended : Bool) → list_any ends_text (statements_of lines) ≡ ended
+          → (ended : Bool) → list_any ends_text (said_by lines) ≡ ended
           → ((read.progress.part ≡ Ended) × IsValid (declared_by lines)) ⊎ ((fault : GraphFault) × IsWholeFault lines fault)
       ending no_lack no_cycle true ended =
           let part : read.progress.part ≡ Ended = read.stands.part ∙ after lines some ended in
@@ -147,7 +148,7 @@ module _ (lines : List (List ℕ)) (some : 0 < length lines) (read : AreRead lin
             },
           )
         where
-          after : (all : List (List ℕ)) → 0 < length all → list_any ends_text (statements_of all) ≡ true → part_after all ≡ Ended
+          after : (all : List (List ℕ)) → 0 < length all → list_any ends_text (said_by all) ≡ true → part_after all ≡ Ended
           after [] none ended_so = absurd (omega arith)
           after (first ∷ others) some_so ended_so = ap (λ b. cond b Ended Declarations) ended_so
       ending no_lack no_cycle false unended =
@@ -167,7 +168,7 @@ module _ (lines : List (List ℕ)) (some : 0 < length lines) (read : AreRead lin
           ⊎ HasNoZeroCycle (declared_by lines)
           → ((read.progress.part ≡ Ended) × IsValid (declared_by lines)) ⊎ ((fault : GraphFault) × IsWholeFault lines fault)
       cycle_first no_lack (inl found) =
-          let counted = count-edge_lines read.progress lines read.stands ∙ ap (λ (graph : Tfpg). length graph.edges) read.stands.graph in
+          let counted = ap (λ version. count_by (says version declares_edge) lines) (sym read.stands.version) ∙ count-edge_lines read.progress lines read.stands ∙ ap (λ (graph : Tfpg). length graph.edges) read.stands.graph in
           let line = line_saying declares_edge lines found.0 (omega (arith, counted, found.1.below)) in
           inr (
             record { line = line.0; cause = ZeroCycle },
@@ -180,13 +181,13 @@ module _ (lines : List (List ℕ)) (some : 0 < length lines) (read : AreRead lin
               line = line.1;
             })),
           )
-      cycle_first no_lack (inr no_cycle) = ending no_lack no_cycle (list_any ends_text (statements_of lines)) refl
+      cycle_first no_lack (inr no_cycle) = ending no_lack no_cycle (list_any ends_text (said_by lines)) refl
 
       incoming_first : ((number : ℕ) × IsFirstBelow (Lacks (declared_by lines)) (Has (declared_by lines)) (length (declared_by lines).nodes) number)
           ⊎ HasIncomingBefore (declared_by lines) (length (declared_by lines).nodes)
           → ((read.progress.part ≡ Ended) × IsValid (declared_by lines)) ⊎ ((fault : GraphFault) × IsWholeFault lines fault)
       incoming_first (inl found) =
-          let counted = count-node_lines read.progress lines read.stands ∙ ap (λ (graph : Tfpg). length graph.nodes) read.stands.graph in
+          let counted = ap (λ version. count_by (says version declares_node) lines) (sym read.stands.version) ∙ count-node_lines read.progress lines read.stands ∙ ap (λ (graph : Tfpg). length graph.nodes) read.stands.graph in
           let line = line_saying declares_node lines found.0 (omega (arith, counted, found.1.below)) in
           inr (
             record { line = line.0; cause = NoIncoming },

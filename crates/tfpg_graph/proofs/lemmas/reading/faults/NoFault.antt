@@ -1,5 +1,5 @@
 -- A text that spells a valid graph has no fault.
-use Rattle.std.proofs.Common.{◌≡◌, ℕ, suc, zero, ◌<◌, ◌≤◌, ◌&&◌, Bool, true, false, cond, not, nat_le, List, [], ◌∷◌, ◌++◌, length, map, get_or, take, All, Some, None, codes, refl, ap, sym, ◌∙◌, subst, arith, append_assoc, ⊎_elim}
+use Rattle.std.proofs.Common.{◌≡◌, ℕ, suc, zero, ◌<◌, ◌≤◌, ◌&&◌, Bool, true, false, cond, not, nat_le, List, [], ◌∷◌, ◌++◌, length, map, get_or, take, All, Some, None, is_some, unwrap_or, codes, refl, ap, sym, ◌∙◌, subst, arith, append_assoc, ⊎_elim}
 use Rattle.std.specs.List.{AllZip, list_any, cons_option}
 use Rattle.std.proofs.lemmas.Bool.{le-leb, or_right, false≢true}
 use Rattle.std.proofs.lemmas.List.{append-nil}
@@ -10,19 +10,22 @@ use Rattle.tfpg_base.proofs.lists.Elements.{All-front, All-back}
 use Rattle.tfpg_base.proofs.lists.Zipped.{AllZip-append, AllZip-maps}
 use Rattle.tfpg_base.specs.Lines.{lines_of}
 use Rattle.tfpg_base.specs.declared.limits.TheConstants.{LONGEST_LINE}
-use Rattle.tfpg_graph.specs.declared.cause.GraphCause.TheVariants.{AfterEnd}
+use Rattle.tfpg_graph.specs.declared.cause.GraphCause.TheVariants.{BadHeader, AfterEnd}
 use Rattle.tfpg_graph.specs.declared.cause.GraphFault.{GraphFault}
 use Rattle.tfpg_graph.specs.declared.edge.Edge.{Edge}
 use Rattle.tfpg_graph.specs.Graph.{Tfpg}
-use Rattle.tfpg_graph.specs.Text.{header, mode_line, node_line, SpellsEdge, content_lines, Spells}
+use Rattle.tfpg_graph.specs.declared.version.Version.{Version}
+use Rattle.tfpg_graph.specs.declared.version.Version.TheVariants.{One}
+use Rattle.tfpg_graph.specs.Text.{header, version_of, mode_line, node_line, SpellsEdge, content_lines, Spells, CanSpell}
 use Rattle.tfpg_graph.specs.Statements.{is_empty_or_comment, Statement, DeclaresMode, Ends, statement_of, statements_of, ends_text}
 use Rattle.tfpg_graph.specs.Valid.{IsValid, IsValidEdge}
 use Rattle.tfpg_graph.specs.ZeroCycle.{LiesOnZeroCycle}
 use Rattle.tfpg_graph.proofs.lemmas.zero_cycle.ZeroCycles.{HasNoZeroCycle-none_lies}
-use Rattle.tfpg_graph.specs.Declares.{graph_said, declared_by}
+use Rattle.tfpg_graph.specs.Declares.{graph_said, said_by, declared_by}
 use Rattle.tfpg_graph.specs.Causes.{cause_of_said, cause_after}
 use Rattle.tfpg_graph.specs.Faults.{LacksIncoming, IsClean, IsLineFault, IsIncomingFault, IsCycleFault, IsEndFault, IsWholeFault, IsFirstFault}
 use Rattle.tfpg_graph.proofs.lemmas.reading.graphs.GraphsSaid.{graph_said-end}
+use Rattle.tfpg_graph.proofs.lemmas.reading.saying.SaidBy.{version_said-header, statement_of-header}
 use Rattle.tfpg_graph.proofs.lemmas.reading.saying.SaidWords.{skipped_says_nothing}
 use Rattle.tfpg_graph.proofs.lemmas.reading.spelling.LinesSay.{statement_of-mode, statement_of-node, statement_of-end}
 use Rattle.tfpg_graph.proofs.lemmas.reading.spelling.SpelledEdges.{edge_statement, statement_of-edge_line}
@@ -31,68 +34,68 @@ use Rattle.tfpg_graph.proofs.lemmas.reading.faults.CleanRuns.{Runs, IsEdgeSaid, 
 
 -- ---- lines that say what runs without a cause
 
--- the line says this
-abbrev pub Says : List ℕ → Statement → Type 0
-Says line said = statement_of line ≡ Some said
+-- the line of a text of this version says this
+abbrev pub Says : Version → List ℕ → Statement → Type 0
+Says version line said = statement_of version line ≡ Some said
 
 -- with the line, where it is not skipped
 abbrev content_lines_with : Bool → List ℕ → List (List ℕ) → List (List ℕ)
 content_lines_with skipped line lines = cond (not skipped) (line ∷ content_lines lines) (content_lines lines)
 
 -- Lines say what those of them say that are not skipped.
-pub statements_of-content_lines : (lines : List (List ℕ)) (said : List Statement) → AllZip Says (content_lines lines) said
-    → statements_of lines ≡ said
-statements_of-content_lines [] [] says = refl
-statements_of-content_lines [] (s ∷ said) says = absurd says
-statements_of-content_lines (line ∷ lines) said says =
-    by (λ others says. statements_of-content_lines lines others says) (is_empty_or_comment line) refl said says
+pub statements_of-content_lines : (version : Version) (lines : List (List ℕ)) (said : List Statement) → AllZip (Says version) (content_lines lines) said
+    → statements_of version lines ≡ said
+statements_of-content_lines version [] [] says = refl
+statements_of-content_lines version [] (s ∷ said) says = absurd says
+statements_of-content_lines version (line ∷ lines) said says =
+    by (λ others says. statements_of-content_lines version lines others says) (is_empty_or_comment line) refl said says
   where
-    by : ((others : List Statement) → AllZip Says (content_lines lines) others → statements_of lines ≡ others)
+    by : ((others : List Statement) → AllZip (Says version) (content_lines lines) others → statements_of version lines ≡ others)
         → (skipped : Bool) → is_empty_or_comment line ≡ skipped → (said : List Statement)
-        → AllZip Says (content_lines_with skipped line lines) said → cons_option (statement_of line) (statements_of lines) ≡ said
+        → AllZip (Says version) (content_lines_with skipped line lines) said → cons_option (statement_of version line) (statements_of version lines) ≡ said
     by rest true skipped said says =
-        ap (λ s. cons_option s (statements_of lines)) (skipped_says_nothing line skipped) ∙ rest said says
+        ap (λ s. cons_option s (statements_of version lines)) (skipped_says_nothing version line skipped) ∙ rest said says
     by rest false skipped [] says = absurd says
     by rest false skipped (s ∷ said) says = λ i. cons_option (says.0 i) (rest said says.1 i)
 
 -- Where what they say runs without a cause after other statements, no line has a cause.
-pub clean_after : (lines : List (List ℕ)) (before said : List Statement)
-    → All (λ line. length line ≤ LONGEST_LINE) lines → AllZip Says (content_lines lines) said → Runs before said
+pub clean_after : (version : Version) (lines : List (List ℕ)) (before said : List Statement)
+    → All (λ line. length line ≤ LONGEST_LINE) lines → AllZip (Says version) (content_lines lines) said → Runs before said
     → (index : ℕ) → index < length lines
-    → cause_after (before ++ statements_of (take index lines)) (get_or lines index []) ≡ None
-clean_after [] before said short says runs index within = absurd (omega arith)
-clean_after (line ∷ lines) before said short says runs index within =
-    by (λ before others says runs index within. clean_after lines before others
+    → cause_after version (before ++ statements_of version (take index lines)) (get_or lines index []) ≡ None
+clean_after version [] before said short says runs index within = absurd (omega arith)
+clean_after version (line ∷ lines) before said short says runs index within =
+    by (λ before others says runs index within. clean_after version lines before others
     (All-tail (λ l. length l ≤ LONGEST_LINE) line lines short) says runs index within)
     (is_empty_or_comment line) refl said says runs index within
   where
     fits : nat_le (length line) LONGEST_LINE ≡ true
     fits = le-leb (length line) LONGEST_LINE (All-head (λ l. length l ≤ LONGEST_LINE) line lines short)
 
-    by : ((before others : List Statement) → AllZip Says (content_lines lines) others → Runs before others → (index : ℕ)
+    by : ((before others : List Statement) → AllZip (Says version) (content_lines lines) others → Runs before others → (index : ℕ)
         → index < length lines
-        → cause_after (before ++ statements_of (take index lines)) (get_or lines index []) ≡ None)
+        → cause_after version (before ++ statements_of version (take index lines)) (get_or lines index []) ≡ None)
         → (skipped : Bool) → is_empty_or_comment line ≡ skipped → (said : List Statement)
-        → AllZip Says (content_lines_with skipped line lines) said → Runs before said
+        → AllZip (Says version) (content_lines_with skipped line lines) said → Runs before said
         → (index : ℕ) → index < length (line ∷ lines)
-        → cause_after (before ++ statements_of (take index (line ∷ lines))) (get_or (line ∷ lines) index []) ≡ None
+        → cause_after version (before ++ statements_of version (take index (line ∷ lines))) (get_or (line ∷ lines) index []) ≡ None
     by rest true skipped said says runs zero within = λ i.
         cond (skipped i && fits i) None
-        (cond (list_any ends_text (before ++ [])) (Some AfterEnd) (cause_of_said (before ++ []) (statement_of line)))
+        (cond (list_any ends_text (before ++ [])) (Some AfterEnd) (cause_of_said (before ++ []) (statement_of version line)))
     by rest true skipped said says runs (suc index) within =
-        ap (λ s. cause_after (before ++ cons_option s (statements_of (take index lines))) (get_or lines index []))
-        (skipped_says_nothing line skipped)
+        ap (λ s. cause_after version (before ++ cons_option s (statements_of version (take index lines))) (get_or lines index []))
+        (skipped_says_nothing version line skipped)
         ∙ rest before said says runs index (omega arith)
     by rest false skipped [] says runs index within = absurd says
     by rest false skipped (s ∷ said) says runs zero within =
-        ap (λ b. cause_after b line) (append-nil before)
+        ap (λ b. cause_after version b line) (append-nil before)
         ∙ (λ i. cond (skipped i && nat_le (length line) LONGEST_LINE) None
         (cond (runs.0 i) (Some AfterEnd) (cause_of_said before (says.0 i))))
         ∙ runs.1
     by rest false skipped (s ∷ said) says runs (suc index) within =
-        ap (λ o. cause_after (before ++ cons_option o (statements_of (take index lines))) (get_or lines index [])) says.0
-        ∙ ap (λ all. cause_after all (get_or lines index []))
-        (sym (append_assoc before (s ∷ []) (statements_of (take index lines))))
+        ap (λ o. cause_after version (before ++ cons_option o (statements_of version (take index lines))) (get_or lines index [])) says.0
+        ∙ ap (λ all. cause_after version all (get_or lines index []))
+        (sym (append_assoc before (s ∷ []) (statements_of version (take index lines))))
         ∙ rest (before ++ s ∷ []) said says.1 runs.2 index (omega arith)
 
 -- ---- the lines that spell a graph
@@ -101,11 +104,11 @@ clean_after (line ∷ lines) before said short says runs index within =
 abbrev IsShortLine : List ℕ → Type 0
 IsShortLine line = length line ≤ LONGEST_LINE
 
-module _ (graph : Tfpg) (valid : IsValid graph) where
+module _ (version : Version) (graph : Tfpg) (valid : IsValid graph) where
   -- lines that spell edges and are short say what declares the edges
   edges_said : (edges : List Edge) (lines : List (List ℕ)) → AllZip (SpellsEdge graph) edges lines
       → All (IsValidEdge graph) edges → All IsShortLine lines
-      → (said : List Statement) × AllZip (IsEdgeSaid graph) edges said × AllZip Says lines said
+      → (said : List Statement) × AllZip (IsEdgeSaid graph) edges said × AllZip (Says version) lines said
   edges_said [] [] spelled are short = ([], tt, tt)
   edges_said [] (line ∷ lines) spelled are short = absurd spelled
   edges_said (edge ∷ edges) [] spelled are short = absurd spelled
@@ -117,50 +120,62 @@ module _ (graph : Tfpg) (valid : IsValid graph) where
         edge_statement graph edge word ∷ others.0,
         (record { valid = is; modes_word = word; spells = spelled.0.1; is = refl }, others.1),
         (
-          ap statement_of spelled.0.2
-              ∙ statement_of-edge_line graph valid edge is word spelled.0.1
+          ap (statement_of version) spelled.0.2
+              ∙ statement_of-edge_line graph valid edge is version word spelled.0.1
               (subst IsShortLine spelled.0.2 (All-head IsShortLine line lines short)),
           others.2,
         ),
       )
 
   -- all lines that spell the graph say what declares it
-  says_whole : (lines : List (List ℕ)) (said : List Statement) → AllZip Says lines said
-      → AllZip Says (map mode_line graph.modes ++ map node_line graph.nodes ++ lines ++ codes "end" ∷ [])
+  says_whole : All (λ node. CanSpell version node.kind) graph.nodes → (lines : List (List ℕ)) (said : List Statement) → AllZip (Says version) lines said
+      → AllZip (Says version) (map mode_line graph.modes ++ map (node_line version) graph.nodes ++ lines ++ codes "end" ∷ [])
       (said_so_far graph.modes graph.nodes said ++ Ends ∷ [])
-  says_whole lines said says =
-      AllZip-append Says (map mode_line graph.modes ++ map node_line graph.nodes ++ lines)
+  says_whole kinds lines said says =
+      AllZip-append (Says version) (map mode_line graph.modes ++ map (node_line version) graph.nodes ++ lines)
       (said_so_far graph.modes graph.nodes said) (codes "end" ∷ []) (Ends ∷ [])
-      (AllZip-append Says (map mode_line graph.modes ++ map node_line graph.nodes)
+      (AllZip-append (Says version) (map mode_line graph.modes ++ map (node_line version) graph.nodes)
       (map DeclaresMode graph.modes ++ map node_statement graph.nodes) lines said
-      (AllZip-append Says (map mode_line graph.modes) (map DeclaresMode graph.modes) (map node_line graph.nodes)
+      (AllZip-append (Says version) (map mode_line graph.modes) (map DeclaresMode graph.modes) (map (node_line version) graph.nodes)
       (map node_statement graph.nodes)
-      (AllZip-maps Says mode_line DeclaresMode graph.modes
-      (λ k d within. statement_of-mode (get_or graph.modes k d) (valid.so_far.mode_names k d within)))
-      (AllZip-maps Says node_line node_statement graph.nodes
-      (λ k d within. statement_of-node (get_or graph.nodes k d).name (get_or graph.nodes k d).kind
-      (valid.so_far.node_names k d within) (valid.so_far.node_numbers k d within))))
+      (AllZip-maps (Says version) mode_line DeclaresMode graph.modes
+      (λ k d within. statement_of-mode version (get_or graph.modes k d) (valid.so_far.mode_names k d within)))
+      (AllZip-maps (Says version) (node_line version) node_statement graph.nodes
+      (λ k d within. statement_of-node version (get_or graph.nodes k d).name (get_or graph.nodes k d).kind
+      (valid.so_far.node_names k d within) (valid.so_far.node_numbers k d within) (kinds k d within))))
       says)
-      (statement_of-end, tt)
+      (statement_of-end version, tt)
 
 -- what is to be shown of the lines
 abbrev IsCleanText : Tfpg → List (List ℕ) → Type 0
-IsCleanText graph lines = IsClean lines × (declared_by lines ≡ graph) × (list_any ends_text (statements_of lines) ≡ true)
+IsCleanText graph lines = IsClean lines × (declared_by lines ≡ graph) × (list_any ends_text (said_by lines) ≡ true)
 
-module _ (graph : Tfpg) (valid : IsValid graph) (after : List (List ℕ)) (short : All IsShortLine after)
+module _ (version : Version) (graph : Tfpg) (valid : IsValid graph) (after : List (List ℕ)) (short : All IsShortLine after)
     (said : List Statement) (are : AllZip (IsEdgeSaid graph) graph.edges said)
-    (says : AllZip Says (content_lines after) (said_so_far graph.modes graph.nodes said ++ Ends ∷ [])) where
-  clean : IsClean (header ∷ after)
-  clean zero tested = refl
+    (says : AllZip (Says version) (content_lines after) (said_so_far graph.modes graph.nodes said ++ Ends ∷ [])) where
+  -- the version of the lines is that of the header
+  of : version_of (header version ∷ after) ≡ version
+  of = ap (λ o. unwrap_or o One) (version_said-header version)
+
+  -- the header says nothing
+  after_header : (lines : List (List ℕ)) → statements_of version (header version ∷ lines) ≡ statements_of version lines
+  after_header lines = ap (λ o. cons_option o (statements_of version lines)) (statement_of-header version version (header version) (version_said-header version))
+
+  clean : IsClean (header version ∷ after)
+  clean zero tested = ap (λ o. cond (is_some o) None (Some BadHeader)) (version_said-header version)
   clean (suc index) tested =
-      clean_after after [] (said_so_far graph.modes graph.nodes said ++ Ends ∷ []) short says
+      ap (λ v. cause_after v (statements_of v (header version ∷ take index after)) (get_or after index [])) of
+      ∙ ap (λ before. cause_after version before (get_or after index [])) (after_header (take index after))
+      ∙ clean_after version after [] (said_so_far graph.modes graph.nodes said ++ Ends ∷ []) short says
       (Runs-whole graph valid said are) index
       (⊎_elim (λ first. absurd (omega (arith, first))) (λ within. omega (arith, within)) tested)
 
-  all_said : statements_of (header ∷ after) ≡ said_so_far graph.modes graph.nodes said ++ Ends ∷ []
-  all_said = statements_of-content_lines after (said_so_far graph.modes graph.nodes said ++ Ends ∷ []) says
+  all_said : said_by (header version ∷ after) ≡ said_so_far graph.modes graph.nodes said ++ Ends ∷ []
+  all_said =
+      ap (λ v. statements_of v (header version ∷ after)) of ∙ after_header after
+      ∙ statements_of-content_lines version after (said_so_far graph.modes graph.nodes said ++ Ends ∷ []) says
 
-  clean_text : IsCleanText graph (header ∷ after)
+  clean_text : IsCleanText graph (header version ∷ after)
   clean_text = (
     clean,
     ap graph_said all_said ∙ graph_said-end (said_so_far graph.modes graph.nodes said)
@@ -172,12 +187,12 @@ module _ (graph : Tfpg) (valid : IsValid graph) (after : List (List ℕ)) (short
 module _ (text : List ℕ) (graph : Tfpg) (spells : Spells text graph) (valid : IsValid graph) where
   short_after : All IsShortLine spells.after
   short_after =
-      All-tail IsShortLine header spells.after
-      (All-same IsShortLine (header ∷ spells.after) (lines_of text) (sym spells.lines) spells.short)
+      All-tail IsShortLine (header spells.version) spells.after
+      (All-same IsShortLine (header spells.version ∷ spells.after) (lines_of text) (sym spells.lines) spells.short)
 
   short_edges : All IsShortLine spells.said.edge_lines
   short_edges =
-      let modes_and_nodes = map mode_line graph.modes ++ map node_line graph.nodes in
+      let modes_and_nodes = map mode_line graph.modes ++ map (node_line spells.version) graph.nodes in
       All-back IsShortLine modes_and_nodes spells.said.edge_lines
       (All-front IsShortLine (modes_and_nodes ++ spells.said.edge_lines) (codes "end" ∷ [])
       (All-same IsShortLine (modes_and_nodes ++ spells.said.edge_lines ++ codes "end" ∷ []) (content_lines spells.after)
@@ -186,13 +201,14 @@ module _ (text : List ℕ) (graph : Tfpg) (spells : Spells text graph) (valid : 
 
   -- A text that spells a valid graph has no line with a cause, declares this graph, and has an end.
   pub Spells-clean : IsClean (lines_of text) × (declared_by (lines_of text) ≡ graph)
-      × (list_any ends_text (statements_of (lines_of text)) ≡ true)
+      × (list_any ends_text (said_by (lines_of text)) ≡ true)
   Spells-clean =
-      let edges = edges_said graph valid graph.edges spells.said.edge_lines spells.said.edges valid.so_far.edges short_edges in
+      let version = spells.version in
+      let edges = edges_said version graph valid graph.edges spells.said.edge_lines spells.said.edges valid.so_far.edges short_edges in
       subst (IsCleanText graph) (sym spells.lines)
-      (clean_text graph valid spells.after short_after edges.0 edges.1
-      (subst (λ lines. AllZip Says lines (said_so_far graph.modes graph.nodes edges.0 ++ Ends ∷ []))
-      (sym spells.said.all) (says_whole graph valid spells.said.edge_lines edges.0 edges.2)))
+      (clean_text version graph valid spells.after short_after edges.0 edges.1
+      (subst (λ lines. AllZip (Says version) lines (said_so_far graph.modes graph.nodes edges.0 ++ Ends ∷ []))
+      (sym spells.said.all) (says_whole version graph valid spells.said.kinds spells.said.edge_lines edges.0 edges.2)))
 
 -- ---- no fault
 
@@ -210,10 +226,10 @@ module _ (lines : List (List ℕ)) (graph : Tfpg) (valid : IsValid graph) (fault
   no_cycle_fault declared is =
       HasNoZeroCycle-none_lies graph is.edge valid.no_zero_cycle (subst (λ g. LiesOnZeroCycle g is.edge) declared is.lies)
 
-  no_end_fault : list_any ends_text (statements_of lines) ≡ true → IsEndFault lines fault → ⊥
+  no_end_fault : list_any ends_text (said_by lines) ≡ true → IsEndFault lines fault → ⊥
   no_end_fault ended is = false≢true (sym is.no_end ∙ ended)
 
-  no_whole_fault : declared_by lines ≡ graph → list_any ends_text (statements_of lines) ≡ true → IsWholeFault lines fault
+  no_whole_fault : declared_by lines ≡ graph → list_any ends_text (said_by lines) ≡ true → IsWholeFault lines fault
       → ⊥
   no_whole_fault declared ended =
       ⊎_elim (no_incoming_fault declared) (⊎_elim (no_cycle_fault declared) (no_end_fault ended))

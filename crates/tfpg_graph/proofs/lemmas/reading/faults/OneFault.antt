@@ -5,7 +5,7 @@ use Rattle.tfpg_graph.specs.declared.cause.GraphFault.{GraphFault}
 use Rattle.tfpg_graph.specs.declared.cause.GraphRefusal.{GraphRefusal}
 use Rattle.tfpg_graph.specs.declared.cause.GraphRefusal.TheVariants.{Fault, NoMemory}
 use Rattle.tfpg_graph.specs.Graph.{Tfpg}
-use Rattle.tfpg_graph.specs.Text.{Spells}
+use Rattle.tfpg_graph.specs.Text.{version_of, Spells}
 use Rattle.tfpg_graph.specs.Valid.{IsValid, HasIncomingBefore}
 use Rattle.tfpg_graph.proofs.lemmas.zero_cycle.ZeroCycles.{HasNoZeroCycle-none_lies}
 use Rattle.tfpg_graph.specs.Statements.{Statement}
@@ -26,9 +26,9 @@ module _ (test : Statement → Bool) (lines : List (List ℕ)) (count : ℕ) whe
   one_line : (line other : ℕ) → IsLineSaying test lines count line → IsLineSaying test lines count other → line ≡ other
   one_line line other is so =
       is.number ∙ ap (λ n. n + 1) (same_from_neither is.index so.index
-      (λ less. let more = count_by-take_lt (says test) lines [] is.index so.index less (omega (arith, so.within)) is.here in
+      (λ less. let more = count_by-take_lt (says (version_of lines) test) lines [] is.index so.index less (omega (arith, so.within)) is.here in
       omega (arith, more, is.before, so.before))
-      (λ less. let more = count_by-take_lt (says test) lines [] so.index is.index less (omega (arith, is.within)) so.here in
+      (λ less. let more = count_by-take_lt (says (version_of lines) test) lines [] so.index is.index less (omega (arith, is.within)) so.here in
       omega (arith, more, is.before, so.before)))
       ∙ sym so.number
 

@@ -23,20 +23,21 @@ use Rattle.tfpg_graph.specs.declared.kind.Kind.{Kind}
 use Rattle.tfpg_graph.specs.declared.kind.Lag.{Lag}
 use Rattle.tfpg_graph.specs.declared.kind.Kind.TheVariants.{Failure, Or, And}
 use Rattle.tfpg_graph.specs.declared.edge.Edge.{Edge}
+use Rattle.tfpg_graph.specs.declared.version.Version.{Version}
 use Rattle.tfpg_graph.specs.declared.limits.TheConstants.{MAX_NODES, MAX_FAILURES, MAX_EDGES, MAX_INCOMING, MAX_MODES, MAX_RARITY}
 use Rattle.tfpg_graph.specs.declared.reading.reader.Part.{Part}
 use Rattle.tfpg_graph.specs.declared.reading.reader.Part.TheVariants.{Header, Declarations, Ended}
 use Rattle.tfpg_graph.specs.declared.reading.reader.Reader.{Reader}
-use Rattle.tfpg_graph.specs.Graph.{Tfpg, lag_up_to, is_kind_at, is_failure, failures, incoming, node_named, mode_named, edge_from_to}
-use Rattle.tfpg_graph.specs.Text.{header, all_modes}
+use Rattle.tfpg_graph.specs.Graph.{Tfpg, is_kind_at, is_failure, failures, incoming, node_named, mode_named, edge_from_to}
+use Rattle.tfpg_graph.specs.Text.{version_said, all_modes}
 use Rattle.tfpg_graph.specs.Valid.{IsValidLag, HasValidNumber, IsValidEdge, IsValidSoFar}
-use Rattle.tfpg_graph.specs.Statements.{NodeWords, FailureWords, OrWords, AndWords, Statement, DeclaresMode, DeclaresNode, DeclaresEdge, Ends, statement_of, is_skipped}
-use Rattle.tfpg_graph.specs.Declares.{lag_of_word, kind_of_words, tmax_of_word, delays_of_words, ends_named, edge_declared, modes_listed, modes_of_word}
-use Rattle.tfpg_graph.specs.Causes.{has_bad_number, has_large_number, has_min_over_max, lag_number, node_number, has_twice, are_failure_words, causes}
+use Rattle.tfpg_graph.specs.Statements.{LagWords, NodeWords, FailureWords, OrWords, AndWords, lag_words_of, Statement, DeclaresMode, DeclaresNode, DeclaresEdge, Ends, statement_of, is_skipped}
+use Rattle.tfpg_graph.specs.Declares.{lag_of_words, kind_of_words, tmax_of_word, delays_of_words, ends_named, edge_declared, modes_listed, modes_of_word}
+use Rattle.tfpg_graph.specs.Causes.{has_bad_number, has_large_number, has_min_over_max, is_over, lag_numbers, node_numbers, has_twice, are_failure_words, causes}
 use Rattle.tfpg_graph.specs.inside.declaring.Indexes.{nothing_declared, with_node, with_edge}
 use Rattle.tfpg_graph.specs.inside.declaring.Declaring.{AreDelays}
 use Rattle.tfpg_graph.specs.inside.reading.LineCauses.{with_option}
-use Rattle.tfpg_graph.specs.inside.reading.Turns.{is_misplaced, reader_with, turn_said, turn_of, turn}
+use Rattle.tfpg_graph.specs.inside.reading.Turns.{is_misplaced, reader_with, turn_said, turn_header, turn_of, turn}
 use Rattle.tfpg_graph.proofs.lemmas.declaring.MoreDeclared.{IsValidSoFar-with_mode, IsValidSoFar-with_node, IsValidSoFar-with_edge}
 use Rattle.tfpg_graph.proofs.lemmas.declaring.Named.{named_found, node_named-same}
 use Rattle.tfpg_graph.proofs.lemmas.reading.causes.NamedModes.{named_more, worth_more, some_named, members_within}
@@ -58,34 +59,43 @@ not_there (Some x) none = absurd cc
 
 -- ---- a node's kind
 
--- a lag that is read, and is within its limit
-record ReadsLag (word : Option (List ℕ)) : Type 0 where
+-- a lag that is read, in order and within its limit
+record ReadsLag (words : Option LagWords) : Type 0 where
   lag : Option Lag
-  is : lag_of_word word ≡ Some lag
+  is : lag_of_words words ≡ Some lag
   small : IfSome lag IsValidLag
 
-lag_read : (word : Option (List ℕ)) → list_all (λ number. is_number number.0) (lag_number word) ≡ true
-    → list_any (λ number. nat_lt number.1 (digits_value 10 number.0)) (lag_number word) ≡ false → ReadsLag word
-lag_read None numbers small = record { lag = None; is = refl; small = tt }
-lag_read (Some word) numbers small =
-    let within = (or_parts (nat_lt MAX_TIME (digits_value 10 word)) false small).0 in
-    let value = number_of-within word MAX_TIME (omega arith) (and_parts (is_number word) true numbers).0 within in
+lag_read : (words : Option LagWords) → list_all (λ number. is_number number.0) (lag_numbers words) ≡ true
+    → list_any (λ number. nat_lt number.1 (digits_value 10 number.0)) (lag_numbers words) ≡ false
+    → option_map_or (λ lag. is_over lag.least lag.most) words false ≡ false → ReadsLag words
+lag_read None numbers small ordered = record { lag = None; is = refl; small = tt }
+lag_read (Some words) numbers small ordered =
+    let right = and_parts (is_number words.least) _ numbers in
+    let within = or_parts (nat_lt MAX_TIME (digits_value 10 words.least)) _ small in
+    let within_most = (or_parts (nat_lt MAX_TIME (digits_value 10 words.most)) false within.1).0 in
+    let least = number_of-within words.least MAX_TIME (omega arith) right.0 within.0 in
+    let most = number_of-within words.most MAX_TIME (omega arith) (and_parts (is_number words.most) true right.1).0 within_most in
     record {
-      lag = Some (lag_up_to (digits_value 10 word));
-      is = ap (option_map (λ most. Some (lag_up_to most))) value.0;
-      small = record { least = refl; most = ltb-false MAX_TIME (digits_value 10 word) within };
+      lag = Some (record { least = digits_value 10 words.least; most = digits_value 10 words.most });
+      is = λ i. option_map (λ (range : ℕ × ℕ). Some (record { least = range.0; most = range.1 }))
+          (option_and_then (λ from. option_map (λ to. (from, to)) (most.0 i)) (least.0 i));
+      small = record {
+        in_order = ltb-false (digits_value 10 words.most) (digits_value 10 words.least) ordered;
+        most = ltb-false MAX_TIME (digits_value 10 words.most) within_most;
+      };
     }
 
--- a kind that is read, with a number within its limit
+-- a kind that is read, with numbers in order and within their limits
 record ReadsKind (words : NodeWords) : Type 0 where
   kind : Kind
   is : kind_of_words words ≡ Some kind
   small : HasValidNumber kind
   failure : is_failure kind ≡ are_failure_words words
 
-kind_read : (words : NodeWords) → list_all (λ number. is_number number.0) (node_number words) ≡ true
-    → list_any (λ number. nat_lt number.1 (digits_value 10 number.0)) (node_number words) ≡ false → ReadsKind words
-kind_read (FailureWords rarity) numbers small =
+kind_read : (words : NodeWords) → list_all (λ number. is_number number.0) (node_numbers words) ≡ true
+    → list_any (λ number. nat_lt number.1 (digits_value 10 number.0)) (node_numbers words) ≡ false
+    → option_map_or (λ lag. is_over lag.least lag.most) (lag_words_of words) false ≡ false → ReadsKind words
+kind_read (FailureWords rarity) numbers small ordered =
     let within = (or_parts (nat_lt MAX_RARITY (digits_value 10 rarity)) false small).0 in
     let value = number_of-within rarity MAX_RARITY (omega arith) (and_parts (is_number rarity) true numbers).0 within in
     record {
@@ -94,11 +104,11 @@ kind_read (FailureWords rarity) numbers small =
       small = ltb-false MAX_RARITY (digits_value 10 rarity) within;
       failure = refl;
     }
-kind_read (OrWords lag) numbers small =
-    let read = lag_read lag numbers small in
+kind_read (OrWords lag) numbers small ordered =
+    let read = lag_read lag numbers small ordered in
     record { kind = Or read.lag; is = ap (option_map Or) read.is; small = read.small; failure = refl }
-kind_read (AndWords lag) numbers small =
-    let read = lag_read lag numbers small in
+kind_read (AndWords lag) numbers small ordered =
+    let read = lag_read lag numbers small ordered in
     record { kind = And read.lag; is = ap (option_map And) read.is; small = read.small; failure = refl }
 
 -- ---- an edge's delays
@@ -203,9 +213,9 @@ module _ (graph : Tfpg) (word : List ℕ) (once : has_twice (modes_listed word) 
 
 -- ---- one line
 
-module _ (graph : Tfpg) (is : IsValidSoFar graph) where
+module _ (version : Version) (graph : Tfpg) (is : IsValidSoFar graph) where
   -- a graph with a statement that has no cause breaks no rule
-  valid_said : (said : Statement) (next : Reader) → HasNoCause (is_misplaced graph said) graph said → reader_with graph said ≡ Some next
+  valid_said : (said : Statement) (next : Reader) → HasNoCause (is_misplaced graph said) graph said → reader_with version graph said ≡ Some next
       → IsValidSoFar next.declared
   valid_said (DeclaresMode name) next without with_it =
       subst (λ (reader : Reader). IsValidSoFar reader.declared) (same_Some _ next with_it)
@@ -213,9 +223,9 @@ module _ (graph : Tfpg) (is : IsValidSoFar graph) where
       (and_parts (is_name name) true (not-false _ without.named)).0 (not_there (mode_named graph name) without.new)
       (leb-false MAX_MODES (length graph.modes) without.mode_room) is)
   valid_said (DeclaresNode name words) next without with_it =
-      let read = kind_read words (not-false _ without.numbers) without.small in
-      let made : reader_with graph (DeclaresNode name words) ≡ Some (record { part = Declarations; declared = with_node graph name read.kind }) =
-      ap (option_map (λ kind. record { part = Declarations; declared = with_node graph name kind })) read.is in
+      let read = kind_read words (not-false _ without.numbers) without.small without.min_below_max in
+      let made : reader_with version graph (DeclaresNode name words) ≡ Some (record { part = Declarations; version = version; declared = with_node graph name read.kind }) =
+      ap (option_map (λ kind. record { part = Declarations; version = version; declared = with_node graph name kind })) read.is in
       subst (λ (reader : Reader). IsValidSoFar reader.declared) (same_Some _ next (sym made ∙ with_it))
       (IsValidSoFar-with_node graph name read.kind (no_item graph.edges (or_parts _ _ without.in_order).1)
       (and_parts (is_name name) true (not-false _ without.named)).0 (not_there (node_named graph name) without.new) read.small
@@ -241,8 +251,8 @@ module _ (graph : Tfpg) (is : IsValidSoFar graph) where
         tmax = d.1;
         modes = modes_of_word graph modes;
       }) (delays.is i)) (ends i)) in
-      let made : reader_with graph (DeclaresEdge source target tmin tmax modes) ≡ Some (record { part = Declarations; declared = with_edge graph edge }) =
-      ap (option_map (λ e. record { part = Declarations; declared = with_edge graph e })) declared in
+      let made : reader_with version graph (DeclaresEdge source target tmin tmax modes) ≡ Some (record { part = Declarations; version = version; declared = with_edge graph edge }) =
+      ap (option_map (λ e. record { part = Declarations; version = version; declared = with_edge graph e })) declared in
       subst (λ (reader : Reader). IsValidSoFar reader.declared) (same_Some _ next (sym made ∙ with_it))
       (IsValidSoFar-with_edge graph edge (record {
         source = (named_found graph source from.0 from.1).0;
@@ -262,37 +272,44 @@ module _ (graph : Tfpg) (is : IsValidSoFar graph) where
   valid_said Ends next without with_it = subst (λ (reader : Reader). IsValidSoFar reader.declared) (same_Some _ next with_it) is
 
   -- so does one with what a line says
-  valid_told : (said : Option Statement) (next : Reader) → turn_said graph said ≡ Ok next → IsValidSoFar next.declared
+  valid_told : (said : Option Statement) (next : Reader) → turn_said version graph said ≡ Ok next → IsValidSoFar next.declared
   valid_told None next turned = absurd cc
   valid_told (Some said) next turned =
-      let taken = is_taken (first_of (causes (is_misplaced graph said) graph said)) (reader_with graph said) next turned in
+      let taken = is_taken (first_of (causes (is_misplaced graph said) graph said)) (reader_with version graph said) next turned in
       valid_said said next (HasNoCause-from_none (is_misplaced graph said) graph said taken.0) taken.1
 
   -- a line that leaves what is declared, or else fails
   valid_kept : (part : Part) (passes : Bool) (cause : GraphCause) (next : Reader)
-      → cond passes (Ok (record { part = part; declared = graph })) (Err cause) ≡ Ok next → IsValidSoFar next.declared
+      → cond passes (Ok (record { part = part; version = version; declared = graph })) (Err cause) ≡ Ok next → IsValidSoFar next.declared
   valid_kept part true cause next turned =
-      let same : record { part = part; declared = graph } ≡ next = cc in
+      let same : record { part = part; version = version; declared = graph } ≡ next = cc in
       subst (λ (reader : Reader). IsValidSoFar reader.declared) same is
   valid_kept part false cause next turned = absurd cc
 
+  -- a first line
+  valid_header : (said : Option Version) (next : Reader) → turn_header graph said ≡ Ok next → IsValidSoFar next.declared
+  valid_header None next turned = absurd cc
+  valid_header (Some header) next turned =
+      let same : record { part = Declarations; version = header; declared = graph } ≡ next = cc in
+      subst (λ (reader : Reader). IsValidSoFar reader.declared) same is
+
   -- a line of each part
-  valid_of : (part : Part) (line : List ℕ) (next : Reader) → turn_of part graph line ≡ Ok next → IsValidSoFar next.declared
-  valid_of Header line next turned = valid_kept Declarations (bytes_eq line header) _ next turned
+  valid_of : (part : Part) (line : List ℕ) (next : Reader) → turn_of part version graph line ≡ Ok next → IsValidSoFar next.declared
+  valid_of Header line next turned = valid_header (version_said line) next turned
   valid_of Declarations line next turned = by (is_skipped line) turned
     where
-      by : (passed : Bool) → cond passed (Ok (record { part = Declarations; declared = graph })) (turn_said graph (statement_of line)) ≡ Ok next
+      by : (passed : Bool) → cond passed (Ok (record { part = Declarations; version = version; declared = graph })) (turn_said version graph (statement_of version line)) ≡ Ok next
           → IsValidSoFar next.declared
       by true turned_so =
-          let same : record { part = Declarations; declared = graph } ≡ next = cc in
+          let same : record { part = Declarations; version = version; declared = graph } ≡ next = cc in
           subst (λ (reader : Reader). IsValidSoFar reader.declared) same is
-      by false turned_so = valid_told (statement_of line) next turned_so
+      by false turned_so = valid_told (statement_of version line) next turned_so
   valid_of Ended line next turned = valid_kept Ended (is_skipped line) _ next turned
 
 -- A line that is read breaks no rule that held before it.
 pub IsValidSoFar-turn : (progress next : Reader) (line : List ℕ) → turn progress line ≡ Ok next → IsValidSoFar progress.declared
     → IsValidSoFar next.declared
-IsValidSoFar-turn progress next line turned is = valid_of progress.declared is progress.part line next turned
+IsValidSoFar-turn progress next line turned is = valid_of progress.version progress.declared is progress.part line next turned
 
 -- Nothing declared breaks no rule.
 pub IsValidSoFar-nothing : IsValidSoFar nothing_declared

@@ -1,5 +1,5 @@
 -- A line says exactly the statement whose words it has.
-use Rattle.std.proofs.Common.{◌≡◌, ℕ, ◌<◌, ◌≤◌, ◌==◌, ◌↔◌, Bool, true, false, cond, List, [], ◌∷◌, length, All, Contains, Some, None, refl, ap, sym, ◌∙◌, subst, arith}
+use Rattle.std.proofs.Common.{◌≡◌, ℕ, ◌<◌, ◌≤◌, ◌==◌, ◌↔◌, Bool, true, false, cond, List, [], ◌∷◌, length, All, Contains, Some, refl, ap, sym, ◌∙◌, subst, arith}
 use Rattle.std.specs.List.{AllByRecursion, list_any, onto_first}
 use Rattle.std.proofs.lemmas.Bool.{or_parts, ne_eqb, eq-eqb, false≢true}
 use Rattle.std.proofs.lemmas.List.{nil_from_length}
@@ -9,8 +9,9 @@ use Rattle.tfpg_base.specs.declared.limits.TheConstants.{LONGEST_LINE}
 use Rattle.tfpg_base.proofs.lists.Choices.{cond-some_second}
 use Rattle.tfpg_base.proofs.lists.Elements.{All-from_members}
 use Rattle.tfpg_base.proofs.lists.Lacking.{Lacks}
-use Rattle.tfpg_graph.specs.Statements.{NodeWords, FailureWords, OrWords, AndWords, Statement, DeclaresMode, DeclaresNode, DeclaresEdge, Ends, words_of_node, words_of_statement, IsLineWord, SaysStatement, statement_in, statement_of}
-use Rattle.tfpg_graph.proofs.lemmas.reading.saying.SaidWords.{statement_in_words, said_by_words}
+use Rattle.tfpg_graph.specs.declared.version.Version.{Version}
+use Rattle.tfpg_graph.specs.Statements.{FailureWords, OrWords, AndWords, Statement, DeclaresMode, DeclaresNode, DeclaresEdge, Ends, words_of_statement, IsLineWord, SaysStatement, statement_of}
+use Rattle.tfpg_graph.proofs.lemmas.reading.saying.SaidWords.{statement_in_words, statement_in-words, said_by_words}
 use Rattle.tfpg_graph.proofs.lemmas.reading.spelling.LinesSay.{IsWord, short_line_says}
 
 -- no part of a line round its spaces has a space
@@ -48,48 +49,37 @@ pub are_words : (words : List (List ℕ)) → All IsLineWord words → AllByRecu
 are_words [] are = tt
 are_words (word ∷ words) are = (is_word word (All-head IsLineWord word words are), are_words words (All-tail IsLineWord word words are))
 
--- the words of a statement say it
-statement_in-node : (name : List ℕ) (words : NodeWords) → statement_in (words_of_node name words) ≡ Some (DeclaresNode name words)
-statement_in-node name (FailureWords rarity) = refl
-statement_in-node name (OrWords None) = refl
-statement_in-node name (OrWords (Some lag)) = refl
-statement_in-node name (AndWords None) = refl
-statement_in-node name (AndWords (Some lag)) = refl
+-- a statement has words
+some_words : (version : Version) (said : Statement) → 0 < length (words_of_statement version said)
+some_words version (DeclaresMode name) = omega arith
+some_words version (DeclaresNode name (FailureWords rarity)) = omega arith
+some_words version (DeclaresNode name (OrWords lag)) = omega arith
+some_words version (DeclaresNode name (AndWords lag)) = omega arith
+some_words version (DeclaresEdge source target tmin tmax modes) = omega arith
+some_words version Ends = omega arith
 
-statement_in-words : (said : Statement) → statement_in (words_of_statement said) ≡ Some said
-statement_in-words (DeclaresMode name) = refl
-statement_in-words (DeclaresNode name words) = statement_in-node name words
-statement_in-words (DeclaresEdge source target tmin tmax modes) = refl
-statement_in-words Ends = refl
+module _ (version : Version) (line : List ℕ) (said : Statement) where
+  -- A line that says something is the words of it.
+  pub SaysStatement-said : statement_of version line ≡ Some said → SaysStatement version line said
+  SaysStatement-said some =
+      let whole = said_by_words version line said some in
+      let short = cond-some_second _ _ said some in
+      let shaped = cond-some_second _ _ said short.1 in
+      record {
+        words = whole.1;
+        each = subst (All IsLineWord) (statement_in_words version (words_of line) said shaped.1).words_are
+            (line_words (words_of line) shaped.0 (parts_lack line));
+        short = whole.0;
+        sayable = whole.2;
+      }
 
-some_words : (said : Statement) → 0 < length (words_of_statement said)
-some_words (DeclaresMode name) = omega arith
-some_words (DeclaresNode name (FailureWords rarity)) = omega arith
-some_words (DeclaresNode name (OrWords lag)) = omega arith
-some_words (DeclaresNode name (AndWords lag)) = omega arith
-some_words (DeclaresEdge source target tmin tmax modes) = omega arith
-some_words Ends = omega arith
+  -- A line that is the words of a statement says it.
+  pub statement_of-says : SaysStatement version line said → statement_of version line ≡ Some said
+  statement_of-says says =
+      let words = words_of_statement version said in
+      ap (statement_of version) says.words
+      ∙ short_line_says version words (some_words version said) (are_words words says.each) (subst (λ (l : List ℕ). length l ≤ LONGEST_LINE) says.words says.short)
+      ∙ statement_in-words version said says.sayable
 
--- A line that says something is the words of it.
-pub SaysStatement-said : (line : List ℕ) (said : Statement) → statement_of line ≡ Some said → SaysStatement line said
-SaysStatement-said line said some =
-    let whole = said_by_words line said some in
-    let short = cond-some_second _ _ said some in
-    let shaped = cond-some_second _ _ said short.1 in
-    record {
-      words = whole.1;
-      each = subst (All IsLineWord) (statement_in_words (words_of line) said shaped.1)
-          (line_words (words_of line) shaped.0 (parts_lack line));
-      short = whole.0;
-    }
-
--- A line that is the words of a statement says it.
-pub statement_of-says : (line : List ℕ) (said : Statement) → SaysStatement line said → statement_of line ≡ Some said
-statement_of-says line said says =
-    let words = words_of_statement said in
-    ap statement_of says.words
-    ∙ short_line_says words (some_words said) (are_words words says.each) (subst (λ (l : List ℕ). length l ≤ LONGEST_LINE) says.words says.short)
-    ∙ statement_in-words said
-
-pub says_both_ways : (line : List ℕ) (said : Statement) → (statement_of line ≡ Some said) ↔ SaysStatement line said
-says_both_ways line said = (SaysStatement-said line said, statement_of-says line said)
+  pub says_both_ways : (statement_of version line ≡ Some said) ↔ SaysStatement version line said
+  says_both_ways = (SaysStatement-said, statement_of-says)

@@ -1,5 +1,5 @@
 -- A statement without a cause has a value, and its words are those of the value.
-use Rattle.std.proofs.Common.{◌≡◌, ℕ, Bool, true, false, nat_lt, cond, List, [], ◌∷◌, Option, Some, None, unwrap_or, codes, refl, ap, sym, ◌∙◌, arith}
+use Rattle.std.proofs.Common.{◌≡◌, ℕ, Bool, true, false, nat_lt, cond, List, [], ◌∷◌, Option, Some, None, IfSome, unwrap_or, codes, refl, ap, sym, ◌∙◌, arith}
 use Rattle.std.specs.Prelude.{decimal}
 use Rattle.std.specs.Str.{bytes_eq}
 use Rattle.std.specs.Str.Parse.{digits_value}
@@ -14,14 +14,16 @@ use Rattle.tfpg_graph.specs.declared.kind.Kind.{Kind}
 use Rattle.tfpg_graph.specs.declared.kind.Lag.{Lag}
 use Rattle.tfpg_graph.specs.declared.kind.Kind.TheVariants.{Failure, Or, And}
 use Rattle.tfpg_graph.specs.declared.edge.Edge.{Edge}
-use Rattle.tfpg_graph.specs.Graph.{Tfpg, lag_up_to, name_word, node_named}
-use Rattle.tfpg_graph.specs.Text.{node_words, tmax_word, SpellsEdge}
+use Rattle.tfpg_graph.specs.declared.version.Version.{Version}
+use Rattle.tfpg_graph.specs.declared.version.Version.TheVariants.{One, Two}
+use Rattle.tfpg_graph.specs.Graph.{Tfpg, name_word, node_named}
+use Rattle.tfpg_graph.specs.Text.{node_words, tmax_word, SpellsEdge, CanSpellLag, CanSpell}
 use Rattle.tfpg_graph.specs.inside.writing.Written.{watch_words}
 use Rattle.tfpg_base.specs.declared.limits.TheConstants.{MAX_TIME}
 use Rattle.tfpg_graph.specs.declared.limits.TheConstants.{MAX_RARITY}
-use Rattle.tfpg_graph.specs.Statements.{NodeWords, FailureWords, OrWords, AndWords, DeclaresNode, DeclaresEdge, words_of_watch, words_of_node, words_of_statement}
-use Rattle.tfpg_graph.specs.Declares.{lag_of_word, kind_of_words, tmax_of_word, delays_of_words, ends_named, edge_declared, modes_of_word}
-use Rattle.tfpg_graph.specs.Causes.{has_bad_number, has_large_number, lag_number, node_number}
+use Rattle.tfpg_graph.specs.Statements.{LagWords, NodeWords, FailureWords, OrWords, AndWords, DeclaresNode, DeclaresEdge, words_of_watch, words_of_node, words_of_statement, CanSayLag, CanSay}
+use Rattle.tfpg_graph.specs.Declares.{lag_of_words, kind_of_words, tmax_of_word, delays_of_words, ends_named, edge_declared, modes_of_word}
+use Rattle.tfpg_graph.specs.Causes.{has_bad_number, has_large_number, lag_numbers, node_numbers}
 use Rattle.tfpg_graph.proofs.lemmas.declaring.Named.{named_found}
 use Rattle.tfpg_graph.proofs.lemmas.reading.causes.NoCause.{HasNoCause}
 use Rattle.tfpg_graph.proofs.lemmas.reading.saying.SaidModes.{SpellsModes-said}
@@ -38,30 +40,47 @@ has_large numbers = list_any (λ number. nat_lt number.1 (digits_value 10 number
 
 -- ---- nodes
 
-lag_said : (lag : Option (List ℕ)) → are_numbers (lag_number lag) ≡ true → has_large (lag_number lag) ≡ false
-    → (value : Option Lag) × (lag_of_word lag ≡ Some value) × (words_of_watch lag ≡ watch_words value)
-lag_said None numbers small = (None, refl, refl)
-lag_said (Some word) numbers small =
-    let is = number_of-within word MAX_TIME (omega arith) (and_parts (is_number word) true numbers).0 (or_parts _ false small).0 in
-    (Some (lag_up_to (digits_value 10 word)), ap (option_map (λ most. Some (lag_up_to most))) is.0, ap (λ lag. codes "watch" ∷ lag ∷ []) is.1)
+-- a version that can say a lag can spell it
+can_spell : (version : Version) (words : LagWords) (most : ℕ) → CanSayLag version words
+    → CanSpellLag version (record { least = digits_value 10 words.least; most = most })
+can_spell One words most sayable = ap (digits_value 10) sayable
+can_spell Two words most sayable = tt
 
-kind_said : (name : List ℕ) (words : NodeWords) → are_numbers (node_number words) ≡ true → has_large (node_number words) ≡ false
-    → (kind : Kind) × (kind_of_words words ≡ Some kind) × (words_of_node name words ≡ node_words name kind)
-kind_said name (FailureWords rarity) numbers small =
-    let is = number_of-within rarity MAX_RARITY (omega arith) (and_parts (is_number rarity) true numbers).0 (or_parts _ false small).0 in
-    (Failure (digits_value 10 rarity), ap (option_map Failure) is.0, ap (λ word. codes "failure" ∷ name ∷ word ∷ []) is.1)
-kind_said name (OrWords lag) numbers small =
-    let is = lag_said lag numbers small in
-    (Or is.0, ap (option_map Or) is.1, ap (λ words. codes "or" ∷ name ∷ words) is.2)
-kind_said name (AndWords lag) numbers small =
-    let is = lag_said lag numbers small in
-    (And is.0, ap (option_map And) is.1, ap (λ words. codes "and" ∷ name ∷ words) is.2)
+module _ (version : Version) where
+  lag_said : (lag : Option LagWords) → IfSome lag (CanSayLag version) → are_numbers (lag_numbers lag) ≡ true → has_large (lag_numbers lag) ≡ false
+      → (value : Option Lag) × (lag_of_words lag ≡ Some value) × (words_of_watch version lag ≡ watch_words version value) × IfSome value (CanSpellLag version)
+  lag_said None sayable numbers small = (None, refl, refl, tt)
+  lag_said (Some words) sayable numbers small =
+      let right = and_parts (is_number words.least) _ numbers in
+      let within = or_parts (nat_lt MAX_TIME (digits_value 10 words.least)) _ small in
+      let least = number_of-within words.least MAX_TIME (omega arith) right.0 within.0 in
+      let most = number_of-within words.most MAX_TIME (omega arith) (and_parts (is_number words.most) true right.1).0 (or_parts _ false within.1).0 in (
+        Some (record { least = digits_value 10 words.least; most = digits_value 10 words.most }),
+        (λ i. option_map (λ (range : ℕ × ℕ). Some (record { least = range.0; most = range.1 }))
+            (option_and_then (λ from. option_map (λ to. (from, to)) (most.0 i)) (least.0 i))),
+        (λ i. words_of_watch version (Some (record { least = least.1 i; most = most.1 i }))),
+        can_spell version words (digits_value 10 words.most) sayable,
+      )
 
--- A node whose number has no cause is of a kind, and its words are those of this kind.
-pub node_from_words : (name : List ℕ) (words : NodeWords) → has_bad_number (DeclaresNode name words) ≡ false
-    → has_large_number (DeclaresNode name words) ≡ false
-    → (kind : Kind) × (kind_of_words words ≡ Some kind) × (words_of_statement (DeclaresNode name words) ≡ node_words name kind)
-node_from_words name words numbers small = kind_said name words (not-false (are_numbers (node_number words)) numbers) small
+  kind_said : (name : List ℕ) (words : NodeWords) → CanSay version (DeclaresNode name words)
+      → are_numbers (node_numbers words) ≡ true → has_large (node_numbers words) ≡ false
+      → (kind : Kind) × (kind_of_words words ≡ Some kind) × (words_of_node version name words ≡ node_words version name kind) × CanSpell version kind
+  kind_said name (FailureWords rarity) sayable numbers small =
+      let is = number_of-within rarity MAX_RARITY (omega arith) (and_parts (is_number rarity) true numbers).0 (or_parts _ false small).0 in
+      (Failure (digits_value 10 rarity), ap (option_map Failure) is.0, ap (λ word. codes "failure" ∷ name ∷ word ∷ []) is.1, tt)
+  kind_said name (OrWords lag) sayable numbers small =
+      let is = lag_said lag sayable numbers small in
+      (Or is.0, ap (option_map Or) is.1, ap (λ words. codes "or" ∷ name ∷ words) is.2, is.3)
+  kind_said name (AndWords lag) sayable numbers small =
+      let is = lag_said lag sayable numbers small in
+      (And is.0, ap (option_map And) is.1, ap (λ words. codes "and" ∷ name ∷ words) is.2, is.3)
+
+  -- A node whose numbers have no cause is of a kind, its words are those of this kind, and the version can spell it.
+  pub node_from_words : (name : List ℕ) (words : NodeWords) → CanSay version (DeclaresNode name words)
+      → has_bad_number (DeclaresNode name words) ≡ false → has_large_number (DeclaresNode name words) ≡ false
+      → (kind : Kind) × (kind_of_words words ≡ Some kind)
+      × (words_of_statement version (DeclaresNode name words) ≡ node_words version name kind) × CanSpell version kind
+  node_from_words name words sayable numbers small = kind_said name words sayable (not-false (are_numbers (node_numbers words)) numbers) small
 
 -- ---- edges
 
@@ -94,11 +113,11 @@ delays_said source target tmin tmax modes numbers small =
     )
 
 -- An edge without a cause has its value, and its words spell it.
-pub edge_from_words : (graph : Tfpg) (out_of_order : Bool) (source target tmin tmax modes : List ℕ)
+pub edge_from_words : (version : Version) (graph : Tfpg) (out_of_order : Bool) (source target tmin tmax modes : List ℕ)
     → HasNoCause out_of_order graph (DeclaresEdge source target tmin tmax modes)
     → (edge : Edge) × (edge_declared graph (DeclaresEdge source target tmin tmax modes) ≡ Some edge)
-    × SpellsEdge graph edge (line_of (words_of_statement (DeclaresEdge source target tmin tmax modes)))
-edge_from_words graph out_of_order source target tmin tmax modes is =
+    × SpellsEdge graph edge (line_of (words_of_statement version (DeclaresEdge source target tmin tmax modes)))
+edge_from_words version graph out_of_order source target tmin tmax modes is =
     let unknown = or_parts _ _ is.known in
     let unknown_target = or_parts _ _ unknown.1 in
     let from = found (node_named graph) source unknown.0 in

@@ -16,6 +16,7 @@ use Rattle.tfpg_base.specs.declared.limits.TheConstants.{LONGEST_LINE, MAX_TIME}
 use Rattle.tfpg_base.proofs.Numbers.{number_of-decimal}
 use Rattle.tfpg_graph.specs.declared.kind.Kind.TheVariants.{Failure}
 use Rattle.tfpg_graph.specs.declared.edge.Edge.{Edge}
+use Rattle.tfpg_graph.specs.declared.version.Version.{Version}
 use Rattle.tfpg_graph.specs.Graph.{Tfpg, Node, name_word, node_named, mode_named}
 use Rattle.tfpg_graph.specs.Text.{tmax_word, all_modes, SpellsModes, edge_line}
 use Rattle.tfpg_graph.specs.Valid.{IsValid, IsValidEdge}
@@ -127,11 +128,11 @@ module _ (graph : Tfpg) (valid : IsValid graph) where
     tmax_small (Some time) small = small.1
 
     -- The line of an edge that is short says that it declares the edge.
-    pub statement_of-edge_line : (word : List ℕ) → SpellsModes graph edge.modes word
+    pub statement_of-edge_line : (version : Version) (word : List ℕ) → SpellsModes graph edge.modes word
         → length (edge_line graph edge word) ≤ LONGEST_LINE
-        → statement_of (edge_line graph edge word) ≡ Some (edge_statement graph edge word)
-    statement_of-edge_line word spells short =
-        statement_of-edge (name_word graph edge.source) (name_word graph edge.target) edge.tmin edge.tmax word
+        → statement_of version (edge_line graph edge word) ≡ Some (edge_statement graph edge word)
+    statement_of-edge_line version word spells short =
+        statement_of-edge version (name_word graph edge.source) (name_word graph edge.target) edge.tmin edge.tmax word
         (is_name-name_word graph edge.source is.source valid.so_far.node_names)
         (is_name-name_word graph edge.target is.target valid.so_far.node_names)
         is.least (tmax_small edge.tmax is.greatest) (IsModesWord-spelled edge.modes word spells).is_word short

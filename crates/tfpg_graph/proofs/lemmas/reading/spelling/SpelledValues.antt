@@ -1,7 +1,7 @@
 -- The values that the words of a spelled graph have.
 use Rattle.std.proofs.Common.{◌≡◌, ◌≢◌, ℕ, ◌<◌, ◌≤◌, ◌||◌, true, false, cond, List, [], ◌∷◌, ◌++◌, length, map, get_or, All, AllPairs, IsTrue, Option, Some, None, IfSome, codes, refl, ap, sym, ◌∙◌, subst, arith}
 use Rattle.std.specs.Prelude.{decimal}
-use Rattle.std.specs.Option.{option_map}
+use Rattle.std.specs.Option.{option_map, option_and_then}
 use Rattle.std.specs.List.{AllByRecursion, join_with_byte}
 use Rattle.std.specs.Str.{bytes_eq}
 use Rattle.std.proofs.lemmas.Bool.{false≢true, and_parts, or_from, cond-false}
@@ -16,21 +16,21 @@ use Rattle.tfpg_base.proofs.lists.Elements.{AllPairs-head, AllPairs-tail}
 use Rattle.tfpg_graph.specs.declared.kind.Kind.{Kind}
 use Rattle.tfpg_graph.specs.declared.kind.Lag.{Lag}
 use Rattle.tfpg_graph.specs.declared.kind.Kind.TheVariants.{Failure, Or, And}
-use Rattle.tfpg_graph.specs.Text.{tmax_word, lag_word, words_of_kind}
+use Rattle.tfpg_graph.specs.Text.{tmax_word, lag_words, words_of_kind}
 use Rattle.tfpg_base.specs.declared.limits.TheConstants.{MAX_TIME}
 use Rattle.tfpg_graph.specs.Valid.{HasValidNumber, IsValidLag}
-use Rattle.tfpg_graph.specs.Graph.{lag_up_to}
-use Rattle.tfpg_graph.specs.Declares.{kind_of_words, lag_of_word, tmax_of_word, modes_listed}
+use Rattle.tfpg_graph.specs.Declares.{kind_of_words, lag_of_words, tmax_of_word, modes_listed}
 use Rattle.tfpg_graph.specs.Causes.{has_twice}
 use Rattle.tfpg_base.proofs.lists.SameBytes.{bytes_eq-differ}
 use Rattle.tfpg_base.proofs.lists.Images.{list_any-map}
 use Rattle.tfpg_base.proofs.lists.Distinct.{get_or-differ}
 
-lag_read : (lag : Option Lag) → IfSome lag IsValidLag → lag_of_word (option_map lag_word lag) ≡ Some lag
+lag_read : (lag : Option Lag) → IfSome lag IsValidLag → lag_of_words (option_map lag_words lag) ≡ Some lag
 lag_read None small = refl
-lag_read (Some lag) small =
-    ap (option_map (λ most. Some (lag_up_to most))) (number_of-decimal lag.most (omega (arith, small.most)))
-    ∙ ap (λ least. Some (Some (record { least = least; most = lag.most }))) (sym small.least)
+lag_read (Some lag) small = λ i.
+    option_map (λ (range : ℕ × ℕ). Some (record { least = range.0; most = range.1 }))
+    (option_and_then (λ from. option_map (λ to. (from, to)) (number_of-decimal lag.most (omega (arith, small.most)) i))
+    (number_of-decimal lag.least (omega (arith, small.in_order, small.most)) i))
 
 -- The words that say what a node is are read as it.
 pub kind_of_words-kind : (kind : Kind) → HasValidNumber kind → kind_of_words (words_of_kind kind) ≡ Some kind

@@ -20,7 +20,7 @@ next_part c =
 
 -- how many of so many parts say such a thing
 abbrev said_before : In-Some → ℕ → ℕ
-said_before c index = count_by (says (test_of c.args.declaring)) (take index (parts_of c.args.text.now))
+said_before c index = count_by (says c.args.version (test_of c.args.declaring)) (take index (parts_of c.args.text.now))
 
 -- the count goes one line further
 lines_after : (c : In-Some) → said_before c (length c.loop-line.yielded + 1)
@@ -32,8 +32,8 @@ returns-then-declared-number c =
     let part = next_part (goal.at.returns-then-declared-number c).In-Some in
     subst (IsLineSaying (test_of c.args.declaring) (parts_of c.args.text.now) c.args.number)
     (ap (λ n. n + 1) (sym c.loop-line.invariant.numbered))
-    (line_here (test_of c.args.declaring) (parts_of c.args.text.now) (length c.loop-line.yielded) c.in-Some.line.now
-    part.0 part.1 c.args.number (sym c.if-declared-number.true ∙ c.loop-line.invariant.counted)
+    (line_here c.args.version (test_of c.args.declaring) (parts_of c.args.text.now) (length c.loop-line.yielded) c.in-Some.line.now
+    part.0 part.1 c.args.number (sym c.if-declared-number.true ∙ c.loop-line.invariant.counted) c.requires.version
     (sym c.is_declaring.ensures ∙ c.if-is_declaring.true))
 
 pub loop-line-preserved-then-is_declaring : goal.loop-line-preserved-then-is_declaring
@@ -42,7 +42,7 @@ loop-line-preserved-then-is_declaring c =
     record {
       numbered = omega (arith, length_push c.loop-line.yielded c.in-Some.line, c.loop-line.invariant.numbered);
       few = omega (arith, c.if-declared-number.false, c.loop-line.invariant.few);
-      counted = counted_yes (test_of c.args.declaring) (parts_of c.args.text.now) (length c.loop-line.yielded)
+      counted = counted_yes c.args.version (test_of c.args.declaring) (parts_of c.args.text.now) (length c.loop-line.yielded)
           c.in-Some.line.now part.0 part.1 c.loop-line.declared c.loop-line.invariant.counted
           (sym c.is_declaring.ensures ∙ c.if-is_declaring.true)
           ∙ lines_after (goal.at.loop-line-preserved-then-is_declaring c).In-Some;
@@ -54,7 +54,7 @@ loop-line-preserved c =
     record {
       numbered = omega (arith, length_push c.loop-line.yielded c.in-Some.line, c.loop-line.invariant.numbered);
       few = c.loop-line.invariant.few;
-      counted = counted_no (test_of c.args.declaring) (parts_of c.args.text.now) (length c.loop-line.yielded)
+      counted = counted_no c.args.version (test_of c.args.declaring) (parts_of c.args.text.now) (length c.loop-line.yielded)
           c.in-Some.line.now part.0 part.1 c.loop-line.declared c.loop-line.invariant.counted
           (sym c.is_declaring.ensures ∙ c.if-is_declaring.false)
           ∙ lines_after (goal.at.loop-line-preserved c).In-Some;
@@ -70,6 +70,6 @@ unreachable-requires c =
       c.requires.there,
       c.loop-line.invariant.few,
       c.loop-line.invariant.counted,
-      count-says_all (test_of c.args.declaring) (parts_of c.args.text.now) (length c.loop-line.yielded)
+      count-says_all c.args.version (test_of c.args.declaring) (parts_of c.args.text.now) (length c.loop-line.yielded)
           (omega (arith, end.1)),
     )

@@ -8,5 +8,5 @@ abbrev pub invariant-loop-line : goal.invariant-loop-line
 invariant-loop-line l = record {
   numbered : l.line_number ≡ length l.yielded;
   few : l.declared ≤ l.number;
-  counted : l.declared ≡ count_by (says (test_of l.declaring)) (take (length l.yielded) (parts_of l.text));
+  counted : l.declared ≡ count_by (says l.version (test_of l.declaring)) (take (length l.yielded) (parts_of l.text));
 }

@@ -1,11 +1,8 @@
-use Rattle.std.proofs.Common.{rules, ◌≡◌, true, false, codes, subst, sym}
+use Rattle.std.proofs.Common.{rules, ◌≡◌, ℕ, true, false, Some, codes, ap, ◌∙◌}
 use Rattle.std.proofs.lemmas.Result.{err_from_is_err_and}
 use Rattle.std.specs.Str.{bytes_eq}
-use Rattle.tfpg_base.specs.Choice.{first_of}
-use Rattle.tfpg_graph.specs.Declares.{delays_of_words}
-use Rattle.tfpg_graph.specs.inside.reading.LineCauses.{delay_causes}
-use Rattle.tfpg_graph.specs.inside.reading.Turns.{ReadAs}
-use Rattle.tfpg_graph.proofs.lemmas.reading.causes.NumberCauses.{delays-no_greatest, delays-values}
+use Rattle.std.specs.Option.{option_map}
+use Rattle.tfpg_graph.proofs.lemmas.reading.causes.NumberCauses.{delays-no_greatest, delays-range, delays-numbers}
 use Rattle.tfpg_graph.proofs.reading.read_numbers.read_delays.Goals as goal
 
 pub returns-in_err-least-clause-delays : goal.returns-in_err-least-clause-delays
@@ -14,8 +11,16 @@ returns-in_err-least-clause-delays c =
     let p = err_from_is_err_and c.from_residual.result c.from_residual.ensures.1 in
     rw (p.1, p.2) (delays-no_greatest c.args.tmin.now c.args.tmax.now c.in_err-least.field-0.0 none c.in_err-least.ensures.number)
 
-pub returns-in-Value-Value-clause-delays : goal.returns-in-Value-Value-clause-delays
-returns-in-Value-Value-clause-delays c =
+pub returns-in_err-least-2-clause-delays : goal.returns-in_err-least-2-clause-delays
+returns-in_err-least-2-clause-delays c =
     let some : bytes_eq c.args.tmax.now (codes "inf") ≡ false = search rules in
-    subst (ReadAs (first_of (delay_causes c.args.tmin.now c.args.tmax.now)) (delays_of_words c.args.tmin.now c.args.tmax.now)) (sym c.in_order.ensures.delays)
-    (delays-values c.args.tmin.now c.args.tmax.now _ _ some (search rules) (search rules))
+    let p = err_from_is_err_and c.from_residual-in_err-least-2.result c.from_residual-in_err-least-2.ensures.1 in
+    rw (p.1, p.2) (delays-range c.args.tmin.now c.args.tmax.now some ∙ c.in_err-least-2.ensures.range)
+
+pub returns-clause-delays : goal.returns-clause-delays
+returns-clause-delays c =
+    let some : bytes_eq c.args.tmax.now (codes "inf") ≡ false = search rules in (
+      delays-range c.args.tmin.now c.args.tmax.now some ∙ c.in_ok-least-2.ensures.range.0,
+      delays-numbers c.args.tmin.now c.args.tmax.now some
+          ∙ ap (option_map (λ (range : ℕ × ℕ). (range.0, Some range.1))) c.in_ok-least-2.ensures.range.1,
+    )

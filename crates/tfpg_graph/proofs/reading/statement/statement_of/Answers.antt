@@ -9,4 +9,4 @@ pub returns : goal.returns
 returns c =
     let short : nat_lt LONGEST_LINE (length c.args.line.now) ≡ false = grind (arith, nat_tests) in
     let words = c.in_ok-words.ensures in
-    c.statement_in.ensures ∙ ap statement_in (c.as_slice.ensures ∙ words.0) ∙ sym (statement_of-words c.args.line.now short words.1)
+    c.statement_in.ensures ∙ ap (statement_in c.args.version) (c.as_slice.ensures ∙ words.0) ∙ sym (statement_of-words c.args.version c.args.line.now short words.1)

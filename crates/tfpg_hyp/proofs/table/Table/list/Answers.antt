@@ -1,22 +1,31 @@
-use Rattle.std.proofs.Common.{◌+◌, ◌∙◌, ap, subst, sym, length}
+use Rattle.std.proofs.Common.{◌+◌, ◌∙◌, ap, subst, sym, length, List}
+use Rattle.tfpg_base.specs.NodeSet.{IsNodeSet}
+use Rattle.tfpg_base.specs.Hypothesis.{Hypothesis}
+use Rattle.tfpg_hyp.specs.Hypotheses.{AreReaches}
 use Rattle.tfpg_hyp.specs.inside.Choices.{chosen_below}
-use Rattle.tfpg_hyp.proofs.Tables.{ReachedSoFar, AreReaches-believing, IsTable-sets, members_failing, few_sets}
+use Rattle.tfpg_hyp.proofs.MonitorNumbers.{IsNodeSet-monitors}
+use Rattle.tfpg_hyp.proofs.Tables.{IsTable-hypotheses, members_failing, few_hypotheses}
 use Rattle.tfpg_hyp.proofs.table.Table.list.Goals as goal
+
+pub list_hypotheses-requires-clause-monitors : goal.list_hypotheses-requires-clause-monitors
+list_hypotheses-requires-clause-monitors c =
+    subst IsNodeSet (sym (c.deref.ensures.value ∙ c.in_ok-monitors.ensures)) (IsNodeSet-monitors c.args.graph.now c.is_always_valid.ensures.few)
 
 pub reaches_of-requires : goal.reaches_of-requires
 reaches_of-requires c =
-    members_failing c.args.graph.now (record { k = c.args.k; budget = 0 }) c.failure_count.result c.deref.result.now c.failure_count.ensures (c.deref.ensures.value ∙ c.in_ok-sets.ensures)
+    members_failing c.args.graph.now (record { k = c.args.k; doubt = c.args.doubt; budget = 0 }) c.failure_count.result c.deref.result.now c.deref-2.result.now c.failure_count.ensures
+    (c.deref.ensures.value ∙ c.in_ok-monitors.ensures) (c.deref-2.ensures.value ∙ c.in_ok-hypotheses.ensures)
 
 pub invariant_of-result : goal.invariant_of-result
 invariant_of-result c = (
-  c.in_ok-reaches.ensures.complete ∙ ap length c.deref.ensures.value,
-  few_sets c.args.graph.now (record { k = c.args.k; budget = 0 }) c.failure_count.result c.in_ok-sets.sets.items c.failure_count.ensures c.in_ok-sets.ensures c.requires,
+  c.in_ok-reaches.ensures.complete ∙ ap length c.deref-2.ensures.value,
+  few_hypotheses c.args.graph.now (record { k = c.args.k; doubt = c.args.doubt; budget = 0 }) c.failure_count.result c.deref.result.now c.in_ok-hypotheses.hypotheses.items c.failure_count.ensures
+      (c.deref.ensures.value ∙ c.in_ok-monitors.ensures) c.in_ok-hypotheses.ensures c.requires.few,
 )
 
 pub returns : goal.returns
-returns c terms same = record {
-  hypotheses = IsTable-sets c.args.graph.now terms c.failure_count.result c.in_ok-sets.sets.items c.failure_count.ensures
-      (c.in_ok-sets.ensures ∙ ap (λ n. chosen_below c.failure_count.result (n + 1)) (sym same));
-  reached = AreReaches-believing c.args.graph.now c.in_ok-sets.sets.items c.in_ok-reaches.reaches.items (c.in_ok-reaches.ensures.complete ∙ ap length c.deref.ensures.value)
-      (subst (λ sets. ReachedSoFar c.args.graph.now sets c.in_ok-reaches.reaches.items) c.deref.ensures.value c.in_ok-reaches.ensures.exact);
+returns c terms same_k same_doubt = record {
+  hypotheses = IsTable-hypotheses c.args.graph.now terms c.failure_count.result c.deref.result.now c.in_ok-hypotheses.hypotheses.items c.failure_count.ensures (c.deref.ensures.value ∙ c.in_ok-monitors.ensures)
+      (c.in_ok-hypotheses.ensures ∙ (λ i. chosen_below c.deref.result.now (sym same_doubt i) c.failure_count.result (sym same_k i + 1)));
+  reached = subst (λ (hypotheses : List Hypothesis). AreReaches c.args.graph.now hypotheses c.in_ok-reaches.reaches.items) c.deref-2.ensures.value c.in_ok-reaches.ensures;
 }

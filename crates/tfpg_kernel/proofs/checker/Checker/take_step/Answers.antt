@@ -1,8 +1,7 @@
-use Rattle.std.proofs.Common.{◌≡◌, ap, sym, subst, ◌∙◌, refl}
+use Rattle.std.proofs.Common.{◌≡◌, ap, sym, subst, ◌∙◌}
 use Rattle.tfpg_evidence.specs.declared.step.Step.{Step}
-use Rattle.tfpg_evidence.specs.declared.step.Step.TheVariants.{Cycle}
-use Rattle.tfpg_kernel.specs.declared.taken.Taken.TheVariants.{Bad}
-use Rattle.tfpg_kernel.specs.declared.taken.BadStep.TheVariants.{NotReusable}
+use Rattle.tfpg_evidence.specs.declared.step.Step.TheVariants.{Cycle, Again}
+use Rattle.tfpg_kernel.specs.declared.taken.Taken.{Taken}
 use Rattle.tfpg_kernel.specs.CheckerState.{CheckerState}
 use Rattle.tfpg_kernel.specs.inside.Paths.{Moves}
 use Rattle.tfpg_kernel.proofs.checker.Checker.take_step.Goals as goal
@@ -27,6 +26,10 @@ returns-in-Cycle-clause-result c = λ earlier steps goes_on represents.
 
 pub returns-in-Again-clause-result : goal.returns-in-Again-clause-result
 returns-in-Again-clause-result c = λ earlier steps goes_on represents.
-    c.moves_are_results.ensures.moved c.args.graph.now earlier c.args.log.now c.args.self.now c.args.self.now steps c.args.step.now (Bad NotReusable) c.is_always_ordered.ensures goes_on
-    represents (sym (ap (λ (b : CheckerState). b.closed) c.self.view_is) ∙ c.if-self.false) refl
-    (subst (λ (step : Step). Moves c.args.graph.now c.args.log.now c.args.self.now step (Bad NotReusable) c.args.self.now) (sym c.in-Again.is) (refl, refl))
+    c.moves_are_results.ensures.moved c.args.graph.now earlier c.args.log.now c.args.self.now c.reuse.new.self steps c.args.step.now c.reuse.result c.is_always_ordered.ensures goes_on
+    represents (sym (ap (λ (b : CheckerState). b.closed) c.self.view_is) ∙ c.if-self.false) c.reuse.ensures.reach
+    (subst (λ (step : Step). Moves c.args.graph.now c.args.log.now c.args.self.now step c.reuse.result c.reuse.new.self) (sym c.in-Again.is) (c.reuse.ensures.moves c.args.graph.now c.args.log.now))
+
+pub returns-in-Again-clause-unchanged : goal.returns-in-Again-clause-unchanged
+returns-in-Again-clause-unchanged c = λ bad same.
+    (subst (λ (result : Taken). Moves c.args.graph.now c.args.log.now c.args.self.now Again result c.reuse.new.self) same (c.reuse.ensures.moves c.args.graph.now c.args.log.now)).1

@@ -2,7 +2,7 @@ use Rattle.std.proofs.Common.{ap, ◌∙◌}
 use Rattle.tfpg_graph.specs.Graph.{Tfpg}
 use Rattle.tfpg_report.specs.Blocks.{round_text}
 use Rattle.std.proofs.lemmas.Result.{IfOk-weaker}
-use Rattle.tfpg_run.proofs.lemmas.diagnose.LineBlocks.{brings_refusal, brings_round, block_of_refusal, block_of_round, round_is_of_graph, round_says}
+use Rattle.tfpg_run.proofs.lemmas.diagnose.LineBlocks.{brings_refusal, brings_round, refused_within, round_within, counts_refusal, counts_round, round_is_of_graph, round_says}
 use Rattle.tfpg_run.proofs.diagnose.line_blocks.line_block.Goals as goal
 
 pub round_block-requires : goal.round_block-requires
@@ -17,7 +17,8 @@ returns-in-Refused g c graph terms before reports short =
     let brings = brings_refusal c.args.number c.args.text.now before.rounds c.in-Refused.refusal c.args.engine.now c.event.new.self c.in_ok-refusal.field-0 c.in-Refused.is
     (c.in_ok-refusal.ensures.brings before.rounds reports.represents) in
     IfOk-weaker c.refused_block.result _ _ (λ block e.
-    block_of_refusal graph terms before c.args.number c.args.text.now block.items c.args.engine.now c.event.new.self short reports c.in-Refused.refusal brings.0 brings.1 e)
+    refused_within graph terms before c.args.number c.args.text.now block.items c.args.engine.now c.event.new.self short reports c.in-Refused.refusal brings.0 brings.1 e c.args.work.now c.event.new.work
+    (counts_refusal c.event.new.self before.rounds c.in-Refused.refusal c.in_ok-refusal.field-0 c.args.work.now c.event.new.work c.in-Refused.is (c.in_ok-refusal.ensures.work before.rounds reports.represents)))
     c.refused_block.ensures
 
 pub returns-in-Round : goal.returns-in-Round
@@ -27,6 +28,7 @@ returns-in-Round g c graph terms before reports short =
     let says = round_says c.args.number c.args.text.now rounds c.in-Round.round c.args.engine.now c.event.new.self gives c.in_ok-refusal.ensures.graph c.log.result.now c.log.ensures.log c.log.ensures.of
     c.requires.valid c.is_always_ordered.ensures c.rounds_say_which_sets_fit.ensures c.statuses_are_those_of_minimal_sets.ensures in
     IfOk-weaker c.round_block.result _ _ (λ block e.
-    block_of_round graph terms before c.args.number c.args.text.now block.items c.args.engine.now c.event.new.self short reports c.in-Round.round gives says
-    c.in_ok-refusal.ensures.graph c.in_ok-refusal.ensures.terms (e ∙ ap (λ (lent : Tfpg). round_text lent c.in-Round.round) c.graph.ensures))
+    round_within graph terms before c.args.number c.args.text.now block.items c.args.engine.now c.event.new.self short reports c.in-Round.round gives says
+    c.in_ok-refusal.ensures.graph c.in_ok-refusal.ensures.terms (e ∙ ap (λ (lent : Tfpg). round_text lent c.in-Round.round) c.graph.ensures) c.args.work.now c.event.new.work
+    (counts_round c.event.new.self rounds c.in-Round.round c.in_ok-refusal.field-0 c.args.work.now c.event.new.work c.in-Round.is (c.in_ok-refusal.ensures.work rounds reports.represents)))
     c.round_block.ensures

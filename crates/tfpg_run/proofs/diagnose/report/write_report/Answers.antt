@@ -3,25 +3,25 @@ use Rattle.tfpg_run.specs.declared.fault.StreamFault.TheVariants as faults
 use Rattle.tfpg_graph.specs.Valid.{IsValid}
 use Rattle.tfpg_run.specs.Streams.{streams}
 use Rattle.tfpg_run.specs.diagnose.Diagnosing.{Diagnoses}
-use Rattle.tfpg_run.specs.inside.diagnose.UnderWay.{ComesTo, diagnosis_at}
+use Rattle.tfpg_run.specs.inside.diagnose.UnderWay.{ComesTo, ComesToWithin, diagnosis_at}
 use Rattle.tfpg_base.proofs.lists.Choices.{Err-from}
 use Rattle.tfpg_run.proofs.Putting.{Puts-same}
 use Rattle.tfpg_run.proofs.InputLines.{falls_short}
-use Rattle.tfpg_run.proofs.lemmas.diagnose.NextBlocks.{few_given, head_as, begins_under_way, begins_without_memory, begins_badly}
+use Rattle.tfpg_run.proofs.lemmas.diagnose.NextBlocks.{few_given, head_as, begins_within, begins_without_memory, begins_badly}
 use Rattle.tfpg_run.proofs.diagnose.report.write_report.Goals as goal
 
-pub returns-in_err-lines : goal.returns-in_err-lines
-returns-in_err-lines g c =
+pub returns-in_err-lines-clause-diagnoses : goal.returns-in_err-lines-clause-diagnoses
+returns-in_err-lines-clause-diagnoses g c =
     let before = streams (g.S.Source.state c.args.input.now) (g.K.Sink.state c.args.out.now) in
     subst (Diagnoses c.args.engine.now.graph c.args.engine.now.terms before before) (sym (Err-from c.from_residual.result faults.NoMemory c.from_residual.ensures.1)) (begins_without_memory c.args.engine.now.graph c.args.engine.now.terms before)
 
-pub returns-in_err-head : goal.returns-in_err-head
-returns-in_err-head g c =
+pub returns-in_err-head-clause-diagnoses : goal.returns-in_err-head-clause-diagnoses
+returns-in_err-head-clause-diagnoses g c =
     let before = streams (g.S.Source.state c.args.input.now) (g.K.Sink.state c.args.out.now) in
     subst (Diagnoses c.args.engine.now.graph c.args.engine.now.terms before before) (sym (Err-from c.from_residual-in_err-head.result faults.NoMemory c.from_residual-in_err-head.ensures.1)) (begins_without_memory c.args.engine.now.graph c.args.engine.now.terms before)
 
-pub returns-in_err-write_all : goal.returns-in_err-write_all
-returns-in_err-write_all g c =
+pub returns-in_err-write_all-clause-diagnoses : goal.returns-in_err-write_all-clause-diagnoses
+returns-in_err-write_all-clause-diagnoses g c =
     let before = streams (g.S.Source.state c.args.input.now) (g.K.Sink.state c.args.out.now) in
     let output = g.K.Sink.state c.write_all.new.out in
     let front = c.in_err-write_all.ensures.front in
@@ -33,35 +33,40 @@ pub loop-head-init : goal.loop-head-init
 loop-head-init g c =
     let before = streams (g.S.Source.state c.args.input.now) (g.K.Sink.state c.args.out.now) in
     let output = g.K.Sink.state c.write_all.new.out in
-    begins_under_way c.args.engine.now.graph c.args.engine.now.terms before c.in_ok-lines.lines c.args.engine.now output
+    begins_within c.args.engine.now.graph c.args.engine.now.terms before c.in_ok-lines.lines c.args.engine.now output c.args.work.now
     c.requires.has_reports c.in_ok-lines.ensures.unread (record { graph_is = refl; terms_is = refl; log_is = c.requires.unread; represents = c.requires.new })
     (Puts-same (g.K.Sink.state c.args.out.now) output _ _ (c.deref.ensures.value ∙ head_as _ _ _ c.terms.ensures c.in_ok-head.ensures) c.in_ok-write_all.ensures.put) c.in_ok-write_all.ensures.no_fault
 
 -- the engine is ready for the next block
 pub write_next_block-requires : goal.write_next_block-requires
 write_next_block-requires g c = record {
-  valid = subst IsValid (sym c.loop-head.invariant.reports.graph_is) c.requires.valid;
+  valid = subst IsValid (sym c.loop-head.invariant.under.reports.graph_is) c.requires.valid;
   rounds = _;
-  represents = c.loop-head.invariant.reports.represents;
+  represents = c.loop-head.invariant.under.reports.represents;
 }
 
 pub loop-head-smaller : goal.loop-head-smaller
 loop-head-smaller g c =
-    let leads = c.in_ok-write_next_block.ensures.comes_to c.args.engine.now.graph c.args.engine.now.terms _ c.loop-head.invariant in
+    let leads = c.in_ok-write_next_block.ensures.comes_to c.args.engine.now.graph c.args.engine.now.terms _ c.loop-head.invariant.under in
     let on = subst (ComesTo c.args.engine.now.graph c.args.engine.now.terms _ c.loop-head.lines.number (diagnosis_at _ c.write_next_block.new.lines c.write_next_block.new.engine)) c.in-Written.is leads in
-    falls_short _ _ (few_given c.args.engine.now.graph c.args.engine.now.terms _ _ c.loop-head.lines c.loop-head.engine c.loop-head.invariant) on.1
+    falls_short _ _ (few_given c.args.engine.now.graph c.args.engine.now.terms _ _ c.loop-head.lines c.loop-head.engine c.loop-head.invariant.under) on.1
 
-pub returns-in-Ended : goal.returns-in-Ended
-returns-in-Ended g c =
+pub returns-in-Ended-clause-diagnoses : goal.returns-in-Ended-clause-diagnoses
+returns-in-Ended-clause-diagnoses g c =
     subst (ComesTo c.args.engine.now.graph c.args.engine.now.terms _ c.loop-head.lines.number (diagnosis_at _ c.write_next_block.new.lines c.write_next_block.new.engine)) c.in-Ended.is
-    (c.in_ok-write_next_block.ensures.comes_to c.args.engine.now.graph c.args.engine.now.terms _ c.loop-head.invariant)
+    (c.in_ok-write_next_block.ensures.comes_to c.args.engine.now.graph c.args.engine.now.terms _ c.loop-head.invariant.under)
 
 pub loop-head-preserved : goal.loop-head-preserved
 loop-head-preserved g c =
-    (subst (ComesTo c.args.engine.now.graph c.args.engine.now.terms _ c.loop-head.lines.number (diagnosis_at _ c.write_next_block.new.lines c.write_next_block.new.engine)) c.in-Written.is
-    (c.in_ok-write_next_block.ensures.comes_to c.args.engine.now.graph c.args.engine.now.terms _ c.loop-head.invariant)).0
+    subst (ComesToWithin c.args.engine.now.graph c.args.engine.now.terms _ (diagnosis_at _ c.write_next_block.new.lines c.write_next_block.new.engine) c.args.work.now c.write_next_block.new.work) c.in-Written.is
+    (c.in_ok-write_next_block.ensures.counts c.args.engine.now.graph c.args.engine.now.terms _ c.args.work.now c.loop-head.invariant)
 
-pub returns-in_err-write_next_block : goal.returns-in_err-write_next_block
-returns-in_err-write_next_block g c =
+pub returns-in-Ended-clause-work : goal.returns-in-Ended-clause-work
+returns-in-Ended-clause-work g c =
+    subst (ComesToWithin c.args.engine.now.graph c.args.engine.now.terms _ (diagnosis_at _ c.write_next_block.new.lines c.write_next_block.new.engine) c.args.work.now c.write_next_block.new.work) c.in-Ended.is
+    (c.in_ok-write_next_block.ensures.counts c.args.engine.now.graph c.args.engine.now.terms _ c.args.work.now c.loop-head.invariant)
+
+pub returns-in_err-write_next_block-clause-diagnoses : goal.returns-in_err-write_next_block-clause-diagnoses
+returns-in_err-write_next_block-clause-diagnoses g c =
     subst (Diagnoses c.args.engine.now.graph c.args.engine.now.terms _ _) (sym (Err-from c.from_residual-in_err-write_next_block.result c.in_err-write_next_block.field-0.0 c.from_residual-in_err-write_next_block.ensures.1))
-    (c.in_err-write_next_block.ensures.stopped c.args.engine.now.graph c.args.engine.now.terms _ c.loop-head.invariant)
+    (c.in_err-write_next_block.ensures.stopped c.args.engine.now.graph c.args.engine.now.terms _ c.loop-head.invariant.under)

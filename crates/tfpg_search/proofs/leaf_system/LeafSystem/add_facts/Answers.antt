@@ -1,11 +1,12 @@
 -- Node by node the bounds say all that facts say.
-use Rattle.std.proofs.Common.{◌≡◌, ◌+◌, length, sym, subst, ap, ◌∙◌, arith, below_more}
+use Rattle.std.proofs.Common.{◌≡◌, ◌+◌, ◌<◌, length, sym, subst, ap, ◌∙◌, arith, below_more}
 use Rattle.std.proofs.lemmas.Result.{err_from_is_err_and}
 use Rattle.tfpg_clause.specs.Facts.{fact}
 use Rattle.tfpg_diff.specs.Demands.{Demands}
 use Rattle.tfpg_diff.specs.SystemState.{with_floor, with_ceiling}
 use Rattle.tfpg_search.specs.inside.Closing.{Closes}
 use Rattle.tfpg_search.specs.inside.Facts.{AreFactsIn}
+use Rattle.tfpg_search.proofs.work.BoundsGiven.{low_there, high_there}
 use Rattle.tfpg_search.proofs.facts.FactsAdded.{facts_met, facts-tightened, facts-kept}
 use Rattle.tfpg_search.proofs.leaf_system.LeafSystem.add_facts.Goals as goal
 use Rattle.tfpg_clause.specs.Case.{case_of}
@@ -51,6 +52,7 @@ pub loop-node-preserved : goal.loop-node-preserved
 loop-node-preserved g c =
     let F = fact (case_of c.args.graph.now c.args.log.now c.args.reach.now) in
     let v = c.loop-node.node in
+    let within : v < length c.args.graph.now.nodes = (let count = c.node_count-node-end.ensures.count in let goes_on = c.loop-node-test.true in omega arith) in
     let before : Demands = c.loop-node.self.demands in
     let tag = length c.raise_to.new.self.demands.bounds + v in
     let is : c.lower_to.new.self.demands ≡ with_ceiling (with_floor before v c.low.result.time v) v c.high.result.time tag =
@@ -68,7 +70,11 @@ loop-node-preserved g c =
           (facts-kept F before v u c.low.result.time c.high.result.time v tag (c.loop-node.invariant.facts u below)))
           (subst (λ (d : Demands). AreFactsIn F d v) (sym is)
           (facts-tightened F before v c.low.result.time c.high.result.time v tag c.low.ensures.greatest (c.high.ensures.least c.args.reach.now)));
-      steps = (let one = c.raise_to.ensures.steps in let other = c.lower_to.ensures.steps in let so_far = c.loop-node.invariant.steps in omega arith);
+      counts = λ bounds given.
+          let raised = (c.in_ok-raise_to.ensures.counts bounds (low_there (case_of c.args.graph.now c.args.log.now c.args.reach.now) bounds given v c.low.result.time within c.low.result.reason c.low.ensures.stated c.low.ensures.greatest)).ok in
+          let lowered = (c.in_ok-lower_to.ensures.counts bounds (high_there (case_of c.args.graph.now c.args.log.now c.args.reach.now) bounds given v c.high.result.time within c.high.result.reason (c.high.ensures.stated c.args.reach.now) (c.high.ensures.least c.args.reach.now))).ok in
+          let so_far = c.loop-node.invariant.counts bounds given in
+          omega arith;
     }
 
 pub returns-clause-adds : goal.returns-clause-adds
@@ -83,3 +89,34 @@ returns-clause-adds g c =
           (c.loop-node.invariant.nodes ∙ c.requires.nodes)
           (λ node within. c.loop-node.invariant.facts node (omega arith));
     }
+
+pub returns-clause-facts : goal.returns-clause-facts
+returns-clause-facts g c node within =
+    let count = c.node_count-node-end.ensures.count in
+    let ended = c.loop-node-test.false in
+    c.loop-node.invariant.facts node (omega arith)
+
+pub returns-clause-counts : goal.returns-clause-counts
+returns-clause-counts g c bounds given =
+    let so_far = c.loop-node.invariant.counts bounds given in
+    record { ok = so_far; any = omega arith }
+
+pub returns-in_err-raise_to-clause-counts : goal.returns-in_err-raise_to-clause-counts
+returns-in_err-raise_to-clause-counts g c bounds given =
+    let within : c.loop-node.node < length c.args.graph.now.nodes = (let count = c.node_count-node-end.ensures.count in let goes_on = c.loop-node-test.true in omega arith) in
+    let error = err_from_is_err_and c.from_residual.result c.from_residual.ensures.1 in
+    let raised =
+    (c.in_err-raise_to.ensures.counts bounds (low_there (case_of c.args.graph.now c.args.log.now c.args.reach.now) bounds given c.loop-node.node c.low.result.time within c.low.result.reason c.low.ensures.stated c.low.ensures.greatest)).any in
+    let so_far = c.loop-node.invariant.counts bounds given in
+    rw error.1 (record { ok = tt; any = omega arith })
+
+pub returns-in_err-lower_to-clause-counts : goal.returns-in_err-lower_to-clause-counts
+returns-in_err-lower_to-clause-counts g c bounds given =
+    let within : c.loop-node.node < length c.args.graph.now.nodes = (let count = c.node_count-node-end.ensures.count in let goes_on = c.loop-node-test.true in omega arith) in
+    let error = err_from_is_err_and c.from_residual-in_err-lower_to.result c.from_residual-in_err-lower_to.ensures.1 in
+    let raised =
+    (c.in_ok-raise_to.ensures.counts bounds (low_there (case_of c.args.graph.now c.args.log.now c.args.reach.now) bounds given c.loop-node.node c.low.result.time within c.low.result.reason c.low.ensures.stated c.low.ensures.greatest)).ok in
+    let lowered =
+    (c.in_err-lower_to.ensures.counts bounds (high_there (case_of c.args.graph.now c.args.log.now c.args.reach.now) bounds given c.loop-node.node c.high.result.time within c.high.result.reason (c.high.ensures.stated c.args.reach.now) (c.high.ensures.least c.args.reach.now))).any in
+    let so_far = c.loop-node.invariant.counts bounds given in
+    rw error.1 (record { ok = tt; any = omega arith })

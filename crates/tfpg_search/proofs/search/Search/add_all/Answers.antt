@@ -1,3 +1,6 @@
+use Rattle.std.proofs.Common.{length, ◌-◌}
+use Rattle.tfpg_search.specs.inside.Counted.{unset}
+use Rattle.tfpg_search.proofs.work.CallsPaid.{unset_kept, given_at, added_counts, entered_only}
 use Rattle.tfpg_search.proofs.leaves.MovesStayAtLeaf.{facts_stand, add_loaded, add_closes}
 use Rattle.tfpg_search.proofs.search.Search.add_all.Goals as goal
 use Rattle.tfpg_clause.specs.Trees.{stated}
@@ -10,9 +13,23 @@ returns-clause-stands g c =
 
 pub returns-clause-loaded : goal.returns-clause-loaded
 returns-clause-loaded g c =
-    add_loaded c.args.graph.now c.args.log.now c.enter.new.self c.add_facts.new.self c.add_facts.ensures.same c.in_ok-enter.ensures.entered c.add_facts.result c.add_facts.ensures.adds.met
+    add_loaded c.args.graph.now c.args.log.now c.enter.new.self c.add_facts.new.self c.add_facts.ensures.same c.in_ok-enter.ensures.entered
+    (facts_stand c.args.graph.now c.args.log.now c.enter.new.self c.enter.ensures.stands c.add_facts.new.self c.add_facts.ensures.same c.add_facts.ensures.adds.nodes c.add_facts.ensures.adds.reasons
+    (λ stated before. (c.add_facts.ensures.adds.stated stated before).still)).0
+    c.add_facts.result c.add_facts.ensures.facts c.add_facts.ensures.adds.met
 
 pub returns-clause-closes : goal.returns-clause-closes
 returns-clause-closes g c =
     add_closes c.args.graph.now c.args.log.now c.args.self.now c.enter.new.self c.enter.ensures.keeps c.enter.ensures.path c.add_facts.result
     (c.add_facts.ensures.adds.stated (stated (case_of c.args.graph.now c.args.log.now c.enter.new.self.reach) c.enter.new.self.path) c.enter.ensures.stands.stated).closes
+
+pub returns-in_err-enter-clause-counts : goal.returns-in_err-enter-clause-counts
+returns-in_err-enter-clause-counts g c bounds given =
+    entered_only c.args.work.now c.enter.new.work (unset bounds c.args.self.now.leaf) (unset bounds c.enter.new.self.leaf) (length c.args.self.now.path - length c.args.self.now.entered)
+    c.enter.ensures.counts (unset_kept bounds c.args.self.now.leaf c.enter.new.self.leaf c.enter.ensures.bounds)
+
+pub returns-clause-counts : goal.returns-clause-counts
+returns-clause-counts g c bounds given =
+    added_counts c.args.work.now c.enter.new.work c.add_facts.new.work (unset bounds c.args.self.now.leaf) (unset bounds c.enter.new.self.leaf) (unset bounds c.add_facts.new.self.leaf)
+    (length c.args.self.now.path - length c.args.self.now.entered) c.enter.ensures.counts (unset_kept bounds c.args.self.now.leaf c.enter.new.self.leaf c.enter.ensures.bounds)
+    (c.add_facts.ensures.counts bounds (given_at c.args.graph.now c.args.log.now c.args.self.now c.enter.new.self c.enter.ensures.keeps.reach bounds given))

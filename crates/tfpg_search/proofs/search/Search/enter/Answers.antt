@@ -1,4 +1,6 @@
-use Rattle.std.proofs.Common.{refl, sym, ◌∙◌, ◌+◌}
+use Rattle.std.proofs.Common.{refl, sym, ap, ◌∙◌, ◌+◌, length}
+use Rattle.tfpg_search.specs.SearchState.{SearchState}
+use Rattle.tfpg_search.proofs.work.CallsPaid.{entered_counts}
 use Rattle.tfpg_search.proofs.leaves.MovesStayAtLeaf.{marked_stated, marked_closes, left_counted, entered_stands, left_stands}
 use Rattle.tfpg_search.proofs.search.Search.enter.Goals as goal
 
@@ -25,3 +27,19 @@ returns-in-Err-clause-stands g c =
 pub returns-in-Err-clause-closes : goal.returns-in-Err-clause-closes
 returns-in-Err-clause-closes g c =
     marked_closes c.args.graph.now c.args.log.now c.args.self.now c.requires.stands c.mark.new.self c.in_ok-mark.ensures.ok c.in-Err.fault c.in-Err.ensures.closes
+
+pub returns-in-Ok-clause-counts : goal.returns-in-Ok-clause-counts
+returns-in-Ok-clause-counts g c =
+    entered_counts c.args.work.now c.push_all.new.work (length c.args.self.now.path) (length c.args.self.now.entered) c.entered_count-split.result c.push_all.ensures.counts
+    c.requires.stands.picks.few c.entered_count-split.ensures (λ all. c.if-split-depth.false (all ∙ sym c.depth.ensures))
+
+pub returns-in-Err-clause-counts : goal.returns-in-Err-clause-counts
+returns-in-Err-clause-counts g c =
+    entered_counts c.args.work.now c.push_all.new.work (length c.args.self.now.path) (length c.args.self.now.entered) c.entered_count-split.result c.push_all.ensures.counts
+    c.requires.stands.picks.few c.entered_count-split.ensures (λ all. c.if-split-depth.false (all ∙ sym c.depth.ensures))
+
+pub returns-in-Ok-clause-bounds : goal.returns-in-Ok-clause-bounds
+returns-in-Ok-clause-bounds g c = c.push_all.ensures.bounds ∙ ap (λ (s : SearchState). s.leaf.demands.bounds) c.in_ok-mark.ensures.ok
+
+pub returns-in-Err-clause-bounds : goal.returns-in-Err-clause-bounds
+returns-in-Err-clause-bounds g c = c.leave.ensures.bounds ∙ c.push_all.ensures.bounds ∙ ap (λ (s : SearchState). s.leaf.demands.bounds) c.in_ok-mark.ensures.ok

@@ -16,7 +16,7 @@ pub returns-in-Ok-clause-looking : goal.returns-in-Ok-clause-looking
 returns-in-Ok-clause-looking g c =
     let loading =
     subst (λ (b : Bool). Loading c.args.graph.now c.args.log.now (call_of c.args.self.now c.load.new.self c.args.steps.now c.load.new.steps) (Ok b)) c.in-Ok-true.field-0-test c.in-Ok-true.ensures.loading in
-    (loading.0, loading.1.all_entered, c.in-Ok.ensures, loading.2)
+    (loading.0, loading.1, c.in-Ok.ensures, loading.2, loading.3)
 
 pub returns-in-Err-judge-clause-looking : goal.returns-in-Err-judge-clause-looking
 returns-in-Err-judge-clause-looking g c =

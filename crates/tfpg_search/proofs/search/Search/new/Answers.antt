@@ -1,6 +1,7 @@
-use Rattle.std.proofs.Common.{refl, subst, ◌∙◌, ◌<◌, ℕ}
+use Rattle.std.proofs.Common.{refl, ap, subst, ◌∙◌, ◌<◌, ℕ}
 use Rattle.tfpg_log.specs.Log.{first_events}
 use Rattle.tfpg_clause.specs.Facts.{fact}
+use Rattle.tfpg_search.specs.Work.{widest_bounds}
 use Rattle.tfpg_search.proofs.calls.NewSearch.{zero_is, top_is, new_represents}
 use Rattle.tfpg_search.proofs.search.Search.new.Goals as goal
 use Rattle.tfpg_clause.specs.Case.{case_of}
@@ -13,3 +14,4 @@ returns-clause-represents c log =
     (c.in_ok-leaf.ensures.stated (fact (case_of c.args.graph.now (first_events log 0) c.args.reach))
     (λ node less. zero_is c.args.graph.now c.args.reach (first_events log 0) node (subst (λ (n : ℕ). node < n) c.node_count.ensures.count less))
     (λ node less. top_is c.args.graph.now c.args.reach (first_events log 0) node (subst (λ (n : ℕ). node < n) c.node_count.ensures.count less)))
+    (c.in_ok-leaf.ensures.widest ∙ ap widest_bounds c.node_count.ensures.count)

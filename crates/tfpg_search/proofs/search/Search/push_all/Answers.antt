@@ -1,4 +1,4 @@
-use Rattle.std.proofs.Common.{subst, ◌+◌, Bool}
+use Rattle.std.proofs.Common.{subst, ◌+◌, ◌∙◌, Bool, arith}
 use Rattle.tfpg_evidence.specs.declared.reason.Reason.TheVariants.{Pick}
 use Rattle.tfpg_search.specs.inside.Leaving.{PushesOne}
 use Rattle.tfpg_search.proofs.leaves.AlternativePushed.{loop_stated, loop_closes, step_same, step_pushing, step_last, step_picks, step_within, all_pushed}
@@ -47,6 +47,8 @@ loop-before-preserved g c =
       picks =
           step_picks c.args.graph.now c.args.log.now c.args.self.now c.loop-before.self c.loop-before.invariant.same c.loop-before.invariant.pushing c.push_one.new.self c.push_one.ensures.same
           c.push_one.ensures.pushing c.args.split c.loop-before.before c.loop-before.invariant.picks c.loop-before.invariant.within one;
+      bounds = c.push_one.ensures.bounds ∙ c.loop-before.invariant.bounds;
+      counts = (let one = c.push_one.ensures.counts in let so_far = c.loop-before.invariant.counts in omega arith);
       within =
           step_within c.args.graph.now c.args.log.now c.args.self.now c.loop-before.self c.loop-before.invariant.same c.loop-before.invariant.pushing c.push_one.new.self c.push_one.ensures.same
           c.push_one.ensures.pushing c.args.split c.loop-before.before c.loop-before.invariant.picks c.loop-before.invariant.within one;

@@ -1,4 +1,4 @@
-use Rattle.std.proofs.Common.{◌≡◌, ◌≤◌, ◌++◌}
+use Rattle.std.proofs.Common.{◌≡◌, ◌≤◌, ◌+◌, ◌++◌}
 use Rattle.tfpg_search.specs.inside.Leaf.{pick_reasons}
 use Rattle.tfpg_search.specs.inside.Picks.{picks_from}
 use Rattle.tfpg_search.specs.inside.Leaving.{constraint_count_at}
@@ -11,5 +11,7 @@ invariant-loop-before g l = record {
   same : l.self ≡ record l.initial.self { leaf = l.self.leaf };
   pushing : Pushing (case_of l.graph l.log l.initial.self.reach) l.initial.self.path l.initial.self.leaf l.self.leaf;
   picks : pick_reasons l.self.leaf ≡ pick_reasons l.initial.self.leaf ++ picks_from l.split 1 l.before;
+  bounds : l.self.leaf.demands.bounds ≡ l.initial.self.leaf.demands.bounds;
+  counts : l.work ≤ l.initial.work + l.before;
   within : l.before ≤ constraint_count_at l.graph l.log l.initial.self.path l.split;
 }

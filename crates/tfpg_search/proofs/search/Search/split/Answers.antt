@@ -27,5 +27,5 @@ returns-clause-splitting c =
     let old : SearchState = c.args.self.now in
     let is = new_split_some c.args.name (count_of c.args.graph.now c.args.log.now c.args.name) c.in-Some.split c.in-Some.ensures in
     split_ok c.args.graph.now c.args.log.now old c.requires.stands c.args.steps.now c.descend.new.self c.push.new.self c.args.name c.in-Some.split.alternatives c.requires.entered
-    c.requires.live is.0 (c.clause_laws.ensures.some c.args.graph.now c.args.log.now c.args.name c.in-Some.split.alternatives is.0)
+    c.requires.live c.requires.not_reusable is.0 (c.clause_laws.ensures.some c.args.graph.now c.args.log.now c.args.name c.in-Some.split.alternatives is.0)
     (c.in_ok-descend.ensures.ok ∙ ap (λ (split : PathSplit). record old { path = old.path ++ split ∷ [] }) is.1) c.in_ok-push.ensures.ok

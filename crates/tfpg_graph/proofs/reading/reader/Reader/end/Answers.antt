@@ -25,13 +25,13 @@ lies c = subst (λ o. IfSome o (LiesOnZeroCycle c.args.self.declared)) c.in-Some
 pub line_declaring-line-requires : goal.line_declaring-line-requires
 line_declaring-line-requires c =
     let read = stands (goal.at.line_declaring-line-requires c).After-without_incoming in
-    record { there = omega (arith, c.in-Some.ensures.lacking.0, count-node_lines _ (parts_of c.args.text.now) read) }
+    record { version = read.version; there = omega (arith, c.in-Some.ensures.lacking.0, count-node_lines _ (parts_of c.args.text.now) read) }
 
 pub line_declaring-line-requires-in-Some-2 : goal.line_declaring-line-requires-in-Some-2
 line_declaring-line-requires-in-Some-2 c =
     let read = stands (goal.at.line_declaring-line-requires-in-Some-2 c).After-without_incoming in
     let within = edge_within c.args.self.declared c.in-Some-2.edge (lies c) in
-    record { there = omega (arith, within, count-edge_lines _ (parts_of c.args.text.now) read) }
+    record { version = read.version; there = omega (arith, within, count-edge_lines _ (parts_of c.args.text.now) read) }
 
 pub returns-in-Some-2-clause-fault : goal.returns-in-Some-2-clause-fault
 returns-in-Some-2-clause-fault c =

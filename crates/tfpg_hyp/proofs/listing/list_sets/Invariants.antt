@@ -1,6 +1,0 @@
-use Rattle.std.proofs.Common.{◌≡◌}
-use Rattle.tfpg_hyp.specs.inside.Choices.{chosen_below}
-use Rattle.tfpg_hyp.proofs.listing.list_sets.Given as goal
-
-abbrev pub invariant-loop-size : goal.invariant-loop-size
-invariant-loop-size l = l.sets.items ≡ chosen_below l.count l.size

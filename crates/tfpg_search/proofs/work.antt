@@ -1,0 +1,5 @@
+-- How many counted calls a round makes.
+pub mod BoundsSet
+pub mod BoundsGiven
+pub mod CallsPaid
+pub mod LimitThere
