@@ -7,6 +7,8 @@
 - "many pairs": 64 failure modes, of which 1,020 pairs explain the log and none alone; so each round writes 1,020 traces.
 - "long log": 65,536 ticks over a small graph, after no alarm and after one.
 - "chatter": an alarm, and then 16,383 ticks, or 16,383 alarms of the same monitor, which has a lag that allows them all.
+- "kept searches": 64 failure modes and 512 nodes, and a budget of 1 that leaves nearly all hypotheses open, so that their searches
+  are kept: of 2,081 hypotheses, and of 4,096, where one of 31 monitors may be doubted.
 - "generated": `generate` with the sizes 10, 30 and 100, ten numbers each.
 """
 
@@ -84,6 +86,18 @@ def many_pairs(failures=64, hubs=20):
     return "\n".join([*lines, "end"]) + "\n"
 
 
+def kept_searches(failures=64, nodes=512, hubs=20, monitors=31):
+    """A graph in which each failure mode leads to A by way of a hidden node, and A to a chain of all other nodes."""
+    chain = ["A", *[f"D{node}" for node in range(nodes - failures - hubs - 1)]]
+    lines = ["tfpg 1", "mode N", *[f"failure F{position} {position + 1}" for position in range(failures)]]
+    lines += [f"or H{hub} hidden" for hub in range(hubs)]
+    lines += [f"or {node} {'watch 10' if place < monitors else 'hidden'}" for place, node in enumerate(chain)]
+    lines += [f"edge F{position} H{position % hubs} 1 50 *" for position in range(failures)]
+    lines += [f"edge H{hub} A 1 50 *" for hub in range(hubs)]
+    lines += [f"edge {source} {target} 1 50 *" for source, target in zip(chain, chain[1:])]
+    return "\n".join([*lines, "end"]) + "\n"
+
+
 def run(words, log=b""):
     """The output, the seconds of the shortest of three runs, and the peak memory in KB, as GNU time reports it."""
     best = None
@@ -130,6 +144,10 @@ def main():
         pairs = "100 alarm A\n110 alarm B\n" + "".join(f"{at} tick\n" for at in range(111, 409))
         report, seconds, peak = run(["diagnose", str(top / "pairs")], pairs.encode())
         show("many pairs", 300, seconds, peak, report)
+        (top / "kept").write_text(kept_searches())
+        for doubt in (0, 1):
+            report, seconds, peak = run(["diagnose", "--doubt", str(doubt), "--budget", "1", str(top / "kept")], b"100 alarm A\n")
+            show(f"kept searches, doubt {doubt}", 1, seconds, peak, report)
     return 0
 
 

@@ -3,21 +3,21 @@
 use std::test::Fail;
 use tfpg_base::{
     BUFFER_SIZE, LONGEST_FILE, LONGEST_LINE, LONGEST_NAME, MAX_BUDGET, MAX_BYTES, MAX_CASE_SIZE,
-    MAX_K, MAX_LINE_NUMBER, MAX_MEMBERS, MAX_NODE_NUMBERS, MAX_PANEL_NUMBER, MAX_TIME, MAX_WORDS,
-    NEVER,
+    MAX_DOUBT, MAX_K, MAX_LINE_NUMBER, MAX_MEMBERS, MAX_NODE_NUMBERS, MAX_PANEL_NUMBER, MAX_TIME,
+    MAX_WORDS, NEVER,
 };
 use tfpg_clause::MAX_CONSTRAINTS;
 use tfpg_graph::{MAX_EDGES, MAX_FAILURES, MAX_INCOMING, MAX_MODES, MAX_NODES, MAX_RARITY};
-use tfpg_hyp::MAX_HYPOTHESES;
+use tfpg_hyp::{DOUBT_COST, MAX_HYPOTHESES};
 use tfpg_log::{MAX_EVENTS, MAX_MODE_CHANGES};
 use tfpg_run::{GENERATED_BUDGET, GENERATED_K};
 use tfpg_sim::{
     DELAY_STREAM, FAILURE_COUNT, GENERATED_DELAYS, GRAPH_STREAM, MAX_ENTRIES, OPEN_DELAYS,
 };
-use tfpg_words::{DEFAULT_BUDGET, DEFAULT_DRAW, DEFAULT_K, DEFAULT_SIZE, MAX_DRAW};
+use tfpg_words::{DEFAULT_BUDGET, DEFAULT_DOUBT, DEFAULT_DRAW, DEFAULT_K, DEFAULT_SIZE, MAX_DRAW};
 
 /// A name, the constant, and the number that is promised.
-const LIMITS: [(&str, u64, u64); 38] = [
+const LIMITS: [(&str, u64, u64); 41] = [
     ("bytes of a file", LONGEST_FILE as u64, 16_777_216),
     ("bytes of a line", LONGEST_LINE as u64, 4_096),
     ("bytes of a name", LONGEST_NAME as u64, 32),
@@ -34,7 +34,7 @@ const LIMITS: [(&str, u64, u64); 38] = [
     ("edges into a node", MAX_INCOMING as u64, 32),
     ("modes of a graph", MAX_MODES as u64, 64),
     ("greatest rarity", MAX_RARITY, 1_000_000),
-    ("events of a log", MAX_EVENTS as u64, 16_384),
+    ("events of a log", MAX_EVENTS as u64, 65_536),
     ("changes of mode of a log", MAX_MODE_CHANGES as u64, 1_024),
     ("constraints of an alternative", MAX_CONSTRAINTS as u64, 3),
     ("hypotheses", MAX_HYPOTHESES as u64, 4_096),
@@ -54,6 +54,8 @@ const LIMITS: [(&str, u64, u64); 38] = [
     ("stream of the delays", DELAY_STREAM, 2),
     ("greatest size", MAX_CASE_SIZE, 100),
     ("greatest k", MAX_K, 64),
+    ("greatest doubt", MAX_DOUBT, 4),
+    ("cost of a doubt", DOUBT_COST, 1_000),
     ("greatest budget", MAX_BUDGET, 1_000_000_000_000),
     (
         "greatest number of a line",
@@ -67,6 +69,7 @@ const LIMITS: [(&str, u64, u64); 38] = [
     ),
     ("greatest draw", MAX_DRAW, 1_000_000_000_000),
     ("k by default", DEFAULT_K, 2),
+    ("doubt by default", DEFAULT_DOUBT, 0),
     ("budget by default", DEFAULT_BUDGET, 1_000),
     ("draw by default", DEFAULT_DRAW, 1),
     ("size by default", DEFAULT_SIZE, 10),
