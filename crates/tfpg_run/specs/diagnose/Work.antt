@@ -17,11 +17,6 @@ IsBlockLimit graph before line (RefusedBlock number cause) limit = limit ≡ 0
 IsBlockLimit graph before line (RoundBlock round losses) limit =
     IsRoundLimit graph (log_after graph before.log line) before.rounds round limit
 
--- For the block the count of calls went from one number to the other, by at most its limit.
-abbrev pub IsBlockWithin : Tfpg → Progress → List ℕ → Block → ℕ → ℕ → Type 0
-IsBlockWithin graph before line block start end =
-    (limit : ℕ) × IsBlockLimit graph before line block limit × (end ≤ start + limit)
-
 -- There is one limit for each of the blocks of these lines, and each is that of its block, after the blocks before it.
 pub record AreBlockLimits (graph : Tfpg) (lines : List (List ℕ)) (blocks : List Block) (limits : List ℕ) : Type 0 where
   pub one_each : length limits ≡ length blocks

@@ -7,8 +7,7 @@ ghost use Rattle.tfpg_graph.specs.Graph.{Tfpg, sizes_of};
 ghost use Rattle.tfpg_report.specs.Blocks.{refused_text, round_text};
 ghost use Rattle.tfpg_check.specs.Report.{Progress};
 ghost use Rattle.tfpg_base.specs.declared.terms.Terms.{Terms};
-ghost use Rattle.tfpg_run.specs.diagnose.Work.{IsBlockWithin};
-ghost use Rattle.tfpg_run.specs.inside.diagnose.LineBlocks.{EngineReports, HasBlock, IsEngineReady, numbered};
+ghost use Rattle.tfpg_run.specs.inside.diagnose.LineBlocks.{EngineReports, HasBlock, IsBlockWithin, IsEngineReady, numbered};
 
 use std::alloc::Global;
 use std::sync::ledger::Ledger;

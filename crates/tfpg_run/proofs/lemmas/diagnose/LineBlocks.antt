@@ -26,8 +26,7 @@ use Rattle.tfpg_report.specs.Blocks.{RefusedBlock, RoundBlock, refused_text, rou
 use Rattle.tfpg_check.specs.Report.{Progress, IsBlockOf, event_of_line, event_of_reply}
 use Rattle.tfpg_check.proofs.Progressing.{progress_with}
 use Rattle.tfpg_run.specs.diagnose.RightReport.{RoundSays}
-use Rattle.tfpg_run.specs.diagnose.Work.{IsBlockWithin}
-use Rattle.tfpg_run.specs.inside.diagnose.LineBlocks.{EngineReports, HasBlock, numbered}
+use Rattle.tfpg_run.specs.inside.diagnose.LineBlocks.{EngineReports, HasBlock, IsBlockWithin, numbered}
 
 -- what a line gives that is not too long
 pub short_line : (graph : Tfpg) (log : Logbook) (line : List ℕ) (reply : Offered) → length line ≤ LONGEST_LINE → reply_to graph log line ≡ reply → event_of_line graph log line ≡ event_of_reply reply

@@ -30,10 +30,10 @@ use Rattle.tfpg_run.specs.diagnose.ForNow.{LosesNone}
 use Rattle.tfpg_run.specs.diagnose.RightReport.{BlockSays, RoundsSay, IsRightReport}
 use Rattle.tfpg_run.specs.Outputs.{HasOutputOfFirstLines, BeginsOutputOfInput, LineByLineEnds, WorksLineByLine}
 use Rattle.tfpg_run.specs.diagnose.Diagnosing.{Diagnoses}
-use Rattle.tfpg_run.specs.diagnose.Work.{IsBlockLimit, IsBlockWithin, AreBlocksWithin, IsReportWithin}
+use Rattle.tfpg_run.specs.diagnose.Work.{IsBlockLimit, AreBlocksWithin, IsReportWithin}
 use Rattle.std.proofs.lemmas.List.Sums.{sum_by_push}
 use Rattle.tfpg_run.specs.Streams.{Streams}
-use Rattle.tfpg_run.specs.inside.diagnose.LineBlocks.{EngineReports, HasBlock, numbered}
+use Rattle.tfpg_run.specs.inside.diagnose.LineBlocks.{EngineReports, HasBlock, IsBlockWithin, numbered}
 use Rattle.tfpg_run.specs.inside.diagnose.UnderWay.{IsDiagnosing, IsDiagnosingWithin, diagnosis_at}
 use Rattle.tfpg_run.proofs.lemmas.diagnose.LineBlocks.{block_of_long_line}
 use Rattle.tfpg_base.proofs.lists.Cuts.{front_is_within, front_before, front_with}

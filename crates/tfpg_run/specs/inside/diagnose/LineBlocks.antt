@@ -1,5 +1,5 @@
 -- What the engine of a diagnosis represents, and the block of a line that it was given.
-use Rattle.std.specs.Prelude.{◌≡◌, ℕ, List}
+use Rattle.std.specs.Prelude.{◌≡◌, ℕ, ◌+◌, ◌≤◌, List}
 use Rattle.tfpg_graph.specs.Graph.{Tfpg}
 use Rattle.tfpg_graph.specs.Valid.{IsValid}
 use Rattle.tfpg_evidence.specs.declared.round.Round.{Round}
@@ -9,6 +9,7 @@ use Rattle.tfpg_check.specs.Report.{Progress, IsBlock, progress_after}
 use Rattle.tfpg_base.specs.declared.terms.Terms.{Terms}
 use Rattle.tfpg_run.specs.diagnose.ForNow.{LosesNone}
 use Rattle.tfpg_run.specs.diagnose.RightReport.{BlockSays}
+use Rattle.tfpg_run.specs.diagnose.Work.{IsBlockLimit}
 
 -- a line of the input with its number
 pub record NumberedLine : Type 0 where
@@ -41,3 +42,8 @@ pub record HasBlock (graph : Tfpg) (terms : Terms) (before : Progress) (line : N
   pub says : BlockSays graph terms before line.text block
   pub text : bytes ≡ block_text graph block
   pub reports : EngineReports graph terms engine (progress_after graph before line.text block)
+
+-- For the block the count of calls went from one number to the other, by at most its limit.
+abbrev pub IsBlockWithin : Tfpg → Progress → List ℕ → Block → ℕ → ℕ → Type 0
+IsBlockWithin graph before line block start end =
+    (limit : ℕ) × IsBlockLimit graph before line block limit × (end ≤ start + limit)
