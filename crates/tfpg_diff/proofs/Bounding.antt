@@ -3,8 +3,8 @@ use Rattle.std.proofs.Common.{◌≡◌, ◌≢◌, ℕ, zero, suc, ◌+◌, ◌
 use Rattle.std.specs.Prelude.{slice_get, slice_index, pos}
 use Rattle.std.proofs.lemmas.Int.{ints}
 use Rattle.std.proofs.lemmas.Bool.{cases_eq, cases_lt}
-use Rattle.std.proofs.lemmas.Option.{same_Some, slice_get_within, slice_get-get_or}
-use Rattle.std.proofs.lemmas.List.{length-set, get_or_past}
+use Rattle.std.proofs.lemmas.Option.{same_Some, slice_get_within, slice_get-get_or, get_or_from_slice_get}
+use Rattle.std.proofs.lemmas.List.{length-set, get_or_past, get_or-set_same, get_or-set_other}
 use Rattle.std.proofs.lemmas.List.Elements.{All-nil, All-cons, All-push}
 use Rattle.tfpg_diff.specs.declared.demand.Demand.{Demand}
 use Rattle.tfpg_diff.specs.declared.why.Why.{Why}
@@ -16,12 +16,16 @@ use Rattle.tfpg_base.specs.Bounds.{at_most}
 use Rattle.tfpg_diff.specs.Demands.{Demands, Demanded, Bounded, floor_of, ceiling_of, demand_of_pick, demands_of}
 use Rattle.tfpg_diff.specs.Solution.{IsBetween, IsSolution}
 use Rattle.tfpg_diff.specs.Cycle.{NamesNegativeCycle}
-use Rattle.tfpg_diff.specs.inside.Kept.{IsMetBy, IsRooted, Walked, IsLink, IsKept, AreAtCeilings}
+use Rattle.tfpg_diff.specs.declared.link.Link.{Link}
+use Rattle.tfpg_diff.specs.declared.link.Link.TheVariants.{Ceiling}
+use Rattle.tfpg_diff.specs.inside.Linked.{no_bounds, demands_linked}
+use Rattle.tfpg_diff.specs.inside.Kept.{IsMetBy, IsRooted, Walked, IsLink, IsKept, AreKept, AreAtCeilings}
 use Rattle.tfpg_base.proofs.lists.Elements.{AllPairs-cons}
+use Rattle.tfpg_base.proofs.lists.Written.{slice_get-set_same, slice_get-set_other}
 use Rattle.tfpg_diff.proofs.Totals.{NamesNegativeCycle-chain}
 use Rattle.tfpg_diff.proofs.Solutions.{IsMetBy-solution, Meets-IsMetBy}
 use Rattle.tfpg_diff.proofs.Lowering.{cycle_from_links}
-use Rattle.tfpg_diff.proofs.Relaxing.{no_bounds}
+use Rattle.tfpg_diff.proofs.Linked.{length-demands_linked, demands_linked-at, demand_of_link-ceiling}
 use Rattle.tfpg_diff.proofs.Changes.{IsKept-moved, Demanded-pick_cases, Bounded-set, Bounded-set_other, Bounded-set_same}
 
 -- the bounds with this ceiling
@@ -189,6 +193,31 @@ module _ (bounds : List Bounds) (picks : List Pick) (v : ℕ) (old : Bounds) (at
       (let z = kept.zero_stays in omega (arith, ints))
       walked
 
+-- one more variable at its ceiling
+pub AreAtCeilings-more : (bounds : List Bounds) (values : List ℕ) (links : List Link) (v : ℕ) → v < length bounds → AreAtCeilings bounds values links v →
+    AreAtCeilings bounds (set values (v + 1) (get_or bounds v no_bounds).ceiling) (set links (v + 1) Ceiling) (v + 1)
+AreAtCeilings-more bounds values links v inside start =
+    let ceiling : ℕ = (get_or bounds v no_bounds).ceiling in
+    let count = start.values_len in
+    let many = start.links_len in
+    record {
+      values_len = length-set values (v + 1) ceiling ∙ count;
+      links_len = length-set links (v + 1) Ceiling ∙ many;
+      zero_stays = get_or-set_other values (v + 1) 0 ceiling 0 (omega arith) ∙ start.zero_stays;
+      values_are = λ u limits below at. ⊎_elim
+          (λ (is : u ≡ v).
+          ap (λ (n : ℕ). slice_index (set values (v + 1) ceiling) (n + 1)) is ∙ get_or-set_same values (v + 1) ceiling 0 (omega arith)
+          ∙ ap (λ (b : Bounds). b.ceiling) (get_or_from_slice_get bounds v limits no_bounds (ap (slice_get bounds) (sym is) ∙ at)))
+          (λ (other : u ≢ v).
+          get_or-set_other values (v + 1) (u + 1) ceiling 0 (λ same. other (omega arith)) ∙ start.values_are u limits (omega arith) at)
+          (cases_eq u v);
+      links_are = λ u limits below at. ⊎_elim
+          (λ (is : u ≡ v). ap (λ (n : ℕ). slice_get (set links (v + 1) Ceiling) (n + 1)) is ∙ slice_get-set_same links (v + 1) Ceiling (omega arith))
+          (λ (other : u ≢ v).
+          slice_get-set_other links (v + 1) (u + 1) Ceiling (λ same. other (omega arith)) ∙ start.links_are u limits (omega arith) at)
+          (cases_eq u v);
+    }
+
 -- the way from each number is its ceiling
 start_way : (bounds : List Bounds) (links : List Demand) → length links ≡ length bounds + 1 →
     ((v : ℕ) (b : Bounds) → v < length bounds → slice_get bounds v ≡ Some b → slice_get links (v + 1) ≡ Some (ceiling_of v b)) →
@@ -202,7 +231,7 @@ start_way bounds links len are (suc v) inside =
     (ceiling_of v b ∷ [], (omega arith, at, refl))
 
 -- every solution is at most the ceilings
-start_greatest : (bounds : List Bounds) (picks : List Pick) (values : List ℕ) (links : List Demand) → AreAtCeilings bounds values links (length bounds) →
+start_greatest : (bounds : List Bounds) (picks : List Pick) (values : List ℕ) (links : List Link) → AreAtCeilings bounds values links (length bounds) →
     (times : List ℕ) → IsSolution (demands_of bounds picks) times → (x : ℕ) → slice_index (0 ∷ times) x ≤ slice_index values x
 start_greatest bounds picks values links start times solution zero = omega arith
 start_greatest bounds picks values links start times solution (suc v) = ⊎_elim
@@ -220,35 +249,50 @@ start_greatest bounds picks values links start times solution (suc v) = ⊎_elim
     omega arith)
     (cases_lt v (length bounds))
 
+-- the links stand for the ceilings
+start_linked : (bounds : List Bounds) (picks : List Pick) (values : List ℕ) (links : List Link) → AreAtCeilings bounds values links (length bounds) →
+    (v : ℕ) (b : Bounds) → v < length bounds → slice_get bounds v ≡ Some b →
+    slice_get (demands_linked (demands_of bounds picks) links) (v + 1) ≡ Some (ceiling_of v b)
+start_linked bounds picks values links start v b below at =
+    demands_linked-at (demands_of bounds picks) links (v + 1) Ceiling (start.links_are v b below at)
+    ∙ ap (λ (e : Demand). Some e) (demand_of_link-ceiling (demands_of bounds picks) v b at)
+
 -- Values that are the ceilings are kept, where no floor is above its ceiling.
-pub IsKept-start : (bounds : List Bounds) (picks : List Pick) (values : List ℕ) (links : List Demand) → AreAtCeilings bounds values links (length bounds) →
-    ((v : ℕ) (b : Bounds) → slice_get bounds v ≡ Some b → b.floor ≤ b.ceiling) → IsKept (demands_of bounds picks) values links
-IsKept-start bounds picks values links start ordered =
+pub AreKept-start : (bounds : List Bounds) (picks : List Pick) (values : List ℕ) (links : List Link) → AreAtCeilings bounds values links (length bounds) →
+    ((v : ℕ) (b : Bounds) → slice_get bounds v ≡ Some b → b.floor ≤ b.ceiling) → AreKept (demands_of bounds picks) values links
+AreKept-start bounds picks values links start ordered =
     let read : (v : ℕ) → v < length bounds → slice_get bounds v ≡ Some (get_or bounds v no_bounds) = λ v inside. slice_get-get_or bounds v no_bounds inside in
+    let demands : List Demand = demands_linked (demands_of bounds picks) links in
+    let are : (v : ℕ) (b : Bounds) → v < length bounds → slice_get bounds v ≡ Some b → slice_get demands (v + 1) ≡ Some (ceiling_of v b) =
+    start_linked bounds picks values links start in
+    let len : length demands ≡ length bounds + 1 = length-demands_linked (demands_of bounds picks) links ∙ start.links_len in
     record {
-      values_len = start.values_len;
-      links_len = start.links_len;
-      zero_stays = start.zero_stays;
-      rooted = λ x inside. start_way bounds links start.links_len (λ v b below at. start.links_are v b below at) x inside;
-      linked = λ x e up at.
-          let v : ℕ = x - 1 in
-          let number : x ≡ v + 1 = omega arith in
-          let inside : v < length bounds = (let w = slice_get_within links x e at in let l = start.links_len in omega arith) in
-          let b : Bounds = get_or bounds v no_bounds in
-          let is : ceiling_of v b ≡ e = same_Some (ceiling_of v b) e (sym (start.links_are v b inside (read v inside)) ∙ ap (slice_get links) (sym number) ∙ at) in
-          let value : slice_index values (v + 1) ≡ b.ceiling = start.values_are v b inside (read v inside) in
-          let z = start.zero_stays in
-          subst (λ (f : Demand). IsLink (demands_of bounds picks) values x f) is
-          (record {
-            left = sym number;
-            right = omega arith;
-            demanded = inl (v, b, read v inside, refl);
-            tight = let here : slice_index values x ≡ slice_index values (v + 1) = ap (slice_index values) number in omega (arith, ints);
-          });
-      within = λ v b at.
-          let inside : v < length bounds = slice_get_within bounds v b at in
-          let value : slice_index values (v + 1) ≡ b.ceiling = start.values_are v b inside at in
-          let low = ordered v b at in
-          record { above = omega arith; below = omega arith };
-      greatest = λ times solution x. start_greatest bounds picks values links start times solution x;
+      count = start.links_len;
+      kept = record {
+        values_len = start.values_len;
+        links_len = len;
+        zero_stays = start.zero_stays;
+        rooted = λ x inside. start_way bounds demands len are x inside;
+        linked = λ x e up at.
+            let v : ℕ = x - 1 in
+            let number : x ≡ v + 1 = omega arith in
+            let inside : v < length bounds = (let w = slice_get_within demands x e at in omega arith) in
+            let b : Bounds = get_or bounds v no_bounds in
+            let is : ceiling_of v b ≡ e = same_Some (ceiling_of v b) e (sym (are v b inside (read v inside)) ∙ ap (slice_get demands) (sym number) ∙ at) in
+            let value : slice_index values (v + 1) ≡ b.ceiling = start.values_are v b inside (read v inside) in
+            let z = start.zero_stays in
+            subst (λ (f : Demand). IsLink (demands_of bounds picks) values x f) is
+            (record {
+              left = sym number;
+              right = omega arith;
+              demanded = inl (v, b, read v inside, refl);
+              tight = let here : slice_index values x ≡ slice_index values (v + 1) = ap (slice_index values) number in omega (arith, ints);
+            });
+        within = λ v b at.
+            let inside : v < length bounds = slice_get_within bounds v b at in
+            let value : slice_index values (v + 1) ≡ b.ceiling = start.values_are v b inside at in
+            let low = ordered v b at in
+            record { above = omega arith; below = omega arith };
+        greatest = λ times solution x. start_greatest bounds picks values links start times solution x;
+      };
     }

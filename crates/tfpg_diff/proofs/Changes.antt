@@ -1,9 +1,9 @@
 -- What stays true where the demands change: one more pick, a lower ceiling, a higher floor, fewer picks.
-use Rattle.std.proofs.Common.{◌≡◌, ◌≢◌, ℕ, ◌+◌, ◌<◌, ◌≤◌, List, [], ◌∷◌, ◌++◌, length, set, take, Some, refl, sym, ◌∙◌, ap, subst, arith, inl, inr, ⊎_elim, ◌⊎◌}
+use Rattle.std.proofs.Common.{◌≡◌, ◌≢◌, ℕ, ◌+◌, ◌^◌, ◌<◌, ◌≤◌, List, [], ◌∷◌, ◌++◌, length, set, take, Some, refl, sym, ◌∙◌, ap, subst, arith, inl, inr, ⊎_elim, ◌⊎◌}
 use Rattle.std.specs.Prelude.{slice_get, slice_index, All, Contains}
 use Rattle.std.proofs.lemmas.Bool.{cases_eq}
 use Rattle.std.proofs.lemmas.Option.{same_Some, slice_get_within}
-use Rattle.std.proofs.lemmas.List.{length-set}
+use Rattle.std.proofs.lemmas.List.{length-set, length_push}
 use Rattle.std.proofs.lemmas.List.Elements.{All-push, All-take, Contains-append_left, Contains-push_cases}
 use Rattle.tfpg_diff.specs.declared.demand.Demand.{Demand}
 use Rattle.tfpg_diff.specs.declared.bounds.Bounds.{Bounds}
@@ -101,9 +101,11 @@ IsKept-pick bounds picks pick values links kept =
 
 -- demands stay sound with one more pick
 pub IsSound-pick : (bounds : List Bounds) (picks : List Pick) (pick : Pick) → IsSound (demands_of bounds picks) →
-    pick.constraint.left ≤ length bounds → pick.constraint.right ≤ length bounds → IsSound (demands_of bounds (picks ++ pick ∷ []))
-IsSound-pick bounds picks pick sound left right = record {
+    length picks + 1 < 2 ^ 32 → pick.constraint.left ≤ length bounds → pick.constraint.right ≤ length bounds →
+    IsSound (demands_of bounds (picks ++ pick ∷ []))
+IsSound-pick bounds picks pick sound room left right = record {
   few = sound.few;
+  few_picks = omega (arith, length_push picks pick);
   ceilings = sound.ceilings;
   lefts = All-push (λ (p : Pick). p.constraint.left ≤ length bounds) picks pick sound.lefts left;
   rights = All-push (λ (p : Pick). p.constraint.right ≤ length bounds) picks pick sound.rights right;
@@ -116,6 +118,7 @@ IsSound-set bounds picks v new sound low =
     let same : length (set bounds v new) ≡ length bounds = length-set bounds v new in
     record {
       few = (let f = sound.few in omega arith);
+      few_picks = sound.few_picks;
       ceilings = λ u c at. ⊎_elim
           (λ (is : (u ≡ v) × (c ≡ new)). subst (λ (b : Bounds). b.ceiling ≤ NEVER) (sym is.1) low)
           (λ (is : (u ≢ v) × Bounded (demands_of bounds picks) u c). sound.ceilings u c is.1)

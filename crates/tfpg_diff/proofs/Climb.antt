@@ -1,14 +1,16 @@
 -- The way along links to zero: it is the only one, so no number stands on it twice.
 use Rattle.std.proofs.Common.{◌≡◌, ◌≢◌, ℕ, zero, suc, ◌+◌, ◌<◌, ◌≤◌, List, [], ◌∷◌, ◌++◌, length, get_or, set, map, Some, refl, sym, ◌∙◌, ap, subst, arith, ⊎_elim}
 use Rattle.std.specs.Prelude.{slice_get, AllPairs, All}
-use Rattle.std.proofs.lemmas.Option.{same_Some, slice_get_within}
-use Rattle.std.proofs.lemmas.List.Elements.{All-nil, All-cons, All-tail, All-map, All-weaker}
+use Rattle.std.proofs.lemmas.Option.{same_Some, slice_get_within, get_or_from_slice_get}
+use Rattle.std.proofs.lemmas.List.Elements.{All-nil, All-cons, All-head, All-tail, All-map, All-weaker}
 use Rattle.std.proofs.lemmas.List.{length-map, length-set}
 use Rattle.std.proofs.lemmas.Bool.{cases_eq}
 use Rattle.tfpg_base.proofs.lists.Written.{slice_get-set_other, slice_get-set_same}
 use Rattle.tfpg_base.proofs.lists.Images.{AllPairs-map}
 use Rattle.tfpg_base.proofs.lists.Distinct.{length-le_distinct}
 use Rattle.tfpg_diff.specs.declared.demand.Demand.{Demand}
+use Rattle.tfpg_diff.specs.Demands.{demand_of_pick}
+use Rattle.tfpg_diff.specs.inside.Linked.{no_pick}
 use Rattle.tfpg_diff.specs.inside.Kept.{Climbs, IsRooted, IsLabelled}
 
 -- one way after another
@@ -131,3 +133,50 @@ Climbs_right links x e (f ∷ fs) climb up at =
     let same : f ≡ e = same_Some f e (sym climb.1 ∙ at) in
     let inside : x < length links = slice_get_within links x e at in
     subst (λ (g : Demand). g.constraint.right < length links) same (Climbs_from links f.constraint.right fs climb.2 (omega arith))
+
+-- a way to a number is part of the way to zero, which so passes the number
+pub Climbs-passes : (links : List Demand) (labelled : IsLabelled links) (x : ℕ) (es : List Demand) (sought : ℕ) (fs : List Demand) →
+    Climbs links x es sought → Climbs links x fs 0 → All (λ (e : Demand). e.constraint.left ≢ sought) fs → sought ≡ 0
+Climbs-passes links labelled x [] sought [] here there avoids = sym here ∙ there
+Climbs-passes links labelled x [] sought (f ∷ fs) here there avoids =
+    absurd (All-head (λ (e : Demand). e.constraint.left ≢ sought) f fs avoids (labelled x f there.0 there.1 ∙ here))
+Climbs-passes links labelled x (e ∷ es) sought [] here there avoids = absurd (omega arith)
+Climbs-passes links labelled x (e ∷ es) sought (f ∷ fs) here there avoids =
+    let same : e ≡ f = same_Some e f (sym here.1 ∙ there.1) in
+    Climbs-passes links labelled e.constraint.right es sought fs here.2 (subst (λ (g : Demand). Climbs links g.constraint.right fs 0) (sym same) there.2)
+    (All-tail (λ (e : Demand). e.constraint.left ≢ sought) f fs avoids)
+
+-- how many links lead from a number to zero, if there are no more than so many
+abbrev pub depth : List Demand → ℕ → ℕ → ℕ
+depth links zero number = 0
+depth links (suc most) zero = 0
+depth links (suc most) (suc v) = suc (depth links most (get_or links (suc v) (demand_of_pick no_pick)).constraint.right)
+
+-- zero has none
+depth-zero : (links : List Demand) (most : ℕ) → depth links most 0 ≡ 0
+depth-zero links zero = refl
+depth-zero links (suc most) = refl
+
+-- it is the length of the way to zero
+depth-Climbs : (links : List Demand) (most x : ℕ) (es : List Demand) → Climbs links x es 0 → length es ≤ most → depth links most x ≡ length es
+depth-Climbs links most x [] climb few = ap (depth links most) climb ∙ depth-zero links most
+depth-Climbs links zero x (e ∷ es) climb few = absurd (omega arith)
+depth-Climbs links (suc most) zero (e ∷ es) climb few = absurd (omega (arith, climb.0))
+depth-Climbs links (suc most) (suc v) (e ∷ es) climb few =
+    ap suc (ap (λ (f : Demand). depth links most f.constraint.right) (get_or_from_slice_get links (suc v) e (demand_of_pick no_pick) climb.1)
+    ∙ depth-Climbs links most e.constraint.right es climb.2 (omega arith))
+
+-- the right side of a link is nearer to zero
+pub depth-right : (links : List Demand) (labelled : IsLabelled links) (rooted : IsRooted links) (x : ℕ) (e : Demand) → 0 < x → slice_get links x ≡ Some e →
+    depth links (length links) e.constraint.right < depth links (length links) x
+depth-right links labelled rooted x e up at = by (rooted x (slice_get_within links x e at)).0 (rooted x (slice_get_within links x e at)).1
+  where
+    by : (es : List Demand) → Climbs links x es 0 → depth links (length links) e.constraint.right < depth links (length links) x
+    by [] climb = absurd (omega arith)
+    by (f ∷ es) climb =
+        let same : f ≡ e = same_Some f e (sym climb.1 ∙ at) in
+        let few = length-Climbs links labelled x (f ∷ es) climb in
+        let here = depth-Climbs links (length links) x (f ∷ es) climb few in
+        let there : depth links (length links) e.constraint.right ≡ length es =
+        depth-Climbs links (length links) e.constraint.right es (subst (λ (g : Demand). Climbs links g.constraint.right es 0) same climb.2) (omega arith) in
+        omega arith

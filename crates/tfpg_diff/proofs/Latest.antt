@@ -30,12 +30,17 @@ IsMetBy-kept demands values links kept met demand demanded =
       ]
     ]
 
+-- the values are zero, and then the times of the variables
+pub values-whole : (demands : Demands) (values : List ℕ) (links : List Demand) → IsKept demands values links → 0 ∷ drop 1 values ≡ values
+values-whole demands values links kept =
+    let some : 0 < length values = let k = kept.values_len in omega arith in
+    ap (λ (y : ℕ). y ∷ drop 1 values) (sym kept.zero_stays) ∙ sym (drop_more values 0 0 some)
+
 -- they are the latest solution
 pub IsLatest-kept : (demands : Demands) (values : List ℕ) (links : List Demand) (kept : IsKept demands values links) →
     MeetsPicks values demands.picks → IsLatest demands (drop 1 values)
 IsLatest-kept demands values links kept met =
-    let some : 0 < length values = let k = kept.values_len in omega arith in
-    let whole : 0 ∷ drop 1 values ≡ values = ap (λ (y : ℕ). y ∷ drop 1 values) (sym kept.zero_stays) ∙ sym (drop_more values 0 0 some) in
+    let whole : 0 ∷ drop 1 values ≡ values = values-whole demands values links kept in
     record {
       solution = IsSolution-met demands (drop 1 values) (let k = kept.values_len in omega (arith, length-drop 1 values))
           (λ demand demanded. subst (λ (all : List ℕ). IsMetBy all demand) (sym whole) (IsMetBy-kept demands values links kept met demand demanded));

@@ -1,4 +1,6 @@
 pub mod Solutions
+pub mod Linked
+pub mod Undoing
 pub mod Climb
 pub mod Totals
 pub mod Walks
@@ -9,6 +11,7 @@ pub mod Passing
 pub mod Changes
 pub mod Bounding
 pub mod Updates
+pub mod TakingBack
 pub mod Outcomes
 pub mod Fresh
 pub mod Naming

@@ -13,7 +13,7 @@ use Rattle.tfpg_diff.specs.declared.bounds.Bounds.{Bounds}
 use Rattle.tfpg_diff.specs.Demands.{Demands, Demanded, Bounded, floor_of}
 use Rattle.tfpg_diff.specs.Cycle.{NamesNegativeCycle}
 use Rattle.tfpg_diff.specs.Solution.{IsBetween}
-use Rattle.tfpg_diff.specs.inside.Kept.{IsMetBy, Climbs, IsLabelled, Walked, IsLink, IsKept}
+use Rattle.tfpg_diff.specs.inside.Kept.{IsMetBy, Climbs, IsLabelled, LeadsTo, Walked, IsLink, IsKept}
 use Rattle.tfpg_diff.proofs.Solutions.{IsMetBy-solution}
 use Rattle.tfpg_base.proofs.lists.Elements.{AllPairs-cons, AllPairs-front}
 use Rattle.tfpg_base.proofs.lists.Written.{slice_get-set_other, slice_get-set_same, slice_index-set_le}
@@ -105,11 +105,11 @@ module _ (demands : Demands) (values : List ℕ) (links : List Demand) (kept : I
       (omega (arith, ints))
 
   -- a lowering keeps what is kept
-  pub IsKept-lowered : (demand : Demand) (value variable : ℕ) (bounds : Bounds) (before after : List Why) → IsBrokenDemand demands values demand →
-      Walked links demand.constraint.right demand.constraint.left 0 before after → Bounded demands variable bounds → demand.constraint.left ≡ variable + 1 →
+  pub IsKept-lowered : (demand : Demand) (value variable : ℕ) (bounds : Bounds) → IsBrokenDemand demands values demand →
+      LeadsTo links demand.constraint.right demand.constraint.left 0 → Bounded demands variable bounds → demand.constraint.left ≡ variable + 1 →
       pos value ≡ (pos (slice_index values demand.constraint.right) +ℤ demand.constraint.bound) → bounds.floor ≤ value →
       IsKept demands (set values demand.constraint.left value) (set links demand.constraint.left demand)
-  IsKept-lowered demand value variable bounds before after broken walked bounded number is high =
+  IsKept-lowered demand value variable bounds broken leads bounded number is high =
       let below = broken.broken in
       let low : value ≤ slice_index values demand.constraint.left = omega (arith, ints) in
       let inside : demand.constraint.left < length links = let l = broken.left in let k = kept.links_len in omega arith in
@@ -120,7 +120,7 @@ module _ (demands : Demands) (values : List ℕ) (links : List Demand) (kept : I
         values_len = length-set values demand.constraint.left value ∙ kept.values_len;
         links_len = length-set links demand.constraint.left demand ∙ kept.links_len;
         zero_stays = get_or-set_other values demand.constraint.left 0 value 0 (omega arith) ∙ kept.zero_stays;
-        rooted = IsRooted-set links Labelled-kept demand.constraint.left demand inside up walked.chain walked.climbs walked.avoids kept.rooted;
+        rooted = IsRooted-set links Labelled-kept demand.constraint.left demand inside up leads.chain leads.climbs leads.avoids kept.rooted;
         linked = λ x e above at. ⊎_elim
             (λ (same : x ≡ demand.constraint.left).
             let own : demand ≡ e = same_Some demand e (sym (slice_get-set_same links demand.constraint.left demand inside) ∙ ap (slice_get (set links demand.constraint.left demand)) (sym same) ∙ at) in

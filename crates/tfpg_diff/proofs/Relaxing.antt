@@ -1,24 +1,23 @@
 -- What the test of a pick knows of it and of the values.
-use Rattle.std.proofs.Common.{◌≡◌, ℕ, zero, suc, ◌+◌, ◌-◌, ◌<◌, ◌≤◌, List, [], ◌∷◌, length, length-append, get_or, map, ap, subst, arith, inr}
+use Rattle.std.proofs.Common.{◌≡◌, ℕ, zero, suc, ◌+◌, ◌-◌, ◌<◌, ◌≤◌, List, [], ◌∷◌, length, length-append, get_or, set, map, sym, ◌∙◌, ap, subst, arith, inr}
 use Rattle.std.specs.Prelude.{slice_index, All, pos, ◌+ℤ◌, ◌<ℤ◌}
 use Rattle.std.proofs.lemmas.Option.{slice_get-get_or}
-use Rattle.std.proofs.lemmas.List.{get_or_default, length-map}
+use Rattle.std.proofs.lemmas.List.{get_or_default, length-map, length-set}
 use Rattle.std.proofs.lemmas.List.Elements.{Contains-get_or}
 use Rattle.tfpg_diff.specs.declared.demand.Demand.{Demand}
 use Rattle.tfpg_diff.specs.declared.pick.Pick.{Pick}
 use Rattle.tfpg_diff.specs.declared.bounds.Bounds.{Bounds}
 use Rattle.tfpg_diff.specs.declared.why.Why.{Why}
-use Rattle.tfpg_diff.specs.declared.why.Why.TheVariants.{Floor}
 use Rattle.tfpg_diff.specs.Demands.{Demands, Bounded, demand_of_pick}
 use Rattle.tfpg_base.specs.declared.limits.TheConstants.{NEVER}
 use Rattle.tfpg_diff.specs.Solution.{IsBetween}
-use Rattle.tfpg_diff.specs.inside.Kept.{IsSound, IsKept, Walked}
-use Rattle.tfpg_diff.proofs.Lowering.{IsBrokenDemand, Labelled-kept}
+use Rattle.tfpg_diff.specs.declared.link.Link.{Link}
+use Rattle.tfpg_diff.specs.declared.link.Link.TheVariants.{Picked}
+use Rattle.tfpg_diff.specs.inside.Linked.{no_bounds, no_pick, demand_of_link, demands_linked}
+use Rattle.tfpg_diff.specs.inside.Kept.{IsSound, IsKept, AreKept, LeadsTo, Walked}
+use Rattle.tfpg_diff.proofs.Linked.{demand_of_link-picked, demands_linked-set}
+use Rattle.tfpg_diff.proofs.Lowering.{IsBrokenDemand, Labelled-kept, IsKept-lowered}
 use Rattle.tfpg_diff.proofs.Climb.{length-Climbs}
-
--- what the code reads past the end of the bounds
-abbrev pub no_bounds : Bounds
-no_bounds = record { floor = 0; floor_why = Floor 0; ceiling = 0; ceiling_why = Floor 0 }
 
 -- no value is past the latest one
 pub small-kept : (demands : Demands) (sound : IsSound demands) (values : List ℕ) (links : List Demand) (kept : IsKept demands values links) →
@@ -65,10 +64,6 @@ length-cycle demands values links kept from sought first tags walked =
     let k = kept.links_len in
     omega (arith, ap length walked.tags, length-map walked.chain (λ (demand : Demand). demand.why), length-append (first ∷ []) (map (λ (demand : Demand). demand.why) walked.chain))
 
--- what the code reads past the end of the picks
-abbrev pub no_pick : Pick
-no_pick = record { constraint = record { left = 0; right = 0; bound = pos 0 }; tag = 0 }
-
 -- no floor is past the latest value
 pub floor-kept : (demands : Demands) (sound : IsSound demands) (values : List ℕ) (links : List Demand) (kept : IsKept demands values links)
     (variable : ℕ) (bounds : Bounds) → Bounded demands variable bounds → bounds.floor ≤ NEVER
@@ -78,3 +73,20 @@ floor-kept demands sound values links kept variable bounds at =
     let below = within.below in
     let ceiling = sound.ceilings variable bounds at in
     omega arith
+
+-- a pick that is broken becomes the link of its left side
+pub AreKept-lowered : (demands : Demands) (values : List ℕ) (links : List Link) (kept : AreKept demands values links) (index : ℕ) (demand : Demand)
+    (value variable : ℕ) (bounds : Bounds) → demand ≡ demand_of_pick (get_or demands.picks index no_pick) →
+    IsBrokenDemand demands values demand → LeadsTo (demands_linked demands links) demand.constraint.right demand.constraint.left 0 →
+    Bounded demands variable bounds → demand.constraint.left ≡ variable + 1 →
+    pos value ≡ (pos (slice_index values demand.constraint.right) +ℤ demand.constraint.bound) → bounds.floor ≤ value →
+    AreKept demands (set values demand.constraint.left value) (set links demand.constraint.left (Picked index))
+AreKept-lowered demands values links kept index demand value variable bounds is broken leads bounded number sum high =
+    let left : ℕ = demand.constraint.left in
+    let same : demand_of_link demands left (Picked index) ≡ demand = demand_of_link-picked demands left index (omega arith) ∙ sym is in
+    record {
+      count = length-set links left (Picked index) ∙ kept.count;
+      kept = subst (λ (es : List Demand). IsKept demands (set values left value) es)
+          (sym (demands_linked-set demands links left (Picked index) ∙ ap (set (demands_linked demands links) left) same))
+          (IsKept-lowered demands values (demands_linked demands links) kept.kept demand value variable bounds broken leads bounded number sum high);
+    }

@@ -1,14 +1,13 @@
--- One more link on a walk, and why a walk ends.
-use Rattle.std.proofs.Common.{◌≡◌, ◌≢◌, ℕ, ◌+◌, ◌<◌, ◌≤◌, List, [], ◌∷◌, ◌++◌, length, map, Some, refl, sym, ◌∙◌, ap, arith, length-append, append_assoc}
-use Rattle.std.specs.Prelude.{slice_get, pos}
+-- One more link on a walk, why a walk ends, and that there is one way.
+use Rattle.std.proofs.Common.{◌≡◌, ◌≢◌, ℕ, Bool, true, false, if◌then◌else◌, subst, ◌+◌, ◌<◌, ◌≤◌, List, [], ◌∷◌, ◌++◌, length, map, Some, refl, sym, ◌∙◌, ap, arith, length-append, append_assoc}
+use Rattle.std.specs.Prelude.{slice_get}
 use Rattle.std.proofs.lemmas.List.{map_push, append-nil, length-map}
 use Rattle.std.proofs.lemmas.Option.{slice_get_within}
 use Rattle.std.proofs.lemmas.List.Elements.{All-nil, All-push}
 use Rattle.tfpg_diff.specs.declared.demand.Demand.{Demand}
 use Rattle.tfpg_diff.specs.declared.why.Why.{Why}
-use Rattle.tfpg_diff.specs.declared.why.Why.TheVariants.{Floor}
-use Rattle.tfpg_diff.specs.inside.Kept.{Climbs, IsRooted, IsLabelled, Walked}
-use Rattle.tfpg_diff.proofs.Climb.{Climbs-append, length-Climbs, length-Climbs_up, Climbs_right}
+use Rattle.tfpg_diff.specs.inside.Kept.{Climbs, IsRooted, IsLabelled, LeadsTo, Walked}
+use Rattle.tfpg_diff.proofs.Climb.{Climbs-append, Climbs-passes, length-Climbs, length-Climbs_up, Climbs_right}
 
 -- a walk that has not begun
 pub Walked-none : (links : List Demand) (from sought : ℕ) (tags : List Why) → Walked links from sought from tags tags
@@ -54,6 +53,38 @@ link_right links rooted stands link up at =
     let rest = rooted stands (slice_get_within links stands link at) in
     Climbs_right links stands link rest.0 rest.1 up at
 
--- what the code reads past the end of the links
-abbrev pub no_link : Demand
-no_link = record { constraint = record { left = 0; right = 0; bound = pos 0 }; why = Floor 0 }
+-- a walk that has not begun
+pub LeadsTo-none : (links : List Demand) (from sought : ℕ) → LeadsTo links from sought from
+LeadsTo-none links from sought = record { chain = []; climbs = refl; avoids = All-nil (λ (demand : Demand). demand.constraint.left ≢ sought) }
+
+-- one more link
+pub LeadsTo-more : (links : List Demand) (labelled : IsLabelled links) (from sought stands : ℕ) (link : Demand) →
+    LeadsTo links from sought stands → 0 < stands → stands ≢ sought → slice_get links stands ≡ Some link → LeadsTo links from sought link.constraint.right
+LeadsTo-more links labelled from sought stands link leads up other at = record {
+  chain = leads.chain ++ link ∷ [];
+  climbs = Climbs-append links from leads.chain stands (link ∷ []) link.constraint.right leads.climbs (up, at, refl);
+  avoids = All-push (λ (demand : Demand). demand.constraint.left ≢ sought) leads.chain link leads.avoids
+      (λ same. other (sym (labelled stands link up at) ∙ same));
+}
+
+-- a walk with tags leads where it goes
+pub LeadsTo-walked : (links : List Demand) (from sought stands : ℕ) (before after : List Why) → Walked links from sought stands before after →
+    LeadsTo links from sought stands
+LeadsTo-walked links from sought stands before after walked = record { chain = walked.chain; climbs = walked.climbs; avoids = walked.avoids }
+
+module _ (links : List Demand) (labelled : IsLabelled links) (from sought : ℕ) (before after : List Why) where
+  -- a walk with tags ends where the links lead
+  pub Walked-found : (found : Bool) → LeadsTo links from sought sought → Walked links from sought (if found then sought else 0) before after →
+      Walked links from sought sought before after
+  Walked-found true leads walked = walked
+  Walked-found false leads walked =
+      subst (λ (n : ℕ). Walked links from sought n before after)
+      (sym (Climbs-passes links labelled from leads.chain sought walked.chain leads.climbs walked.climbs walked.avoids)) walked
+
+  -- also at zero
+  pub Walked-not_found : (found : Bool) → LeadsTo links from sought 0 → Walked links from sought (if found then sought else 0) before after →
+      Walked links from sought 0 before after
+  Walked-not_found true leads walked =
+      subst (λ (n : ℕ). Walked links from sought n before after)
+      (Climbs-passes links labelled from walked.chain sought leads.chain walked.climbs leads.climbs leads.avoids) walked
+  Walked-not_found false leads walked = walked

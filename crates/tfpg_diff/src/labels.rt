@@ -1,41 +1,76 @@
-//! The values of all numbers, with the demands that they come from.
+//! The values of all numbers, with what they come from.
 
-ghost use Rattle.std.specs.Prelude.{◌≡◌, ◌<◌, IfOk, vec_len, slice_index};
+ghost use Rattle.std.specs.Prelude.{◌≡◌, ℕ, ◌+◌, ◌<◌, ◌≤◌, [], length, All, IfOk, vec_len, slice_index, slice_set};
+ghost use Rattle.tfpg_diff.specs.declared.trail.Saved.{Saved as SavedOf};
+ghost use Rattle.tfpg_diff.specs.inside.Undone.{undone_to, IsTrail, Remembers};
 
-use crate::demand::Demand;
-use crate::why::Why;
+use crate::link::Link;
+use crate::trail::{Saved, Trail};
 use std::alloc::{AllocError, Global};
-use tfpg_base::Constraint;
 
-/// For each number its value in milliseconds, and its link: a demand with that number on its left. The value is no less
-/// than its link allows. The right side of a link is the number's parent, and zero is the root. Zero has the value 0, and
-/// its link is not read.
+/// For each number its value in milliseconds, and its link. A link stands for a demand with that number on its left, and the
+/// value is no less than that demand allows. The right side of the demand is the number's parent, and zero is the root. Zero
+/// has the value 0, and its link is not read. The trail says what was lowered.
 #[derive(Drop)]
 pub(crate) struct Labels {
     pub(crate) values: Vec<u64>,
-    pub(crate) links: Vec<Demand>,
+    pub(crate) links: Vec<Link>,
+    pub(crate) trail: Trail,
 }
 
-/// The link of a number that has none yet: zero is at most 0.
-const NO_LINK: Demand = Demand {
-    constraint: Constraint {
-        left: 0,
-        right: 0,
-        bound: 0,
-    },
-    why: Why::Floor(0),
-};
+/// For how many more changes the trail has room, so that it is of use in a small system.
+const SPARE_CHANGES: usize = 32;
 
 impl Labels {
-    /// The value 0 for each of so many numbers, without links.
+    /// The value 0 for each of so many numbers, and the upper bound as its link. The trail has room for one change of each
+    /// second number, and some more.
     pub(crate) fn new(alloc: Global, numbers: usize) -> Result<Labels, AllocError>
         ensures values { IfOk result (λ labels. vec_len labels.values ≡ numbers) }
         ensures links { IfOk result (λ labels. vec_len labels.links ≡ numbers) }
         ensures zero { IfOk result (λ labels. slice_index labels.values.items 0 ≡ 0) }
+        ensures trail { IfOk result (λ labels. labels.trail.saved.items ≡ []) }
     {
         Ok(Labels {
             values: vec![in alloc; 0; numbers]?,
-            links: vec![in alloc; NO_LINK; numbers]?,
+            links: vec![in alloc; Link::Ceiling; numbers]?,
+            trail: Trail::new(alloc, numbers / 2 + SPARE_CHANGES)?,
         })
+    }
+
+    /// Lowers the value of a number, which comes from this link from now on. The trail saves what it had, as there were so many
+    /// picks before the call.
+    pub(crate) fn lower(&mut self, number: u32, value: u64, link: Link, before: u32)
+        requires values { number < length self.old.values.items }
+        requires links { number < length self.old.links.items }
+        ensures values { self.new.values.items ≡ slice_set self.old.values.items number value }
+        ensures links { self.new.links.items ≡ slice_set self.old.links.items number link }
+        ensures remembers { Remembers before self.old self.new }
+    {
+        let index = number as usize;
+        let saved = Saved {
+            value: self.values[index],
+            link: self.links[index],
+            number,
+            before,
+        };
+        self.trail.save(saved);
+        self.values[index] = value;
+        self.links[index] = link;
+    }
+
+    /// Takes back what was lowered since there were so many picks, as far as the trail reaches. It costs as much as lowering
+    /// that did, without its tests.
+    pub(crate) fn undo_to(&mut self, count: u32)
+        requires values { length self.old.links.items ≡ length self.old.values.items }
+        requires inside { All (λ (saved : SavedOf). saved.number < length self.old.values.items) self.old.trail.saved.items }
+        ensures reach { self.new.trail.reach ≡ self.old.trail.reach }
+        ensures back { (picks : ℕ) → picks ≤ count → undone_to picks self.new ≡ undone_to picks self.old }
+        ensures trail { IsTrail count (length self.new.values.items) self.new.trail.saved.items }
+    {
+        while let Some(saved) = self.trail.pop_since(count) {
+            let index = saved.number as usize;
+            self.values[index] = saved.value;
+            self.links[index] = saved.link;
+        }
     }
 }

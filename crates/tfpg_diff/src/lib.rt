@@ -33,10 +33,12 @@ mod bounds;
 mod demand;
 mod labels;
 pub mod laws;
+mod link;
 mod passes;
 mod pick;
 mod relax;
 mod system;
+mod trail;
 mod walk;
 mod why;
 

@@ -1,49 +1,83 @@
-//! Values before any pick is tested, and after all of them are met.
+//! Values before any pick is tested, after all of them are met, and after some of them are gone.
 
-ghost use Rattle.std.specs.Prelude.{◌≡◌, ℕ, ◌+◌, ◌-◌, ◌^◌, ◌<◌, ◌≤◌, length, vec_len, vec_capacity, IfOk, OnOk, OnErr, Some, slice_get, slice_index};
-ghost use Rattle.tfpg_diff.specs.declared.bounds.Bounds.{Bounds as BoundsOf};
-ghost use Rattle.tfpg_diff.specs.Demands.{ceiling_of, demands_of};
+ghost use Rattle.std.specs.Prelude.{◌≡◌, ◌+◌, ◌≤◌, [], length, vec_len, vec_capacity, IfOk, OnOk, OnErr, slice_index};
+ghost use Rattle.tfpg_diff.specs.Demands.{demands_of};
+ghost use Rattle.tfpg_diff.specs.Solution.{HasSolution};
 ghost use Rattle.tfpg_diff.specs.Cycle.{NamesNegativeCycle};
-ghost use Rattle.tfpg_base.specs.declared.limits.TheConstants.{NEVER};
-ghost use Rattle.tfpg_diff.specs.inside.Kept.{IsSound, IsKept, AreAtCeilings, MeetsPicks, Passes};
+ghost use Rattle.tfpg_diff.specs.inside.Kept.{IsSound, AreKept, AreAtCeilings, AreMetFrom, MeetsPicks, Passes};
+ghost use Rattle.tfpg_diff.specs.inside.Undone.{Remembers};
+ghost use Rattle.tfpg_diff.specs.inside.Ready.{AreSized, CanTakeBack, TakesBack};
 
 use crate::bounds::Bounds;
-use crate::demand::Demand;
 use crate::labels::Labels;
+use crate::link::Link;
 use crate::pick::Pick;
 use crate::relax::relax;
 use crate::why::{Conflict, Why};
-use std::mem;
-use tfpg_base::Constraint;
 
-/// Tests each pick once. Returns whether any was broken.
+/// Tests each pick once. Where none before `limit` is broken it stops there, since all from there on are met. Returns the
+/// index of the last one that was broken.
 ///
 /// Conflict comes where that closes a negative cycle, whose tags `cycle` then has.
 fn pass(
     bounds: &[Bounds],
     picks: &[Pick],
     labels: &mut Labels,
+    before: u32,
+    limit: usize,
     cycle: &mut Vec<Why>,
-) -> Result<bool, Conflict>
+) -> Result<Option<usize>, Conflict>
     requires sound { IsSound (demands_of bounds.now picks.now) }
-    requires kept { IsKept (demands_of bounds.now picks.now) labels.old.values.items labels.old.links.items }
+    requires kept { AreKept (demands_of bounds.now picks.now) labels.old.values.items labels.old.links.items }
+    requires met { AreMetFrom labels.old.values.items picks.now limit (length picks.now) }
     requires room { length bounds.now + 3 ≤ vec_capacity cycle.old }
-    ensures kept { IsKept (demands_of bounds.now picks.now) labels.new.values.items labels.new.links.items }
+    ensures kept { AreKept (demands_of bounds.now picks.now) labels.new.values.items labels.new.links.items }
     ensures passes { IfOk result
-        (λ lowered. Passes picks.now labels.old.values.items lowered labels.new.values.items) }
+        (λ last. Passes picks.now (length picks.now) labels.old.values.items last labels.new.values.items) }
+    ensures remembers { Remembers before labels.old labels.new }
     ensures cycle { OnErr result (NamesNegativeCycle (demands_of bounds.now picks.now) cycle.new.items) }
+    ensures no_cycle { OnOk result (cycle.new.items ≡ cycle.old.items) }
     ensures capacity { vec_capacity cycle.old ≤ vec_capacity cycle.new }
 {
-    let mut lowered = false;
+    let mut last = None;
     for index in 0..picks.len() {
-        if relax(bounds, picks, index, labels, cycle)? {
-            lowered = true;
+        if index >= limit && last.is_none() {
+            return Ok(None);
+        }
+        if relax(bounds, picks, index, labels, before, cycle)? {
+            last = Some(index);
         }
     }
-    Ok(lowered)
+    Ok(last)
 }
 
-/// Lowers values until they meet every pick.
+/// Tests the picks after the first so many, which the call added.
+///
+/// Conflict comes where that closes a negative cycle, whose tags `cycle` then has.
+fn relax_added(
+    bounds: &[Bounds],
+    picks: &[Pick],
+    labels: &mut Labels,
+    before: u32,
+    cycle: &mut Vec<Why>,
+) -> Result<(), Conflict>
+    requires sound { IsSound (demands_of bounds.now picks.now) }
+    requires kept { AreKept (demands_of bounds.now picks.now) labels.old.values.items labels.old.links.items }
+    requires room { length bounds.now + 3 ≤ vec_capacity cycle.old }
+    ensures kept { AreKept (demands_of bounds.now picks.now) labels.new.values.items labels.new.links.items }
+    ensures remembers { Remembers before labels.old labels.new }
+    ensures cycle { OnErr result (NamesNegativeCycle (demands_of bounds.now picks.now) cycle.new.items) }
+    ensures no_cycle { OnOk result (cycle.new.items ≡ cycle.old.items) }
+    ensures capacity { vec_capacity cycle.old ≤ vec_capacity cycle.new }
+{
+    for index in before as usize..picks.len() {
+        relax(bounds, picks, index, labels, before, cycle)?;
+    }
+    Ok(())
+}
+
+/// Lowers values until they meet every pick, beginning with the picks that the call added: those after the first so many, which
+/// there were before it. The trail saves what the values were.
 ///
 /// Conflict comes where there is no solution; `cycle` then has the tags of a negative cycle. There are at most as many
 /// passes over the picks as there are variables, and one more. (This count is not proved.)
@@ -51,97 +85,82 @@ pub(crate) fn lower_until_met(
     bounds: &[Bounds],
     picks: &[Pick],
     labels: &mut Labels,
+    before: u32,
     cycle: &mut Vec<Why>,
 ) -> Result<(), Conflict>
     requires sound { IsSound (demands_of bounds.now picks.now) }
-    requires kept { IsKept (demands_of bounds.now picks.now) labels.old.values.items labels.old.links.items }
+    requires kept { AreKept (demands_of bounds.now picks.now) labels.old.values.items labels.old.links.items }
     requires room { length bounds.now + 3 ≤ vec_capacity cycle.old }
-    ensures kept { IsKept (demands_of bounds.now picks.now) labels.new.values.items labels.new.links.items }
+    ensures kept { AreKept (demands_of bounds.now picks.now) labels.new.values.items labels.new.links.items }
     ensures met { OnOk result (MeetsPicks labels.new.values.items picks.now) }
+    ensures remembers { Remembers before labels.old labels.new }
     ensures cycle { OnErr result (NamesNegativeCycle (demands_of bounds.now picks.now) cycle.new.items) }
+    ensures no_cycle { OnOk result (cycle.new.items ≡ cycle.old.items) }
     ensures capacity { vec_capacity cycle.old ≤ vec_capacity cycle.new }
 {
-    loop {
-        if !pass(bounds, picks, labels, cycle)? {
-            return Ok(());
-        }
+    relax_added(bounds, picks, labels, before, cycle)?;
+    let mut limit = picks.len();
+    while let Some(last) = pass(bounds, picks, labels, before, limit, cycle)? {
+        limit = last + 1;
     }
-}
-
-/// The upper bound of a variable as a constraint. The bound is below 2^63.
-pub(crate) fn ceiling_of(variable: u32, bounds: Bounds) -> Demand
-    requires variable { variable < 2 ^ 32 - 1 }
-    requires small { bounds.ceiling ≤ NEVER }
-    ensures { result ≡ ceiling_of variable bounds }
-{
-    Demand {
-        constraint: Constraint {
-            left: variable + 1,
-            right: 0,
-            bound: bounds.ceiling as i64,
-        },
-        why: bounds.ceiling_why,
-    }
+    Ok(())
 }
 
 /// Gives each variable the value of its upper bound, and that bound as its link.
 pub(crate) fn start(bounds: &[Bounds], labels: &mut Labels)
-    requires few { length bounds.now < 2 ^ 32 }
-    requires ceilings { (variable : ℕ) (limits : BoundsOf) →
-        slice_get bounds.now variable ≡ Some limits → limits.ceiling ≤ NEVER }
     requires values { vec_len labels.old.values ≡ length bounds.now + 1 }
     requires links { vec_len labels.old.links ≡ length bounds.now + 1 }
     requires zero { slice_index labels.old.values.items 0 ≡ 0 }
-    ensures { AreAtCeilings bounds.now labels.new.values.items labels.new.links.items (length bounds.now) }
+    ensures ceilings { AreAtCeilings bounds.now labels.new.values.items labels.new.links.items (length bounds.now) }
+    ensures trail { labels.new.trail ≡ labels.old.trail }
 {
     for variable in 0..bounds.len() {
-        let limits = bounds[variable];
-        labels.values[variable + 1] = limits.ceiling;
-        labels.links[variable + 1] = ceiling_of(variable as u32, limits);
+        labels.values[variable + 1] = bounds[variable].ceiling;
+        labels.links[variable + 1] = Link::Ceiling;
     }
 }
 
-/// Copies values and links. It allocates nothing.
-pub(crate) fn save(labels: &Labels, into: &mut Labels)
-    requires values { vec_len into.old.values ≡ vec_len labels.now.values }
-    requires links { vec_len into.old.links ≡ vec_len labels.now.links }
-    ensures values { into.new.values.items ≡ labels.now.values.items }
-    ensures links { into.new.links.items ≡ labels.now.links.items }
+/// Computes the latest solution afresh, from the upper bounds down. The trail then reaches back no further.
+fn compute_afresh(bounds: &[Bounds], picks: &[Pick], labels: &mut Labels, cycle: &mut Vec<Why>)
+    requires sound { IsSound (demands_of bounds.now picks.now) }
+    requires solvable { HasSolution (demands_of bounds.now picks.now) }
+    requires sized { AreSized (demands_of bounds.now picks.now) labels.old }
+    requires room { length bounds.now + 3 ≤ vec_capacity cycle.old }
+    ensures kept { AreKept (demands_of bounds.now picks.now) labels.new.values.items labels.new.links.items }
+    ensures met { MeetsPicks labels.new.values.items picks.now }
+    ensures saved { labels.new.trail.saved.items ≡ [] }
+    ensures reach { labels.new.trail.reach ≡ length picks.now }
+    ensures cycle { cycle.new.items ≡ cycle.old.items }
+    ensures capacity { vec_capacity cycle.old ≤ vec_capacity cycle.new }
 {
-    into.values.copy_from_slice(&labels.values);
-    into.links.copy_from_slice(&labels.links);
+    let count = picks.len();
+    labels.trail.restart(count as u64 + 1);
+    start(bounds, labels);
+    match lower_until_met(bounds, picks, labels, count as u32, cycle) {
+        Ok(()) => labels.trail.restart(count as u64),
+        Err(Conflict) => unreachable!(),
+    }
 }
 
-/// Lowers values until they meet every pick, and restores the backup where they cannot.
-///
-/// Conflict comes where there is no solution; `cycle` then has the tags of a negative cycle.
-pub(crate) fn lower_or_restore(
+/// Brings labels back to the latest solution of fewer demands, which has one: the trail takes back what was lowered since there
+/// were so many picks, and where it does not reach that far the solution is computed afresh.
+pub(crate) fn take_back(
     bounds: &[Bounds],
     picks: &[Pick],
     labels: &mut Labels,
-    backup: &mut Labels,
     cycle: &mut Vec<Why>,
-) -> Result<(), Conflict>
+)
     requires sound { IsSound (demands_of bounds.now picks.now) }
-    requires kept { IsKept (demands_of bounds.now picks.now) labels.old.values.items labels.old.links.items }
+    requires able { CanTakeBack (demands_of bounds.now picks.now) labels.old }
     requires room { length bounds.now + 3 ≤ vec_capacity cycle.old }
-    requires backup_values { length backup.old.values.items ≡ length bounds.now + 1 }
-    requires backup_links { length backup.old.links.items ≡ length bounds.now + 1 }
-    ensures kept { OnOk result
-        (IsKept (demands_of bounds.now picks.now) labels.new.values.items labels.new.links.items) }
-    ensures met { OnOk result (MeetsPicks labels.new.values.items picks.now) }
-    ensures values { OnErr result (labels.new.values.items ≡ backup.old.values.items) }
-    ensures links { OnErr result (labels.new.links.items ≡ backup.old.links.items) }
-    ensures cycle { OnErr result (NamesNegativeCycle (demands_of bounds.now picks.now) cycle.new.items) }
-    ensures backup_values { length backup.new.values.items ≡ length bounds.now + 1 }
-    ensures backup_links { length backup.new.links.items ≡ length bounds.now + 1 }
+    ensures taken { TakesBack (demands_of bounds.now picks.now) labels.old labels.new }
+    ensures cycle { cycle.new.items ≡ cycle.old.items }
     ensures capacity { vec_capacity cycle.old ≤ vec_capacity cycle.new }
 {
-    match lower_until_met(bounds, picks, labels, cycle) {
-        Ok(()) => Ok(()),
-        Err(Conflict) => {
-            mem::swap(labels, backup);
-            Err(Conflict)
-        }
+    let count = picks.len() as u32;
+    if labels.trail.reach <= u64::from(count) {
+        labels.undo_to(count);
+        return;
     }
+    compute_afresh(bounds, picks, labels, cycle);
 }

@@ -1,17 +1,18 @@
 //! A system of difference constraints that always knows its latest solution.
 
-ghost use Rattle.std.specs.Prelude.{◌≡◌, ◌+◌, ◌-◌, ◌<◌, ◌≤◌, [], ◌∷◌, ◌++◌, length, vec_len, vec_capacity, All, IfOk, OnOk, IsOk};
+ghost use Rattle.std.specs.Prelude.{◌≡◌, ◌+◌, ◌-◌, ◌^◌, ◌<◌, ◌≤◌, [], ◌∷◌, ◌++◌, length, vec_len, vec_capacity, All, IfOk, OnOk, IsOk};
 ghost use Rattle.tfpg_diff.specs.Solution.{IsLatest};
 ghost use Rattle.tfpg_diff.specs.Demands.{Bounded};
 ghost use Rattle.tfpg_base.specs.declared.limits.TheConstants.{NEVER};
 ghost use Rattle.tfpg_diff.specs.SystemState.{unbounded_from, with_floor, with_ceiling, with_pick, popped_to, Adds, LeavesRoom};
 
 use crate::bounds::{Bounds, unbounded};
-use crate::demand::Demand;
+use crate::demand::demand_of_pick;
 use crate::labels::Labels;
-use crate::passes::{ceiling_of, lower_or_restore, lower_until_met, save, start};
+use crate::link::Link;
+use crate::passes::{lower_until_met, start, take_back};
 use crate::pick::Pick;
-use crate::relax::{begin_cycle, demand_of_pick, is_broken};
+use crate::relax::{begin_cycle, is_broken};
 use crate::walk::push_tag;
 use crate::why::{Conflict, Why};
 use std::alloc::Global;
@@ -19,62 +20,68 @@ use std::marker::Model;
 use std::sync::ledger::Ledger;
 use tfpg_base::{Constraint, NoMemory, Steps};
 
+/// How many picks a system has at most, so that their number takes 32 bits.
+const MAX_PICKS: usize = 0xffff_ffff;
+
+/// How many variables a system has at most, so that two tags for each fit 32 bits.
+const MAX_VARIABLES: u32 = 0x8000_0000;
+
 /// Some variables, their bounds, a stack of picks, and the latest solution of all that.
 #[derive(Drop)]
 pub struct System {
     bounds: Vec<Bounds>,
     picks: Vec<Pick>,
     labels: Labels,
-    backup: Labels,
     cycle: Vec<Why>,
 }
 
 impl Model for System {
-    ghost use Rattle.std.specs.Prelude.{◌-◌, vec_len, vec_capacity};
+    ghost use Rattle.std.specs.Prelude.{◌-◌, ◌^◌, min, vec_len, vec_capacity};
     ghost use Rattle.tfpg_diff.specs.SystemState.{SystemState};
 
     ghost Value = { SystemState };
 
     ghost use Rattle.tfpg_diff.specs.Demands.{demands_of};
-    ghost use Rattle.tfpg_diff.specs.inside.Kept.{IsReady};
+    ghost use Rattle.tfpg_diff.specs.inside.Ready.{IsReady};
 
     ghost view = { λ s. record {
       demands = record { bounds = s.bounds.items; picks = s.picks.items };
-      spare = vec_capacity s.picks - vec_len s.picks;
+      spare = min (vec_capacity s.picks) (2 ^ 32 - 1) - vec_len s.picks;
       cycle = s.cycle.items;
     } };
 
-    ghost invariant = { λ s. IsReady (demands_of s.bounds.items s.picks.items)
-        s.labels.values.items s.labels.links.items s.backup.values.items s.backup.links.items
-        (vec_capacity s.cycle) };
+    ghost invariant = { λ s. IsReady (demands_of s.bounds.items s.picks.items) s.labels (vec_capacity s.cycle) };
 }
 
 impl System {
     /// A system of so many variables, of which nothing is known: each is at least 0 and at most one past the
     /// last millisecond, `10^12 + 1`.
     ///
-    /// All the memory of later calls is allocated here, but that of picks: about 150 bytes for each variable.
+    /// All the memory of later calls is allocated here, but that of picks: about 68 bytes for each variable, and 800. It is
+    /// not there for more than 2^31 variables.
     pub fn new(alloc: Global, count: u32) -> Result<System, NoMemory>
         ensures demands { IfOk result
             (λ system. system.demands ≡ record { bounds = unbounded_from 0 count; picks = [] }) }
         ensures count { IfOk result (λ system. length system.demands.bounds ≡ count) }
     {
+        if count > MAX_VARIABLES {
+            return Err(NoMemory);
+        }
         let numbers = count as usize + 1;
         let bounds = unbounded(alloc, count)?;
         let mut labels = Labels::new(alloc, numbers)?;
-        let backup = Labels::new(alloc, numbers)?;
         let cycle = Vec::with_capacity(alloc, numbers + 2)?;
         start(&bounds, &mut labels);
         Ok(System {
             bounds,
             picks: Vec::new(alloc),
             labels,
-            backup,
             cycle,
         })
     }
 
-    /// Makes room for so many more picks. The system is unchanged where memory ran out.
+    /// Makes room for so many more picks. The system is unchanged where memory ran out, or where there would be 2^32 picks
+    /// or more.
     pub fn reserve(&mut self, picks: u32) -> Result<(), NoMemory>
         ensures ok { OnOk result (picks ≤ self.new.spare) }
         ensures same { self.new.demands ≡ self.old.demands }
@@ -82,13 +89,17 @@ impl System {
         ensures spare { self.old.spare ≤ self.new.spare }
         ensures succeeds { picks ≤ self.old.spare → IsOk result }
     {
+        if MAX_PICKS - self.picks.len() < picks as usize {
+            return Err(NoMemory);
+        }
         self.picks.reserve(picks as usize)?;
         Ok(())
     }
 
     /// How many variables it has.
     pub fn variable_count(&self) -> u32
-        ensures { result ≡ length self.now.demands.bounds }
+        ensures count { result ≡ length self.now.demands.bounds }
+        ensures few { result ≤ 2 ^ 31 }
     {
         self.bounds.len() as u32
     }
@@ -132,7 +143,7 @@ impl System {
         &mut self,
         variable: u32,
         least: u64,
-        tag: u64,
+        tag: u32,
         work: &mut Steps<L>,
     ) -> Result<(), Conflict>
         requires { variable < length self.old.demands.bounds }
@@ -150,12 +161,12 @@ impl System {
     ///
     /// Conflict comes exactly where there would be no solution. The system is then unchanged, and [`System::cycle`]
     /// lends the tags of a negative cycle. Where the value of the variable is above the ceiling it costs at most one pass
-    /// over the picks for each number.
+    /// over the picks for each number, and at a conflict at most as much again.
     pub fn lower<L: Ledger>(
         &mut self,
         variable: u32,
         ceiling: u64,
-        tag: u64,
+        tag: u32,
         work: &mut Steps<L>,
     ) -> Result<(), Conflict>
         requires { variable < length self.old.demands.bounds }
@@ -172,11 +183,11 @@ impl System {
     ///
     /// Conflict comes exactly where there would be no solution. The system is then unchanged, and [`System::cycle`]
     /// lends the tags of a negative cycle. Where the values break the constraint it costs at most one pass over the
-    /// picks for each number.
+    /// picks for each number, and at a conflict at most as much again.
     pub fn push<L: Ledger>(
         &mut self,
         constraint: Constraint,
-        tag: u64,
+        tag: u32,
         work: &mut Steps<L>,
     ) -> Result<(), Conflict>
         requires spare { 1 ≤ self.old.spare }
@@ -190,8 +201,8 @@ impl System {
         self.add_pick(Pick { constraint, tag })
     }
 
-    /// Pops the picks after the first so many off the stack. The bounds stay. It computes the solution anew, from the
-    /// upper bounds down.
+    /// Pops the picks after the first so many off the stack. The bounds stay. It takes back what these picks lowered. Where the
+    /// trail of that does not reach so far, as after an upper bound was lowered, it computes the solution afresh.
     pub fn pop_to(&mut self, len: u64)
         requires { len ≤ length self.old.demands.picks }
         ensures demands { self.new.demands ≡ popped_to self.old.demands len }
@@ -202,15 +213,11 @@ impl System {
             return;
         }
         self.picks.truncate(len);
-        start(&self.bounds, &mut self.labels);
-        match lower_until_met(&self.bounds, &self.picks, &mut self.labels, &mut self.cycle) {
-            Ok(()) => {}
-            Err(Conflict) => unreachable!(),
-        }
+        take_back(&self.bounds, &self.picks, &mut self.labels, &mut self.cycle);
     }
 
     /// Raises a lower bound.
-    fn add_floor(&mut self, variable: u32, least: u64, tag: u64) -> Result<(), Conflict>
+    fn add_floor(&mut self, variable: u32, least: u64, tag: u32) -> Result<(), Conflict>
         requires { variable < length self.old.demands.bounds }
         ensures adds { Adds self.old (with_floor self.old.demands variable least tag) result self.new }
         ensures variables { length self.new.demands.bounds ≡ length self.old.demands.bounds }
@@ -223,7 +230,9 @@ impl System {
         }
         if self.labels.values[index + 1] < least {
             begin_cycle(
-                &self.labels.links,
+                &self.bounds,
+                &self.picks,
+                &self.labels,
                 variable + 1,
                 0,
                 Why::Given(tag),
@@ -240,7 +249,7 @@ impl System {
     }
 
     /// Lowers an upper bound.
-    fn add_ceiling(&mut self, variable: u32, ceiling: u64, tag: u64) -> Result<(), Conflict>
+    fn add_ceiling(&mut self, variable: u32, ceiling: u64, tag: u32) -> Result<(), Conflict>
         requires { variable < length self.old.demands.bounds }
         ensures adds { Adds self.old (with_ceiling self.old.demands variable ceiling tag) result self.new }
         ensures variables { length self.new.demands.bounds ≡ length self.old.demands.bounds }
@@ -263,22 +272,28 @@ impl System {
             ..old
         };
         self.bounds[index] = tighter;
+        // What the trail saved may lie above the new ceiling, also what the call itself saves.
+        let before = self.picks.len() as u32;
+        self.labels.trail.restart(u64::from(before));
         if self.labels.values[index + 1] <= ceiling {
             return Ok(());
         }
-        save(&self.labels, &mut self.backup);
-        self.labels.values[index + 1] = ceiling;
-        self.labels.links[index + 1] = ceiling_of(variable, tighter);
-        match lower_or_restore(
+        self.labels
+            .lower(variable + 1, ceiling, Link::Ceiling, before);
+        match lower_until_met(
             &self.bounds,
             &self.picks,
             &mut self.labels,
-            &mut self.backup,
+            before,
             &mut self.cycle,
         ) {
-            Ok(()) => Ok(()),
+            Ok(()) => {
+                self.labels.trail.restart(u64::from(before));
+                Ok(())
+            }
             Err(Conflict) => {
                 self.bounds[index] = old;
+                take_back(&self.bounds, &self.picks, &mut self.labels, &mut self.cycle);
                 Err(Conflict)
             }
         }
@@ -292,21 +307,22 @@ impl System {
         ensures adds { Adds self.old (with_pick self.old.demands pick.constraint pick.tag) result self.new }
         ensures spare { LeavesRoom self.old.spare result self.new.spare }
     {
+        let before = self.picks.len() as u32;
         push_in_room(&mut self.picks, pick);
         if !is_broken(&self.labels.values, demand_of_pick(&pick)) {
             return Ok(());
         }
-        save(&self.labels, &mut self.backup);
-        match lower_or_restore(
+        match lower_until_met(
             &self.bounds,
             &self.picks,
             &mut self.labels,
-            &mut self.backup,
+            before,
             &mut self.cycle,
         ) {
             Ok(()) => Ok(()),
             Err(Conflict) => {
                 let _ = self.picks.pop();
+                take_back(&self.bounds, &self.picks, &mut self.labels, &mut self.cycle);
                 Err(Conflict)
             }
         }

@@ -4,3 +4,6 @@ pub mod CycleCloses
 pub mod DemandsStayStated
 pub mod NewSystemStated
 pub mod TagsStay
+pub mod ReasonsKept
+pub mod KeptAfterCalls
+pub mod PicksEntered

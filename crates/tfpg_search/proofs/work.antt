@@ -2,4 +2,5 @@
 pub mod BoundsSet
 pub mod BoundsGiven
 pub mod CallsPaid
+pub mod LimitsWorkedOut
 pub mod LimitThere

@@ -7,6 +7,7 @@ pub mod Live
 pub mod Enough
 pub mod SearchState
 pub mod Work
+pub mod WorkRows
 pub mod Represents
 pub mod Searched
 pub mod Laws

@@ -4,6 +4,8 @@ pub mod Leaf
 pub mod Picks
 pub mod AtItsLeaf
 pub mod Tags
+pub mod EnteredPicks
+pub mod KeptReasons
 pub mod Closing
 pub mod LeafCalls
 pub mod Facts

@@ -13,11 +13,12 @@ ghost use Rattle.tfpg_diff.specs.SystemState.{with_floor, with_ceiling};
 ghost use Rattle.tfpg_search.specs.Work.{NodeBounds, AreFactBounds};
 ghost use Rattle.tfpg_search.specs.inside.Counted.{CountsFacts};
 ghost use Rattle.tfpg_search.specs.inside.Facts.{AreFactsIn};
+ghost use Rattle.tfpg_search.specs.inside.KeptReasons.{low_reason, high_reason};
 ghost use Rattle.tfpg_search.specs.inside.LeafCalls.{AddsFact, AddsFacts};
 
 use crate::add_fault::AddFault;
 use crate::clause_laws::clause_laws;
-use crate::fact_bounds::{Bound, high, low};
+use crate::fact_bounds::{HighBound, LowBound, high, low};
 use crate::leaf_system::LeafSystem;
 use std::sync::ledger::Ledger;
 use tfpg_base::Steps;
@@ -55,38 +56,38 @@ impl LeafSystem {
     fn raise_to<L: Ledger>(
         &mut self,
         node: u32,
-        low: Bound,
+        low: LowBound,
         work: &mut Steps<L>,
     ) -> Result<(), AddFault>
         requires { node < length self.old.demands.bounds }
         ensures ok { OnOk result (self.new.demands ≡ with_floor self.old.demands node low.time node) }
-        ensures adds { AddsFact low.reason (at_least node low.time) self.old self.new result }
+        ensures adds { AddsFact (low_reason node low.time low.reason) (at_least node low.time) self.old self.new result }
         ensures counts { (bounds : NodeBounds) → slice_get bounds.lows node ≡ Some low.time →
             CountsFacts bounds self.old self.new work.old work.new result }
     {
         if low.time <= self.bounds(node).floor {
             return Ok(());
         }
-        self.raise(node, low.time, low.reason, work)
+        self.raise(node, low, work)
     }
 
     /// Lowers the upper bound of a node, where the new one is less.
     fn lower_to<L: Ledger>(
         &mut self,
         node: u32,
-        high: Bound,
+        high: HighBound,
         work: &mut Steps<L>,
     ) -> Result<(), AddFault>
         requires { node < length self.old.demands.bounds }
         ensures ok { OnOk result (self.new.demands ≡
             with_ceiling self.old.demands node high.time (length self.old.demands.bounds + node)) }
-        ensures adds { AddsFact high.reason (at_most node (pos high.time)) self.old self.new result }
+        ensures adds { AddsFact (high_reason node high.reason) (at_most node (pos high.time)) self.old self.new result }
         ensures counts { (bounds : NodeBounds) → slice_get bounds.highs node ≡ Some high.time →
             CountsFacts bounds self.old self.new work.old work.new result }
     {
         if self.bounds(node).ceiling <= high.time {
             return Ok(());
         }
-        self.lower(node, high.time, high.reason, work)
+        self.lower(node, high, work)
     }
 }

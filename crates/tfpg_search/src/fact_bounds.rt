@@ -3,32 +3,41 @@
 ghost use Rattle.std.specs.Prelude.{◌≡◌, ℕ, ◌<◌, ◌≤◌, ◌+◌, ◌⊎◌, List, pos, length, true, Some, None, IfSome, MatchOption, if◌then◌else◌, nat_lt};
 ghost use Rattle.tfpg_base.specs.declared.limits.TheConstants.{NEVER};
 ghost use Rattle.tfpg_evidence.specs.declared.reason.Reason.{Reason};
+ghost use Rattle.tfpg_evidence.specs.declared.reason.Reason.TheVariants.{Zero, Unreached};
 ghost use Rattle.tfpg_graph.specs.Graph.{Tfpg};
 ghost use Rattle.tfpg_log.specs.declared.event.Event.TheVariants.{Alarm};
 ghost use Rattle.tfpg_log.specs.declared.interval.Interval.{Interval};
 ghost use Rattle.tfpg_log.specs.Log.{now_of, event_at, is_ignored, quiet_at};
 ghost use Rattle.tfpg_search.specs.inside.Facts.{Leaves};
+ghost use Rattle.tfpg_search.specs.inside.KeptReasons.{low_reason, high_reason};
 ghost use Rattle.tfpg_base.specs.Bounds.{at_most, at_least};
 ghost use Rattle.tfpg_clause.specs.Case.{case_of};
 ghost use Rattle.tfpg_clause.specs.Facts.{fact};
 
+use crate::kept_reason::{HighReason, LowReason};
 use tfpg_base::NEVER;
-use tfpg_evidence::Reason;
 use tfpg_graph::{Graph, NodeSet};
 use tfpg_log::{Interval, Log};
 
-/// A bound of the time of a node, in milliseconds, with the fact that states it.
+/// A lower bound of the time of a node, in milliseconds, with what is kept of the fact that states it.
 #[derive(Clone, Copy)]
-pub(crate) struct Bound {
+pub(crate) struct LowBound {
     pub(crate) time: u64,
-    pub(crate) reason: Reason,
+    pub(crate) reason: LowReason,
+}
+
+/// An upper bound of the time of a node, in milliseconds, with what is kept of the fact that states it.
+#[derive(Clone, Copy)]
+pub(crate) struct HighBound {
+    pub(crate) time: u64,
+    pub(crate) reason: HighReason,
 }
 
 /// The greatest lower bound that the facts of the log give the time of a node, where the set reaches these nodes. Takes
 /// constant time.
-pub(crate) fn low(graph: &Graph, log: &Log, reach: &NodeSet, node: u32) -> Bound
+pub(crate) fn low(graph: &Graph, log: &Log, reach: &NodeSet, node: u32) -> LowBound
     requires { node < length graph.now.nodes }
-    ensures stated { fact (case_of graph.now log.now reach.now) result.reason
+    ensures stated { fact (case_of graph.now log.now reach.now) (low_reason node result.time result.reason)
         ≡ Some (at_least node result.time) }
     ensures greatest { (other : Reason) (bound : ℕ) →
         fact (case_of graph.now log.now reach.now) other ≡ Some (at_least node bound) → bound ≤ result.time }
@@ -44,58 +53,60 @@ pub(crate) fn low(graph: &Graph, log: &Log, reach: &NodeSet, node: u32) -> Bound
 }
 
 /// The least upper bound that the facts of the log give the time of a node, whatever the set reaches. Takes constant time.
-pub(crate) fn high(graph: &Graph, log: &Log, node: u32) -> Bound
+pub(crate) fn high(graph: &Graph, log: &Log, node: u32) -> HighBound
     requires { node < length graph.now.nodes }
     ensures stated { (reach : List ℕ) →
-        fact (case_of graph.now log.now reach) result.reason ≡ Some (at_most node (pos result.time)) }
+        fact (case_of graph.now log.now reach) (high_reason node result.reason)
+        ≡ Some (at_most node (pos result.time)) }
     ensures least { (reach : List ℕ) (other : Reason) (bound : ℕ) →
         fact (case_of graph.now log.now reach) other ≡ Some (at_most node (pos bound)) → result.time ≤ bound }
     ensures in_range { result.time ≤ NEVER }
 {
     log.is_always_ordered();
     match left_by(graph, log, node, log.alarm_event(node)) {
-        Some((event, interval)) => Bound {
+        Some((event, interval)) => HighBound {
             time: interval.latest,
-            reason: Reason::Upto { event },
+            reason: HighReason::Upto(event),
         },
-        None => Bound {
+        None => HighBound {
             time: NEVER,
-            reason: Reason::Top { node },
+            reason: HighReason::Top,
         },
     }
 }
 
 /// A node that the set does not reach is not active by now, and no fact says more.
-fn after_now(log: &Log, node: u32) -> Bound
+fn after_now(log: &Log, node: u32) -> LowBound
     ensures time { result.time ≡ now_of log.now + 1 }
-    ensures reason { result.reason ≡ Reason.Unreached node (now_of log.now) }
+    ensures reason { low_reason node result.time result.reason ≡ Unreached node (now_of log.now) }
     ensures greatest { (graph : Tfpg) (reach : List ℕ) (other : Reason) (bound : ℕ) →
         fact (case_of graph log.now reach) other ≡ Some (at_least node bound) → bound ≤ result.time }
     ensures in_range { result.time ≤ NEVER }
 {
     log.is_always_ordered();
     let now = log.now();
-    Bound {
+    LowBound {
         time: now + 1,
-        reason: Reason::Unreached { node, horizon: now },
+        reason: LowReason::Unreached,
     }
 }
 
 /// The lower bound that the last alarm of a node gives it: its greatest lag before. It is 0 for a node without an alarm
 /// that says anything.
-fn after_alarm(graph: &Graph, log: &Log, node: u32) -> Bound
+fn after_alarm(graph: &Graph, log: &Log, node: u32) -> LowBound
     requires { node < length graph.now.nodes }
     ensures stated { (reach : List ℕ) →
-        fact (case_of graph.now log.now reach) result.reason ≡ Some (at_least node result.time) }
+        fact (case_of graph.now log.now reach) (low_reason node result.time result.reason)
+        ≡ Some (at_least node result.time) }
     ensures greatest { (number : ℕ) (interval : Interval) → Leaves graph.now log.now node number interval →
         interval.earliest ≤ result.time }
     ensures in_range { result.time ≤ NEVER }
 {
     log.is_always_ordered();
     match left_by(graph, log, node, log.last_alarm(node)) {
-        Some((event, interval)) => Bound {
+        Some((event, interval)) => LowBound {
             time: interval.earliest,
-            reason: Reason::From { event },
+            reason: LowReason::From(event),
         },
         None => from_zero(node),
     }
@@ -117,18 +128,19 @@ fn left_by(graph: &Graph, log: &Log, node: u32, alarm: Option<u32>) -> Option<(u
 
 /// The lower bound that the last event gives a node which says that it is not active: just after the instant up to which it
 /// says so. It is 0 where no event says so.
-fn after_silence(graph: &Graph, log: &Log, node: u32) -> Bound
+fn after_silence(graph: &Graph, log: &Log, node: u32) -> LowBound
     requires { node < length graph.now.nodes }
     ensures stated { (reach : List ℕ) →
-        fact (case_of graph.now log.now reach) result.reason ≡ Some (at_least node result.time) }
+        fact (case_of graph.now log.now reach) (low_reason node result.time result.reason)
+        ≡ Some (at_least node result.time) }
     ensures greatest { (number until : ℕ) → quiet_at graph.now log.now number node ≡ Some until →
         until + 1 ≤ result.time }
     ensures in_range { result.time ≤ NEVER }
 {
     match last_quiet(graph, log, node) {
-        Some((event, until)) => Bound {
+        Some((event, until)) => LowBound {
             time: until + 1,
-            reason: Reason::Quiet { event, node },
+            reason: LowReason::Quiet(event),
         },
         None => from_zero(node),
     }
@@ -150,18 +162,18 @@ fn last_quiet(graph: &Graph, log: &Log, node: u32) -> Option<(u32, u64)>
 }
 
 /// No time is before 0.
-fn from_zero(node: u32) -> Bound
+fn from_zero(node: u32) -> LowBound
     ensures time { result.time ≡ 0 }
-    ensures reason { result.reason ≡ Reason.Zero node }
+    ensures reason { low_reason node result.time result.reason ≡ Zero node }
 {
-    Bound {
+    LowBound {
         time: 0,
-        reason: Reason::Zero { node },
+        reason: LowReason::Zero,
     }
 }
 
 /// The later of two lower bounds.
-fn later(one: Bound, other: Bound) -> Bound
+fn later(one: LowBound, other: LowBound) -> LowBound
     ensures either { result ≡ (if nat_lt one.time other.time then other else one) }
     ensures one { one.time ≤ result.time }
     ensures other { other.time ≤ result.time }

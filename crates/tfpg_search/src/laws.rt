@@ -1,12 +1,13 @@
 //! What the definitions of this crate come to, as functions that do nothing: each says its law in its clauses.
 
-ghost use Rattle.std.specs.Prelude.{◌≡◌, ◌+◌, ◌*◌, ℕ, List};
+ghost use Rattle.std.specs.Prelude.{◌≡◌, ◌+◌, ◌*◌, ℕ, List, []};
 ghost use Rattle.tfpg_graph.specs.Graph.{Tfpg};
 ghost use Rattle.tfpg_log.specs.Log.{Logbook};
 ghost use Rattle.tfpg_evidence.specs.declared.clause_name.ClauseName.{ClauseName};
 ghost use Rattle.tfpg_search.specs.Enough.{AreNamesAt, IsMaximumIncoming};
-ghost use Rattle.tfpg_clause.specs.Case.{Case, case_at};
+ghost use Rattle.tfpg_clause.specs.Case.{Case, case_at, case_of};
 ghost use Rattle.tfpg_search.specs.Work.{NodeBounds, AreFactBounds, AreBoundsAt, IsWorkLimit};
+ghost use Rattle.tfpg_search.specs.WorkRows.{two_failures, reach_of_first, first_alarm, then_tick, tick_alone};
 ghost use Rattle.tfpg_search.specs.Laws.{SolvedLeavesHaveALatestSolution, LatestSolutionsAreAlone, TreesAreUnsettledWhereTheLatestSolutionViolates};
 
 use tfpg_clause::laws::facts_give_a_node_one_low_and_one_high;
@@ -45,3 +46,12 @@ pub fn a_round_has_one_work_limit()
 {
     facts_give_a_node_one_low_and_one_high();
 }
+
+/// The limit, worked out on a small graph. The first round of F1 is at an alarm of A at 30, and appends three steps, say: the low of
+/// F2 is 31 then, and the low and the high of A are 30, so three bounds differ (`alarm`). At the tick after it the low of F2 is
+/// 32, and nothing else differs (`tick`). Where nothing fails, all five lows are 1 after a tick at 0 (`unreached`).
+pub fn work_limits_of_a_small_graph()
+    ensures alarm { IsWorkLimit (case_of two_failures first_alarm reach_of_first) 0 3 19 }
+    ensures tick { IsWorkLimit (case_of two_failures then_tick reach_of_first) 1 0 5 }
+    ensures unreached { IsWorkLimit (case_of two_failures tick_alone []) 0 0 9 }
+{}

@@ -1,27 +1,30 @@
 //! The system of the present leaf: the bounds of the facts below, the constraints of the alternatives on the path above,
 //! each with its reason.
 
-ghost use Rattle.std.specs.Prelude.{◌≡◌, ◌<◌, ◌≤◌, ◌+◌, ◌*◌, ◌++◌, ◌∷◌, [], ℕ, pos, length, take, map, slice_set, All, Option, Some, Ok, Err, IfOk, OnOk, OnErr, IfErr};
+ghost use Rattle.std.specs.Prelude.{◌≡◌, ◌<◌, ◌≤◌, ◌+◌, ◌*◌, ◌++◌, ◌∷◌, [], ℕ, pos, length, take, slice_get, All, Option, Some, Ok, Err, IfOk, IfSome, OnOk, OnErr, IfErr};
 ghost use Rattle.tfpg_base.specs.declared.limits.TheConstants.{NEVER};
 ghost use Rattle.tfpg_base.specs.declared.constraint.Constraint.{Constraint};
 ghost use Rattle.tfpg_evidence.specs.declared.reason.Reason.{Reason};
-ghost use Rattle.tfpg_evidence.specs.declared.reason.Reason.TheVariants.{Zero, Top};
+ghost use Rattle.tfpg_evidence.specs.declared.reason.Reason.TheVariants.{Zero, Top, Pick};
 ghost use Rattle.tfpg_base.specs.Bounds.{at_most, at_least};
 ghost use Rattle.tfpg_diff.specs.declared.bounds.Bounds.{Bounds};
 ghost use Rattle.tfpg_diff.specs.Demands.{Bounded};
 ghost use Rattle.tfpg_diff.specs.Solution.{IsLatest};
-ghost use Rattle.tfpg_diff.specs.SystemState.{with_floor, with_ceiling, with_pick, popped_to};
+ghost use Rattle.tfpg_diff.specs.SystemState.{with_floor, with_ceiling, with_pick};
 ghost use Rattle.tfpg_search.specs.Work.{widest_bounds};
 ghost use Rattle.tfpg_search.specs.inside.Leaf.{bounds_in, pick_reasons, IsStated};
-ghost use Rattle.tfpg_search.specs.inside.Closing.{IsFaultOf};
 ghost use Rattle.tfpg_search.specs.inside.LeafCalls.{AddsFact, AddsPick};
-ghost use Rattle.tfpg_search.specs.inside.Tags.{HasReason, reason_of};
+ghost use Rattle.tfpg_search.specs.inside.Leaving.{Leaves};
+ghost use Rattle.tfpg_search.specs.inside.EnteredPicks.{IsNext};
+ghost use Rattle.tfpg_search.specs.inside.KeptReasons.{low_reason, high_reason};
+
+mod naming;
 
 use crate::add_fault::AddFault;
-use crate::closing::closed;
+use crate::fact_bounds::{HighBound, LowBound};
+use crate::kept_reason::{HighReason, LowReason};
 use std::alloc::Global;
 use std::marker::Model;
-use std::mem;
 use std::sync::ledger::Ledger;
 use tfpg_base::{Constraint, NoMemory, Steps};
 use tfpg_diff::{Bounds, Conflict, System};
@@ -30,27 +33,31 @@ use tfpg_evidence::Reason;
 /// A difference system over the times of the nodes, with the reason of each of its tags.
 ///
 /// The tag of a node's lower bound is the node's number, that of its upper bound stands after all lower bounds, and that of
-/// a pick after all bounds: so a tag is the index of its reason.
+/// a pick after all bounds: so a tag is the index of its reason. Which constraint a pick is follows from how many picks stand before
+/// each alternative that is entered.
 #[derive(Drop)]
 pub(crate) struct LeafSystem {
     alloc: Global,
     system: System,
-    reasons: Vec<Reason>,
+    lows: Vec<LowReason>,
+    highs: Vec<HighReason>,
+    entered: Vec<usize>,
 }
 
 impl Model for LeafSystem {
     ghost use Rattle.tfpg_search.specs.inside.Leaf.{Leaf};
-    ghost use Rattle.tfpg_search.specs.inside.Tags.{IsTagged};
+    ghost use Rattle.tfpg_search.specs.inside.KeptReasons.{kept_reasons, AreKept};
 
     ghost Value = { Leaf };
 
-    ghost view = { λ leaf. record { demands = leaf.system.demands; reasons = leaf.reasons.items } };
+    ghost view = { λ leaf. record {
+      demands = leaf.system.demands;
+      reasons = kept_reasons leaf.system.demands leaf.lows.items leaf.highs.items leaf.entered.items;
+      entered = leaf.entered.items;
+    } };
 
-    ghost invariant = { λ leaf. IsTagged leaf.system.demands leaf.reasons.items };
+    ghost invariant = { λ leaf. AreKept leaf.system.demands leaf.lows.items leaf.highs.items leaf.entered.items };
 }
-
-/// What stands in the place of a bound that no reason set. It is not read.
-const NO_REASON: Reason = Reason::Zero { node: 0 };
 
 impl LeafSystem {
     /// The system of so many nodes, of which nothing is known but that their times lie in range.
@@ -58,6 +65,7 @@ impl LeafSystem {
         ensures nodes { IfOk result (λ leaf. length leaf.demands.bounds ≡ nodes) }
         ensures widest { IfOk result (λ leaf. bounds_in leaf ≡ widest_bounds nodes) }
         ensures no_picks { IfOk result (λ leaf. leaf.demands.picks ≡ []) }
+        ensures not_entered { IfOk result (λ leaf. leaf.entered ≡ []) }
         ensures no_reasons { IfOk result (λ leaf. pick_reasons leaf ≡ []) }
         ensures stated { (fact : Reason → Option Constraint) →
             ((node : ℕ) → node < nodes → fact (Zero node) ≡ Some (at_least node 0)) →
@@ -65,11 +73,14 @@ impl LeafSystem {
             IfOk result (λ leaf. IsStated fact fact leaf) }
     {
         let system = System::new(alloc, nodes)?;
-        let reasons = vec![in alloc; NO_REASON; 2 * nodes as usize]?;
+        let lows = vec![in alloc; LowReason::Zero; nodes as usize]?;
+        let highs = vec![in alloc; HighReason::Top; nodes as usize]?;
         Ok(LeafSystem {
             alloc,
             system,
-            reasons,
+            lows,
+            highs,
+            entered: Vec::new(alloc),
         })
     }
 
@@ -108,21 +119,26 @@ impl LeafSystem {
     pub(crate) fn raise<L: Ledger>(
         &mut self,
         node: u32,
-        least: u64,
-        reason: Reason,
+        low: LowBound,
         work: &mut Steps<L>,
     ) -> Result<(), AddFault>
         requires node { node < length self.old.demands.bounds }
-        requires tighter { (bounds : Bounds) → Bounded self.old.demands node bounds → bounds.floor < least }
-        ensures ok { OnOk result (self.new.demands ≡ with_floor self.old.demands node least node) }
-        ensures adds { AddsFact reason (at_least node least) self.old self.new result }
+        requires tighter { (bounds : Bounds) → Bounded self.old.demands node bounds → bounds.floor < low.time }
+        ensures ok { OnOk result (self.new.demands ≡ with_floor self.old.demands node low.time node) }
+        ensures adds { AddsFact (low_reason node low.time low.reason) (at_least node low.time)
+            self.old self.new result }
         ensures step { work.new ≡ work.old + 1 }
     {
-        let index = node as usize;
-        let old = mem::replace(&mut self.reasons[index], reason);
-        match self.system.raise(node, least, u64::from(node), work) {
-            Ok(()) => Ok(()),
-            Err(Conflict) => Err(refused(self.alloc, &self.system, &mut self.reasons, index, old)),
+        match self.system.raise(node, low.time, node, work) {
+            Ok(()) => {
+                self.lows[node as usize] = low.reason;
+                Ok(())
+            }
+            Err(Conflict) => Err(self.refused(
+                self.system.cycle(),
+                node,
+                low.reason.of(node, low.time),
+            )),
         }
     }
 
@@ -130,83 +146,101 @@ impl LeafSystem {
     pub(crate) fn lower<L: Ledger>(
         &mut self,
         node: u32,
-        ceiling: u64,
-        reason: Reason,
+        high: HighBound,
         work: &mut Steps<L>,
     ) -> Result<(), AddFault>
         requires node { node < length self.old.demands.bounds }
         requires tighter { (bounds : Bounds) → Bounded self.old.demands node bounds →
-            ceiling < bounds.ceiling }
+            high.time < bounds.ceiling }
         ensures ok { OnOk result
-            (self.new.demands ≡ with_ceiling self.old.demands node ceiling
+            (self.new.demands ≡ with_ceiling self.old.demands node high.time
             (length self.old.demands.bounds + node)) }
-        ensures adds { AddsFact reason (at_most node (pos ceiling)) self.old self.new result }
+        ensures adds { AddsFact (high_reason node high.reason) (at_most node (pos high.time))
+            self.old self.new result }
         ensures step { work.new ≡ work.old + 1 }
     {
-        let tag = u64::from(self.system.variable_count()) + u64::from(node);
-        let index = tag as usize;
-        let old = mem::replace(&mut self.reasons[index], reason);
-        match self.system.lower(node, ceiling, tag, work) {
-            Ok(()) => Ok(()),
-            Err(Conflict) => Err(refused(self.alloc, &self.system, &mut self.reasons, index, old)),
+        let tag = self.system.variable_count() + node;
+        match self.system.lower(node, high.time, tag, work) {
+            Ok(()) => {
+                self.highs[node as usize] = high.reason;
+                Ok(())
+            }
+            Err(Conflict) => Err(self.refused(self.system.cycle(), tag, high.reason.of(node))),
         }
     }
 
-    /// Pushes the constraint that a reason states.
+    /// How many alternatives are entered.
+    pub(crate) fn entered_count(&self) -> usize
+        ensures { result ≡ length self.now.entered }
+    {
+        self.entered.len()
+    }
+
+    /// Enters one more alternative, to which the picks after it belong.
+    pub(crate) fn enter(&mut self) -> Result<(), NoMemory>
+        ensures ok { OnOk result (self.new ≡ record self.old {
+          entered = self.old.entered ++ length (pick_reasons self.old) ∷ [];
+        }) }
+        ensures err { OnErr result (self.new ≡ self.old) }
+    {
+        let before = self.pick_count();
+        self.entered.push(before)?;
+        Ok(())
+    }
+
+    /// Pushes the next constraint of the alternative that was entered last: that of this split and this number, both
+    /// counted from 1.
     pub(crate) fn push<L: Ledger>(
         &mut self,
         constraint: Constraint,
-        reason: Reason,
+        split: u64,
+        number: u32,
         work: &mut Steps<L>,
     ) -> Result<(), AddFault>
         requires left { constraint.left ≤ length self.old.demands.bounds }
         requires right { constraint.right ≤ length self.old.demands.bounds }
+        requires next { IsNext self.old.entered (length (pick_reasons self.old)) split number }
         ensures ok { OnOk result (self.new.demands ≡ with_pick self.old.demands constraint
             (2 * length self.old.demands.bounds + length self.old.demands.picks)) }
-        ensures adds { AddsPick reason constraint self.old self.new result }
+        ensures adds { AddsPick (Pick split number) constraint self.old self.new result }
         ensures step { work.new ≤ work.old + 1 }
     {
+        let Some(tag) = self.next_tag() else {
+            return Err(AddFault::NoMemory);
+        };
         self.system.reserve(1)?;
-        let tag = self.reasons.len() as u64;
-        self.reasons.push(reason)?;
         match self.system.push(constraint, tag, work) {
             Ok(()) => Ok(()),
-            Err(Conflict) => {
-                let fault = closed(self.alloc, self.system.cycle(), &self.reasons);
-                let _ = self.reasons.pop();
-                Err(fault)
-            }
+            Err(Conflict) => Err(self.refused(
+                self.system.cycle(),
+                tag,
+                Reason::Pick {
+                    split,
+                    constraint: number,
+                },
+            )),
         }
     }
 
-    /// Takes all picks after the first so many off again.
-    pub(crate) fn pop_to(&mut self, len: usize)
-        requires { len ≤ length self.old.demands.picks }
-        ensures demands { self.new.demands ≡ popped_to self.old.demands len }
-        ensures reasons { pick_reasons self.new ≡ take len (pick_reasons self.old) }
-        ensures stated { (fact stated : Reason → Option Constraint) → IsStated fact stated self.old →
-            IsStated fact stated self.new }
+    /// The tag of the next pick. There is no memory for more reasons than tags of 32 bits can name.
+    fn next_tag(&self) -> Option<u32>
+        ensures { IfSome result
+            (λ tag. tag ≡ 2 * length self.now.demands.bounds + length self.now.demands.picks) }
     {
-        let bounds = self.reasons.len() - self.pick_count();
-        self.system.pop_to(len as u64);
-        self.reasons.truncate(bounds + len);
+        let bounds = 2 * u64::from(self.system.variable_count());
+        let tag = bounds.checked_add(self.system.pick_count())?;
+        u32::try_from(tag).ok()
     }
-}
 
-/// The conflict that the system found, by these reasons. The old one is put back at the index.
-fn refused(
-    alloc: Global,
-    system: &System,
-    reasons: &mut [Reason],
-    index: usize,
-    old: Reason,
-) -> AddFault
-    requires index { index < length reasons.old }
-    requires tags { All (HasReason reasons.old) system.now.cycle }
-    ensures fault { IsFaultOf (map (reason_of reasons.old) system.now.cycle) result }
-    ensures put_back { reasons.new ≡ slice_set reasons.old index old }
-{
-    let fault = closed(alloc, system.cycle(), reasons);
-    reasons[index] = old;
-    fault
+    /// Leaves all alternatives but the first so many.
+    pub(crate) fn leave(&mut self, kept: usize)
+        requires { kept < length self.old.entered }
+        ensures leaves { Leaves (slice_get self.old.entered kept) self.old self.new }
+        ensures bounds { self.new.demands.bounds ≡ self.old.demands.bounds }
+        ensures entered { self.new.entered ≡ take kept self.old.entered }
+    {
+        let before = self.entered[kept];
+        self.system.pop_to(before as u64);
+        self.entered.truncate(kept);
+    }
 }

@@ -21,10 +21,10 @@
 mod add_facts;
 mod add_fault;
 mod clause_laws;
-mod closing;
 mod cut;
 mod fact_bounds;
 mod found;
+mod kept_reason;
 pub mod laws;
 mod leaf_system;
 mod search;

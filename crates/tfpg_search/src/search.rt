@@ -36,7 +36,6 @@ pub struct Search {
     reach: NodeSet,
     seen: u32,
     path: Vec<PathSplit>,
-    entered: Vec<usize>,
     leaf: LeafSystem,
 }
 
@@ -50,7 +49,7 @@ impl Model for Search {
       reach = s.reach;
       seen = s.seen;
       path = s.path.items;
-      entered = s.entered.items;
+      entered = s.leaf.entered;
       leaf = s.leaf;
     } };
 }
@@ -65,8 +64,8 @@ pub(crate) enum Look {
 }
 
 impl Search {
-    /// The search for a set of failure modes that reaches these nodes, before any event. It keeps about 190 bytes for each
-    /// node, and for each split on the path to its present leaf the split and the constraints of its alternative.
+    /// The search for a set of failure modes that reaches these nodes, before any event. It keeps about 160 bytes for each
+    /// node, and for each split on the path to its present leaf the split, one index and the constraints of its alternative.
     pub fn new(alloc: Global, graph: &Graph, set: Set, reach: NodeSet) -> Result<Search, NoMemory>
         requires members { All (λ index. index < length (failures graph.now)) set }
         requires reach { IsReach graph.now set reach }
@@ -84,7 +83,6 @@ impl Search {
             reach,
             seen: 0,
             path: Vec::new(alloc),
-            entered: Vec::new(alloc),
             leaf,
         })
     }

@@ -1,13 +1,16 @@
 -- What the body of a system keeps: values and links that lead to zero.
-use Rattle.std.specs.Prelude.{◌≡◌, ◌≢◌, Bool, true, false, sum, ℕ, ◌+◌, ◌^◌, ◌<◌, ◌≤◌, ℤ, pos, ◌+ℤ◌, ◌≤ℤ◌, ◌<ℤ◌, List, [], ◌∷◌, ◌++◌, map, length, slice_index, slice_get, All, Some}
-use Rattle.std.specs.List.{HoldsAt}
+use Rattle.std.specs.Prelude.{◌≡◌, ◌≢◌, Bool, true, false, sum, ℕ, ◌+◌, ◌^◌, ◌<◌, ◌≤◌, ℤ, pos, ◌+ℤ◌, ◌≤ℤ◌, ◌<ℤ◌, List, [], ◌∷◌, ◌++◌, map, length, slice_index, slice_get, All, Option, Some, None}
+use Rattle.std.specs.List.{HoldsAt, AllWithin}
 use Rattle.tfpg_diff.specs.declared.why.Why.{Why}
 use Rattle.tfpg_diff.specs.declared.bounds.Bounds.{Bounds}
 use Rattle.tfpg_diff.specs.declared.pick.Pick.{Pick}
 use Rattle.tfpg_diff.specs.declared.demand.Demand.{Demand}
-use Rattle.tfpg_diff.specs.Demands.{Demands, Demanded, Bounded, demand_of_pick, ceiling_of}
+use Rattle.tfpg_diff.specs.declared.link.Link.{Link}
+use Rattle.tfpg_diff.specs.declared.link.Link.TheVariants.{Ceiling}
+use Rattle.tfpg_diff.specs.Demands.{Demands, Demanded, Bounded, demand_of_pick}
 pub use Rattle.tfpg_diff.specs.Demands.{demands_of}
 use Rattle.tfpg_diff.specs.Solution.{IsBetween, IsSolution}
+use Rattle.tfpg_diff.specs.inside.Linked.{demands_linked}
 use Rattle.tfpg_base.specs.declared.limits.TheConstants.{NEVER}
 
 -- the greatest value that the constraint allows its left side
@@ -35,8 +38,13 @@ IsLabelled links = (number : ℕ) (demand : Demand) → 0 < number → slice_get
 abbrev pub IsRooted : List Demand → Type 0
 IsRooted links = (number : ℕ) → number < length links → (chain : List Demand) × Climbs links number chain 0
 
--- Some links lead from one number to where the walk stands, and none of them is the link of the number that it seeks; their
--- tags were appended.
+-- Some links lead from one number to where the walk stands, and none of them is the link of the number that it seeks.
+pub record LeadsTo (links : List Demand) (from sought stands : ℕ) : Type 0 where
+  pub chain : List Demand
+  pub climbs : Climbs links from chain stands
+  pub avoids : All (λ (demand : Demand). demand.constraint.left ≢ sought) chain
+
+-- The same, and the tags of the links were appended.
 pub record Walked (links : List Demand) (from sought stands : ℕ) (before after : List Why) : Type 0 where
   pub chain : List Demand
   pub climbs : Climbs links from chain stands
@@ -53,12 +61,13 @@ pub record IsLink (demands : Demands) (values : List ℕ) (number : ℕ) (demand
 
 -- What is demanded can be computed with.
 pub record IsSound (demands : Demands) : Type 0 where
-  pub few : length demands.bounds < 2 ^ 32
+  pub few : length demands.bounds ≤ 2 ^ 31
+  pub few_picks : length demands.picks < 2 ^ 32
   pub ceilings : (variable : ℕ) (bounds : Bounds) → Bounded demands variable bounds → bounds.ceiling ≤ NEVER
   pub lefts : All (λ (pick : Pick). pick.constraint.left ≤ length demands.bounds) demands.picks
   pub rights : All (λ (pick : Pick). pick.constraint.right ≤ length demands.bounds) demands.picks
 
--- Values and links between any two lowerings.
+-- Values between any two lowerings, with the demands that they come from.
 pub record IsKept (demands : Demands) (values : List ℕ) (links : List Demand) : Type 0 where
   pub values_len : length values ≡ length demands.bounds + 1
   pub links_len : length links ≡ length demands.bounds + 1
@@ -67,6 +76,11 @@ pub record IsKept (demands : Demands) (values : List ℕ) (links : List Demand) 
   pub linked : (number : ℕ) (demand : Demand) → 0 < number → slice_get links number ≡ Some demand → IsLink demands values number demand
   pub within : (variable : ℕ) (bounds : Bounds) → Bounded demands variable bounds → IsBetween bounds (slice_index values (variable + 1))
   pub greatest : (times : List ℕ) → IsSolution demands times → (number : ℕ) → slice_index (0 ∷ times) number ≤ slice_index values number
+
+-- Values and links between any two lowerings.
+pub record AreKept (demands : Demands) (values : List ℕ) (links : List Link) : Type 0 where
+  pub count : length links ≡ length demands.bounds + 1
+  pub kept : IsKept demands values (demands_linked demands links)
 
 -- Values meet each pick.
 abbrev pub MeetsPicks : List ℕ → List Pick → Type 0
@@ -77,27 +91,22 @@ abbrev pub Relaxes : List Pick → ℕ → List ℕ → Bool → List ℕ → Ty
 Relaxes picks index before true after = sum after < sum before
 Relaxes picks index before false after = (after ≡ before) × HoldsAt (λ pick. IsMetBy after (demand_of_pick pick)) picks index
 
--- What testing some picks does to values: where any was broken they sum up to less, else they stay and meet all.
-abbrev pub Passes : List Pick → List ℕ → Bool → List ℕ → Type 0
-Passes picks before true after = sum after < sum before
-Passes picks before false after = (after ≡ before) × MeetsPicks after picks
+-- Values meet each pick from an index up to another.
+abbrev pub AreMetFrom : List ℕ → List Pick → ℕ → ℕ → Type 0
+AreMetFrom values picks first end = AllWithin (λ pick. IsMetBy values (demand_of_pick pick)) picks first end
+
+-- What testing so many picks does to values: where any was broken they sum up to less, and meet those after the last that was;
+-- else they stay and meet all.
+abbrev pub Passes : List Pick → ℕ → List ℕ → Option ℕ → List ℕ → Type 0
+Passes picks count before (Some last) after = (sum after < sum before) × (last < count) × AreMetFrom after picks (last + 1) count
+Passes picks count before None after = (after ≡ before) × AreMetFrom after picks 0 count
 
 -- The variables below a number have their upper bounds as values and as links.
-pub record AreAtCeilings (bounds : List Bounds) (values : List ℕ) (links : List Demand) (count : ℕ) : Type 0 where
+pub record AreAtCeilings (bounds : List Bounds) (values : List ℕ) (links : List Link) (count : ℕ) : Type 0 where
   pub values_len : length values ≡ length bounds + 1
   pub links_len : length links ≡ length bounds + 1
   pub zero_stays : slice_index values 0 ≡ 0
   pub values_are : (variable : ℕ) (limits : Bounds) → variable < count → slice_get bounds variable ≡ Some limits →
       slice_index values (variable + 1) ≡ limits.ceiling
   pub links_are : (variable : ℕ) (limits : Bounds) → variable < count → slice_get bounds variable ≡ Some limits →
-      slice_get links (variable + 1) ≡ Some (ceiling_of variable limits)
-
--- Between calls: what is kept, every pick met, and room for what a call saves or lends.
-pub record IsReady (demands : Demands) (values : List ℕ) (links : List Demand) (backup_values : List ℕ)
-    (backup_links : List Demand) (cycle_capacity : ℕ) : Type 0 where
-  pub sound : IsSound demands
-  pub kept : IsKept demands values links
-  pub met : MeetsPicks values demands.picks
-  pub backup_values_len : length backup_values ≡ length demands.bounds + 1
-  pub backup_links_len : length backup_links ≡ length demands.bounds + 1
-  pub room : length demands.bounds + 3 ≤ cycle_capacity
+      slice_get links (variable + 1) ≡ Some Ceiling

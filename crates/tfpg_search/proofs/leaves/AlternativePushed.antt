@@ -1,5 +1,5 @@
 -- The picks of an alternative are pushed, and popped where it is left.
-use Rattle.std.proofs.Common.{◌≡◌, ℕ, zero, suc, ◌+◌, ◌<◌, ◌≤◌, List, [], ◌∷◌, ◌++◌, length, take, true, false, Option, Some, None, refl, sym, ap, subst, ◌∙◌, arith, append_assoc}
+use Rattle.std.proofs.Common.{◌≡◌, ℕ, zero, suc, ◌+◌, ◌<◌, ◌≤◌, List, [], ◌∷◌, ◌++◌, length, true, false, Option, Some, None, refl, sym, ap, subst, ◌∙◌, arith, append_assoc, length-append}
 use Rattle.std.specs.Prelude.{All, slice_get, IsTrue, is_some, option_and_then, Result, Ok, Err, OnOk, OnErr}
 use Rattle.std.specs.Option.{option_map_or}
 use Rattle.std.proofs.lemmas.Option.{slice_get_within, slice_get_past, get_or_from_slice_get}
@@ -15,14 +15,15 @@ use Rattle.tfpg_clause.specs.Facts.{fact}
 use Rattle.tfpg_clause.specs.Clauses.{alternatives, constraint_at, IsOver, IsSmall}
 use Rattle.tfpg_base.specs.Choice.{item_at}
 use Rattle.tfpg_graph.specs.Valid.{IsValid}
-use Rattle.tfpg_search.proofs.leaves.PicksOfPath.{of_split, alternative_of, constraint_in, constraint_in_is, picks_push}
+use Rattle.tfpg_search.proofs.leaves.PicksOfPath.{of_split, alternative_of, constraint_in, constraint_in_is, picks_push, length-picks_from}
 use Rattle.tfpg_search.specs.inside.ClauseLaws.{ClauseLaws}
 use Rattle.tfpg_search.specs.declared.add_fault.AddFault.{AddFault}
 use Rattle.tfpg_search.specs.inside.Closing.{Closes}
 use Rattle.tfpg_clause.specs.declared.path.PathSplit.{PathSplit}
-use Rattle.tfpg_diff.specs.SystemState.{popped_to}
 use Rattle.tfpg_search.specs.inside.Leaf.{Leaf, pick_reasons, IsStated}
 use Rattle.tfpg_search.specs.inside.Picks.{constraint_count, picks_from}
+use Rattle.tfpg_search.specs.inside.EnteredPicks.{IsNext}
+use Rattle.tfpg_search.proofs.stated_system.PicksEntered.{IsNext-later}
 use Rattle.tfpg_search.specs.inside.Leaving.{constraint_count_at, Leaves, Pushing, PushesOne}
 use Rattle.tfpg_search.specs.SearchState.{SearchState}
 use Rattle.tfpg_base.proofs.lists.Choices.{number_in, number_out}
@@ -31,19 +32,10 @@ use Rattle.tfpg_clause.specs.Case.{Case, case_of}
 
 -- ---- leaving
 
-module _ (items entered : List ℕ) (kept : ℕ) (inside old : Leaf) (items_are : items ≡ entered) (leaf_is : inside ≡ old) where
-  pub leaves_some : (new : Leaf) (count before : ℕ) → count ≡ length items → kept < count → slice_get items kept ≡ Some before → new.demands ≡ popped_to inside.demands before
-      → ((facts stated : Reason → Option Constraint) → IsStated facts stated inside → IsStated facts stated new)
-      → pick_reasons new ≡ take before (pick_reasons inside) → Leaves (slice_get entered kept) old new
-  leaves_some new count before is less at demands stated reasons =
-      let there : slice_get entered kept ≡ Some before = ap (λ (xs : List ℕ). slice_get xs kept) (sym items_are) ∙ at in
-      let gone : Leaves (Some before) inside new = (record { variables = ap (λ d. length d.bounds) demands; stated = stated }, reasons) in
-      subst (λ (o : Option ℕ). Leaves o old new) (sym there) (subst (λ (l : Leaf). Leaves (Some before) l new) leaf_is gone)
-
-  pub leaves_none : (count : ℕ) → count ≡ length items → count ≤ kept → Leaves (slice_get entered kept) old old
-  leaves_none count is not_less =
-      let there : slice_get entered kept ≡ None = ap (λ (xs : List ℕ). slice_get xs kept) (sym items_are) ∙ slice_get_past items kept (omega arith) in
-      subst (λ (o : Option ℕ). Leaves o old old) (sym there) refl
+-- no alternative is left where there are no more
+pub leaves_none : (entered : List ℕ) (kept : ℕ) (leaf : Leaf) (count : ℕ) → count ≡ length entered → count ≤ kept → Leaves (slice_get entered kept) leaf leaf
+leaves_none entered kept leaf count is not_less =
+    subst (λ (o : Option ℕ). Leaves o leaf leaf) (sym (slice_get_past entered kept (omega arith))) refl
 
 -- ---- pushing
 
@@ -173,6 +165,18 @@ module _ (case : Case) (path : List PathSplit) (old : Leaf) where
 -- what holds of the reach and the path of one holds of another with the same
 pub at_other : (one other : SearchState) → other.reach ≡ one.reach → other.path ≡ one.path → (P : List ℕ → List PathSplit → Type 0) → P other.reach other.path → P one.reach one.path
 at_other one other same_reach same_path P holds = subst (λ (r : List ℕ). P r one.path) same_reach (subst (P other.reach) same_path holds)
+
+-- the next constraint of the alternative has the next number
+pub loop_next : (now loop : SearchState) → loop ≡ record now { leaf = loop.leaf } → (split before : ℕ) → pick_reasons loop.leaf ≡ pick_reasons now.leaf ++ picks_from split 1 before
+    → IsNext now.entered (length (pick_reasons now.leaf)) split 1 → before < MAX_CONSTRAINTS → IsNext loop.entered (length (pick_reasons loop.leaf)) split (before + 1)
+loop_next now loop same split before picks next less =
+    let many : length (pick_reasons now.leaf) + before ≡ length (pick_reasons loop.leaf) =
+    (let all = ap (λ (rs : List Reason). length rs) picks in
+    let both = length-append (pick_reasons now.leaf) (picks_from split 1 before) in
+    let more = length-picks_from split 1 before in
+    omega arith) in
+    subst (λ (es : List ℕ). IsNext es (length (pick_reasons loop.leaf)) split (before + 1)) (sym (ap (λ (s : SearchState). s.entered) same))
+    (subst (λ (n : ℕ). IsNext now.entered n split (before + 1)) many (IsNext-later now.entered (length (pick_reasons now.leaf)) before split next less))
 
 -- the picks go on by one more constraint of the alternative
 module _ (graph : Tfpg) (log : Logbook) (now loop : SearchState) (same : loop ≡ record now { leaf = loop.leaf })

@@ -1,7 +1,6 @@
 -- After each move the search stands at its leaf, and its steps lead there.
-use Rattle.std.proofs.Common.{◌≡◌, ℕ, ◌+◌, ◌-◌, ◌<◌, ◌≤◌, List, [], ◌∷◌, ◌++◌, length, take, Option, Some, None, sym, ap, subst, ◌∙◌, arith, length-append}
+use Rattle.std.proofs.Common.{◌≡◌, ℕ, ◌+◌, ◌-◌, ◌<◌, List, [], ◌∷◌, ◌++◌, length, take, Option, Some, None, sym, ap, subst, ◌∙◌}
 use Rattle.std.specs.Prelude.{slice_get, Result, Ok, Err, OnOk, IfErr}
-use Rattle.std.proofs.lemmas.Option.{same_Some}
 use Rattle.tfpg_base.specs.declared.constraint.Constraint.{Constraint}
 use Rattle.tfpg_graph.specs.Graph.{Tfpg}
 use Rattle.tfpg_log.specs.Log.{Logbook}
@@ -21,15 +20,14 @@ use Rattle.tfpg_search.specs.inside.Leaf.{Leaf, pick_reasons, IsStated}
 use Rattle.tfpg_search.specs.inside.Picks.{picks_from}
 use Rattle.tfpg_search.specs.inside.Leaving.{constraint_count_at, Leaves, Pushing}
 use Rattle.tfpg_search.specs.SearchState.{SearchState, case_of_search}
-use Rattle.tfpg_search.specs.inside.AtItsLeaf.{IsAtItsLeaf, HasEnteredAll}
+use Rattle.tfpg_search.specs.inside.AtItsLeaf.{IsAtItsLeaf, HasEnteredAll, with_next_entered}
 use Rattle.tfpg_search.specs.inside.Moves.{IsSearchStepAt, Grows, GrowsAnyhow, KeepsSet, IsLoaded, untaken}
 use Rattle.tfpg_search.proofs.steps.StepsAppended.{grows_none, grows_one}
 use Rattle.tfpg_search.specs.inside.Facts.{AreFactsIn}
 use Rattle.tfpg_search.proofs.work.BoundsGiven.{system_given}
 use Rattle.tfpg_search.proofs.leaves.AlternativePushed.{at_other}
 use Rattle.tfpg_search.proofs.leaves.AtItsLeaf.{leaf_stands, cited_stands, split_stands, enter_stands, left_again}
-use Rattle.tfpg_base.proofs.lists.Written.{slice_get-push_last}
-use Rattle.tfpg_search.proofs.leaves.NextLeaf.{counted, next_stands, next_some, next_fewer, untaken_cited}
+use Rattle.tfpg_search.proofs.leaves.NextLeaf.{next_stands, next_some, next_fewer, untaken_cited}
 use Rattle.tfpg_search.proofs.steps.PathAfter.{Moved, moved_by}
 use Rattle.tfpg_clause.specs.Trees.{split_count, stated, new_split, cited_by}
 use Rattle.tfpg_clause.specs.Case.{case_of}
@@ -84,11 +82,6 @@ module _ (graph : Tfpg) (log : Logbook) (old : SearchState) (at : IsAtItsLeaf gr
       marked_at : IsAtItsLeaf graph log marked
       marked_at = cited_stands graph log old at moved.0
 
-      pub close_counted : (kept number : ℕ) → slice_get middle.entered kept ≡ Some number → number ≤ length (pick_reasons middle.leaf)
-      close_counted kept number there =
-          subst (λ (l : Leaf). number ≤ length (pick_reasons l)) (sym (ap (λ (s : SearchState). s.leaf) same))
-          (counted graph log old at kept number (ap (λ (s : SearchState). slice_get s.entered kept) (sym same) ∙ there))
-
       pub close_some : length middle.path ≡ 0 → ⊥
       close_some = next_some graph log marked marked_at middle.path moved.1
 
@@ -115,7 +108,7 @@ module _ (graph : Tfpg) (log : Logbook) (old : SearchState) (at : IsAtItsLeaf gr
 -- ---- entering
 
 module _ (graph : Tfpg) (log : Logbook) (old : SearchState) (at : IsAtItsLeaf graph log old) where
-  module _ (marked : SearchState) (marked_is : marked ≡ record old { entered = old.entered ++ length (pick_reasons old.leaf) ∷ [] }) where
+  module _ (marked : SearchState) (marked_is : marked ≡ with_next_entered old) where
     pub marked_stated : IsStated (fact (case_of graph log marked.reach)) (stated (case_of graph log marked.reach) marked.path) marked.leaf
     marked_stated =
         subst (λ (s : SearchState). IsStated (fact (case_of graph log s.reach)) (stated (case_of graph log s.reach) s.path) s.leaf) (sym marked_is) at.stated
@@ -128,7 +121,9 @@ module _ (graph : Tfpg) (log : Logbook) (old : SearchState) (at : IsAtItsLeaf gr
       whole = pushed_is ∙ ap (λ (s : SearchState). record s { leaf = pushed.leaf }) marked_is
 
       pushing_old : Pushing (case_of graph log old.reach) old.path old.leaf pushed.leaf
-      pushing_old = subst (λ (s : SearchState). Pushing (case_of graph log s.reach) s.path s.leaf pushed.leaf) marked_is pushing
+      pushing_old =
+          let from_marked = subst (λ (s : SearchState). Pushing (case_of graph log s.reach) s.path s.leaf pushed.leaf) marked_is pushing in
+          record { variables = from_marked.variables; stated = from_marked.stated; more = from_marked.more }
 
       module _ (count : ℕ) (count_is : count ≡ length old.entered) where
         module _ (not_all : count ≡ length old.path → ⊥) (split : ℕ) (split_is : split ≡ count + 1)
@@ -144,17 +139,6 @@ module _ (graph : Tfpg) (log : Logbook) (old : SearchState) (at : IsAtItsLeaf gr
               let picks_there : pick_reasons pushed.leaf ≡ pick_reasons old.leaf ++ picks_from (length old.entered + 1) 1 (constraint_count_at graph log old.path (length old.entered + 1)) =
               subst (λ (n : ℕ). pick_reasons pushed.leaf ≡ pick_reasons old.leaf ++ picks_from n 1 (constraint_count_at graph log old.path n)) number picks_old in
               subst (IsAtItsLeaf graph log) (sym whole) (enter_stands graph log old at left_out pushed.leaf pushing_old picks_there)
-
-        pub left_counted : (number : ℕ) → slice_get pushed.entered count ≡ Some number → number ≤ length (pick_reasons pushed.leaf)
-        left_counted number there =
-            let entered_is : pushed.entered ≡ old.entered ++ length (pick_reasons old.leaf) ∷ [] = ap (λ (s : SearchState). s.entered) whole in
-            let here : slice_get (old.entered ++ length (pick_reasons old.leaf) ∷ []) (length old.entered) ≡ Some number =
-            ap (λ (es : List ℕ). slice_get es (length old.entered)) (sym entered_is) ∙ ap (λ (n : ℕ). slice_get pushed.entered n) (sym count_is) ∙ there in
-            let same : length (pick_reasons old.leaf) ≡ number =
-            same_Some (length (pick_reasons old.leaf)) number (sym (slice_get-push_last old.entered (length (pick_reasons old.leaf))) ∙ here) in
-            let long : length (pick_reasons pushed.leaf) ≡ length (pick_reasons old.leaf) + length pushing_old.more.0 =
-            ap (λ (rs : List Reason). length rs) pushing_old.more.1 ∙ length-append (pick_reasons old.leaf) pushing_old.more.0 in
-            omega arith
 
         pub left_stands : (new : SearchState) → new ≡ record pushed { entered = take count pushed.entered; leaf = new.leaf }
             → Leaves (slice_get pushed.entered count) pushed.leaf new.leaf → IsAtItsLeaf graph log new × KeepsSet old new × (new.path ≡ old.path)

@@ -17,7 +17,7 @@ use Rattle.tfpg_search.specs.inside.AtItsLeaf.{IsAtItsLeaf}
 use Rattle.tfpg_search.specs.inside.Leaving.{KeepsBounds, Leaves}
 use Rattle.tfpg_search.specs.inside.Moves.{untaken}
 use Rattle.tfpg_search.proofs.steps.DistinctNames.{range_next}
-use Rattle.tfpg_search.proofs.leaves.PicksOfPath.{picks_are, picks_take, picks_fewer}
+use Rattle.tfpg_search.proofs.leaves.PicksOfPath.{picks_are, picks_take}
 use Rattle.tfpg_search.proofs.leaves.AtItsLeaf.{restated, of_same, fact_stated}
 use Rattle.tfpg_base.proofs.lists.Cuts.{slice_get-taken}
 use Rattle.tfpg_base.proofs.lists.Elements.{slice_get-none}
@@ -41,15 +41,6 @@ keeps_of None old new same = subst (KeepsBounds old) (sym same) (record { variab
 keeps_of (Some count) old new leaves = leaves.0
 
 module _ (graph : Tfpg) (log : Logbook) (old : SearchState) (at : IsAtItsLeaf graph log old) where
-  -- so many picks stood before a split that there are at least as many now
-  pub counted : (split before : ℕ) → slice_get old.entered split ≡ Some before → before ≤ length (pick_reasons old.leaf)
-  counted split before there =
-      let within = slice_get_within old.entered split before there in
-      let fewer = picks_fewer graph log 1 old.path split (length old.entered) (omega arith) in
-      let number = at.picks.counts split before there in
-      let all : length (pick_reasons old.leaf) ≡ length (picks_of graph log (take (length old.entered) old.path)) = ap (λ (rs : List Reason). length rs) at.picks.reasons in
-      omega arith
-
   module _ (next : List PathSplit) (after : After old.path next) where
     abbrev front : List PathSplit
     front = after.front

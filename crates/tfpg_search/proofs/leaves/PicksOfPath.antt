@@ -1,8 +1,8 @@
 -- The picks of a path: which they are, and where each stands.
-use Rattle.std.proofs.Common.{◌≡◌, ℕ, zero, suc, ◌+◌, ◌<◌, ◌≤◌, List, [], ◌∷◌, ◌++◌, length, take, min, Option, Some, None, refl, sym, ap, ◌∙◌, inl, inr, arith, append_assoc}
+use Rattle.std.proofs.Common.{◌≡◌, ℕ, zero, suc, ◌+◌, ◌<◌, ◌≤◌, List, [], ◌∷◌, ◌++◌, length, take, Option, Some, None, refl, sym, ap, ◌∙◌, inl, inr, arith, append_assoc}
 use Rattle.std.specs.Prelude.{slice_get, option_and_then}
 use Rattle.std.proofs.Math.Seq.{take-append-add}
-use Rattle.std.proofs.lemmas.List.{append-nil, length-append, length-take}
+use Rattle.std.proofs.lemmas.List.{append-nil, length-append}
 use Rattle.tfpg_base.specs.declared.constraint.Constraint.{Constraint}
 use Rattle.tfpg_graph.specs.Graph.{Tfpg}
 use Rattle.tfpg_log.specs.Log.{Logbook}
@@ -25,6 +25,11 @@ picks_cited graph log number reasons (taken ∷ deeper) (suc count) =
     ap (λ (rs : List Reason). picks_from number 1 (constraint_count graph log taken) ++ rs) (picks_cited graph log (number + 1) reasons deeper count)
 
 -- ---- the picks of one alternative
+
+-- there are so many
+pub length-picks_from : (split number count : ℕ) → length (picks_from split number count) ≡ count
+length-picks_from split number zero = refl
+length-picks_from split number (suc count) = ap suc (length-picks_from split (number + 1) count)
 
 pub pick_of : (split number count i : ℕ) (r : Reason) → slice_get (picks_from split number count) i ≡ Some r → (p : ℕ) × (r ≡ Pick split p)
 pick_of split number zero i r is = cc
@@ -135,12 +140,3 @@ module _ (graph : Tfpg) (log : Logbook) where
       let few = picks_of_from graph log (start + 1) (take n deeper) in
       let many = picks_of_from graph log (start + 1) (take m deeper) in
       ap (λ (count : ℕ). take count (front ++ many)) (length-append front few) ∙ take-append-add front many (length few) ∙ ap (λ (rs : List Reason). front ++ rs) (picks_take (start + 1) deeper n m (omega arith))
-
-  pub picks_fewer : (start : ℕ) (path : List PathSplit) (n m : ℕ) → n ≤ m
-      → length (picks_of_from graph log start (take n path)) ≤ length (picks_of_from graph log start (take m path))
-  picks_fewer start path n m less =
-      let front = picks_of_from graph log start (take n path) in
-      let whole = picks_of_from graph log start (take m path) in
-      let cut : length (take (length front) whole) ≡ length front = ap (λ (rs : List Reason). length rs) (picks_take start path n m less) in
-      let long : length (take (length front) whole) ≡ min (length front) (length whole) = length-take (length front) whole in
-      omega arith

@@ -1,63 +1,26 @@
 -- What each call of the system of a leaf leaves.
-use Rattle.std.proofs.Common.{◌≡◌, ℕ, ◌+◌, ◌*◌, ◌<◌, List, [], ◌∷◌, ◌++◌, length, get_or, set, map, take, drop, Option, Some, refl, sym, ◌∙◌, ap, subst, inr, arith}
-use Rattle.std.specs.Prelude.{pos, option_and_then, All}
-use Rattle.std.proofs.Math.Seq.{take-append_seam}
+use Rattle.std.proofs.Common.{◌≡◌, ℕ, ◌+◌, ◌*◌, ◌<◌, List, [], ◌∷◌, ◌++◌, length, get_or, set, take, drop, Option, Some, refl, sym, ◌∙◌, ap, subst, inr, arith}
+use Rattle.std.specs.Prelude.{pos, option_and_then}
 use Rattle.std.proofs.lemmas.List.{drop-set-lt}
-use Rattle.std.proofs.lemmas.Option.{slice_get_within, slice_get-get_or, slice_get_read}
+use Rattle.std.proofs.lemmas.Option.{slice_get_within, slice_get-get_or}
 use Rattle.tfpg_base.specs.declared.constraint.Constraint.{Constraint}
 use Rattle.tfpg_evidence.specs.declared.reason.Reason.{Reason}
 use Rattle.tfpg_base.specs.Bounds.{at_most, at_least}
-use Rattle.tfpg_diff.specs.declared.why.Why.{Why}
 use Rattle.tfpg_diff.specs.declared.why.Why.TheVariants.{Given}
 use Rattle.tfpg_diff.specs.declared.bounds.Bounds.{Bounds}
 use Rattle.tfpg_diff.specs.Demands.{Demands, Bounded}
 use Rattle.tfpg_diff.specs.SystemState.{widest, with_floor, with_ceiling, with_pick, popped_to}
 use Rattle.tfpg_diff.specs.inside.Kept.{demands_of}
-use Rattle.tfpg_diff.specs.Cycle.{NamesNegativeCycle}
 use Rattle.tfpg_diff.proofs.Bounding.{under, over}
-use Rattle.tfpg_base.proofs.lists.Written.{slice_get-set_same, slice_get-set_other, set_back}
+use Rattle.tfpg_base.proofs.lists.Written.{slice_get-set_same, slice_get-set_other}
 use Rattle.tfpg_diff.proofs.Updates.{with_floor-tighter, with_ceiling-tighter}
-use Rattle.tfpg_search.specs.declared.add_fault.AddFault.{AddFault}
 use Rattle.tfpg_search.specs.inside.Leaf.{Leaf, pick_reasons, IsStated}
-use Rattle.tfpg_search.specs.inside.Tags.{IsTagged, HasReason, reason_of}
-use Rattle.tfpg_search.specs.inside.Closing.{Closes, IsFaultOf}
+use Rattle.tfpg_search.specs.inside.Tags.{IsTagged}
 use Rattle.tfpg_search.proofs.stated_system.TagsStay.{IsTagged-write, IsTagged-push}
-use Rattle.tfpg_search.proofs.stated_system.DemandsStayStated.{leaf_of, tagged_by-floor, tagged_by-ceiling, IsIndexOf, IsStated-write, IsStated-push, IsStated-pop, pick_reasons-push, pick_reasons-pop}
-use Rattle.tfpg_search.proofs.stated_system.CycleCloses.{HasReason-cycle, AreDemandsNamed-stated, Closes-cycle}
-
-module _ (demands : Demands) (reasons read : List Reason) (tags lent : List Why) (is_read : read ≡ reasons) (is_lent : lent ≡ tags)
-    (tagged : IsTagged demands reasons) (found : NamesNegativeCycle demands tags) where
-  -- each tag of a cycle that was lent has its reason
-  pub HasReason-read : All (HasReason read) lent
-  HasReason-read =
-      subst (λ (rs : List Reason). All (HasReason rs) lent) (sym is_read)
-      (subst (All (HasReason reasons)) (sym is_lent) (HasReason-cycle demands reasons tagged tags found))
-
-  -- the reasons that were read of it close the leaf
-  pub Closes-read : (fact stated : Reason → Option Constraint) (fault : AddFault) → IsStated fact stated (leaf_of demands reasons) →
-      IsFaultOf (map (reason_of read) lent) fault → Closes stated fault
-  Closes-read fact stated fault is_stated is = Closes-cycle stated demands reasons tags fault
-      (AreDemandsNamed-stated demands reasons tagged fact stated is_stated) found
-      (subst (λ (rs : List Reason). IsFaultOf (map (reason_of rs) tags) fault) is_read
-      (subst (λ (whys : List Why). IsFaultOf (map (reason_of read) whys) fault) is_lent is))
+use Rattle.tfpg_search.proofs.stated_system.DemandsStayStated.{system_of, leaf_of, tagged_by-floor, tagged_by-ceiling, IsIndexOf, IsStated-write, IsStated-push, IsStated-pop, pick_reasons-push, pick_reasons-pop}
 
 -- The fields of the system are what contracts see of it.
-module _ (leaf : Leaf) (demands : Demands) (reasons : List Reason) (view : leaf_of demands reasons ≡ leaf) (tagged : IsTagged demands reasons) where
-  -- a reason that is put back in the list that was lent leaves what there was
-  pub put_back : (index len : ℕ) (reason old : Reason) (lent back rest : List Reason) → index < length reasons → old ≡ get_or reasons index old →
-      lent ≡ set reasons index reason → back ≡ set lent index old → len ≡ length reasons → take len (back ++ rest) ≡ reasons
-  put_back index len reason old lent back rest within read is_lent is_back many =
-      let same : back ≡ reasons =
-      is_back ∙ ap (λ (rs : List Reason). set rs index old) is_lent ∙ set_back reasons index old reason (slice_get_read reasons (length reasons) index old refl within read) in
-      ap (λ (n : ℕ). take n (back ++ rest)) (many ∙ ap length (sym same)) ∙ take-append_seam back rest ∙ same
-
-  -- so it is the leaf that it was
-  pub restored : (new : Demands) (left : List Reason) → new ≡ demands → left ≡ reasons → leaf_of new left ≡ leaf
-  restored new left same are = ap (λ (d : Demands). leaf_of d left) same ∙ ap (leaf_of demands) are ∙ view
-
-  pub restored_tagged : (new : Demands) (left : List Reason) → new ≡ demands → left ≡ reasons → IsTagged new left
-  restored_tagged new left same are = subst (λ (d : Demands). IsTagged d left) (sym same) (subst (IsTagged demands) (sym are) tagged)
-
+module _ (leaf : Leaf) (demands : Demands) (reasons : List Reason) (entered : List ℕ) (view : system_of demands reasons entered ≡ leaf) (tagged : IsTagged demands reasons) where
   written_reasons : (new : Demands) (index : ℕ) (reason : Reason) → length new.bounds ≡ length demands.bounds → index < 2 * length demands.bounds
       → pick_reasons (leaf_of new (set reasons index reason)) ≡ pick_reasons leaf
   written_reasons new index reason same within =
@@ -65,27 +28,20 @@ module _ (leaf : Leaf) (demands : Demands) (reasons : List Reason) (view : leaf_
 
   module _ (v : ℕ) (within : v < length leaf.demands.bounds) where
     -- the bounds that the node has
-    abbrev bounds_of : Bounds
+    abbrev pub bounds_of : Bounds
     bounds_of = get_or demands.bounds v (widest 0)
 
-    at : Bounded demands v bounds_of
+    pub at : Bounded demands v bounds_of
     at = slice_get-get_or demands.bounds v (widest 0) (subst (λ (l : Leaf). v < length l.demands.bounds) (sym view) within)
 
     seen : Bounded leaf.demands v bounds_of
     seen = subst (λ (l : Leaf). Bounded l.demands v bounds_of) view at
 
     -- the node is one of those of the system
-    inside : v < length demands.bounds
+    pub inside : v < length demands.bounds
     inside = slice_get_within demands.bounds v bounds_of at
 
-    -- the indexes of the reasons of its bounds
-    pub floor_within : v < length reasons
-    floor_within = let below = inside in let many = tagged.one_each in omega arith
-
-    pub ceiling_within : (index : ℕ) → index ≡ length demands.bounds + v → index < length reasons
-    ceiling_within index is = let below = inside in let many = tagged.one_each in omega arith
-
-    -- a reason that is written at one of them leaves those of the picks
+    -- a reason that is written at the index of one of its bounds leaves those of the picks
     pub floor_kept : (new : Demands) (reason : Reason) → length new.bounds ≡ length demands.bounds → pick_reasons (leaf_of new (set reasons v reason)) ≡ pick_reasons leaf
     floor_kept new reason same = written_reasons new v reason same (let below = inside in omega arith)
 
@@ -95,7 +51,7 @@ module _ (leaf : Leaf) (demands : Demands) (reasons : List Reason) (view : leaf_
 
     module _ (reason : Reason) (least tag : ℕ) (is_tag : tag ≡ v) (tighter : (bounds : Bounds) → Bounded leaf.demands v bounds → bounds.floor < least) where
       -- the demands with the higher bound
-      raised_is : with_floor demands v least tag ≡ demands_of (set demands.bounds v (over bounds_of least v)) demands.picks
+      pub raised_is : with_floor demands v least tag ≡ demands_of (set demands.bounds v (over bounds_of least v)) demands.picks
       raised_is = ap (with_floor demands v least) is_tag ∙ with_floor-tighter demands.bounds demands.picks v bounds_of at least v (tighter bounds_of seen)
 
       -- a raised lower bound, with its reason at the node's index
@@ -120,7 +76,7 @@ module _ (leaf : Leaf) (demands : Demands) (reasons : List Reason) (view : leaf_
     module _ (reason : Reason) (ceiling index : ℕ) (is_index : index ≡ length demands.bounds + v)
         (tighter : (bounds : Bounds) → Bounded leaf.demands v bounds → ceiling < bounds.ceiling) where
       -- the demands with the lower bound
-      lowered_is : with_ceiling demands v ceiling index ≡ demands_of (set demands.bounds v (under bounds_of ceiling index)) demands.picks
+      pub lowered_is : with_ceiling demands v ceiling index ≡ demands_of (set demands.bounds v (under bounds_of ceiling index)) demands.picks
       lowered_is = with_ceiling-tighter demands.bounds demands.picks v bounds_of at ceiling index (tighter bounds_of seen)
 
       -- a lowered upper bound, with its reason after those of all lower bounds
@@ -169,13 +125,6 @@ module _ (leaf : Leaf) (demands : Demands) (reasons : List Reason) (view : leaf_
         ∙ ap (λ (d : Demands). pick_reasons (leaf_of (with_pick d constraint tag) (reasons ++ reason ∷ []))) same
         ∙ pick_reasons-push demands reasons tagged constraint tag reason
         ∙ ap (λ (l : Leaf). pick_reasons l ++ reason ∷ []) view
-
-    -- the demands, as contracts see them
-    pub pushed_is : with_pick held constraint tag ≡ with_pick leaf.demands constraint (2 * length leaf.demands.bounds + length leaf.demands.picks)
-    pushed_is =
-        ap (λ (d : Demands). with_pick d constraint tag) same
-        ∙ ap (with_pick demands constraint) tag_is
-        ∙ ap (λ (l : Leaf). with_pick l.demands constraint (2 * length l.demands.bounds + length l.demands.picks)) view
 
   module _ (len kept : ℕ) (is_kept : kept ≡ 2 * length demands.bounds + len) (rest : List Reason) (cut : rest ≡ take kept reasons)
       (new : Demands) (popped : new ≡ popped_to demands len) where

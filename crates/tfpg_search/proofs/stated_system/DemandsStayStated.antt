@@ -19,9 +19,13 @@ use Rattle.tfpg_search.specs.inside.Leaf.{Leaf, tagged_by, pick_reasons, AreBoun
 use Rattle.tfpg_search.specs.inside.Tags.{IsTagged}
 use Rattle.tfpg_base.proofs.lists.Cuts.{slice_get-take, slice_get-taken}
 
--- the system with these demands and reasons
+-- the system with these demands and reasons, and so many picks before each alternative
+abbrev pub system_of : Demands → List Reason → List ℕ → Leaf
+system_of demands reasons entered = record { demands = demands; reasons = reasons; entered = entered }
+
+-- the same, whichever alternatives are entered
 abbrev pub leaf_of : Demands → List Reason → Leaf
-leaf_of demands reasons = record { demands = demands; reasons = reasons }
+leaf_of demands reasons = system_of demands reasons []
 
 module _ (stated : Reason → Option Constraint) (reasons others : List Reason) where
   -- what the tag of a lower bound names, where its reason stays
@@ -43,7 +47,7 @@ module _ (stated : Reason → Option Constraint) (reasons others : List Reason) 
 -- the bounds stay stated where their reasons stay
 pub AreBoundsStated-same : (fact : Reason → Option Constraint) (demands : Demands) (picks : List Pick) (reasons others : List Reason) → IsTagged demands reasons →
     ((index : ℕ) → index < 2 * length demands.bounds → slice_get others index ≡ slice_get reasons index) →
-    AreBoundsStated fact (leaf_of demands reasons) → AreBoundsStated fact (leaf_of (demands_of demands.bounds picks) others)
+    AreBoundsStated fact demands reasons → AreBoundsStated fact (demands_of demands.bounds picks) others
 AreBoundsStated-same fact demands picks reasons others tagged same stated = record {
   floors = λ u b at.
       let inside = slice_get_within demands.bounds u b at in

@@ -1,7 +1,7 @@
 -- Tags stay the indexes of their reasons.
-use Rattle.std.proofs.Common.{◌≡◌, ◌≢◌, ℕ, ◌+◌, ◌*◌, List, [], ◌∷◌, ◌++◌, length, set, Some, sym, ◌∙◌, ap, inl, inr, ⊎_elim, ◌⊎◌, arith, length-append}
+use Rattle.std.proofs.Common.{◌≡◌, ◌≢◌, ℕ, ◌+◌, ◌≤◌, take, ◌*◌, List, [], ◌∷◌, ◌++◌, length, set, Some, sym, ◌∙◌, ap, inl, inr, ⊎_elim, ◌⊎◌, arith, length-append}
 use Rattle.std.specs.Prelude.{slice_get}
-use Rattle.std.proofs.lemmas.List.{length-set}
+use Rattle.std.proofs.lemmas.List.{length-set, length-take-le}
 use Rattle.tfpg_base.specs.declared.constraint.Constraint.{Constraint}
 use Rattle.tfpg_evidence.specs.declared.reason.Reason.{Reason}
 use Rattle.tfpg_diff.specs.declared.why.Why.{Why}
@@ -9,11 +9,12 @@ use Rattle.tfpg_diff.specs.declared.why.Why.TheVariants.{Floor, Ceiling, Given}
 use Rattle.tfpg_diff.specs.declared.bounds.Bounds.{Bounds}
 use Rattle.tfpg_diff.specs.declared.pick.Pick.{Pick}
 use Rattle.tfpg_diff.specs.Demands.{Demands, Bounded}
-use Rattle.tfpg_diff.specs.SystemState.{with_pick}
+use Rattle.tfpg_diff.specs.SystemState.{with_pick, popped_to}
 use Rattle.tfpg_diff.specs.inside.Kept.{demands_of}
 use Rattle.tfpg_diff.proofs.Changes.{Bounded-set}
 use Rattle.tfpg_search.specs.inside.Tags.{IsTagged}
 use Rattle.tfpg_base.proofs.lists.Written.{slice_get-push_cases}
+use Rattle.tfpg_base.proofs.lists.Cuts.{slice_get-taken}
 
 -- The tag is one that no reason set, or the index of its reason.
 abbrev pub IsEither : Why → Why → ℕ → Type 0
@@ -63,3 +64,13 @@ IsTagged-push demands reasons constraint tag reason tagged is =
           ap (λ (q : Pick). q.tag) (sym last.1) ∙ is ∙ ap (λ (n : ℕ). 2 * length demands.bounds + n) (sym last.0))
           (slice_get-push_cases demands.picks pick index p at);
     }
+
+-- after picks were popped
+pub IsTagged-pop : (demands : Demands) (reasons : List Reason) (len : ℕ) → IsTagged demands reasons → len ≤ length demands.picks →
+    IsTagged (popped_to demands len) (take (2 * length demands.bounds + len) reasons)
+IsTagged-pop demands reasons len tagged fewer = record {
+  one_each = (let o = tagged.one_each in length-take-le (2 * length demands.bounds + len) reasons (omega arith) ∙ ap (λ (n : ℕ). 2 * length demands.bounds + n) (sym (length-take-le len demands.picks fewer)));
+  floors = tagged.floors;
+  ceilings = tagged.ceilings;
+  picks = λ index pick at. tagged.picks index pick (slice_get-taken len demands.picks index pick at).1;
+}

@@ -85,7 +85,7 @@ reason_named states reasons (Given tag) constraint is = by (slice_get reasons ta
     by None is = absurd (none-some constraint is)
     by (Some reason) is = (reason, is)
 
-module _ (case : Case) (leaf : Leaf) (variables : length leaf.demands.bounds ≡ length case.graph.nodes) (stated : AreBoundsStated (fact case) leaf)
+module _ (case : Case) (leaf : Leaf) (variables : length leaf.demands.bounds ≡ length case.graph.nodes) (stated : AreBoundsStated (fact case) leaf.demands leaf.reasons)
     (facts : (node : ℕ) → node < length case.graph.nodes → AreFactsIn (fact case) leaf.demands node) where
   read_at : (read : Bounds → ℕ) (node time : ℕ) → slice_get (map read leaf.demands.bounds) node ≡ Some time
       → (node < length case.graph.nodes) × ((bounds : Bounds) × Bounded leaf.demands node bounds × (read bounds ≡ time))
@@ -122,10 +122,10 @@ widest_highs first zero = refl
 widest_highs first (suc count) = ap (λ (ns : List ℕ). NEVER ∷ ns) (widest_highs (first + 1) count)
 
 -- a new system has the widest bounds
-pub new_widest : (demands : Demands) (nodes : ℕ) → demands ≡ record { bounds = unbounded_from 0 nodes; picks = [] } → (reasons : List Reason)
-    → bounds_in (record { demands = demands; reasons = reasons }) ≡ widest_bounds nodes
-new_widest demands nodes is reasons =
-    ap (λ (d : Demands). bounds_in (record { demands = d; reasons = reasons })) is ∙ (λ i. record { lows = widest_lows 0 nodes i; highs = widest_highs 0 nodes i })
+pub new_widest : (demands : Demands) (nodes : ℕ) → demands ≡ record { bounds = unbounded_from 0 nodes; picks = [] } → (reasons : List Reason) (entered : List ℕ)
+    → bounds_in (record { demands = demands; reasons = reasons; entered = entered }) ≡ widest_bounds nodes
+new_widest demands nodes is reasons entered =
+    ap (λ (d : Demands). bounds_in (record { demands = d; reasons = reasons; entered = entered })) is ∙ (λ i. record { lows = widest_lows 0 nodes i; highs = widest_highs 0 nodes i })
 
 -- ---- a round
 

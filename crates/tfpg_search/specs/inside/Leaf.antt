@@ -11,12 +11,13 @@ use Rattle.tfpg_diff.specs.declared.pick.Pick.{Pick}
 use Rattle.tfpg_diff.specs.Demands.{Demands, Bounded}
 use Rattle.tfpg_search.specs.Work.{NodeBounds}
 
--- What contracts see of it: the demands, and the reason of each tag. The tag of a node's lower bound is the node's
+-- What contracts see of it: the demands, the reason of each tag, and how many picks stand before each alternative that is entered. The tag of a node's lower bound is the node's
 -- number. The tag of its upper bound is that number plus the number of nodes. The tag of a pick is its index plus the
 -- number of all bounds.
 pub record Leaf : Type 0 where
   pub demands : Demands
   pub reasons : List Reason
+  pub entered : List ℕ
 
 -- the reasons of the picks, in their order
 abbrev pub pick_reasons : Leaf → List Reason
@@ -36,22 +37,25 @@ tagged_by stated reasons (Ceiling variable) = stated (Top variable)
 tagged_by stated reasons (Given tag) = option_and_then stated (slice_get reasons tag)
 
 -- Each bound is stated by its reason, which is a fact.
-pub record AreBoundsStated (fact : Reason → Option Constraint) (leaf : Leaf) : Type 0 where
-  pub floors : (node : ℕ) (bounds : Bounds) → Bounded leaf.demands node bounds →
-      tagged_by fact leaf.reasons bounds.floor_why ≡ Some (at_least node bounds.floor)
-  pub ceilings : (node : ℕ) (bounds : Bounds) → Bounded leaf.demands node bounds →
-      tagged_by fact leaf.reasons bounds.ceiling_why ≡ Some (at_most node (pos bounds.ceiling))
+pub record AreBoundsStated (fact : Reason → Option Constraint) (demands : Demands) (reasons : List Reason) : Type 0 where
+  pub floors : (node : ℕ) (bounds : Bounds) → Bounded demands node bounds →
+      tagged_by fact reasons bounds.floor_why ≡ Some (at_least node bounds.floor)
+  pub ceilings : (node : ℕ) (bounds : Bounds) → Bounded demands node bounds →
+      tagged_by fact reasons bounds.ceiling_why ≡ Some (at_most node (pos bounds.ceiling))
 
 -- Each pick is stated by the reason at the same index.
-abbrev pub ArePicksStated : (Reason → Option Constraint) → Leaf → Type 0
-ArePicksStated stated leaf =
-    (index : ℕ) (pick : Pick) → slice_get leaf.demands.picks index ≡ Some pick
-    → option_and_then stated (slice_get (pick_reasons leaf) index) ≡ Some pick.constraint
+abbrev pub ArePicksStated : (Reason → Option Constraint) → Demands → List Reason → Type 0
+ArePicksStated stated demands reasons =
+    (index : ℕ) (pick : Pick) → slice_get demands.picks index ≡ Some pick
+    → option_and_then stated (slice_get (drop (2 * length demands.bounds) reasons) index) ≡ Some pick.constraint
 
--- All that the system demands is stated: bounds by facts, and picks by reasons that hold at the leaf. Each fact holds
--- at the leaf.
-pub record IsStated (fact stated : Reason → Option Constraint) (leaf : Leaf) : Type 0 where
+-- All demands are stated: bounds by facts, and picks by reasons that hold at the leaf. Each fact holds at the leaf.
+pub record AreStated (fact stated : Reason → Option Constraint) (demands : Demands) (reasons : List Reason) : Type 0 where
   pub wider : (reason : Reason) (constraint : Constraint) → fact reason ≡ Some constraint
       → stated reason ≡ Some constraint
-  pub bounds : AreBoundsStated fact leaf
-  pub picks : ArePicksStated stated leaf
+  pub bounds : AreBoundsStated fact demands reasons
+  pub picks : ArePicksStated stated demands reasons
+
+-- All that the system demands is stated.
+abbrev pub IsStated : (Reason → Option Constraint) → (Reason → Option Constraint) → Leaf → Type 0
+IsStated fact stated leaf = AreStated fact stated leaf.demands leaf.reasons

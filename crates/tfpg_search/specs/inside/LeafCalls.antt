@@ -17,6 +17,7 @@ pub record IsStatedAfter (fact stated : Reason → Option Constraint) (new : Lea
 -- nothing changed.
 pub record AddsFact (reason : Reason) (constraint : Constraint) (old new : Leaf) (result : Result (Unit {0}) AddFault) : Type 0 where
   pub err : OnErr result (new ≡ old)
+  pub entered : new.entered ≡ old.entered
   pub nodes : length new.demands.bounds ≡ length old.demands.bounds
   pub reasons : pick_reasons new ≡ pick_reasons old
   pub stated : (fact states : Reason → Option Constraint) → IsStated fact states old → fact reason ≡ Some constraint
@@ -26,6 +27,7 @@ pub record AddsFact (reason : Reason) (constraint : Constraint) (old new : Leaf)
 -- changed.
 pub record AddsPick (reason : Reason) (constraint : Constraint) (old new : Leaf) (result : Result (Unit {0}) AddFault) : Type 0 where
   pub err : OnErr result (new ≡ old)
+  pub entered : new.entered ≡ old.entered
   pub bounds : new.demands.bounds ≡ old.demands.bounds
   pub reasons : OnOk result (pick_reasons new ≡ pick_reasons old ++ reason ∷ [])
   pub stated : (fact states : Reason → Option Constraint) → IsStated fact states old → states reason ≡ Some constraint
@@ -34,6 +36,7 @@ pub record AddsPick (reason : Reason) (constraint : Constraint) (old new : Leaf)
 -- All facts were added, or some at a fault. What was stated before is so afterwards, and after Ok each solution meets each
 -- fact.
 pub record AddsFacts (fact : Reason → Option Constraint) (old new : Leaf) (result : Result (Unit {0}) AddFault) : Type 0 where
+  pub entered : new.entered ≡ old.entered
   pub nodes : length new.demands.bounds ≡ length old.demands.bounds
   pub reasons : pick_reasons new ≡ pick_reasons old
   pub stated : (states : Reason → Option Constraint) → IsStated fact states old → IsStatedAfter fact states new result

@@ -11,6 +11,8 @@ ghost use Rattle.tfpg_search.specs.SearchState.{case_of_search};
 ghost use Rattle.tfpg_search.specs.inside.AtItsLeaf.{IsAtItsLeaf, HasEnteredAll};
 ghost use Rattle.tfpg_search.specs.inside.Closing.{Closes};
 ghost use Rattle.tfpg_search.specs.inside.Leaving.{constraint_count_at, Leaves, Pushing, PushesOne};
+ghost use Rattle.tfpg_search.specs.inside.EnteredPicks.{IsNext};
+ghost use Rattle.tfpg_search.specs.inside.AtItsLeaf.{with_next_entered};
 ghost use Rattle.tfpg_search.specs.inside.Moves.{KeepsSet};
 
 use crate::add_fault::AddFault;
@@ -19,7 +21,6 @@ use crate::search::Search;
 use std::sync::ledger::Ledger;
 use tfpg_base::{NoMemory, Steps};
 use tfpg_clause::{MAX_CONSTRAINTS, picked};
-use tfpg_evidence::Reason;
 use tfpg_graph::Graph;
 use tfpg_log::Log;
 
@@ -56,15 +57,12 @@ impl Search {
         }
     }
 
-    /// Notes how many picks stand before those of the next split.
+    /// Enters the alternative of the next split, none of whose constraints are added yet.
     fn mark(&mut self) -> Result<(), NoMemory>
-        ensures ok { OnOk result (self.new ≡ record self.old {
-          entered = self.old.entered ++ length (pick_reasons self.old.leaf) ∷ [];
-        }) }
+        ensures ok { OnOk result (self.new ≡ with_next_entered self.old) }
         ensures err { OnErr result (self.new ≡ self.old) }
     {
-        let before = self.leaf.pick_count();
-        self.entered.push(before)?;
+        self.leaf.enter()?;
         Ok(())
     }
 
@@ -79,6 +77,7 @@ impl Search {
         requires variables { length self.old.leaf.demands.bounds ≡ length graph.now.nodes }
         requires stated { IsStated (fact (case_of_search graph.now log.now self.old))
             (stated (case_of_search graph.now log.now self.old) self.old.path) self.old.leaf }
+        requires next { IsNext self.old.entered (length (pick_reasons self.old.leaf)) split 1 }
         ensures same { self.new ≡ record self.old { leaf = self.new.leaf } }
         ensures pushing { Pushing (case_of_search graph.now log.now self.old) self.old.path
             self.old.leaf self.new.leaf }
@@ -115,6 +114,7 @@ impl Search {
         requires variables { length self.old.leaf.demands.bounds ≡ length graph.now.nodes }
         requires stated { IsStated (fact (case_of_search graph.now log.now self.old))
             (stated (case_of_search graph.now log.now self.old) self.old.path) self.old.leaf }
+        requires next { IsNext self.old.entered (length (pick_reasons self.old.leaf)) split number }
         ensures same { self.new ≡ record self.old { leaf = self.new.leaf } }
         ensures pushing { Pushing (case_of_search graph.now log.now self.old) self.old.path
             self.old.leaf self.new.leaf }
@@ -131,14 +131,7 @@ impl Search {
         let Some(constraint) = picked(graph, log, &self.path, split, number) else {
             return Ok(false);
         };
-        match self.leaf.push(
-            constraint,
-            Reason::Pick {
-                split,
-                constraint: number,
-            },
-            work,
-        ) {
+        match self.leaf.push(constraint, split, number, work) {
             Ok(()) => Ok(true),
             Err(fault) => Err(fault),
         }
@@ -146,18 +139,13 @@ impl Search {
 
     /// Leaves all alternatives but the first so many.
     pub(super) fn leave(&mut self, kept: usize)
-        requires counted { (before : ℕ) → slice_get self.old.entered kept ≡ Some before →
-            before ≤ length (pick_reasons self.old.leaf) }
         ensures same { self.new
             ≡ record self.old { entered = take kept self.old.entered; leaf = self.new.leaf } }
         ensures leaf { Leaves (slice_get self.old.entered kept) self.old.leaf self.new.leaf }
         ensures bounds { self.new.leaf.demands.bounds ≡ self.old.leaf.demands.bounds }
     {
-        self.leaf.has_a_reason_for_each_pick();
         if kept < self.entered_count() {
-            let before = self.entered[kept];
-            self.leaf.pop_to(before);
-            self.entered.truncate(kept);
+            self.leaf.leave(kept);
         }
     }
 
@@ -172,6 +160,6 @@ impl Search {
     fn entered_count(&self) -> usize
         ensures { result ≡ length self.now.entered }
     {
-        self.entered.len()
+        self.leaf.entered_count()
     }
 }

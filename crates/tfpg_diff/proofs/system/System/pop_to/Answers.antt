@@ -1,29 +1,35 @@
--- A fresh computation with fewer picks, which meets no negative cycle.
-use Rattle.std.proofs.Common.{List, length, take, sym, ◌∙◌, subst}
+-- A ready system is taken back to fewer picks.
+use Rattle.std.proofs.Common.{◌≡◌, ◌<◌, List, length, take, sym, ◌∙◌, ap, subst, arith}
 use Rattle.std.specs.Prelude.{vec_capacity}
-use Rattle.tfpg_diff.specs.declared.bounds.Bounds.{Bounds}
-use Rattle.tfpg_diff.specs.Demands.{Demands}
-use Rattle.tfpg_diff.specs.Cycle.{NamesNegativeCycle}
-use Rattle.tfpg_diff.specs.inside.Kept.{IsKept, AreAtCeilings}
+use Rattle.tfpg_diff.specs.declared.pick.Pick.{Pick}
+use Rattle.tfpg_diff.specs.Demands.{Demands, demands_of}
+use Rattle.tfpg_diff.specs.SystemState.{SystemState}
+use Rattle.tfpg_diff.specs.inside.Ready.{IsReady, CanTakeBack, TakesBack}
 use Rattle.tfpg_diff.proofs.Outcomes.{demands_read}
-use Rattle.tfpg_diff.proofs.Fresh.{IsKept-fresh, no_cycle-fewer}
+use Rattle.tfpg_diff.proofs.TakingBack.{CanTakeBack-popped, IsReady-popped}
 use Rattle.tfpg_diff.proofs.system.System.pop_to.Goals as goal
+use Rattle.tfpg_diff.proofs.system.System.pop_to.Goals.{After-deref-2}
 
-pub lower_until_met-requires-clause-kept : goal.lower_until_met-requires-clause-kept
-lower_until_met-requires-clause-kept c =
-    subst (λ (d : Demands). IsKept d c.start.new.labels.values.items c.start.new.labels.links.items)
-    (sym (demands_read c.self.inside.bounds.items c.deref-2.result.now c.truncate.new.self.items c.deref-3.result.now c.deref-2.ensures.value c.deref-3.ensures.value))
-    (IsKept-fresh c.self.inside.bounds.items c.self.inside.picks.items c.self.inside.labels.values.items c.self.inside.labels.links.items
-    c.self.inside.backup.values.items c.self.inside.backup.links.items (vec_capacity c.self.inside.cycle) c.self.invariant
-    c.truncate.new.self.items c.start.new.labels.values.items c.start.new.labels.links.items
-    (subst (λ (bs : List Bounds). AreAtCeilings bs c.start.new.labels.values.items c.start.new.labels.links.items (length bs)) c.deref.ensures.value c.start.ensures))
+-- the demands with fewer picks, as the code reads them
+popped : (c : After-deref-2) → demands_of c.deref.result.now c.deref-2.result.now ≡ demands_of c.self.inside.bounds.items (take c.args.len c.self.inside.picks.items)
+popped c = demands_read c.self.inside.bounds.items c.deref.result.now (take c.args.len c.self.inside.picks.items) c.deref-2.result.now
+    c.deref.ensures.value (c.deref-2.ensures.value ∙ c.truncate.ensures.items)
 
-pub unreachable-requires : goal.unreachable-requires
-unreachable-requires c =
-    no_cycle-fewer c.self.inside.bounds.items c.self.inside.picks.items c.self.inside.labels.values.items c.self.inside.labels.links.items
-    c.self.inside.backup.values.items c.self.inside.backup.links.items (vec_capacity c.self.inside.cycle) c.self.invariant
-    c.args.len c.lower_until_met.new.cycle.items
-    (subst (λ (d : Demands). NamesNegativeCycle d c.lower_until_met.new.cycle.items)
-    (demands_read c.self.inside.bounds.items c.deref-2.result.now (take c.args.len c.self.inside.picks.items) c.deref-3.result.now
-    c.deref-2.ensures.value (c.deref-3.ensures.value ∙ c.truncate.ensures.items))
-    c.in-Err.ensures.cycle)
+-- there are fewer
+fewer : (c : After-deref-2) → c.args.len < length c.self.inside.picks.items
+fewer c =
+    let same = ap (λ (s : SystemState). length s.demands.picks) c.self.view_is in
+    omega (arith, same, c.len.ensures, c.self.inside.picks.ok.0)
+
+pub take_back-requires-clause-able : goal.take_back-requires-clause-able
+take_back-requires-clause-able c =
+    let a = (goal.at.take_back-requires-clause-able c).After-deref-2 in
+    subst (λ (d : Demands). CanTakeBack d c.self.inside.labels) (sym (popped a))
+    (CanTakeBack-popped c.self.inside.bounds.items c.self.inside.picks.items c.self.inside.labels (vec_capacity c.self.inside.cycle) c.self.invariant c.args.len (fewer a))
+
+pub invariant_of-self : goal.invariant_of-self
+invariant_of-self c =
+    let a = (goal.at.invariant_of-self c).After-deref-2 in
+    subst (λ (picks : List Pick). IsReady (demands_of c.self.inside.bounds.items picks) c.take_back.new.labels (vec_capacity c.take_back.new.cycle)) (sym c.truncate.ensures.items)
+    (IsReady-popped c.self.inside.bounds.items c.self.inside.picks.items c.self.inside.labels (vec_capacity c.self.inside.cycle) c.self.invariant c.args.len (fewer a) c.take_back.new.labels (vec_capacity c.take_back.new.cycle)
+    (subst (λ (d : Demands). TakesBack d c.self.inside.labels c.take_back.new.labels) (popped a) c.take_back.ensures.taken) c.take_back.ensures.capacity)

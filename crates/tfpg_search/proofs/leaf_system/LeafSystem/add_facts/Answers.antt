@@ -6,6 +6,7 @@ use Rattle.tfpg_diff.specs.Demands.{Demands}
 use Rattle.tfpg_diff.specs.SystemState.{with_floor, with_ceiling}
 use Rattle.tfpg_search.specs.inside.Closing.{Closes}
 use Rattle.tfpg_search.specs.inside.Facts.{AreFactsIn}
+use Rattle.tfpg_search.specs.inside.KeptReasons.{low_reason, high_reason}
 use Rattle.tfpg_search.proofs.work.BoundsGiven.{low_there, high_there}
 use Rattle.tfpg_search.proofs.facts.FactsAdded.{facts_met, facts-tightened, facts-kept}
 use Rattle.tfpg_search.proofs.leaf_system.LeafSystem.add_facts.Goals as goal
@@ -18,6 +19,7 @@ returns-in_err-raise_to-clause-adds g c =
     let added = c.raise_to.ensures.adds in
     rw error.1
     (record {
+      entered = added.entered ∙ c.loop-node.invariant.entered;
       nodes = added.nodes ∙ c.loop-node.invariant.nodes;
       reasons = added.reasons ∙ c.loop-node.invariant.reasons;
       stated = λ stated begun.
@@ -37,6 +39,7 @@ returns-in_err-lower_to-clause-adds g c =
     let added = c.lower_to.ensures.adds in
     rw error.1
     (record {
+      entered = added.entered ∙ raised.entered ∙ c.loop-node.invariant.entered;
       nodes = added.nodes ∙ raised.nodes ∙ c.loop-node.invariant.nodes;
       reasons = added.reasons ∙ raised.reasons ∙ c.loop-node.invariant.reasons;
       stated = λ stated begun.
@@ -58,6 +61,7 @@ loop-node-preserved g c =
     let is : c.lower_to.new.self.demands ≡ with_ceiling (with_floor before v c.low.result.time v) v c.high.result.time tag =
     c.in_ok-lower_to.ensures.ok ∙ ap (λ (d : Demands). with_ceiling d v c.high.result.time tag) c.in_ok-raise_to.ensures.ok in
     record {
+      entered = c.lower_to.ensures.adds.entered ∙ c.raise_to.ensures.adds.entered ∙ c.loop-node.invariant.entered;
       picks = ap (λ (d : Demands). d.picks) is ∙ c.loop-node.invariant.picks;
       reasons = c.lower_to.ensures.adds.reasons ∙ c.raise_to.ensures.adds.reasons ∙ c.loop-node.invariant.reasons;
       nodes = c.lower_to.ensures.adds.nodes ∙ c.raise_to.ensures.adds.nodes ∙ c.loop-node.invariant.nodes;
@@ -71,8 +75,8 @@ loop-node-preserved g c =
           (subst (λ (d : Demands). AreFactsIn F d v) (sym is)
           (facts-tightened F before v c.low.result.time c.high.result.time v tag c.low.ensures.greatest (c.high.ensures.least c.args.reach.now)));
       counts = λ bounds given.
-          let raised = (c.in_ok-raise_to.ensures.counts bounds (low_there (case_of c.args.graph.now c.args.log.now c.args.reach.now) bounds given v c.low.result.time within c.low.result.reason c.low.ensures.stated c.low.ensures.greatest)).ok in
-          let lowered = (c.in_ok-lower_to.ensures.counts bounds (high_there (case_of c.args.graph.now c.args.log.now c.args.reach.now) bounds given v c.high.result.time within c.high.result.reason (c.high.ensures.stated c.args.reach.now) (c.high.ensures.least c.args.reach.now))).ok in
+          let raised = (c.in_ok-raise_to.ensures.counts bounds (low_there (case_of c.args.graph.now c.args.log.now c.args.reach.now) bounds given v c.low.result.time within (low_reason c.loop-node.node c.low.result.time c.low.result.reason) c.low.ensures.stated c.low.ensures.greatest)).ok in
+          let lowered = (c.in_ok-lower_to.ensures.counts bounds (high_there (case_of c.args.graph.now c.args.log.now c.args.reach.now) bounds given v c.high.result.time within (high_reason c.loop-node.node c.high.result.reason) (c.high.ensures.stated c.args.reach.now) (c.high.ensures.least c.args.reach.now))).ok in
           let so_far = c.loop-node.invariant.counts bounds given in
           omega arith;
     }
@@ -82,6 +86,7 @@ returns-clause-adds g c =
     let count = c.node_count-node-end.ensures.count in
     let ended = c.loop-node-test.false in
     record {
+      entered = c.loop-node.invariant.entered;
       nodes = c.loop-node.invariant.nodes;
       reasons = c.loop-node.invariant.reasons;
       stated = λ stated begun. record { still = c.loop-node.invariant.stated stated begun; closes = tt };
@@ -106,7 +111,7 @@ returns-in_err-raise_to-clause-counts g c bounds given =
     let within : c.loop-node.node < length c.args.graph.now.nodes = (let count = c.node_count-node-end.ensures.count in let goes_on = c.loop-node-test.true in omega arith) in
     let error = err_from_is_err_and c.from_residual.result c.from_residual.ensures.1 in
     let raised =
-    (c.in_err-raise_to.ensures.counts bounds (low_there (case_of c.args.graph.now c.args.log.now c.args.reach.now) bounds given c.loop-node.node c.low.result.time within c.low.result.reason c.low.ensures.stated c.low.ensures.greatest)).any in
+    (c.in_err-raise_to.ensures.counts bounds (low_there (case_of c.args.graph.now c.args.log.now c.args.reach.now) bounds given c.loop-node.node c.low.result.time within (low_reason c.loop-node.node c.low.result.time c.low.result.reason) c.low.ensures.stated c.low.ensures.greatest)).any in
     let so_far = c.loop-node.invariant.counts bounds given in
     rw error.1 (record { ok = tt; any = omega arith })
 
@@ -115,8 +120,8 @@ returns-in_err-lower_to-clause-counts g c bounds given =
     let within : c.loop-node.node < length c.args.graph.now.nodes = (let count = c.node_count-node-end.ensures.count in let goes_on = c.loop-node-test.true in omega arith) in
     let error = err_from_is_err_and c.from_residual-in_err-lower_to.result c.from_residual-in_err-lower_to.ensures.1 in
     let raised =
-    (c.in_ok-raise_to.ensures.counts bounds (low_there (case_of c.args.graph.now c.args.log.now c.args.reach.now) bounds given c.loop-node.node c.low.result.time within c.low.result.reason c.low.ensures.stated c.low.ensures.greatest)).ok in
+    (c.in_ok-raise_to.ensures.counts bounds (low_there (case_of c.args.graph.now c.args.log.now c.args.reach.now) bounds given c.loop-node.node c.low.result.time within (low_reason c.loop-node.node c.low.result.time c.low.result.reason) c.low.ensures.stated c.low.ensures.greatest)).ok in
     let lowered =
-    (c.in_err-lower_to.ensures.counts bounds (high_there (case_of c.args.graph.now c.args.log.now c.args.reach.now) bounds given c.loop-node.node c.high.result.time within c.high.result.reason (c.high.ensures.stated c.args.reach.now) (c.high.ensures.least c.args.reach.now))).any in
+    (c.in_err-lower_to.ensures.counts bounds (high_there (case_of c.args.graph.now c.args.log.now c.args.reach.now) bounds given c.loop-node.node c.high.result.time within (high_reason c.loop-node.node c.high.result.reason) (c.high.ensures.stated c.args.reach.now) (c.high.ensures.least c.args.reach.now))).any in
     let so_far = c.loop-node.invariant.counts bounds given in
     rw error.1 (record { ok = tt; any = omega arith })

@@ -12,6 +12,7 @@ use Rattle.tfpg_clause.specs.Case.{case_of}
 
 abbrev pub invariant-loop-node : goal.invariant-loop-node
 invariant-loop-node g l = record {
+  entered : l.self.entered ≡ l.initial.self.entered;
   picks : l.self.demands.picks ≡ l.initial.self.demands.picks;
   reasons : pick_reasons l.self ≡ pick_reasons l.initial.self;
   nodes : length l.self.demands.bounds ≡ length l.initial.self.demands.bounds;

@@ -5,7 +5,7 @@ use Rattle.tfpg_evidence.specs.declared.step.Step.{Step}
 use Rattle.tfpg_evidence.specs.declared.step.Step.TheVariants.{Cycle}
 use Rattle.tfpg_search.specs.inside.Moves.{GrowsAnyhow}
 use Rattle.tfpg_search.specs.Searched.{call_of}
-use Rattle.tfpg_search.proofs.leaves.MovesStayAtLeaf.{nothing, cycle_moves, cycle_is, close_counted, close_some, close_ok}
+use Rattle.tfpg_search.proofs.leaves.MovesStayAtLeaf.{nothing, cycle_moves, cycle_is, close_some, close_ok}
 use Rattle.tfpg_search.proofs.search.Search.close.Goals as goal
 
 pub returns-in_err-push-clause-closing : goal.returns-in_err-push-clause-closing
@@ -25,14 +25,6 @@ overflow_sub-kept c =
           c.if-not-goes_on.ensures.same (cycle_moves c.args.graph.now c.args.log.now c.args.self.now c.requires.stands c.args.steps.now c.args.reasons c.as_slice.result.now (Some c.backtrack-goes_on.new.self.path) c.requires.cycle
           c.as_slice.ensures c.if-not-goes_on.ensures.path) (sym c.depth-kept.ensures ∙ none)),
     )
-
-pub leave-requires : goal.leave-requires
-leave-requires c = record {
-  counted = λ number there.
-      close_counted c.args.graph.now c.args.log.now c.args.self.now c.requires.stands c.args.steps.now c.push.new.self (Cycle c.args.reasons) refl (cycle_is c.args.graph.now c.args.log.now c.args.self.now c.requires.stands c.args.steps.now c.args.reasons c.requires.cycle c.requires.not_reusable) c.in_ok-push.ensures.ok c.backtrack-goes_on.new.self
-      c.if-not-goes_on.ensures.same (cycle_moves c.args.graph.now c.args.log.now c.args.self.now c.requires.stands c.args.steps.now c.args.reasons c.as_slice.result.now (Some c.backtrack-goes_on.new.self.path) c.requires.cycle
-      c.as_slice.ensures c.if-not-goes_on.ensures.path) (c.depth-kept.result - 1) number there;
-}
 
 pub returns-clause-closing : goal.returns-clause-closing
 returns-clause-closing c =

@@ -1,18 +1,19 @@
-use Rattle.std.proofs.Common.{refl, sym, ap, ◌∙◌, ◌+◌, length}
+use Rattle.std.proofs.Common.{ℕ, refl, sym, ap, subst, ◌∙◌, ◌+◌, length}
 use Rattle.tfpg_search.specs.SearchState.{SearchState}
+use Rattle.tfpg_search.specs.inside.Leaf.{pick_reasons}
+use Rattle.tfpg_search.specs.inside.EnteredPicks.{IsNext}
+use Rattle.tfpg_search.proofs.stated_system.PicksEntered.{IsNext-first}
 use Rattle.tfpg_search.proofs.work.CallsPaid.{entered_counts}
-use Rattle.tfpg_search.proofs.leaves.MovesStayAtLeaf.{marked_stated, marked_closes, left_counted, entered_stands, left_stands}
+use Rattle.tfpg_search.proofs.leaves.MovesStayAtLeaf.{marked_stated, marked_closes, entered_stands, left_stands}
 use Rattle.tfpg_search.proofs.search.Search.enter.Goals as goal
 
 pub push_all-requires-clause-stated : goal.push_all-requires-clause-stated
 push_all-requires-clause-stated g c = marked_stated c.args.graph.now c.args.log.now c.args.self.now c.requires.stands c.mark.new.self c.in_ok-mark.ensures.ok
 
-pub leave-requires : goal.leave-requires
-leave-requires g c = record {
-  counted = λ number there.
-      left_counted c.args.graph.now c.args.log.now c.args.self.now c.requires.stands c.mark.new.self c.in_ok-mark.ensures.ok c.push_all.new.self c.push_all.ensures.same c.push_all.ensures.pushing
-      c.entered_count-split.result c.entered_count-split.ensures number there;
-}
+pub push_all-requires-clause-next : goal.push_all-requires-clause-next
+push_all-requires-clause-next g c =
+    subst (λ (s : SearchState). IsNext s.entered (length (pick_reasons s.leaf)) (c.entered_count-split.result + 1) 1) (sym c.in_ok-mark.ensures.ok)
+    (IsNext-first c.args.self.now.entered (length (pick_reasons c.args.self.now.leaf)) (c.entered_count-split.result + 1) (ap (λ (n : ℕ). n + 1) c.entered_count-split.ensures))
 
 pub returns-in-Ok-clause-stands : goal.returns-in-Ok-clause-stands
 returns-in-Ok-clause-stands g c =

@@ -1,13 +1,17 @@
 use Rattle.std.proofs.Common.{subst, ◌+◌, ◌∙◌, Bool, arith}
 use Rattle.tfpg_evidence.specs.declared.reason.Reason.TheVariants.{Pick}
 use Rattle.tfpg_search.specs.inside.Leaving.{PushesOne}
-use Rattle.tfpg_search.proofs.leaves.AlternativePushed.{loop_stated, loop_closes, step_same, step_pushing, step_last, step_picks, step_within, all_pushed}
+use Rattle.tfpg_search.proofs.leaves.AlternativePushed.{loop_stated, loop_next, loop_closes, step_same, step_pushing, step_last, step_picks, step_within, all_pushed}
 use Rattle.tfpg_search.proofs.search.Search.push_all.Goals as goal
 use Rattle.tfpg_clause.specs.Trees.{picked}
 
 pub push_one-requires-clause-stated : goal.push_one-requires-clause-stated
 push_one-requires-clause-stated g c =
     loop_stated c.args.graph.now c.args.log.now c.args.self.now c.loop-before.self c.loop-before.invariant.same c.loop-before.invariant.pushing
+
+pub push_one-requires-clause-next : goal.push_one-requires-clause-next
+push_one-requires-clause-next g c =
+    loop_next c.args.self.now c.loop-before.self c.loop-before.invariant.same c.args.split c.loop-before.before c.loop-before.invariant.picks c.requires.next c.loop-before-test.true
 
 pub returns-in-Ok-false-clause-pushing : goal.returns-in-Ok-false-clause-pushing
 returns-in-Ok-false-clause-pushing g c =

@@ -4,7 +4,7 @@ use Rattle.tfpg_evidence.specs.declared.step.Step.{Step}
 use Rattle.tfpg_evidence.specs.declared.step.Step.TheVariants.{Again}
 use Rattle.tfpg_search.specs.inside.Moves.{GrowsAnyhow}
 use Rattle.tfpg_search.specs.Searched.{call_of}
-use Rattle.tfpg_search.proofs.leaves.MovesStayAtLeaf.{nothing, reuse_moves, close_counted, close_ok}
+use Rattle.tfpg_search.proofs.leaves.MovesStayAtLeaf.{nothing, reuse_moves, close_ok}
 use Rattle.tfpg_search.proofs.search.Search.reuse.Goals as goal
 
 pub returns-in_err-push-clause-closing : goal.returns-in_err-push-clause-closing
@@ -13,15 +13,6 @@ returns-in_err-push-clause-closing c =
     rw error.1
     (subst (λ (after : List Step). GrowsAnyhow c.args.graph.now c.args.log.now (call_of c.args.self.now c.args.self.now c.args.steps.now after))
     (sym c.in_err-push.ensures.err) (nothing c.args.graph.now c.args.log.now c.args.self.now c.requires.stands c.args.steps.now c.args.self.now))
-
-pub leave-requires : goal.leave-requires
-leave-requires c = record {
-  counted = λ number there.
-      close_counted c.args.graph.now c.args.log.now c.args.self.now c.requires.stands c.args.steps.now c.push.new.self Again refl c.requires.reusable c.in_ok-push.ensures.ok c.drop_last.new.self
-      c.if-not-drop_last.ensures.same
-      (reuse_moves c.args.graph.now c.args.log.now c.args.self.now c.requires.stands c.args.steps.now (Some c.drop_last.new.self.path) c.requires.reusable c.if-not-drop_last.ensures.path)
-      (c.depth-kept.result - 1) number there;
-}
 
 pub returns-clause-closing : goal.returns-clause-closing
 returns-clause-closing c =

@@ -1,0 +1,251 @@
+#!/usr/bin/env python3
+"""Compares two built programs, side by side: processor time, and peak memory where searches are kept.
+
+    bench/compare.py [--runs N] [--only WORD].. BEFORE AFTER
+
+BEFORE and AFTER are the programs of two checkouts, as `crates/tfpg/out/tfpg` of each. All data is made here, and logs are
+simulated by AFTER. The seconds are user and system time of the process, the least of 15 runs; the runs of the two programs take
+turns. The two must write the same bytes, or the row says that they differ.
+
+- "hard": small dense graphs of 6 to 10 nodes and 20 to 30 edges, many of them into AND nodes, with three modes, a dozen changes of
+  mode, and the alarms and silences of a possible run. Of each the splits, the steps, and what a split costs beyond the start of
+  the program, with the text of its cycles.
+- "generate": `generate` of the sizes 10, 30 and 100, the sum of 20 draws.
+- "ticks": a log of 65,536 ticks over 512 nodes.
+- "modes": 64 failure modes, 512 nodes, 2,048 edges and k 2, and the log of a script that starts two of them.
+- "kept": as in `bench/diagnose.py`, the searches of 2,081 and of 4,096 hypotheses over 512 nodes, which stay open and are kept.
+  Peak memory is at least that of Python's own start, some 10 MB.
+
+`bench/compare.py --find FIRST LAST PROGRAM` prints which draws give hard graphs.
+"""
+
+import argparse
+import os
+import random
+import subprocess
+import sys
+import tempfile
+from dataclasses import dataclass
+from pathlib import Path
+
+from diagnose import kept_searches, large_graph, large_script
+
+MODES = ["M0", "M1", "M2"]
+
+
+@dataclass
+class Row:
+    """Something to run: the words, and the file that is the input."""
+
+    name: str
+    words: list
+    log: Path
+    memory: bool = False
+
+
+@dataclass
+class Cost:
+    """What a run took: processor seconds, and peak memory in KB."""
+
+    seconds: float
+    peak: int
+
+
+def hard_graph(draws):
+    """Two failure modes, and some discrepancies with edges from anywhere. An edge back takes some time."""
+    nodes, edges = draws.randint(6, 10), draws.randint(20, 30)
+    names = ["F", "G", *[f"N{node}" for node in range(2, nodes)]]
+    lines = ["tfpg 1", *[f"mode {mode}" for mode in MODES], "failure F 1", "failure G 2"]
+    for name in names[2:]:
+        kind = "and" if draws.random() < 0.6 else "or"
+        monitor = f"watch {draws.randint(0, 3)}" if draws.random() < 0.35 else "hidden"
+        lines.append(f"{kind} {name} {monitor}")
+    pairs = [(source, target) for target in range(2, nodes) for source in range(nodes) if source != target]
+    chosen = [(draws.randrange(target), target) for target in range(2, nodes)]
+    others = [pair for pair in pairs if pair not in chosen]
+    draws.shuffle(others)
+    for source, target in chosen + others[: max(0, edges - len(chosen))]:
+        least = draws.randint(0 if source < target else 1, 6)
+        greatest = least + draws.randint(0, 12)
+        active = sorted(draws.sample(MODES, draws.randint(1, 3)))
+        words = "*" if active == MODES else ",".join(active)
+        lines.append(f"edge {names[source]} {names[target]} {least} {greatest} {words}")
+    return "\n".join([*lines, "end"]) + "\n"
+
+
+def hard_script(draws, changes=12):
+    """A script that starts the second failure mode, with so many changes of mode, and a sweep after about every other one."""
+    now, timed = 0, [(1, "start G")]
+    for _ in range(changes):
+        now += draws.randint(1, 5)
+        timed.append((now, f"mode {draws.choice(MODES)}"))
+        if draws.random() < 0.5:
+            now += draws.randint(0, 2)
+            timed.append((now, "sweep"))
+    lines = [f"{at} {what}" for at, what in sorted(timed, key=lambda it: it[0])]
+    return "\n".join([*lines, f"{now + 5} stop"]) + "\n"
+
+
+def with_silences(draws, graph, log):
+    """The log with the silences of some monitors in place of each sweep, which says that of all of them."""
+    words = [line.split() for line in graph.splitlines()]
+    monitors = [line[1] for line in words if line[0] in ("or", "and") and "watch" in line]
+    alarmed, lines = set(), []
+    for line in log.decode().splitlines():
+        at, what, *node = line.split()
+        alarmed.update(node if what == "alarm" else [])
+        if what == "sweep":
+            silent = [monitor for monitor in monitors if monitor not in alarmed and draws.random() < 0.3]
+            lines += [f"{at} silence {monitor}" for monitor in silent]
+        else:
+            lines.append(line)
+    return ("\n".join(lines) + "\n").encode()
+
+
+def simulated(program, draw, graph, script):
+    words = [program, "simulate", "--draw", str(draw), str(graph), str(script)]
+    return subprocess.run(words, stdout=subprocess.PIPE, check=True).stdout
+
+
+def hard_row(program, top, draw):
+    """The graph and the log of a draw."""
+    draws = random.Random(draw)
+    graph, script, log = (top / f"hard{draw}.{kind}" for kind in ("tfpg", "script", "log"))
+    graph.write_text(hard_graph(draws))
+    script.write_text(hard_script(draws))
+    log.write_bytes(with_silences(draws, graph.read_text(), simulated(program, draw, graph, script)))
+    return Row(f"hard {draw}", ["diagnose", "--k", "1", "--budget", "1000000", str(graph)], log)
+
+
+def other_rows(program, top):
+    """The rows whose cost is not one of splits."""
+    draws = random.Random(7)
+    files = {name: top / name for name in ("large", "script", "two", "ticks", "kept", "alarm", "empty")}
+    files["large"].write_text(large_graph(draws))
+    files["script"].write_text(large_script(draws))
+    files["two"].write_bytes(simulated(program, 5, files["large"], files["script"]))
+    files["ticks"].write_text("".join(f"{at} tick\n" for at in range(65536)))
+    files["kept"].write_text(kept_searches())
+    files["alarm"].write_text("100 alarm A\n")
+    files["empty"].write_text("")
+    kept = ["diagnose", "--budget", "1", str(files["kept"])]
+    return [
+        Row("ticks, 65,536 over 512 nodes", ["diagnose", str(files["large"])], files["ticks"]),
+        Row("modes, 64 and k 2", ["diagnose", "--k", "2", str(files["large"])], files["two"]),
+        Row("kept, 2,081 hypotheses", kept, files["alarm"], memory=True),
+        Row("kept, 4,096 hypotheses", [*kept, "--doubt", "1"], files["alarm"], memory=True),
+    ]
+
+
+def run(program, row):
+    """What one run of a row cost."""
+    with open(row.log, "rb") as log:
+        process = subprocess.Popen([program, *row.words], stdin=log, stdout=subprocess.DEVNULL)
+        _, status, usage = os.wait4(process.pid, 0)
+    process.returncode = os.waitstatus_to_exitcode(status)
+    if process.returncode:
+        sys.exit(f"{program} {' '.join(row.words)}: status {process.returncode}")
+    return Cost(usage.ru_utime + usage.ru_stime, usage.ru_maxrss)
+
+
+def costs(programs, row, runs):
+    """The least cost of each program, whose runs take turns."""
+    found = [[run(program, row) for program in programs] for _ in range(runs)]
+    return [Cost(min(cost.seconds for cost in each), min(cost.peak for cost in each)) for each in zip(*found)]
+
+
+def output(program, row):
+    return subprocess.run([program, *row.words], stdin=open(row.log, "rb"), stdout=subprocess.PIPE, check=True).stdout
+
+
+def counted(report):
+    """How many splits a report has, and how many steps."""
+    words = [line.split(b" ", 1)[0] for line in report.split(b"\n")]
+    splits = words.count(b"split")
+    return splits, splits + words.count(b"cycle") + words.count(b"again")
+
+
+def note(programs, row):
+    before, after = (output(program, row) for program in programs)
+    return "" if before == after else "  the reports differ"
+
+
+def show_hard(programs, top, draws, runs):
+    """What a split costs on each hard graph."""
+    print(f"{'':12}{'splits':>9}{'steps':>9}{'us a split':>14}{'after':>9}")
+    for draw in draws:
+        row = hard_row(programs[1], top, draw)
+        idle = Row("start", row.words, top / "empty")
+        splits, steps = counted(output(programs[1], row))
+        before, after = (
+            1e6 * (whole.seconds - start.seconds) / max(splits, 1)
+            for whole, start in zip(costs(programs, row, runs), costs(programs, idle, runs))
+        )
+        print(f"{row.name:12}{splits:9}{steps:9}{before:14.2f}{after:9.2f}{note(programs, row)}")
+
+
+def show_generated(programs, top, runs, numbers=20):
+    """The sum of the least times of 20 draws, for each size."""
+    print(f"{'':34}{'ms before':>12}{'after':>10}")
+    for size in (10, 30, 100):
+        rows = [Row("", ["generate", "--draw", str(draw), "--size", str(size)], top / "empty") for draw in range(numbers)]
+        found = [costs(programs, row, runs) for row in rows]
+        before, after = (1000 * sum(cost.seconds for cost in each) for each in zip(*found))
+        different = "".join(note(programs, row) for row in rows)
+        print(f"{f'generate, size {size}, {numbers} draws':34}{before:12.1f}{after:10.1f}{different[:22]}")
+
+
+def show_others(programs, rows, runs):
+    for row in rows:
+        before, after = costs(programs, row, runs)
+        memory = f"   MB {before.peak / 1024:7.1f}{after.peak / 1024:8.1f}" if row.memory else ""
+        print(f"{row.name:34}{1000 * before.seconds:12.1f}{1000 * after.seconds:10.1f}{memory}{note(programs, row)}")
+
+
+def find(program, first, last):
+    """The draws of a range that need most splits."""
+    found = []
+    with tempfile.TemporaryDirectory() as folder:
+        for draw in range(first, last):
+            row = hard_row(program, Path(folder), draw)
+            splits, steps = counted(output(program, row))
+            found.append((splits, steps, draw))
+    for splits, steps, draw in sorted(found, reverse=True)[:20]:
+        print(f"draw {draw}: {splits} splits, {steps} steps")
+
+
+def read_words():
+    """The words of the command line."""
+    reader = argparse.ArgumentParser(description=__doc__, formatter_class=argparse.RawDescriptionHelpFormatter)
+    reader.add_argument("--runs", type=int, default=15, help="runs of each program for each row")
+    reader.add_argument("--only", action="append", metavar="WORD", help="only the rows of this word: hard, generate, ticks, modes or kept")
+    reader.add_argument("--find", nargs=2, type=int, metavar=("FIRST", "LAST"), help="look for hard draws in this range")
+    reader.add_argument("programs", nargs="+", type=Path, metavar="PROGRAM")
+    words = reader.parse_args()
+    if len(words.programs) != (1 if words.find else 2):
+        reader.error("two programs, or one with --find")
+    words.programs = [str(program.resolve()) for program in words.programs]
+    return words
+
+
+def main():
+    words = read_words()
+    if words.find:
+        return find(words.programs[0], *words.find)
+    wanted = lambda name: not words.only or name.split(",")[0] in words.only
+    with tempfile.TemporaryDirectory() as folder:
+        top = Path(folder)
+        rows = other_rows(words.programs[1], top)
+        if wanted("hard"):
+            show_hard(words.programs, top, HARD, words.runs)
+        if wanted("generate"):
+            show_generated(words.programs, top, words.runs)
+        show_others(words.programs, [row for row in rows if wanted(row.name)], words.runs)
+
+
+# Draws that gave hard graphs.
+HARD = [871, 13582, 9671, 11276, 2470, 4727]
+
+
+if __name__ == "__main__":
+    sys.exit(main())
