@@ -1,0 +1,58 @@
+//! Writes graphs and rounds as JSON.
+
+ghost use Rattle.std.specs.Prelude.{◌≡◌, ◌++◌, false};
+ghost use Rattle.serde_json.specs.View.{view};
+ghost use Rattle.serde_json.specs.Written.{compact_text, has_float};
+ghost use Rattle.tfpg_base.specs.Append.{Appends};
+ghost use Rattle.tfpg_evidence.specs.RoundOf.{IsRoundOf};
+ghost use Rattle.tfpg_graph.specs.Graph.{sizes_of};
+ghost use Rattle.tfpg_json.specs.GraphData.{graph_json};
+ghost use Rattle.tfpg_json.specs.RoundData.{round_json};
+
+mod from_graph;
+mod from_names;
+mod from_round;
+
+use crate::writing::from_graph::graph_value;
+use crate::writing::from_round::round_value;
+use serde_json::Value;
+use tfpg_base::NoMemory;
+use tfpg_evidence::Round;
+use tfpg_graph::Graph;
+
+/// Appends the graph as one line of JSON, with its line end: an object with the keys `edges`, `modes` and `nodes`, no space in
+/// it, and the keys of each object in rising order. The modes of an edge stand by name, in the order of the modes, also where
+/// they are all; `max` is null where it is infinite; `lag` stands for monitored nodes alone, and `least` where it is not 0. Where
+/// memory runs out, the old bytes may be followed by a part of the line. Takes time and memory linear in the line.
+pub fn write_graph(graph: &Graph, into: &mut Vec<u8>) -> Result<(), NoMemory>
+    ensures { Appends result into.old.items into.new.items (graph_json graph.now) }
+{
+    let value = graph_value(*into.allocator(), graph)?;
+    append_json(&value, into)?;
+    into.push(b'\n')?;
+    Ok(())
+}
+
+/// Appends the round as one line of JSON, without a line end: an object with the counts, line, time and number of the round, and
+/// the open, the ranked and the rejected hypotheses, each by its set. A set is the list of the names of its failure modes, and
+/// then of its monitors that are not believed, each with a `!` before it. No space stands in it, and the keys of each object
+/// rise. Where memory runs out, the old bytes may be followed by a part of the line. It costs the length of the line, a test for
+/// each failure mode of the graph and each set that is written, another for each node where the set has a monitor that is not
+/// believed, and a binary search for each ranked hypothesis.
+pub fn write_round(graph: &Graph, round: &Round, into: &mut Vec<u8>) -> Result<(), NoMemory>
+    requires { IsRoundOf (sizes_of graph.now) round.now }
+    ensures { Appends result into.old.items into.new.items (round_json graph.now round.entry.now) }
+{
+    let value = round_value(*into.allocator(), graph, round)?;
+    append_json(&value, into)
+}
+
+/// Appends the compact text of a value without a fraction.
+fn append_json(value: &Value, into: &mut Vec<u8>) -> Result<(), NoMemory>
+    requires { has_float (view value.now) ≡ false }
+    ensures { Appends result into.old.items into.new.items (compact_text (view value.now)) }
+{
+    let text = value.to_vec(*into.allocator())?;
+    into.extend_from_slice(text.as_slice())?;
+    Ok(())
+}
