@@ -33,7 +33,8 @@ use Rattle.tfpg_hyp.specs.declared.ranking_key.RankingKey.{RankingKey}
 use Rattle.tfpg_hyp.proofs.FindingsOfRound.{HasFindingAt, evidence}
 use Rattle.tfpg_report.specs.declared.refused_line.RefusedLine.{RefusedLine}
 use Rattle.tfpg_report.specs.SetText.{set_word}
-use Rattle.tfpg_report.specs.Blocks.{Block, Loss, RoundBlock, activation_line, robustness_word}
+use Rattle.tfpg_report.specs.Blocks.{Block, Loss, RoundBlock}
+use Rattle.tfpg_report.specs.LineWords.{activation_line, robustness_word}
 use Rattle.tfpg_report.proofs.ActivationLines.{IsInRange, one_trace}
 use Rattle.tfpg_report.proofs.BlockLines.{is_ranked_line, open_line, ranked_words, lines_of_trace, open_lines_of, trace_lines_of}
 use Rattle.tfpg_report.proofs.EqualTexts.{HaveSameLines, one_head, same_lines, same_number}

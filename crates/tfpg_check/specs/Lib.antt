@@ -4,4 +4,11 @@ pub use Rattle.tfpg_log.specs.Log
 pub use Rattle.tfpg_graph.specs.Graph
 -- What the public contracts say.
 pub mod Report
+pub mod Tests
+pub mod Judging
+pub mod Causes
+pub mod DocketState
 pub mod EqualReports
+pub mod RightReports
+-- What the code and its proofs need besides. No public clause reaches it.
+pub mod inside

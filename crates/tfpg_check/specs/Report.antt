@@ -51,9 +51,9 @@ progress_after graph before line block =
 abbrev pub progress_of : Tfpg → List (List ℕ) → List Block → Progress
 progress_of graph lines blocks = record { rounds = flat_map rounds_of blocks; log = log_of_lines graph lines }
 
--- The panels that are lost at a round stand by rising numbers, from 1 to the greatest.
+-- The panels that are lost at a round stand by rising numbers, none above the greatest.
 pub record AreLosses (losses : List Loss) : Type 0 where
-  pub numbers : All (λ loss. (1 ≤ loss.panel) × (loss.panel ≤ MAX_PANEL_NUMBER)) losses
+  pub numbers : All (λ loss. loss.panel ≤ MAX_PANEL_NUMBER) losses
   pub rising : AllPairs (λ earlier later. earlier.panel < later.panel) losses
 
 -- What block a line has. A refused line has the block of its refusal. An accepted one has the block of some round that

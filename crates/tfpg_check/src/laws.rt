@@ -4,6 +4,7 @@ ghost use Rattle.std.specs.Prelude.{◌≡◌, ℕ, List, [], ◌∷◌, ◌++�
 ghost use Rattle.tfpg_graph.specs.Graph.{Tfpg};
 ghost use Rattle.tfpg_report.specs.Blocks.{Block};
 ghost use Rattle.tfpg_check.specs.EqualReports.{EqualReportsSayTheSame};
+ghost use Rattle.tfpg_check.specs.RightReports.{ReportsHaveNoCause};
 ghost use Rattle.tfpg_check.specs.Report.{new_progress, progress_after, progress_of};
 
 use tfpg_hyp::laws::{
@@ -28,4 +29,12 @@ pub fn equal_reports_say_the_same()
     rounds_say_which_sets_fit();
     a_round_is_of_its_graph();
     subsets_stand_before_their_supersets();
+}
+
+/// A report of a valid graph and a log has no cause for which it would not be accepted, whoever wrote it, where each of its lines can be
+/// read: it names only what the graph has, its numbers are within their limits, and it is not too long.
+pub fn a_report_has_no_cause()
+    ensures { ReportsHaveNoCause }
+{
+    a_round_is_of_its_graph();
 }

@@ -3,7 +3,8 @@
 //! So far the crate has the definition, in `specs/`, and the causes for which lines are refused, [`CheckCause`]. The judge of
 //! reports is still to come.
 //!
-//! [`laws`] says how far a report has come after each block.
+//! [`laws`] says how far a report has come after each block, that equal reports say the same, and that a report whose lines can be read has
+//! no cause for which it would not be accepted.
 //!
 //! A report of one line, which has none of the shapes of a line of a log:
 //!

@@ -12,8 +12,8 @@ use Rattle.tfpg_base.proofs.lists.Lacking.{lacks_checked, slice_split-join}
 use Rattle.tfpg_graph.specs.Graph.{Tfpg, name_word, node_named}
 use Rattle.tfpg_graph.specs.Valid.{IsValid}
 use Rattle.tfpg_graph.proofs.lemmas.reading.spelling.SpelledEdges.{is_name-name_word}
-use Rattle.tfpg_report.specs.Blocks.{activation_line}
-use Rattle.tfpg_report.proofs.BlockLines.{number_lacks}
+use Rattle.tfpg_report.specs.LineWords.{activation_line}
+use Rattle.tfpg_report.proofs.CleanLines.{number_lacks}
 use Rattle.tfpg_report.proofs.MemberWords.{node_of_word}
 
 module _ (graph : Tfpg) (valid : IsValid graph) where

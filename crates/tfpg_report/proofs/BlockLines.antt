@@ -38,74 +38,12 @@ use Rattle.tfpg_evidence.specs.declared.round.Round.{Round}
 use Rattle.tfpg_evidence.specs.Findings.{hypothesis_of, ranked_in_order, open_in, newly_rejected}
 use Rattle.tfpg_report.specs.declared.refused_line.RefusedLine.{RefusedLine}
 use Rattle.tfpg_report.specs.declared.refused_line.RefusedLine.TheVariants.{TooLong, Offer}
+use Rattle.tfpg_report.proofs.CleanLines.{after, cause_clean, clause_clean, clean_line, name, number, robustness, set, words}
+use Rattle.tfpg_report.proofs.WrittenLines.{written_losses}
 use Rattle.tfpg_report.specs.SetText.{doubt_word, hyphen_or_joined, member_words, set_word}
-use Rattle.tfpg_report.specs.Blocks.{refusal_name, refusal_time, time_words, cause_words, refused_text, edge_words, clause_words, reason_text, step_text, steps_text, hypothesis_words, activation_line, activation_text, robustness_word, ranked_line, ranked_text, open_text, rejected_text, counts_words, counts_text, Loss, lost_text, Block, RefusedBlock, RoundBlock, block_text}
-
--- ---- words without a line end
-
--- a digit is no byte below all digits
-glyph_differs : (byte d : ℕ) → byte < 48 → eqb (digit_glyph false d) byte ≡ false
-glyph_differs byte d low =
-    cond_both (ltb d 10) (48 + d) (87 + d) (λ (glyph : ℕ). eqb glyph byte ≡ false) (λ _. grind (arith, nat_tests)) (λ _. grind (arith, nat_tests))
-
--- so digits lack such a byte
-digits_lack : (byte k n : ℕ) (after : List ℕ) → byte < 48 → Lacks byte after → Lacks byte (digits_onto k 10 false n after)
-digits_lack byte zero n after low lacks = lacks
-digits_lack byte (suc k) n after low lacks =
-    let more : List ℕ = digit_glyph false (n % 10) ∷ after in
-    let lack : Lacks byte more = All-cons (λ other. eqb other byte ≡ false) (digit_glyph false (n % 10)) after (glyph_differs byte (n % 10) low) lacks in
-    cond_both (eqb (n / 10) 0) more (digits_onto k 10 false (n / 10) more) (Lacks byte) (λ _. lack) (λ _. digits_lack byte k (n / 10) more low lack)
-
--- The text of any number lacks each byte below all digits.
-pub number_lacks : (byte n : ℕ) → byte < 48 → Lacks byte (decimal n)
-unfolding digits
-number_lacks byte n low = digits_lack byte 64 n [] low (All-nil (λ other. eqb other byte ≡ false))
-
--- so it has no line end
-pub number : (n : ℕ) → HasNoLineEnd (decimal n)
-number n = number_lacks 10 n (omega arith)
-
-module _ (graph : Tfpg) (valid : IsValid graph) where
-  -- a node's name
-  name : (node : ℕ) → HasNoLineEnd (name_word graph node)
-  name node = by (slice_get graph.nodes node) refl
-    where
-      by : (found : Option Node) → slice_get graph.nodes node ≡ found → HasNoLineEnd (unwrap_or (option_map (λ (n : Node). n.name) found) [])
-      by None at = All-nil (λ byte. ends_line byte ≡ false)
-      by (Some n) at = name_lacks 10 n.name refl (All-at (λ (n : Node). is_name n.name ≡ true) graph.nodes node n valid.so_far.node_names at)
-
-  -- the name of a failure mode
-  failure : (position : ℕ) → HasNoLineEnd (failure_word graph position)
-  failure position = by (failure_at graph position)
-    where
-      by : (found : Option ℕ) → HasNoLineEnd (unwrap_or (option_and_then (name_at graph) found) [])
-      by None = All-nil (λ byte. ends_line byte ≡ false)
-      by (Some node) = name node
-
-  -- a monitor that is not believed
-  doubt : (node : ℕ) → HasNoLineEnd (doubt_word graph node)
-  doubt node = All-cons (λ byte. ends_line byte ≡ false) 33 (name_word graph node) refl (name node)
-
-  -- words with commas between
-  joined : (ws : List (List ℕ)) → All HasNoLineEnd ws → HasNoLineEnd (hyphen_or_joined ws)
-  joined [] clean = lacks_checked 10 (codes "-") refl
-  joined (word ∷ ws) clean = All-join (λ byte. ends_line byte ≡ false) 44 (word ∷ ws) refl clean
-
-  -- the text of a set
-  set : (hypothesis : Hypothesis) → HasNoLineEnd (set_word graph hypothesis)
-  set hypothesis =
-      joined (member_words graph hypothesis)
-      (All-append HasNoLineEnd (map (failure_word graph) hypothesis.set) (map (doubt_word graph) hypothesis.doubts)
-      (All-map HasNoLineEnd (failure_word graph) hypothesis.set (λ k d within. failure (get_or hypothesis.set k d)))
-      (All-map HasNoLineEnd (doubt_word graph) hypothesis.doubts (λ k d within. doubt (get_or hypothesis.doubts k d))))
-
-  -- the names of the ends of an edge
-  ends : (edge : ℕ) → All HasNoLineEnd (edge_words graph edge)
-  ends edge = by (slice_get graph.edges edge)
-    where
-      by : (found : Option Edge) → All HasNoLineEnd (unwrap_or (option_map (λ (e : Edge). name_word graph e.source ∷ name_word graph e.target ∷ []) found) [])
-      by None = All-nil HasNoLineEnd
-      by (Some e) = All-from_recursion HasNoLineEnd (name_word graph e.source ∷ name_word graph e.target ∷ []) (name e.source, (name e.target, tt))
+use Rattle.tfpg_report.specs.Blocks.{refused_text, Loss, lost_text, Block, RefusedBlock, RoundBlock, block_text}
+use Rattle.tfpg_report.specs.LineWords.{refusal_name, refusal_time, time_words, cause_words, edge_words, clause_words, activation_line, activation_text, robustness_word, counts_words}
+use Rattle.tfpg_report.specs.inside.Texts.{reason_text, step_text, steps_text, hypothesis_words, ranked_line, ranked_text, open_text, rejected_text, counts_text}
 
 -- ---- how lines begin
 
@@ -176,10 +114,6 @@ module _ {X : Type 0} (text : X → List ℕ) where
   each_quiet has [] = none
   each_quiet has (x ∷ xs) = quiet_then (text x) (flat_map text xs) [] [] (has x) (each_quiet has xs)
 
--- a line of clean words has no line end
-pub clean_line : (words : List (List ℕ)) → All HasNoLineEnd words → HasNoLineEnd (line_of words)
-clean_line words clean = All-join (λ byte. ends_line byte ≡ false) 32 words refl clean
-
 -- the text of one line
 one : (words : List (List ℕ)) (of_open of_traces : List (List ℕ)) → All HasNoLineEnd words → begins_block (line_of words) ≡ false
     → filter is_open_line (line_of words ∷ []) ≡ of_open → filter shows_trace (line_of words ∷ []) ≡ of_traces → HasLines (text_line words) of_open of_traces
@@ -192,34 +126,7 @@ one words of_open of_traces clean begins opens traces = record {
   trace_lines = traces;
 }
 
--- the words of a line by recursion
-pub words : (ws : List (List ℕ)) → AllByRecursion HasNoLineEnd ws → All HasNoLineEnd ws
-words ws clean = All-from_recursion HasNoLineEnd ws clean
-
--- words after others
-after : (front back : List (List ℕ)) → All HasNoLineEnd front → All HasNoLineEnd back → All HasNoLineEnd (front ++ back)
-after front back clean more = All-append HasNoLineEnd front back clean more
-
 -- ---- refused lines
-
-refusal_clean : (refusal : Refusal) → HasNoLineEnd (refusal_name refusal)
-refusal_clean BadLine = lacks_checked 10 (codes "BadLine") refl
-refusal_clean BadNumber = lacks_checked 10 (codes "BadNumber") refl
-refusal_clean TimeTooLarge = lacks_checked 10 (codes "TimeTooLarge") refl
-refusal_clean (TimeBack last) = lacks_checked 10 (codes "TimeBack") refl
-refusal_clean UnknownName = lacks_checked 10 (codes "UnknownName") refl
-refusal_clean NotMonitored = lacks_checked 10 (codes "NotMonitored") refl
-refusal_clean NotAMode = lacks_checked 10 (codes "NotAMode") refl
-refusal_clean LogFull = lacks_checked 10 (codes "LogFull") refl
-refusal_clean ModesFull = lacks_checked 10 (codes "ModesFull") refl
-
-time_clean : (time : Option ℕ) → All HasNoLineEnd (time_words time)
-time_clean None = All-nil HasNoLineEnd
-time_clean (Some time) = words (decimal time ∷ []) (number time, tt)
-
-cause_clean : (cause : RefusedLine) → All HasNoLineEnd (cause_words cause)
-cause_clean TooLong = words (codes "TooLong" ∷ []) (lacks_checked 10 (codes "TooLong") refl, tt)
-cause_clean (Offer refusal) = All-cons HasNoLineEnd (refusal_name refusal) (time_words (refusal_time refusal)) (refusal_clean refusal) (time_clean (refusal_time refusal))
 
 begins_refused : (line : ℕ) (cause : RefusedLine) → begins_block (line_of (codes "refused" ∷ decimal line ∷ cause_words cause)) ≡ true
 begins_refused line cause = refl
@@ -270,27 +177,15 @@ trace_lines_in graph (RefusedBlock line cause) = []
 trace_lines_in graph (RoundBlock round losses) = trace_lines_of graph round
 
 module _ (graph : Tfpg) (valid : IsValid graph) where
-  clause_clean : (name_of : ClauseName) → All HasNoLineEnd (clause_words graph name_of)
-  clause_clean (OrMay node span horizon) =
-      words (codes "ormay" ∷ name_word graph node ∷ decimal span ∷ decimal horizon ∷ []) (lacks_checked 10 (codes "ormay") refl, (name graph valid node, (number span, (number horizon, tt))))
-  clause_clean (AndMay edge span horizon) =
-      All-cons HasNoLineEnd (codes "andmay") (edge_words graph edge ++ decimal span ∷ decimal horizon ∷ []) (lacks_checked 10 (codes "andmay") refl)
-      (after (edge_words graph edge) (decimal span ∷ decimal horizon ∷ []) (ends graph valid edge) (words (decimal span ∷ decimal horizon ∷ []) (number span, (number horizon, tt))))
-  clause_clean (OrMust edge span horizon) =
-      All-cons HasNoLineEnd (codes "ormust") (edge_words graph edge ++ decimal span ∷ decimal horizon ∷ []) (lacks_checked 10 (codes "ormust") refl)
-      (after (edge_words graph edge) (decimal span ∷ decimal horizon ∷ []) (ends graph valid edge) (words (decimal span ∷ decimal horizon ∷ []) (number span, (number horizon, tt))))
-  clause_clean (AndMust node span horizon) =
-      words (codes "andmust" ∷ name_word graph node ∷ decimal span ∷ decimal horizon ∷ []) (lacks_checked 10 (codes "andmust") refl, (name graph valid node, (number span, (number horizon, tt))))
-
   -- the line of a split, whose clause is named by a keyword and other words
   split_line : (keyword : List ℕ) (others : List (List ℕ)) → All HasNoLineEnd (keyword ∷ others) → HasLines (text_line (codes "split" ∷ keyword ∷ others)) [] []
   split_line keyword others clean = one (codes "split" ∷ keyword ∷ others) [] [] (All-cons HasNoLineEnd (codes "split") (keyword ∷ others) (lacks_checked 10 (codes "split") refl) clean) refl refl refl
 
   split_text : (name_of : ClauseName) → HasLines (text_line (codes "split" ∷ clause_words graph name_of)) [] []
-  split_text (OrMay node span horizon) = split_line (codes "ormay") (name_word graph node ∷ decimal span ∷ decimal horizon ∷ []) (clause_clean (OrMay node span horizon))
-  split_text (AndMay edge span horizon) = split_line (codes "andmay") (edge_words graph edge ++ decimal span ∷ decimal horizon ∷ []) (clause_clean (AndMay edge span horizon))
-  split_text (OrMust edge span horizon) = split_line (codes "ormust") (edge_words graph edge ++ decimal span ∷ decimal horizon ∷ []) (clause_clean (OrMust edge span horizon))
-  split_text (AndMust node span horizon) = split_line (codes "andmust") (name_word graph node ∷ decimal span ∷ decimal horizon ∷ []) (clause_clean (AndMust node span horizon))
+  split_text (OrMay node span horizon) = split_line (codes "ormay") (name_word graph node ∷ decimal span ∷ decimal horizon ∷ []) (clause_clean graph valid (OrMay node span horizon))
+  split_text (AndMay edge span horizon) = split_line (codes "andmay") (edge_words graph edge ++ decimal span ∷ decimal horizon ∷ []) (clause_clean graph valid (AndMay edge span horizon))
+  split_text (OrMust edge span horizon) = split_line (codes "ormust") (edge_words graph edge ++ decimal span ∷ decimal horizon ∷ []) (clause_clean graph valid (OrMust edge span horizon))
+  split_text (AndMust node span horizon) = split_line (codes "andmust") (name_word graph node ∷ decimal span ∷ decimal horizon ∷ []) (clause_clean graph valid (AndMust node span horizon))
 
   -- the line of a reason
   why_line : (keyword : List ℕ) (others : List (List ℕ)) → list_all (λ other. not (other == 10)) keyword ≡ true → AllByRecursion HasNoLineEnd others → HasLines (text_line (codes "why" ∷ keyword ∷ others)) [] []
@@ -328,11 +223,6 @@ module _ (graph : Tfpg) (valid : IsValid graph) where
   activation is =
       one (codes "at" ∷ name_word graph is.node ∷ decimal is.time ∷ []) [] (activation_line graph is ∷ [])
       (words (codes "at" ∷ name_word graph is.node ∷ decimal is.time ∷ []) (lacks_checked 10 (codes "at") refl, (name graph valid is.node, (number is.time, tt)))) refl refl refl
-
-  robustness : (alarmed monitored : ℕ) → HasNoLineEnd (robustness_word alarmed monitored)
-  robustness alarmed monitored =
-      All-append (λ byte. ends_line byte ≡ false) (decimal alarmed ++ codes "/") (decimal monitored)
-      (All-append (λ byte. ends_line byte ≡ false) (decimal alarmed) (codes "/") (number alarmed) (lacks_checked 10 (codes "/") refl)) (number monitored)
 
   first_ranked : (finding : Finding) (cost alarmed monitored : ℕ)
       → HasLines (ranked_line graph finding cost alarmed monitored) [] (line_of (ranked_words graph finding cost alarmed monitored) ∷ [])
@@ -455,7 +345,7 @@ module _ (graph : Tfpg) (valid : IsValid graph) where
     first_words = codes "round" ∷ decimal round.number ∷ decimal round.line ∷ decimal round.now ∷ []
 
     regrouped : block_text graph (RoundBlock round losses) ≡ text_line first_words ++ Rest
-    regrouped = seven (text_line first_words) Steps Traces Opens Newly (counts_text round.counts) (flat_map lost_text losses)
+    regrouped = written_losses graph round losses ∙ seven (text_line first_words) Steps Traces Opens Newly (counts_text round.counts) (flat_map lost_text losses)
 
   -- The text of a block is a line that begins a block, and then lines of which none does.
   pub record IsBlockText (block : Block) : Type 0 where
@@ -471,7 +361,7 @@ module _ (graph : Tfpg) (valid : IsValid graph) where
   block_lines (RefusedBlock line cause) = record {
     first = line_of (codes "refused" ∷ decimal line ∷ cause_words cause);
     rest = [];
-    whole = sym (append-nil (refused_text line cause));
+    whole = refl;
     clean = clean_line (codes "refused" ∷ decimal line ∷ cause_words cause)
         (All-cons HasNoLineEnd (codes "refused") (decimal line ∷ cause_words cause) (lacks_checked 10 (codes "refused") refl)
         (All-cons HasNoLineEnd (decimal line) (cause_words cause) (number line) (cause_clean cause)));

@@ -15,7 +15,8 @@ use Rattle.tfpg_base.proofs.lists.Lacking.{Lacks, slice_split-join, lacks_checke
 use Rattle.tfpg_graph.specs.Graph.{Tfpg}
 use Rattle.tfpg_graph.specs.Valid.{IsValid}
 use Rattle.tfpg_report.specs.Blocks.{Block, block_text, head_text}
-use Rattle.tfpg_report.proofs.BlockLines.{begins_block, is_open_line, shows_trace, open_lines_in, trace_lines_in, block_lines, number_lacks, clean_line, words, number}
+use Rattle.tfpg_report.proofs.CleanLines.{number_lacks, clean_line, words, number}
+use Rattle.tfpg_report.proofs.BlockLines.{begins_block, is_open_line, shows_trace, open_lines_in, trace_lines_in, block_lines}
 
 -- ---- words of a line
 

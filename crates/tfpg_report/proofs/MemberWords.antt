@@ -15,8 +15,15 @@ use Rattle.tfpg_graph.specs.Graph.{Tfpg, name_at, name_word, node_named, failure
 use Rattle.tfpg_graph.specs.Valid.{IsValid}
 use Rattle.tfpg_graph.proofs.NodeAt.{monitored_within}
 use Rattle.tfpg_graph.proofs.Numbered.{failure_at-below}
+use Rattle.tfpg_graph.proofs.lemmas.declaring.Named.{named_found}
 use Rattle.tfpg_graph.proofs.lemmas.reading.spelling.SpelledEdges.{is_name-name_word, node_named-name_word}
 use Rattle.tfpg_report.specs.SetText.{IsHypothesisOf, doubt_word, member_words}
+
+-- ---- names of nodes
+
+-- the word of a node that was found by its name
+pub word_of_named : (graph : Tfpg) (name : List ℕ) (node : ℕ) → node_named graph name ≡ Some node → (node < length graph.nodes) × (name ≡ name_word graph node)
+word_of_named graph name node found = let is = named_found graph name node found in (is.0, sym (ap (λ o. unwrap_or o []) is.1))
 
 -- ---- names of failure modes
 

@@ -7,7 +7,7 @@ use Rattle.tfpg_evidence.specs.declared.finding.Status.{Status}
 use Rattle.tfpg_evidence.specs.declared.finding.Status.TheVariants as status
 use Rattle.tfpg_evidence.specs.RoundOf.{is_open, is_rejected}
 use Rattle.tfpg_evidence.specs.Findings.{is_rejected_now}
-use Rattle.tfpg_report.specs.Blocks.{open_text, rejected_text}
+use Rattle.tfpg_report.specs.inside.Texts.{open_text, rejected_text}
 use Rattle.tfpg_report.specs.inside.Sections.{text_where_open, text_where_rejected}
 
 -- what the items give that pass a test is what all give, where those that fail give nothing

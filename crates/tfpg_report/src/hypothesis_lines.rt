@@ -5,7 +5,7 @@ ghost use Rattle.tfpg_base.specs.Append.{Appends};
 ghost use Rattle.tfpg_evidence.specs.RoundOf.{IsFindingOf};
 ghost use Rattle.tfpg_base.specs.TextLine.{text_line};
 ghost use Rattle.tfpg_graph.specs.Graph.{sizes_of};
-ghost use Rattle.tfpg_report.specs.Blocks.{hypothesis_words};
+ghost use Rattle.tfpg_report.specs.inside.Texts.{hypothesis_words};
 ghost use Rattle.tfpg_report.specs.inside.Sections.{text_where_open, text_where_rejected};
 
 use crate::set_line::append_set_line;

@@ -1,4 +1,4 @@
-//! The text of a report.
+//! The text of a report, both ways.
 //!
 //! - [`head`] appends its first line.
 //! - [`refused`] appends the block of a line that was refused.
@@ -8,6 +8,11 @@
 //!   ends with one, the lines of a trace and the counts of a round, for other texts that have them. The text of a set names its
 //!   failure modes, and then the monitors that are not believed, each with a `!` before the name of its node.
 //! - [`RefusedLine`] is why a line has a block of its own in place of a round.
+//! - [`read_report_line`] reads one line of a report, whoever wrote it: a [`ReportLine`], or a [`LineRefusal`]. [`read_set`]
+//!   reads the text of a set, for other texts that have one: [`Members`].
+//! - [`BlockReader`] takes a report line by line. [`Fed`] is what a line completes, and [`ReadRound`] a round as its lines say it,
+//!   each part with the number of its first line. [`Stand`] is what may come next.
+//! - [`laws`] has what the definitions of this crate come to.
 //!
 //! ```
 //! let mut text = Vec::new(alloc);
@@ -17,25 +22,40 @@
 //! ```
 #![tactic(auto)]
 
+mod block_reader;
+mod fed;
 mod first_line;
 mod hypothesis_lines;
+pub mod laws;
 mod lost_line;
 mod names;
 mod ranked_lines;
+mod read_round;
+mod reading;
 mod reason_line;
 mod refused_block;
 mod refused_line;
+mod report_line;
 mod round_block;
 mod sections;
 mod set_line;
 mod split_line;
+mod stand;
 mod step_lines;
 mod steps_block;
 
+pub use block_reader::BlockReader;
+pub use fed::{Fed, ReadRefusal};
 pub use first_line::head;
 pub use lost_line::lost;
 pub use ranked_lines::append_activations;
+pub use read_round::{
+    NamedSet, NamedSetList, Part, PartList, RankedLine, RankedLineList, ReadRound,
+};
+pub use reading::{LineRefusal, Members, read_report_line, read_set};
 pub use refused_block::refused;
 pub use refused_line::RefusedLine;
+pub use report_line::ReportLine;
 pub use round_block::{append_counts, render};
 pub use set_line::{append_set, append_set_line};
+pub use stand::Stand;

@@ -2,7 +2,7 @@
 
 ghost use Rattle.std.specs.Prelude.{◌≡◌, ◌<◌, ◌∷◌, [], length};
 ghost use Rattle.tfpg_graph.specs.Graph.{failures, failure_word};
-ghost use Rattle.tfpg_report.specs.Blocks.{edge_words};
+ghost use Rattle.tfpg_report.specs.LineWords.{edge_words};
 
 use tfpg_graph::Graph;
 

@@ -6,7 +6,8 @@ ghost use Rattle.tfpg_base.specs.Append.{Appends};
 ghost use Rattle.tfpg_evidence.specs.Findings.{findings_at};
 ghost use Rattle.tfpg_evidence.specs.RoundOf.{IsFindingOf, finding_numbered};
 ghost use Rattle.tfpg_graph.specs.Graph.{sizes_of};
-ghost use Rattle.tfpg_report.specs.Blocks.{activation_text, ranked_line, ranked_text};
+ghost use Rattle.tfpg_report.specs.LineWords.{activation_text};
+ghost use Rattle.tfpg_report.specs.inside.Texts.{ranked_line, ranked_text};
 ghost use Rattle.tfpg_report.specs.inside.Numbered.{numbered_text};
 
 use crate::set_line::append_set_line;

@@ -4,7 +4,7 @@ ghost use Rattle.std.specs.Prelude.{◌≡◌};
 ghost use Rattle.tfpg_base.specs.Append.{Appends};
 ghost use Rattle.tfpg_evidence.specs.RoundOf.{IsReasonOf};
 ghost use Rattle.tfpg_graph.specs.Graph.{sizes_of};
-ghost use Rattle.tfpg_report.specs.Blocks.{reason_text};
+ghost use Rattle.tfpg_report.specs.inside.Texts.{reason_text};
 
 use itoa::Buffer;
 use tfpg_base::{NoMemory, append_line};

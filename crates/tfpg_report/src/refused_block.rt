@@ -3,7 +3,8 @@
 ghost use Rattle.std.specs.Prelude.{◌≡◌, ◌∷◌, codes, decimal};
 ghost use Rattle.tfpg_base.specs.Append.{Appends};
 ghost use Rattle.tfpg_base.specs.TextLine.{text_line};
-ghost use Rattle.tfpg_report.specs.Blocks.{refusal_name, refusal_time, refused_text, time_words};
+ghost use Rattle.tfpg_report.specs.Blocks.{refused_text};
+ghost use Rattle.tfpg_report.specs.LineWords.{refusal_name, refusal_time, time_words};
 
 use crate::RefusedLine;
 use itoa::Buffer;

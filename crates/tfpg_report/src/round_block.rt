@@ -5,7 +5,9 @@ ghost use Rattle.tfpg_base.specs.Append.{Appends};
 ghost use Rattle.tfpg_evidence.specs.RoundOf.{IsRoundOf};
 ghost use Rattle.tfpg_base.specs.TextLine.{text_line};
 ghost use Rattle.tfpg_graph.specs.Graph.{sizes_of};
-ghost use Rattle.tfpg_report.specs.Blocks.{counts_text, counts_words, round_text};
+ghost use Rattle.tfpg_report.specs.Blocks.{round_text};
+ghost use Rattle.tfpg_report.specs.LineWords.{counts_words};
+ghost use Rattle.tfpg_report.specs.inside.Texts.{counts_text};
 
 use crate::ranked_lines::append_all_ranked;
 use crate::sections::{Section, append_section};

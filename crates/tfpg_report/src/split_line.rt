@@ -5,7 +5,7 @@ ghost use Rattle.tfpg_base.specs.Append.{Appends};
 ghost use Rattle.tfpg_evidence.specs.RoundOf.{IsClauseOf};
 ghost use Rattle.tfpg_base.specs.TextLine.{text_line};
 ghost use Rattle.tfpg_graph.specs.Graph.{name_word, sizes_of};
-ghost use Rattle.tfpg_report.specs.Blocks.{clause_words, edge_words};
+ghost use Rattle.tfpg_report.specs.LineWords.{clause_words, edge_words};
 
 use crate::names::edge_names;
 use itoa::Buffer;

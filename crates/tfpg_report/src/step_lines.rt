@@ -5,7 +5,7 @@ ghost use Rattle.tfpg_base.specs.Append.{Appends};
 ghost use Rattle.tfpg_evidence.specs.RoundOf.{IsReasonOf, IsStepOf};
 ghost use Rattle.tfpg_base.specs.TextLine.{text_line};
 ghost use Rattle.tfpg_graph.specs.Graph.{sizes_of};
-ghost use Rattle.tfpg_report.specs.Blocks.{reason_text, step_text};
+ghost use Rattle.tfpg_report.specs.inside.Texts.{reason_text, step_text};
 
 use crate::reason_line::append_reason;
 use crate::split_line::append_split;

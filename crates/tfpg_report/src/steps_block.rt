@@ -4,7 +4,7 @@ ghost use Rattle.std.specs.Prelude.{◌≡◌, All, flat_map};
 ghost use Rattle.tfpg_base.specs.Append.{Appends};
 ghost use Rattle.tfpg_evidence.specs.RoundOf.{IsFindingOf, IsStepOf};
 ghost use Rattle.tfpg_graph.specs.Graph.{sizes_of};
-ghost use Rattle.tfpg_report.specs.Blocks.{step_text, steps_text};
+ghost use Rattle.tfpg_report.specs.inside.Texts.{step_text, steps_text};
 
 use crate::step_lines::append_step;
 use itoa::Buffer;

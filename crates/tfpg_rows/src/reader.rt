@@ -1,7 +1,7 @@
 //! The lines that describe the rows, one after the other, and the answer to them.
 
 use crate::bytes::{append_spelled, number_of, numbers_of, text_of, texts_of, words_of};
-use crate::row::{InTurn, NamedFile, Row, Stream};
+use crate::row::{Change, InTurn, NamedFile, Row};
 use crate::runs::append_runs;
 use std::alloc::Global;
 use std::mem;
@@ -12,6 +12,7 @@ use tfpg_base::NoMemory;
 enum Target {
     Nothing,
     Input,
+    Change,
     LastFile,
 }
 
@@ -69,6 +70,10 @@ impl RowReader {
         match self.target {
             Target::Nothing => Ok(()),
             Target::Input => append_often(&bytes, repeats, &mut self.row.input),
+            Target::Change => match &mut self.row.change {
+                None => Ok(()),
+                Some(change) => append_often(&bytes, repeats, &mut change.text),
+            },
             Target::LastFile => match self.files.last_mut() {
                 None => Ok(()),
                 Some(file) => append_often(&bytes, repeats, &mut file.text),
@@ -131,8 +136,9 @@ impl RowReader {
             Some(word) => number_of(word),
         };
         if keyword == b"input".as_slice() {
-            self.row.input = Vec::new(self.alloc);
-            self.target = Target::Input;
+            self.begin_input(others)
+        } else if keyword == b"lines".as_slice() {
+            self.begin_change(others);
             Ok(())
         } else if keyword == b"repeat".as_slice() {
             self.repeats = number;
@@ -156,6 +162,34 @@ impl RowReader {
         }
     }
 
+    /// Begins the input: with the text of the file of this name, where there is one.
+    fn begin_input(&mut self, words: &[&[u8]]) -> Result<(), NoMemory> {
+        self.row.input = Vec::new(self.alloc);
+        self.row.change = None;
+        self.target = Target::Input;
+        for word in words {
+            for file in &self.files {
+                if file.name.as_str().as_bytes() == *word {
+                    self.row.input.extend_from_slice(&file.text)?;
+                }
+            }
+        }
+        Ok(())
+    }
+
+    /// Begins a change of the input: these lines are taken out, from the first to the last, and the lines after a bar that follow
+    /// stand in their place.
+    fn begin_change(&mut self, words: &[&[u8]]) {
+        if let [first, last] = words {
+            self.row.change = Some(Change {
+                first: number_of(first),
+                last: number_of(last),
+                text: Vec::new(self.alloc),
+            });
+            self.target = Target::Change;
+        }
+    }
+
     /// Sets which calls fail: a stream or the files, and numbers of calls.
     fn set_fails(&mut self, words: &[&[u8]]) -> Result<(), NoMemory> {
         if let Some((name, calls)) = words.split_first() {
@@ -171,18 +205,18 @@ impl RowReader {
         Ok(())
     }
 
-    /// Sets which calls fail in turn: a stream, and how many of its first calls.
+    /// Sets what a run is made again with: a stream, and how many of its first calls fail in turn; or fronts of the input.
     fn set_in_turn(&mut self, words: &[&[u8]]) {
-        if let [name, count] = words {
-            let stream = if *name == b"read".as_slice() {
-                Stream::Input
-            } else {
-                Stream::Output
-            };
-            self.row.in_turn = Some(InTurn {
-                stream,
-                count: number_of(count),
-            });
+        match words {
+            [name, count] => {
+                let count = number_of(count);
+                self.row.in_turn = Some(if *name == b"read".as_slice() {
+                    InTurn::ReadFails(count)
+                } else {
+                    InTurn::WriteFails(count)
+                });
+            }
+            _ => self.row.in_turn = Some(InTurn::Cut),
         }
     }
 

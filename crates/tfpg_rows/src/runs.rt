@@ -2,7 +2,7 @@
 
 use crate::answer::{append_failed, append_made};
 use crate::made::{Made, Outside, make_run};
-use crate::row::{InTurn, NamedFile, Row, Stream};
+use crate::row::{InTurn, NamedFile, Row};
 use std::alloc::Global;
 use tfpg_base::NoMemory;
 
@@ -21,14 +21,15 @@ pub(crate) fn append_runs(
     for file in files {
         named.push((file.name.as_str(), file.text.as_slice()))?;
     }
-    append_runs_over(alloc, words, &outside_of(row, &named), row, into)
+    let input = row.changed_input(alloc)?;
+    append_runs_over(alloc, words, &outside_of(row, &named, &input), row, into)
 }
 
-/// What a run of the row has besides its words, over these files.
-fn outside_of<'a>(row: &'a Row, files: &'a [(&'a str, &'a [u8])]) -> Outside<'a> {
+/// What a run of the row has besides its words, over these files and with this input.
+fn outside_of<'a>(row: &'a Row, files: &'a [(&'a str, &'a [u8])], input: &'a [u8]) -> Outside<'a> {
     Outside {
         files,
-        input: &row.input,
+        input,
         room: row.room,
         file_fails: &row.file_fails,
         read_fails: &row.read_fails,
@@ -83,7 +84,7 @@ fn append_difference(
     Ok(())
 }
 
-/// Makes the run with each of these calls failing in turn, and appends what came of each.
+/// Makes the run once more for each number, and appends what came of each.
 fn append_in_turn(
     alloc: Global,
     words: &[String],
@@ -92,26 +93,56 @@ fn append_in_turn(
     whole: &[u8],
     into: &mut Vec<u8>,
 ) -> Result<(), NoMemory> {
-    for call in 1..=in_turn.count {
-        let fails = [call];
-        let (name, failing) = match in_turn.stream {
-            Stream::Input => (
-                b"read ".as_slice(),
-                Outside {
+    match in_turn {
+        InTurn::ReadFails(count) => {
+            for call in 1..=count {
+                let fails = [call];
+                let failing = Outside {
                     read_fails: &fails,
                     ..*outside
-                },
-            ),
-            Stream::Output => (
-                b"write ".as_slice(),
-                Outside {
+                };
+                append_other(alloc, words, &failing, (b"read ", call), whole, into)?;
+            }
+        }
+        InTurn::WriteFails(count) => {
+            for call in 1..=count {
+                let fails = [call];
+                let failing = Outside {
                     write_fails: &fails,
                     ..*outside
-                },
-            ),
-        };
-        let made = make_run(alloc, words, &failing)?;
-        append_failed(alloc, name, call, &made, whole, into)?;
+                };
+                append_other(alloc, words, &failing, (b"write ", call), whole, into)?;
+            }
+        }
+        InTurn::Cut => {
+            for len in 0..=outside.input.len() {
+                let (front, _) = outside.input.split_at(len);
+                let cut = Outside {
+                    input: front,
+                    ..*outside
+                };
+                append_other(alloc, words, &cut, (b"cut ", len as u64), whole, into)?;
+            }
+        }
     }
     Ok(())
+}
+
+/// Makes another run, and appends what came of it after its name and number.
+fn append_other(
+    alloc: Global,
+    words: &[String],
+    outside: &Outside<'_>,
+    turn: (&[u8], u64),
+    whole: &[u8],
+    into: &mut Vec<u8>,
+) -> Result<(), NoMemory> {
+    let room = if outside.room == 0 {
+        LARGE_ROOM
+    } else {
+        outside.room
+    };
+    let made = make_run(alloc, words, &Outside { room, ..*outside })?;
+    let (name, number) = turn;
+    append_failed(alloc, name, number, &made, whole, into)
 }

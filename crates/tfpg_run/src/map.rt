@@ -14,8 +14,9 @@ use lines::{read_activation, read_set_line};
 pub(crate) use reading::read_map;
 use std::alloc::Global;
 pub(crate) use text::map_text;
-use tfpg_base::{Doubts, LineFault, NoMemory, Set, Trace};
+use tfpg_base::{LineFault, NoMemory, Trace};
 use tfpg_graph::Graph;
+use tfpg_report::Members;
 
 /// Why a line is not taken.
 #[derive(Clone, Copy, Debug, PartialEq, Eq)]
@@ -35,13 +36,6 @@ pub(crate) enum NoMap {
     Lines(LineFault),
     /// Out of memory.
     NoMemory,
-}
-
-/// The members of a set: failure modes, and monitors that are ignored.
-#[derive(Drop)]
-pub(crate) struct Members {
-    pub(crate) set: Set,
-    pub(crate) doubts: Doubts,
 }
 
 /// The members of a set, and a trace.

@@ -3,7 +3,7 @@ use Rattle.std.specs.Prelude.{ℕ, List, [], unwrap_or, option_map}
 use Rattle.tfpg_graph.specs.Graph.{Tfpg}
 use Rattle.tfpg_evidence.specs.declared.finding.Finding.{Finding}
 use Rattle.tfpg_evidence.specs.RoundOf.{finding_numbered}
-use Rattle.tfpg_report.specs.Blocks.{ranked_text}
+use Rattle.tfpg_report.specs.inside.Texts.{ranked_text}
 
 -- the lines of the hypothesis of a number, where it is ranked
 abbrev pub numbered_text : Tfpg → List Finding → ℕ → List ℕ

@@ -6,7 +6,7 @@ use Rattle.tfpg_evidence.specs.declared.finding.Status.{Status}
 use Rattle.tfpg_evidence.specs.declared.finding.Status.TheVariants as status
 use Rattle.tfpg_report.specs.declared.sections.Section.{Section}
 use Rattle.tfpg_report.specs.declared.sections.Section.TheVariants.{Steps, Open, Rejected}
-use Rattle.tfpg_report.specs.Blocks.{steps_text, open_text, rejected_text}
+use Rattle.tfpg_report.specs.inside.Texts.{steps_text, open_text, rejected_text}
 
 -- the line of a finding with this status, where it is open
 abbrev pub text_where_open : Tfpg → Finding → Status → List ℕ

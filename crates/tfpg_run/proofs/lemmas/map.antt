@@ -1,7 +1,5 @@
 -- Maps: their lines and words, reading them, and that each text spells at most one.
 pub mod LineWords
-pub mod RisingMembers
-pub mod CutMembers
 pub mod Lines
 pub mod NextLines
 pub mod OneMap

@@ -6,7 +6,7 @@ use Rattle.tfpg_graph.specs.Graph.{Tfpg}
 use Rattle.tfpg_evidence.specs.declared.finding.Status.{Status}
 use Rattle.tfpg_evidence.specs.declared.finding.Status.TheVariants.{Ranked, Covered, Rejected, Open}
 use Rattle.tfpg_evidence.specs.declared.round.Counts.{Counts}
-use Rattle.tfpg_report.specs.Blocks.{counts_words}
+use Rattle.tfpg_report.specs.LineWords.{counts_words}
 use Rattle.tfpg_report.specs.SetText.{set_word}
 
 -- the word for a status

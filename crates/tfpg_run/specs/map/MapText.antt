@@ -4,7 +4,7 @@ use Rattle.tfpg_base.specs.declared.activation.Activation.{Activation}
 use Rattle.tfpg_base.specs.Hypothesis.{Hypothesis}
 use Rattle.tfpg_base.specs.Lines.{with_line_end}
 use Rattle.tfpg_graph.specs.Graph.{Tfpg}
-use Rattle.tfpg_report.specs.Blocks.{activation_text}
+use Rattle.tfpg_report.specs.LineWords.{activation_text}
 use Rattle.tfpg_run.specs.map.Spelling.{set_line}
 
 -- the line of the set, and then the line of each activation of the trace, in its order

@@ -8,7 +8,7 @@ use Rattle.tfpg_base.specs.Trace.{IsRisingByNode, time_of}
 use Rattle.tfpg_base.specs.Words.{line_of}
 use Rattle.tfpg_base.specs.Hypothesis.{Hypothesis}
 use Rattle.tfpg_graph.specs.Graph.{Tfpg}
-use Rattle.tfpg_report.specs.Blocks.{activation_line}
+use Rattle.tfpg_report.specs.LineWords.{activation_line}
 use Rattle.tfpg_report.specs.SetText.{IsHypothesisOf, set_word}
 
 -- the line of the set of a hypothesis

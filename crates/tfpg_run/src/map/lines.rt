@@ -1,28 +1,26 @@
 //! The lines of a map: that of its set, and that of an activation.
 
-ghost use Rattle.std.specs.Prelude.{◌≡◌, ◌<◌, ◌≤◌, ℕ, List, length, map, option_map, unwrap_or, position, IfSome, IsNone, IfOk, IsErrOf, decimal};
+ghost use Rattle.std.specs.Prelude.{◌≡◌, option_map, IfSome, IsNone, IfOk, IsErrOf, decimal};
 ghost use Rattle.tfpg_base.specs.declared.activation.Activation.{Activation};
 ghost use Rattle.tfpg_base.specs.Hypothesis.{Hypothesis};
 ghost use Rattle.tfpg_base.specs.Words.{words_of};
-ghost use Rattle.tfpg_graph.specs.Valid.{IsValid};
-ghost use Rattle.tfpg_graph.specs.Graph.{name_word, failure_word};
-ghost use Rattle.tfpg_graph.specs.declared.limits.TheConstants.{MAX_NODES};
-ghost use Rattle.tfpg_report.specs.Blocks.{activation_line};
-ghost use Rattle.tfpg_report.specs.SetText.{IsHypothesisOf, doubt_word, member_words, set_word};
+ghost use Rattle.tfpg_graph.specs.Graph.{name_word};
+ghost use Rattle.tfpg_report.specs.LineWords.{activation_line};
+ghost use Rattle.tfpg_report.specs.SetText.{IsHypothesisOf};
+ghost use Rattle.tfpg_report.specs.ReadSets.{hypothesis_of};
 ghost use Rattle.tfpg_run.specs.map.Spelling.{IsActivationOf, set_line};
-ghost use Rattle.tfpg_run.specs.inside.map.Lines.{word_after_set, words_after_at, position_named, monitor_named, doubt_named, is_marked, IsPosition, IsMonitor, AreRisingFrom, hypothesis_with};
+ghost use Rattle.tfpg_run.specs.inside.map.Lines.{word_after_set, words_after_at};
 
-use super::{MapFault, Members};
+use super::MapFault;
 use std::alloc::Global;
-use tfpg_base::{
-    Activation, Doubts, MAX_TIME, NoMemory, Number, Set, Words, parts_at_commas, read_number,
-};
+use tfpg_base::{Activation, MAX_TIME, Number, Words, read_number};
 use tfpg_graph::Graph;
+use tfpg_report::{Members, read_set};
 
 /// The members of the set that the line spells.
 pub(crate) fn read_set_line(alloc: Global, graph: &Graph, line: &[u8]) -> Result<Members, MapFault>
-    ensures set { IfOk result (λ members. IsHypothesisOf graph.now (hypothesis_with members)
-        × (line.now ≡ set_line graph.now (hypothesis_with members))) }
+    ensures set { IfOk result (λ members. IsHypothesisOf graph.now (hypothesis_of members)
+        × (line.now ≡ set_line graph.now (hypothesis_of members))) }
     ensures bad { IsErrOf result MapFault.BadMap → (hypothesis : Hypothesis) →
         IsHypothesisOf graph.now hypothesis → line.now ≡ set_line graph.now hypothesis → ⊥ }
 {
@@ -30,7 +28,10 @@ pub(crate) fn read_set_line(alloc: Global, graph: &Graph, line: &[u8]) -> Result
     let Some(word) = word_after_set(line) else {
         return Err(MapFault::BadMap);
     };
-    read_set(alloc, graph, word)
+    match read_set(alloc, graph, word)? {
+        Some(members) => Ok(members),
+        None => Err(MapFault::BadMap),
+    }
 }
 
 /// The word after `set`, where the line has that shape.
@@ -42,139 +43,6 @@ fn word_after_set(line: &[u8]) -> Option<&[u8]>
         [keyword, word] if *keyword == b"set".as_slice() => Some(*word),
         _ => None,
     }
-}
-
-/// The members of the set that the word spells.
-fn read_set(alloc: Global, graph: &Graph, word: &[u8]) -> Result<Members, MapFault>
-    ensures set { IfOk result (λ members. IsHypothesisOf graph.now (hypothesis_with members)
-        × (word.now ≡ set_word graph.now (hypothesis_with members))) }
-    ensures bad { IsErrOf result MapFault.BadMap → (hypothesis : Hypothesis) →
-        IsHypothesisOf graph.now hypothesis → word.now ≡ set_word graph.now hypothesis → ⊥ }
-{
-    graph.is_always_valid();
-    if word == b"-".as_slice() {
-        return Ok(Members {
-            set: Set::empty(),
-            doubts: Doubts::empty(),
-        });
-    }
-    let words = parts_at_commas(alloc, word)?;
-    match members_of(graph, &words) {
-        Some(members) => Ok(members),
-        None => Err(MapFault::BadMap),
-    }
-}
-
-/// The members that these words stand for: names of failure modes first, and then monitors with their marks, each in order.
-fn members_of(graph: &Graph, words: &[&[u8]]) -> Option<Members>
-    ensures found { IfSome result (λ members. IsHypothesisOf graph.now (hypothesis_with members)
-        × (member_words graph.now (hypothesis_with members) ≡ map (λ word. word.now) words.now)) }
-    ensures none { IsNone result → (hypothesis : Hypothesis) → IsHypothesisOf graph.now hypothesis →
-        member_words graph.now hypothesis ≡ map (λ word. word.now) words.now → ⊥ }
-{
-    graph.is_always_valid();
-    let (names, marked) = words.split_at(unmarked_count(words));
-    let set = rising_positions(graph, names, 0)?;
-    let doubts = rising_doubts(graph, marked, 0)?;
-    Some(Members { set, doubts })
-}
-
-/// How many words stand before the first that begins with an exclamation mark.
-fn unmarked_count(words: &[&[u8]]) -> usize
-    ensures count { result ≡ unwrap_or (position (λ word. is_marked word.now) words.now) (length words.now) }
-    ensures within { result ≤ length words.now }
-{
-    first_marked(words).unwrap_or(words.len())
-}
-
-/// The index of the first word that begins with an exclamation mark.
-fn first_marked(words: &[&[u8]]) -> Option<usize>
-    ensures { result ≡ position (λ word. is_marked word.now) words.now }
-{
-    words.iter().position(|word| is_marked(word))
-}
-
-/// Whether the word begins with an exclamation mark.
-fn is_marked(word: &[u8]) -> bool
-    ensures { result ≡ is_marked word.now }
-{
-    match word {
-        [] => false,
-        [first, ..] => *first == b'!',
-    }
-}
-
-/// The positions of the failure modes of these names, where they rise, and none is before the least one. Calls as deep as
-/// there are failure modes, at most.
-fn rising_positions(graph: &Graph, names: &[&[u8]], least: u32) -> Option<Set>
-    ensures found { IfSome result (λ set. AreRisingFrom (IsPosition graph.now) least set ×
-        (map (failure_word graph.now) set ≡ map (λ name. name.now) names.now)) }
-    ensures none { IsNone result → (set : List ℕ) → AreRisingFrom (IsPosition graph.now) least set →
-        map (failure_word graph.now) set ≡ map (λ name. name.now) names.now → ⊥ }
-{
-    match names.split_first() {
-        None => Some(Set::empty()),
-        Some((first, others)) => {
-            let position = find_failure(graph, first)?;
-            if position < least {
-                return None;
-            }
-            Some(rising_positions(graph, others, position + 1)?.with(position))
-        }
-    }
-}
-
-/// The position of the failure mode of this name.
-fn find_failure(graph: &Graph, name: &[u8]) -> Option<u32>
-    ensures position { result ≡ position_named graph.now name.now }
-    ensures valid { IsValid graph.now }
-{
-    graph.is_always_valid();
-    graph.place_of(graph.find(name)?)
-}
-
-/// The monitors that these words stand for, where their nodes rise, and none is before the least one. Calls as deep as there
-/// are nodes, at most.
-fn rising_doubts(graph: &Graph, words: &[&[u8]], least: u32) -> Option<Doubts>
-    ensures found { IfSome result (λ doubts. AreRisingFrom (IsMonitor graph.now) least doubts ×
-        (map (doubt_word graph.now) doubts ≡ map (λ word. word.now) words.now)) }
-    ensures none { IsNone result → (doubts : List ℕ) → AreRisingFrom (IsMonitor graph.now) least doubts →
-        map (doubt_word graph.now) doubts ≡ map (λ word. word.now) words.now → ⊥ }
-{
-    match words.split_first() {
-        None => Some(Doubts::empty()),
-        Some((first, others)) => {
-            let node = find_doubt(graph, first)?;
-            if node < least {
-                return None;
-            }
-            Some(rising_doubts(graph, others, node + 1)?.with(node))
-        }
-    }
-}
-
-/// The monitored node of the name after the exclamation mark of this word.
-fn find_doubt(graph: &Graph, word: &[u8]) -> Option<u32>
-    ensures node { result ≡ doubt_named graph.now word.now }
-    ensures within { IfSome result (λ node. node < MAX_NODES) }
-    ensures valid { IsValid graph.now }
-{
-    graph.is_always_valid();
-    let (mark, name) = word.split_first()?;
-    if *mark != b'!' {
-        return None;
-    }
-    find_monitor(graph, name)
-}
-
-/// The monitored node of this name.
-fn find_monitor(graph: &Graph, name: &[u8]) -> Option<u32>
-    ensures node { result ≡ monitor_named graph.now name.now }
-    ensures within { IfSome result (λ node. node < MAX_NODES) }
-{
-    graph.is_always_valid();
-    let node = graph.find(name)?;
-    graph.is_monitored(node).then_some(node)
 }
 
 /// The activation that the line spells.

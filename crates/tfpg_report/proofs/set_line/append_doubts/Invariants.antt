@@ -1,5 +1,5 @@
 use Rattle.tfpg_report.specs.SetText.{doubt_word}
-use Rattle.tfpg_report.proofs.Members.{AreMembersWritten}
+use Rattle.tfpg_report.proofs.WrittenMembers.{AreMembersWritten}
 use Rattle.tfpg_report.proofs.set_line.append_doubts.Given as goal
 
 -- the monitors of nodes below this one are written

@@ -2,7 +2,7 @@ use Rattle.std.proofs.Common.{◌≡◌, List, ℕ, true, ◌++◌, ◌∙◌, a
 use Rattle.tfpg_base.proofs.Appended.{Appends-err_after}
 use Rattle.tfpg_base.specs.TextLine.{separated}
 use Rattle.tfpg_graph.specs.Graph.{failure_word}
-use Rattle.tfpg_report.proofs.Members.{AreMembersWritten-none, AreMembersWritten-more, AreMembersWritten-same, AreMembersWritten-all}
+use Rattle.tfpg_report.proofs.WrittenMembers.{AreMembersWritten-none, AreMembersWritten-more, AreMembersWritten-same, AreMembersWritten-all}
 use Rattle.tfpg_report.proofs.set_line.append_failures.Goals as goal
 use Rattle.tfpg_report.proofs.set_line.append_failures.Goals.{then-has+in_ok-append_part, else-has}
 

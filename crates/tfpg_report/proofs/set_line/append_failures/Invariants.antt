@@ -1,6 +1,6 @@
 use Rattle.std.proofs.Common.{true}
 use Rattle.tfpg_graph.specs.Graph.{failure_word}
-use Rattle.tfpg_report.proofs.Members.{AreMembersWritten}
+use Rattle.tfpg_report.proofs.WrittenMembers.{AreMembersWritten}
 use Rattle.tfpg_report.proofs.set_line.append_failures.Given as goal
 
 -- the members below the position are named

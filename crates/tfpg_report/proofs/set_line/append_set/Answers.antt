@@ -5,7 +5,7 @@ use Rattle.tfpg_base.proofs.Appended.{Appends-after}
 use Rattle.tfpg_graph.specs.Graph.{failure_word}
 use Rattle.tfpg_report.specs.SetText.{doubt_word}
 use Rattle.tfpg_report.specs.inside.Further.{further_words}
-use Rattle.tfpg_report.proofs.Members.{set_written, still_first-test}
+use Rattle.tfpg_report.proofs.WrittenMembers.{set_written, still_first-test}
 use Rattle.tfpg_report.proofs.set_line.append_set.Goals as goal
 use Rattle.tfpg_report.proofs.set_line.append_set.Goals.{else-is_first-via-then-is_first+else-len-eq0, else-is_first-via-else-is_first}
 

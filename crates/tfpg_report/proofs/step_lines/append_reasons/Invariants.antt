@@ -1,6 +1,6 @@
 use Rattle.std.proofs.Common.{◌≡◌, ◌++◌, take}
 use Rattle.std.specs.List.{flat_map}
-use Rattle.tfpg_report.specs.Blocks.{reason_text}
+use Rattle.tfpg_report.specs.inside.Texts.{reason_text}
 use Rattle.tfpg_report.proofs.step_lines.append_reasons.Given as goal
 
 -- the texts of the items so far stand after the old bytes

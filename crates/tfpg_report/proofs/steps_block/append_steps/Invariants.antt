@@ -1,6 +1,6 @@
 use Rattle.std.proofs.Common.{◌≡◌, ◌++◌, take}
 use Rattle.std.specs.List.{flat_map}
-use Rattle.tfpg_report.specs.Blocks.{step_text}
+use Rattle.tfpg_report.specs.inside.Texts.{step_text}
 use Rattle.tfpg_report.proofs.steps_block.append_steps.Given as goal
 
 -- the texts of the items so far stand after the old bytes

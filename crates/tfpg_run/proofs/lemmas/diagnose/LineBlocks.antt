@@ -23,6 +23,7 @@ use Rattle.tfpg_engine.specs.declared.told.Told.{Told}
 use Rattle.tfpg_engine.specs.declared.told.Told.TheVariants as told
 use Rattle.tfpg_report.specs.declared.refused_line.RefusedLine.TheVariants.{TooLong, Offer}
 use Rattle.tfpg_report.specs.Blocks.{RefusedBlock, RoundBlock, refused_text, round_text}
+use Rattle.tfpg_report.proofs.WrittenLines.{written_alone, written_refusal}
 use Rattle.tfpg_check.specs.Report.{Progress, IsBlockOf, event_of_line, event_of_reply}
 use Rattle.tfpg_check.proofs.Progressing.{progress_with}
 use Rattle.tfpg_run.specs.diagnose.RightReport.{RoundSays}
@@ -107,7 +108,7 @@ module _ (graph : Tfpg) (terms : Terms) (before : Progress) (number : ℕ) (line
         is_block = subst (IsBlockOf graph terms before number block) (sym none) refl;
         no_losses = tt;
         says = tt;
-        text = text;
+        text = text ∙ sym (written_refusal graph number TooLong);
         reports = subst (EngineReports graph terms engine) (sym (ap₂ progress_with (append-nil before.rounds) log_same)) reports;
       }
 
@@ -124,7 +125,7 @@ module _ (graph : Tfpg) (terms : Terms) (before : Progress) (number : ℕ) (line
           is_block = subst (IsBlockOf graph terms before number block) (sym (short_line graph before.log line (Refused refusal) short refused)) refl;
           no_losses = tt;
           says = tt;
-          text = text;
+          text = text ∙ sym (written_refusal graph number (Offer refusal));
           reports = subst (λ (e : EngineState). EngineReports graph terms e (progress_with (before.rounds ++ []) (log_after graph before.log line))) (sym same)
               (subst (EngineReports graph terms old) (sym (ap₂ progress_with (append-nil before.rounds)
               (short_log graph before.log line short ∙ ap (log_after_reply before.log) refused))) reports);
@@ -151,7 +152,7 @@ module _ (graph : Tfpg) (terms : Terms) (before : Progress) (number : ℕ) (line
           no_losses = refl;
           says = along (λ (g : Tfpg) (x : Terms) (l : Logbook). RoundSays g x before.rounds l round) old.graph graph old.terms terms new.log (log_after graph before.log line)
               reports.graph_is reports.terms_is (log_is ∙ sym after_is) says;
-          text = text ∙ ap (λ (g : Tfpg). round_text g round) (same_graph ∙ reports.graph_is) ∙ sym (append-nil (round_text graph round));
+          text = text ∙ ap (λ (g : Tfpg). round_text g round) (same_graph ∙ reports.graph_is) ∙ sym (written_alone graph round);
           reports = record {
             graph_is = same_graph ∙ reports.graph_is;
             terms_is = same_terms ∙ reports.terms_is;

@@ -19,7 +19,7 @@ use Rattle.tfpg_base.proofs.lists.Lacking.{lacks_checked, slice_split-join}
 use Rattle.tfpg_graph.specs.Graph.{Tfpg, name_word, node_named}
 use Rattle.tfpg_graph.specs.Valid.{IsValid}
 use Rattle.tfpg_graph.proofs.lemmas.declaring.Named.{named_found}
-use Rattle.tfpg_report.specs.Blocks.{activation_line}
+use Rattle.tfpg_report.specs.LineWords.{activation_line}
 use Rattle.tfpg_report.specs.SetText.{IsHypothesisOf, hyphen_or_joined, member_words, set_word}
 use Rattle.tfpg_report.proofs.ActivationLines.{IsInRange, activation_words, one_activation}
 use Rattle.tfpg_report.proofs.SetWords.{set_word-no_space, set_word-parts}
@@ -89,26 +89,7 @@ module _ (graph : Tfpg) (valid : IsValid graph) where
   pub one_node : (one other : Activation) → IsActivationOf graph one → IsActivationOf graph other → activation_line graph one ≡ activation_line graph other → one.node ≡ other.node
   one_node one other of too same = ap (λ (activation : Activation). activation.node) (one_activation graph valid one other (is_in_range one of) (is_in_range other too) same)
 
--- the word of a node that was found by its name
-pub word_of_named : (graph : Tfpg) (name : List ℕ) (node : ℕ) → node_named graph name ≡ Some node → (node < length graph.nodes) × (name ≡ name_word graph node)
-word_of_named graph name node found = let is = named_found graph name node found in (is.0, sym (ap (λ o. unwrap_or o []) is.1))
-
--- ---- the text of a set
-
--- a word whose parts are the words for the members of a hypothesis is the text of its set
-set_of_parts : (word : List ℕ) (words : List (List ℕ)) → words ≡ comma_parts word → word ≡ hyphen_or_joined words
-set_of_parts word [] e = absurd (omega (arith, ap length e, length-slice_split (λ byte. byte == 44) word))
-set_of_parts word (first ∷ others) e = sym (join_with_byte-slice_split 44 word) ∙ ap (join_with_byte 44) (sym e)
-
-pub set_spelled : (graph : Tfpg) (word : List ℕ) (hypothesis : Hypothesis) → member_words graph hypothesis ≡ comma_parts word → word ≡ set_word graph hypothesis
-set_spelled graph word hypothesis e = set_of_parts word (member_words graph hypothesis) e
-
--- a word that is the text of a set, and no hyphen, has the words for its members as its parts
-pub set_parts : (graph : Tfpg) → IsValid graph → (word : List ℕ) (hypothesis : Hypothesis) → bytes_eq word (codes "-") ≡ false → IsHypothesisOf graph hypothesis → word ≡ set_word graph hypothesis
-    → member_words graph hypothesis ≡ comma_parts word
-set_parts graph valid word hypothesis no_hyphen of e =
-    sym (ap comma_parts e ∙ set_word-parts graph valid hypothesis of
-    (λ is. false≢true (sym no_hyphen ∙ (bytes_eq-Decides word (codes "-")).1 (e ∙ is))))
+-- ---- the line of a set
 
 -- the line of a set is read so
 pub set_line-read : (graph : Tfpg) → IsValid graph → (hypothesis : Hypothesis) → IsHypothesisOf graph hypothesis → word_after_set (words_of (set_line graph hypothesis)) ≡ Some (set_word graph hypothesis)

@@ -12,11 +12,12 @@ use Rattle.tfpg_base.proofs.lists.Elements.{Contains-head, Contains-middle, Cont
 use Rattle.tfpg_base.proofs.Traces.{time_of-with_time, time_of-with_time_other, IsRisingByNode-with_time}
 use Rattle.tfpg_graph.specs.Graph.{Tfpg}
 use Rattle.tfpg_graph.specs.Valid.{IsValid}
-use Rattle.tfpg_report.specs.Blocks.{activation_line}
+use Rattle.tfpg_report.specs.LineWords.{activation_line}
 use Rattle.tfpg_report.specs.SetText.{IsHypothesisOf}
 use Rattle.tfpg_run.specs.map.Spelling.{IsActivationOf, SpellsMap, BeginsMap, set_line}
-use Rattle.tfpg_run.specs.declared.map.Members.{Members}
-use Rattle.tfpg_run.specs.inside.map.Lines.{HasRead, TakesActivation, IsNoActivation, hypothesis_with}
+use Rattle.tfpg_report.specs.declared.reading.set_word.Members.{Members}
+use Rattle.tfpg_report.specs.ReadSets.{hypothesis_of}
+use Rattle.tfpg_run.specs.inside.map.Lines.{HasRead, TakesActivation, IsNoActivation}
 use Rattle.tfpg_run.proofs.lemmas.map.LineWords.{one_node}
 
 -- ---- lists of activations
@@ -166,16 +167,16 @@ HasRead-begins graph None trace lines read = (
   ),
 )
 HasRead-begins graph (Some members) trace lines read =
-    ([], (hypothesis_with members, trace, subst (λ (ls : List (List ℕ)). SpellsMap graph ls (hypothesis_with members) trace) (sym (append-nil lines)) read))
+    ([], (hypothesis_of members, trace, subst (λ (ls : List (List ℕ)). SpellsMap graph ls (hypothesis_of members) trace) (sym (append-nil lines)) read))
 
 -- one more line
 pub HasRead-more : (graph : Tfpg) (members : Members) (seen : Option Members) (trace now : List Activation) (lines : List (List ℕ)) (line : List ℕ) → seen ≡ Some members → HasRead graph seen trace lines
     → TakesActivation graph trace line now → length line ≤ LONGEST_LINE → HasRead graph (Some members) now (lines ++ line ∷ [])
 HasRead-more graph members seen trace now lines line is read takes short =
-    SpellsMap-more graph lines (hypothesis_with members) trace now line (subst (λ (s : Option Members). HasRead graph s trace lines) is read) takes short
+    SpellsMap-more graph lines (hypothesis_of members) trace now line (subst (λ (s : Option Members). HasRead graph s trace lines) is read) takes short
 
 -- a line that is at fault
 pub HasRead-fault : (graph : Tfpg) → IsValid graph → (members : Members) (seen : Option Members) (trace : List Activation) (lines : List (List ℕ)) (line : List ℕ) → seen ≡ Some members
     → HasRead graph seen trace lines → IsNoActivation graph trace line → BeginsMap graph (lines ++ line ∷ []) → ⊥
 HasRead-fault graph valid members seen trace lines line is read none =
-    no_map-activation graph valid lines (hypothesis_with members) trace line (subst (λ (s : Option Members). HasRead graph s trace lines) is read) none
+    no_map-activation graph valid lines (hypothesis_of members) trace line (subst (λ (s : Option Members). HasRead graph s trace lines) is read) none

@@ -19,10 +19,11 @@ use Rattle.tfpg_graph.specs.Graph.{Tfpg, is_monitored}
 use Rattle.tfpg_run.specs.map.Spelling.{SpellsMap, BeginsMap, IsActivationOf}
 use Rattle.tfpg_run.specs.declared.map.Map.{Map}
 use Rattle.tfpg_run.specs.declared.map.MapReader.{MapReader}
-use Rattle.tfpg_run.specs.declared.map.Members.{Members}
+use Rattle.tfpg_report.specs.declared.reading.set_word.Members.{Members}
 use Rattle.tfpg_run.specs.declared.map.NoMap.{NoMap}
 use Rattle.tfpg_run.specs.declared.map.NoMap.TheVariants as none
-use Rattle.tfpg_run.specs.inside.map.Lines.{HasRead, MapRepresents, hypothesis_with}
+use Rattle.tfpg_report.specs.ReadSets.{hypothesis_of}
+use Rattle.tfpg_run.specs.inside.map.Lines.{HasRead, MapRepresents}
 use Rattle.tfpg_run.specs.inside.map.Reading.{IsReadingMap, HasReadAll, ReadsMap, ReturnsMap, LacksMap, map_reading_at}
 use Rattle.tfpg_base.proofs.lists.Cuts.{front_is_within, front_before, front_with}
 use Rattle.tfpg_run.proofs.InputLines.{rest_of, rest_is_left, rest_at_end, front_of_input, came_to_end, few_lines}
@@ -217,7 +218,7 @@ module _ (graph : Tfpg) (before now : SourceState) (reader : MapReader) (all : H
 -- a map that was read names only nodes of the graph
 pub map_in_graph : (graph : Tfpg) (before now : SourceState) (result : Result Map NoMap) → IfOk result (ReadsMap graph before now)
     → IfOk result (λ map. All (λ activation. activation.node < length graph.nodes) map.trace)
-map_in_graph graph before now (Ok map) reads = spelled_in_graph graph (lines_of reads.taken) (hypothesis_with map.members) map.trace reads.gives.spells
+map_in_graph graph before now (Ok map) reads = spelled_in_graph graph (lines_of reads.taken) (hypothesis_of map.members) map.trace reads.gives.spells
 map_in_graph graph before now (Err fault) reads = tt
 
 -- and ignores only monitored ones

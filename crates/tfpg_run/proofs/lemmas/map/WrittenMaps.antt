@@ -23,7 +23,7 @@ use Rattle.tfpg_log.specs.Log.{Logbook, IsOrdered, now_of}
 use Rattle.tfpg_log.specs.Explains.{Explains}
 use Rattle.tfpg_clause.proofs.logs.TimesInRange.{now_in_range}
 use Rattle.tfpg_sim.specs.declared.simulated.Simulated.{Simulated}
-use Rattle.tfpg_report.specs.Blocks.{activation_line}
+use Rattle.tfpg_report.specs.LineWords.{activation_line}
 use Rattle.tfpg_report.specs.SetText.{IsHypothesisOf, hyphen_or_joined, member_words, set_word}
 use Rattle.tfpg_report.proofs.MemberWords.{IsMemberWord, member_short, member_words_are}
 use Rattle.tfpg_report.proofs.SetWords.{set_word-no_line_end}

@@ -14,7 +14,8 @@ use Rattle.tfpg_run.specs.declared.map.NoMap.TheVariants.{Refused, Lines, NoMemo
 use Rattle.tfpg_base.specs.declared.line.LineFault.TheVariants.{ReadFault, TooMuchInput}
 use Rattle.tfpg_run.specs.declared.map.reading.NextLine.{NextLine}
 use Rattle.tfpg_run.specs.declared.map.reading.NextLine.TheVariants.{Read, Ended}
-use Rattle.tfpg_run.specs.inside.map.Lines.{MapRepresents, hypothesis_with}
+use Rattle.tfpg_report.specs.ReadSets.{hypothesis_of}
+use Rattle.tfpg_run.specs.inside.map.Lines.{MapRepresents}
 
 -- the reading of a map at one moment: the input, the reader of lines and the reader of the map
 pub record MapReadingState : Type 0 where
@@ -55,7 +56,7 @@ ReadsOn graph before number now Ended = HasReadAll graph before now.input now.ma
 pub record ReadsMap (graph : Tfpg) (before now : SourceState) (map : Map) : Type 0 where
   pub taken : List ℕ
   pub takes : Takes before now taken
-  pub gives : GivesMap graph now taken (hypothesis_with map.members) map.trace
+  pub gives : GivesMap graph now taken (hypothesis_of map.members) map.trace
   pub no_fault : now.faults ≡ before.faults
 
 -- what a reader that has read all lines gives: its map, or that there is no line

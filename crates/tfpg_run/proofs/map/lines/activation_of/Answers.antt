@@ -2,8 +2,8 @@ use Rattle.std.proofs.Common.{rules, ◌≡◌, None, sym, ap, ◌∙◌}
 use Rattle.tfpg_graph.specs.Graph.{node_named}
 use Rattle.tfpg_base.specs.Words.{number_of, number_up_to}
 use Rattle.tfpg_base.specs.declared.limits.TheConstants.{MAX_TIME}
-use Rattle.tfpg_report.proofs.MemberWords.{node_of_word}
-use Rattle.tfpg_run.proofs.lemmas.map.LineWords.{word_of_named, time_read, time_spelled}
+use Rattle.tfpg_report.proofs.MemberWords.{node_of_word, word_of_named}
+use Rattle.tfpg_run.proofs.lemmas.map.LineWords.{time_read, time_spelled}
 use Rattle.tfpg_run.proofs.map.lines.activation_of.Goals as goal
 
 pub returns-in_err-node-clause-none : goal.returns-in_err-node-clause-none

@@ -1,8 +1,8 @@
-use Rattle.std.proofs.Common.{rules, ◌≡◌, ℕ, List, Bor, None, Some, sym, ap, ◌∙◌}
-use Rattle.std.proofs.lemmas.Result.{IfOk-weaker}
+use Rattle.std.proofs.Common.{rules, ◌≡◌, ℕ, List, Bor, None, Some, sym, subst, ap, ◌∙◌}
 use Rattle.std.specs.Option.{option_map}
 use Rattle.tfpg_base.specs.Words.{words_of}
-use Rattle.tfpg_run.specs.inside.map.Lines.{word_after_set, hypothesis_with}
+use Rattle.tfpg_report.specs.ReadSets.{AreMembersIn, hypothesis_of}
+use Rattle.tfpg_run.specs.inside.map.Lines.{word_after_set}
 use Rattle.tfpg_run.proofs.lemmas.map.LineWords.{no_set-unread, no_set-read, set_line_spelled}
 use Rattle.tfpg_run.proofs.map.lines.read_set_line.Goals as goal
 
@@ -11,12 +11,13 @@ returns-in_default-clause-bad c bad =
     let unread : word_after_set (words_of c.args.line.now) ≡ None = search rules in
     no_set-unread c.args.graph.now c.is_always_valid.ensures.valid c.args.line.now unread
 
-pub returns-clause-set : goal.returns-clause-set
-returns-clause-set c =
+pub returns-in-Some-2-clause-set : goal.returns-in-Some-2-clause-set
+returns-in-Some-2-clause-set c =
     let read : word_after_set (words_of c.args.line.now) ≡ Some c.in-Some.word.now = sym c.word_after_set.ensures ∙ ap (option_map (λ (word : Bor (List ℕ)). word.now)) c.in-Some.is in
-    IfOk-weaker c.read_set.result _ _ (λ members h. (h.0, set_line_spelled c.args.graph.now c.args.line.now c.in-Some.word.now (hypothesis_with members) read h.1)) c.read_set.ensures.set
+    let members = subst (AreMembersIn c.args.graph.now c.in-Some.word.now) c.in-Some-2.is c.in_ok-members.ensures in
+    (members.0, set_line_spelled c.args.graph.now c.args.line.now c.in-Some.word.now (hypothesis_of c.in-Some-2.members) read members.1)
 
-pub returns-clause-bad : goal.returns-clause-bad
-returns-clause-bad c bad =
+pub returns-in-None-clause-bad : goal.returns-in-None-clause-bad
+returns-in-None-clause-bad c bad =
     let read : word_after_set (words_of c.args.line.now) ≡ Some c.in-Some.word.now = sym c.word_after_set.ensures ∙ ap (option_map (λ (word : Bor (List ℕ)). word.now)) c.in-Some.is in
-    no_set-read c.args.graph.now c.is_always_valid.ensures.valid c.args.line.now c.in-Some.word.now read (c.read_set.ensures.bad bad)
+    no_set-read c.args.graph.now c.is_always_valid.ensures.valid c.args.line.now c.in-Some.word.now read (subst (AreMembersIn c.args.graph.now c.in-Some.word.now) c.in-None.is c.in_ok-members.ensures)

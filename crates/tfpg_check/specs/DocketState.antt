@@ -1,0 +1,39 @@
+-- What the judge keeps of the hypotheses between two rounds.
+use Rattle.std.specs.Prelude.{◌≡◌, ℕ, List, length, Some, slice_get}
+use Rattle.tfpg_base.specs.declared.terms.Terms.{Terms}
+use Rattle.tfpg_base.specs.Hypothesis.{Hypothesis}
+use Rattle.tfpg_log.specs.Log.{Logbook}
+use Rattle.tfpg_clause.specs.Paths.{with_steps}
+use Rattle.tfpg_kernel.specs.CheckerState.{CheckerState}
+use Rattle.tfpg_kernel.specs.Represents.{CheckerRepresents}
+use Rattle.tfpg_hyp.specs.Hypotheses.{Hypotheses, IsTableOf}
+use Rattle.tfpg_hyp.specs.Views.{log_for}
+use Rattle.tfpg_report.specs.declared.read_round.ReadRound.{ReadRound}
+use Rattle.tfpg_check.specs.Judging.{Docket, steps_read}
+
+-- the terms, the table of their hypotheses, and a checker for each of them
+pub record DocketState : Type 0 where
+  pub terms : Terms
+  pub table : Hypotheses
+  pub checkers : List CheckerState
+
+-- The checker of the hypothesis of a number represents its steps so far, each judged by the first events of this log.
+pub record HasChecker (docket : Docket) (log : Logbook) (state : DocketState) (number : ℕ) (hypothesis : Hypothesis) : Type 0 where
+  pub checker : CheckerState
+  pub at : slice_get state.checkers number ≡ Some checker
+  pub reach : slice_get state.table.reaches number ≡ Some checker.reach
+  pub represents : CheckerRepresents docket.graph (log_for log hypothesis) checker (docket.steps number)
+
+-- What is kept is of this docket, whose steps were judged by the first events of this log.
+pub record KeepsDocket (docket : Docket) (log : Logbook) (state : DocketState) : Type 0 where
+  pub terms : state.terms ≡ docket.terms
+  pub table : IsTableOf docket.graph docket.terms state.table
+  pub hypotheses : state.table.hypotheses ≡ docket.hypotheses
+  pub one_each : length state.checkers ≡ length docket.hypotheses
+  pub each : (number : ℕ) (hypothesis : Hypothesis) → slice_get docket.hypotheses number ≡ Some hypothesis
+      → HasChecker docket log state number hypothesis
+
+-- the docket with the steps of a round that was judged
+abbrev pub after_round : Docket → ReadRound → Docket
+after_round docket read =
+    record docket { steps = λ number. with_steps (docket.steps number) docket.log (steps_read read number) }

@@ -1,0 +1,6 @@
+-- What the lines of a right report come to.
+-- they may come in their order
+pub mod ReadInOrder
+-- the round that was read from them
+pub mod LinesOfOneRound
+pub mod RoundsReadBack

@@ -1,0 +1,119 @@
+-- The lines of a report: how each is written, and which numbers it may have.
+use Rattle.std.specs.Prelude.{◌≡◌, ℕ, ◌<◌, ◌≤◌, ◌^◌, List, [], ◌∷◌, length, map, flat_map, All, Option, Some, None, codes, decimal}
+use Rattle.tfpg_base.specs.Lines.{with_line_end}
+use Rattle.tfpg_base.specs.Words.{line_of}
+use Rattle.tfpg_base.specs.Hypothesis.{Hypothesis}
+use Rattle.tfpg_base.specs.Terms.{AreReportTerms}
+use Rattle.tfpg_base.specs.declared.terms.Terms.{Terms}
+use Rattle.tfpg_base.specs.declared.activation.Activation.{Activation}
+use Rattle.tfpg_base.specs.declared.limits.TheConstants.{LONGEST_LINE, MAX_LINE_NUMBER, MAX_PANEL_NUMBER, MAX_TIME}
+use Rattle.tfpg_graph.specs.Graph.{Tfpg, name_word}
+use Rattle.tfpg_log.specs.declared.refusal.Refusal.{Refusal}
+use Rattle.tfpg_evidence.specs.declared.clause_name.ClauseName.{ClauseName}
+use Rattle.tfpg_evidence.specs.declared.clause_name.ClauseName.TheVariants.{OrMay, AndMay, OrMust, AndMust}
+use Rattle.tfpg_evidence.specs.declared.reason.Reason.{Reason}
+use Rattle.tfpg_evidence.specs.declared.reason.Reason.TheVariants.{Zero, Top, Unreached, From, Upto, Quiet, Pick}
+use Rattle.tfpg_evidence.specs.declared.round.Counts.{Counts as CountsOf}
+use Rattle.tfpg_report.specs.SetText.{IsHypothesisOf, set_word}
+use Rattle.tfpg_report.specs.LineWords.{head_words, old_head_words, refused_words, refusal_time, clause_words, reason_words, numbered_set_words, robustness_word, counts_words, lost_words}
+use Rattle.tfpg_report.specs.declared.refused_line.RefusedLine.{RefusedLine}
+use Rattle.tfpg_report.specs.declared.refused_line.RefusedLine.TheVariants.{TooLong, Offer}
+use Rattle.tfpg_report.specs.declared.report_line.ReportLine.{ReportLine}
+use Rattle.tfpg_report.specs.declared.report_line.ReportLine.TheVariants.{Head, OldHead, Refused, Round, Hyp, Split, Cycle, Why, Again, Ranked, At, Open, Rejected, Counts, Panel}
+
+-- the hypothesis with these failure modes and these doubts
+abbrev pub hypothesis_with : List ℕ → List ℕ → Hypothesis
+hypothesis_with set doubts = record { set = set; doubts = doubts }
+
+-- the words that a line is written with
+abbrev pub line_words : Tfpg → ReportLine → List (List ℕ)
+line_words graph (Head terms) = head_words terms
+line_words graph (OldHead k budget) = old_head_words k budget
+line_words graph (Refused line cause) = refused_words line cause
+line_words graph (Round number line now) = codes "round" ∷ decimal number ∷ decimal line ∷ decimal now ∷ []
+line_words graph (Hyp number) = codes "hyp" ∷ decimal number ∷ []
+line_words graph (Split name) = codes "split" ∷ clause_words graph name
+line_words graph (Cycle count) = codes "cycle" ∷ decimal count ∷ []
+line_words graph (Why reason) = codes "why" ∷ reason_words graph reason
+line_words graph Again = codes "again" ∷ []
+line_words graph (Ranked number cost alarmed monitored set doubts) =
+    codes "ranked" ∷ decimal number ∷ codes "cost" ∷ decimal cost ∷ codes "robust" ∷ robustness_word alarmed monitored
+    ∷ codes "set" ∷ set_word graph (hypothesis_with set doubts) ∷ []
+line_words graph (At activation) = codes "at" ∷ name_word graph activation.node ∷ decimal activation.time ∷ []
+line_words graph (Open number set doubts) = codes "open" ∷ numbered_set_words graph number (hypothesis_with set doubts)
+line_words graph (Rejected number set doubts) =
+    codes "rejected" ∷ numbered_set_words graph number (hypothesis_with set doubts)
+line_words graph (Counts counts) = codes "counts" ∷ counts_words counts
+line_words graph (Panel panel no_memory) = lost_words panel no_memory
+
+-- how a line is written
+abbrev pub written_line : Tfpg → ReportLine → List ℕ
+written_line graph line = line_of (line_words graph line)
+
+-- the text of lines, each with its line end
+abbrev pub lines_text : Tfpg → List ReportLine → List ℕ
+lines_text graph lines = flat_map (λ line. with_line_end (written_line graph line)) lines
+
+-- A number that is no time, no number of a line, a panel or a split, and no budget, has 32 bits.
+abbrev pub IsSmall : ℕ → Type 0
+IsSmall number = number < 2 ^ 32
+
+-- a time that is there is not too large
+abbrev pub IsTimeWithin : Option ℕ → Type 0
+IsTimeWithin None = Unit {0}
+IsTimeWithin (Some time) = time ≤ MAX_TIME
+
+-- The time that a refusal carries, if any, is not too large.
+abbrev pub IsCauseWithin : RefusedLine → Type 0
+IsCauseWithin TooLong = Unit {0}
+IsCauseWithin (Offer refusal) = IsTimeWithin (refusal_time refusal)
+
+-- A clause is of a node or an edge of the graph, and its numbers are within their limits.
+abbrev pub IsNameWithin : Tfpg → ClauseName → Type 0
+IsNameWithin graph (OrMay node span horizon) = (node < length graph.nodes) × IsSmall span × (horizon ≤ MAX_TIME)
+IsNameWithin graph (AndMay edge span horizon) = (edge < length graph.edges) × IsSmall span × (horizon ≤ MAX_TIME)
+IsNameWithin graph (OrMust edge span horizon) = (edge < length graph.edges) × IsSmall span × (horizon ≤ MAX_TIME)
+IsNameWithin graph (AndMust node span horizon) = (node < length graph.nodes) × IsSmall span × (horizon ≤ MAX_TIME)
+
+-- A reason names nodes of the graph alone, and its numbers are within their limits.
+abbrev pub IsReasonWithin : Tfpg → Reason → Type 0
+IsReasonWithin graph (Zero node) = node < length graph.nodes
+IsReasonWithin graph (Top node) = node < length graph.nodes
+IsReasonWithin graph (Unreached node horizon) = (node < length graph.nodes) × (horizon ≤ MAX_TIME)
+IsReasonWithin graph (From event) = IsSmall event
+IsReasonWithin graph (Upto event) = IsSmall event
+IsReasonWithin graph (Quiet event node) = IsSmall event × (node < length graph.nodes)
+IsReasonWithin graph (Pick split constraint) = (split ≤ MAX_LINE_NUMBER) × IsSmall constraint
+
+-- The counts are within their limits.
+pub record AreCountsWithin (counts : CountsOf) : Type 0 where
+  pub ranked : IsSmall counts.ranked
+  pub covered : IsSmall counts.covered
+  pub rejected : IsSmall counts.rejected
+  pub left_open : IsSmall counts.left_open
+
+-- A line names what the graph has, and its numbers are within their limits.
+abbrev pub IsLineWithin : Tfpg → ReportLine → Type 0
+IsLineWithin graph (Head terms) = AreReportTerms terms
+IsLineWithin graph (OldHead k budget) = AreReportTerms (record { k = k; doubt = 0; budget = budget })
+IsLineWithin graph (Refused line cause) = (line ≤ MAX_LINE_NUMBER) × IsCauseWithin cause
+IsLineWithin graph (Round number line now) = IsSmall number × (line ≤ MAX_LINE_NUMBER) × (now ≤ MAX_TIME)
+IsLineWithin graph (Hyp number) = IsSmall number
+IsLineWithin graph (Split name) = IsNameWithin graph name
+IsLineWithin graph (Cycle count) = IsSmall count
+IsLineWithin graph (Why reason) = IsReasonWithin graph reason
+IsLineWithin graph Again = Unit {0}
+IsLineWithin graph (Ranked number cost alarmed monitored set doubts) =
+    IsSmall number × IsSmall cost × IsSmall alarmed × IsSmall monitored × IsHypothesisOf graph (hypothesis_with set doubts)
+IsLineWithin graph (At activation) = (activation.node < length graph.nodes) × (activation.time ≤ MAX_TIME)
+IsLineWithin graph (Open number set doubts) = IsSmall number × IsHypothesisOf graph (hypothesis_with set doubts)
+IsLineWithin graph (Rejected number set doubts) = IsSmall number × IsHypothesisOf graph (hypothesis_with set doubts)
+IsLineWithin graph (Counts counts) = AreCountsWithin counts
+IsLineWithin graph (Panel panel no_memory) = panel ≤ MAX_PANEL_NUMBER
+
+-- The bytes say this line: they are how it is written, its names and numbers are within their limits, and they are not too
+-- many.
+pub record Says (graph : Tfpg) (line : ReportLine) (bytes : List ℕ) : Type 0 where
+  pub written : bytes ≡ written_line graph line
+  pub within : IsLineWithin graph line
+  pub short : length bytes ≤ LONGEST_LINE

@@ -1,0 +1,141 @@
+//! The reader of reports.
+
+ghost use Rattle.std.specs.Prelude.{◌≡◌, ◌+◌, ℕ, List, [], length, Some, None, Err, IfOk, IfErr, OnOk};
+ghost use Rattle.tfpg_report.specs.declared.fed.ReadRefusal.{ReadRefusal};
+ghost use Rattle.tfpg_report.specs.declared.fed.ReadRefusal.TheVariants.{BadReport};
+ghost use Rattle.tfpg_report.specs.declared.report_line.ReportLine.{ReportLine};
+ghost use Rattle.tfpg_report.specs.ReportLines.{Says};
+ghost use Rattle.tfpg_report.specs.Stands.{stand_after};
+ghost use Rattle.tfpg_report.specs.Represents.{ReaderRepresents, Takes, NoneMayCome};
+
+pub(crate) mod draft;
+mod stepping;
+
+use crate::laws::a_report_line_says_one_thing;
+use crate::reading::{LineRefusal, read_report_line};
+use crate::{Fed, ReadRefusal, ReportLine, Stand};
+use draft::Draft;
+use std::alloc::Global;
+use std::marker::Model;
+use stepping::step_after;
+use tfpg_base::NoMemory;
+use tfpg_graph::Graph;
+
+/// Reads a report line by line, and says what each line completes. Nothing is judged: numbers, sets, steps and traces may be
+/// wrong. It keeps the lines of the round that has not ended, and nothing of those before. It takes memory for what it was
+/// given, and none for what a line says is to come.
+#[derive(Drop)]
+pub struct BlockReader {
+    alloc: Global,
+    refused: Option<ReadRefusal>,
+    stand: Stand,
+    draft: Draft,
+}
+
+impl Model for BlockReader {
+    ghost use Rattle.tfpg_report.specs.Represents.{ReaderState};
+    ghost use Rattle.tfpg_report.specs.inside.Fitting.{Fits, begun_lines};
+
+    ghost Value = { ReaderState };
+
+    ghost view = { λ reader.
+        record { refused = reader.refused; stand = reader.stand; begun = begun_lines reader.stand reader.draft } };
+
+    ghost invariant = { λ reader. Fits reader.stand reader.draft };
+}
+
+/// A line that may come, and the stand after it.
+#[derive(Clone, Copy)]
+struct Next {
+    line: ReportLine,
+    stand: Stand,
+}
+
+impl BlockReader {
+    /// A reader that was given no line. Takes no memory.
+    pub fn new(alloc: Global) -> BlockReader
+        ensures represents { ReaderRepresents result [] }
+        ensures ready { result.refused ≡ None }
+    {
+        BlockReader {
+            alloc,
+            refused: None,
+            stand: Stand::Nothing,
+            draft: Draft::empty(alloc),
+        }
+    }
+
+    /// Takes the next line, without its line end, and says what it completes. The first line has the number 1. If no report
+    /// begins with the lines up to this one, or memory runs out, each later call returns the same refusal. Costs a pass over the
+    /// line, and amortized constant time beside it.
+    pub fn take(&mut self, graph: &Graph, number: u64, line: &[u8]) -> Result<Fed, ReadRefusal>
+        ensures fed { (lines : List ReportLine) → ReaderRepresents self.old lines →
+            number ≡ length lines + 1 → self.old.refused ≡ None →
+            IfOk result (Takes graph.now lines line.now self.new) }
+        ensures bad { (lines : List ReportLine) → ReaderRepresents self.old lines →
+            number ≡ length lines + 1 → self.old.refused ≡ None →
+            (at : ℕ) → result ≡ Err (BadReport at) →
+            (at ≡ number) × NoneMayCome graph.now lines line.now }
+        ensures again { (refusal : ReadRefusal) → self.old.refused ≡ Some refusal →
+            (result ≡ Err refusal) × (self.new ≡ self.old) }
+        ensures refuses { IfErr result (λ refusal. self.new.refused ≡ Some refusal) }
+        ensures goes_on { OnOk result (self.new.refused ≡ None) }
+    {
+        if let Some(refusal) = self.refused {
+            return Err(refusal);
+        }
+        match next_line(self.alloc, graph, self.stand, number, line) {
+            Ok(next) => match self.draft.take(self.alloc, number, next.stand, &next.line) {
+                Ok(fed) => {
+                    self.stand = next.stand;
+                    Ok(fed)
+                }
+                Err(NoMemory) => {
+                    *self = BlockReader::ended(self.alloc, ReadRefusal::NoMemory);
+                    Err(ReadRefusal::NoMemory)
+                }
+            },
+            Err(refusal) => {
+                *self = BlockReader::ended(self.alloc, refusal);
+                Err(refusal)
+            }
+        }
+    }
+
+    /// A reader that has refused a line. Takes no memory.
+    fn ended(alloc: Global, refusal: ReadRefusal) -> BlockReader
+        ensures { result.refused ≡ Some refusal }
+    {
+        BlockReader {
+            alloc,
+            refused: Some(refusal),
+            stand: Stand::Nothing,
+            draft: Draft::empty(alloc),
+        }
+    }
+}
+
+/// Reads the line with this number, if it may come at this stand.
+fn next_line(
+    alloc: Global,
+    graph: &Graph,
+    before: Stand,
+    number: u64,
+    line: &[u8],
+) -> Result<Next, ReadRefusal>
+    ensures says { IfOk result (λ next. Says graph.now next.line line.now) }
+    ensures stand { IfOk result (λ next. stand_after before next.line ≡ Some next.stand) }
+    ensures bad { (at : ℕ) → result ≡ Err (BadReport at) →
+        (at ≡ number) × ((read : ReportLine) → Says graph.now read line.now → stand_after before read ≡ None) }
+{
+    graph.is_always_valid();
+    a_report_line_says_one_thing();
+    match read_report_line(alloc, graph, line) {
+        Ok(line) => match step_after(before, &line) {
+            Some(stand) => Ok(Next { line, stand }),
+            None => Err(ReadRefusal::BadReport { line: number }),
+        },
+        Err(LineRefusal::NotALine) => Err(ReadRefusal::BadReport { line: number }),
+        Err(LineRefusal::NoMemory) => Err(ReadRefusal::NoMemory),
+    }
+}

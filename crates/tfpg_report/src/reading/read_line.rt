@@ -1,0 +1,55 @@
+//! What a line of a report says.
+
+ghost use Rattle.std.specs.Prelude.{◌≡◌, IfOk, IsErrOf};
+ghost use Rattle.tfpg_report.specs.ReportLines.{Says};
+ghost use Rattle.tfpg_report.specs.declared.report_line.ReportLine.{ReportLine as ALine};
+
+use super::read_findings::line_in;
+use crate::ReportLine;
+use std::alloc::Global;
+use tfpg_base::{LONGEST_LINE, NoMemory, Words};
+use tfpg_graph::Graph;
+
+/// Why a line of a report is not read.
+#[derive(Clone, Copy, Debug, PartialEq, Eq)]
+pub enum LineRefusal {
+    /// It says nothing that a line of a report can say.
+    NotALine,
+    /// Out of memory.
+    NoMemory,
+}
+
+/// What a line of a report says. Takes time linear in its length, and memory for the members of its set alone.
+///
+/// # Errors
+///
+/// `NotALine` exactly where the line says nothing: its words have none of the shapes of a report's lines, it names what the
+/// graph has not, a number is not of the form or above its limit, or it is too long.
+pub fn read_report_line(
+    alloc: Global,
+    graph: &Graph,
+    line: &[u8],
+) -> Result<ReportLine, LineRefusal>
+    ensures says { IfOk result (λ read. Says graph.now read line.now) }
+    ensures none { IsErrOf result LineRefusal.NotALine → (read : ALine) →
+        Says graph.now read line.now → ⊥ }
+{
+    graph.is_always_valid();
+    if line.len() > LONGEST_LINE {
+        return Err(LineRefusal::NotALine);
+    }
+    let Some(words) = Words::of(line) else {
+        return Err(LineRefusal::NotALine);
+    };
+    line_in(alloc, graph, words.as_slice())
+}
+
+impl From<NoMemory> for LineRefusal {
+    ghost use Rattle.tfpg_report.specs.declared.reading.read_line.LineRefusal.TheVariants as refusal;
+
+    ghost from_gives = { λ _ e. e ≡ refusal.NoMemory };
+
+    fn from(_e: NoMemory) -> LineRefusal {
+        LineRefusal::NoMemory
+    }
+}

@@ -1,0 +1,150 @@
+//! The text of a set, read: its failure modes, and the monitors that it does not believe.
+
+ghost use Rattle.std.specs.Prelude.{◌≡◌, ◌<◌, ◌≤◌, ℕ, List, length, map, unwrap_or, position, IfSome, IsNone, IfOk};
+ghost use Rattle.tfpg_base.specs.Hypothesis.{Hypothesis};
+ghost use Rattle.tfpg_graph.specs.Valid.{IsValid};
+ghost use Rattle.tfpg_graph.specs.Graph.{failure_word};
+ghost use Rattle.tfpg_graph.specs.declared.limits.TheConstants.{MAX_NODES};
+ghost use Rattle.tfpg_report.specs.SetText.{IsHypothesisOf, doubt_word, member_words};
+ghost use Rattle.tfpg_report.specs.ReadSets.{hypothesis_of, AreMembersIn};
+ghost use Rattle.tfpg_report.specs.inside.ReadMembers.{position_named, monitor_named, doubt_named, is_marked, IsPosition, IsMonitor, AreRisingFrom};
+
+use std::alloc::Global;
+use tfpg_base::{Doubts, NoMemory, Set, parts_at_commas};
+use tfpg_graph::Graph;
+
+/// The members of a hypothesis: failure modes, and monitors that it does not believe.
+#[derive(Clone, Copy)]
+pub struct Members {
+    pub set: Set,
+    pub doubts: Doubts,
+}
+
+/// The members of the hypothesis whose text the word is, or None where it is the text of none. Takes time linear in the
+/// length of the word, and memory for its parts.
+pub fn read_set(alloc: Global, graph: &Graph, word: &[u8]) -> Result<Option<Members>, NoMemory>
+    ensures { IfOk result (AreMembersIn graph.now word.now) }
+{
+    graph.is_always_valid();
+    if word == b"-".as_slice() {
+        return Ok(Some(Members {
+            set: Set::empty(),
+            doubts: Doubts::empty(),
+        }));
+    }
+    let words = parts_at_commas(alloc, word)?;
+    let members = members_of(graph, &words);
+    Ok(members)
+}
+
+/// The members that these words stand for: names of failure modes first, and then monitors with their marks, each in order.
+fn members_of(graph: &Graph, words: &[&[u8]]) -> Option<Members>
+    ensures found { IfSome result (λ members. IsHypothesisOf graph.now (hypothesis_of members)
+        × (member_words graph.now (hypothesis_of members) ≡ map (λ word. word.now) words.now)) }
+    ensures none { IsNone result → (hypothesis : Hypothesis) → IsHypothesisOf graph.now hypothesis →
+        member_words graph.now hypothesis ≡ map (λ word. word.now) words.now → ⊥ }
+{
+    graph.is_always_valid();
+    let (names, marked) = words.split_at(unmarked_count(words));
+    let set = rising_positions(graph, names, 0)?;
+    let doubts = rising_doubts(graph, marked, 0)?;
+    Some(Members { set, doubts })
+}
+
+/// How many words stand before the first that begins with an exclamation mark.
+fn unmarked_count(words: &[&[u8]]) -> usize
+    ensures count { result ≡ unwrap_or (position (λ word. is_marked word.now) words.now) (length words.now) }
+    ensures within { result ≤ length words.now }
+{
+    first_marked(words).unwrap_or(words.len())
+}
+
+/// The index of the first word that begins with an exclamation mark.
+fn first_marked(words: &[&[u8]]) -> Option<usize>
+    ensures { result ≡ position (λ word. is_marked word.now) words.now }
+{
+    words.iter().position(|word| is_marked(word))
+}
+
+/// Whether the word begins with an exclamation mark.
+fn is_marked(word: &[u8]) -> bool
+    ensures { result ≡ is_marked word.now }
+{
+    match word {
+        [] => false,
+        [first, ..] => *first == b'!',
+    }
+}
+
+/// The positions of the failure modes of these names, where they rise, and none is before the least one. Calls as deep as
+/// there are failure modes, at most.
+fn rising_positions(graph: &Graph, names: &[&[u8]], least: u32) -> Option<Set>
+    ensures found { IfSome result (λ set. AreRisingFrom (IsPosition graph.now) least set ×
+        (map (failure_word graph.now) set ≡ map (λ name. name.now) names.now)) }
+    ensures none { IsNone result → (set : List ℕ) → AreRisingFrom (IsPosition graph.now) least set →
+        map (failure_word graph.now) set ≡ map (λ name. name.now) names.now → ⊥ }
+{
+    match names.split_first() {
+        None => Some(Set::empty()),
+        Some((first, others)) => {
+            let position = find_failure(graph, first)?;
+            if position < least {
+                return None;
+            }
+            Some(rising_positions(graph, others, position + 1)?.with(position))
+        }
+    }
+}
+
+/// The position of the failure mode of this name.
+fn find_failure(graph: &Graph, name: &[u8]) -> Option<u32>
+    ensures position { result ≡ position_named graph.now name.now }
+    ensures valid { IsValid graph.now }
+{
+    graph.is_always_valid();
+    graph.place_of(graph.find(name)?)
+}
+
+/// The monitors that these words stand for, where their nodes rise, and none is before the least one. Calls as deep as there
+/// are nodes, at most.
+fn rising_doubts(graph: &Graph, words: &[&[u8]], least: u32) -> Option<Doubts>
+    ensures found { IfSome result (λ doubts. AreRisingFrom (IsMonitor graph.now) least doubts ×
+        (map (doubt_word graph.now) doubts ≡ map (λ word. word.now) words.now)) }
+    ensures none { IsNone result → (doubts : List ℕ) → AreRisingFrom (IsMonitor graph.now) least doubts →
+        map (doubt_word graph.now) doubts ≡ map (λ word. word.now) words.now → ⊥ }
+{
+    match words.split_first() {
+        None => Some(Doubts::empty()),
+        Some((first, others)) => {
+            let node = find_doubt(graph, first)?;
+            if node < least {
+                return None;
+            }
+            Some(rising_doubts(graph, others, node + 1)?.with(node))
+        }
+    }
+}
+
+/// The monitored node of the name after the exclamation mark of this word.
+fn find_doubt(graph: &Graph, word: &[u8]) -> Option<u32>
+    ensures node { result ≡ doubt_named graph.now word.now }
+    ensures within { IfSome result (λ node. node < MAX_NODES) }
+    ensures valid { IsValid graph.now }
+{
+    graph.is_always_valid();
+    let (mark, name) = word.split_first()?;
+    if *mark != b'!' {
+        return None;
+    }
+    find_monitor(graph, name)
+}
+
+/// The monitored node of this name.
+fn find_monitor(graph: &Graph, name: &[u8]) -> Option<u32>
+    ensures node { result ≡ monitor_named graph.now name.now }
+    ensures within { IfSome result (λ node. node < MAX_NODES) }
+{
+    graph.is_always_valid();
+    let node = graph.find(name)?;
+    graph.is_monitored(node).then_some(node)
+}
