@@ -2,5 +2,4 @@
 pub mod map
 pub mod diagnose
 pub mod explain
-pub mod check
 pub mod generate

@@ -11,7 +11,6 @@ pub mod Completeness
 pub mod map
 pub mod diagnose
 pub mod explain
-pub mod check
 pub mod simulate
 pub mod generate
 -- What the code and its proofs need besides. No public clause reaches it.

@@ -4,5 +4,4 @@ pub mod Plans
 pub mod map
 pub mod diagnose
 pub mod explain
-pub mod check
 pub mod generate

@@ -10,7 +10,6 @@
 //! ```
 #![tactic(auto)]
 
-mod check;
 mod commands;
 mod diagnose;
 mod end;

@@ -1,3 +1,3 @@
--- How explaining ends.
-pub mod ExplainedMaps
+-- How judging ends.
+pub mod Judged
 pub mod NamedNodes

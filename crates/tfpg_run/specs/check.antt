@@ -1,2 +1,0 @@
--- How `check` ends.
-pub mod Checking
