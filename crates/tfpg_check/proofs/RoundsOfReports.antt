@@ -22,7 +22,7 @@ use Rattle.tfpg_report.specs.Blocks.{Block, Loss, RoundBlock}
 use Rattle.tfpg_check.specs.Report.{Progress, IsBlockOf, AreBlocks, event_of_reply, event_of_line, rounds_of, progress_of}
 
 -- the log with a line that brings an event has that event
-log_by_event : (graph : Tfpg) (log : Logbook) (line : List ℕ) (event : Event) → event_of_line graph log line ≡ Ok event → log_after graph log line ≡ with_event log event
+pub log_by_event : (graph : Tfpg) (log : Logbook) (line : List ℕ) (event : Event) → event_of_line graph log line ≡ Ok event → log_after graph log line ≡ with_event log event
 log_by_event graph log line event is = by (is_too_long line) is
   where
     by_reply : (reply : Offered) → event_of_reply reply ≡ Ok event → log_after_reply log reply ≡ with_event log event

@@ -3,13 +3,11 @@ use Rattle.std.specs.Prelude.{◌≡◌, ℕ, List, length, Some, slice_get}
 use Rattle.tfpg_base.specs.declared.terms.Terms.{Terms}
 use Rattle.tfpg_base.specs.Hypothesis.{Hypothesis}
 use Rattle.tfpg_log.specs.Log.{Logbook}
-use Rattle.tfpg_clause.specs.Paths.{with_steps}
 use Rattle.tfpg_kernel.specs.CheckerState.{CheckerState}
 use Rattle.tfpg_kernel.specs.Represents.{CheckerRepresents}
 use Rattle.tfpg_hyp.specs.Hypotheses.{Hypotheses, IsTableOf}
 use Rattle.tfpg_hyp.specs.Views.{log_for}
-use Rattle.tfpg_report.specs.declared.read_round.ReadRound.{ReadRound}
-use Rattle.tfpg_check.specs.Judging.{Docket, steps_read}
+use Rattle.tfpg_check.specs.Judging.{Docket}
 
 -- the terms, the table of their hypotheses, and a checker for each of them
 pub record DocketState : Type 0 where
@@ -32,8 +30,3 @@ pub record KeepsDocket (docket : Docket) (log : Logbook) (state : DocketState) :
   pub one_each : length state.checkers ≡ length docket.hypotheses
   pub each : (number : ℕ) (hypothesis : Hypothesis) → slice_get docket.hypotheses number ≡ Some hypothesis
       → HasChecker docket log state number hypothesis
-
--- the docket with the steps of a round that was judged
-abbrev pub after_round : Docket → ReadRound → Docket
-after_round docket read =
-    record docket { steps = λ number. with_steps (docket.steps number) docket.log (steps_read read number) }

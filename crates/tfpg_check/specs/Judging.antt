@@ -1,5 +1,5 @@
 -- What a round of a report must say, and for which cause it is refused.
-use Rattle.std.specs.Prelude.{◌≡◌, ◌≢◌, ◌⊎◌, ◌↔◌, ℕ, ◌+◌, ◌<◌, List, [], ◌∷◌, ◌++◌, length, take, map, find, All, AllPairs, Contains, ◌==◌, Option, Some, None, option_map, unwrap_or, slice_get}
+use Rattle.std.specs.Prelude.{◌≡◌, ◌≢◌, ◌⊎◌, ◌↔◌, ℕ, ◌+◌, ◌<◌, List, [], length, take, map, find, All, AllPairs, Contains, ◌==◌, Some, option_map, unwrap_or, slice_get}
 use Rattle.tfpg_base.specs.declared.terms.Terms.{Terms}
 use Rattle.tfpg_base.specs.Hypothesis.{Hypothesis, IsProperPart}
 use Rattle.tfpg_graph.specs.Graph.{Tfpg}

@@ -8,6 +8,8 @@ pub mod Tests
 pub mod Judging
 pub mod Causes
 pub mod DocketState
+pub mod Judged
+pub mod JudgeState
 pub mod EqualReports
 pub mod RightReports
 -- What the code and its proofs need besides. No public clause reaches it.

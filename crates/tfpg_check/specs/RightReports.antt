@@ -1,11 +1,21 @@
--- Reports have no cause.
-use Rattle.std.specs.Prelude.{ℕ, List}
+-- What holds of the lines of a report: each can be read, and they have no cause.
+use Rattle.std.specs.Prelude.{ℕ, ◌≤◌, List, ◌∷◌, length, flat_map}
+use Rattle.tfpg_base.specs.declared.limits.TheConstants.{MAX_BYTES}
 use Rattle.tfpg_base.specs.declared.terms.Terms.{Terms}
 use Rattle.tfpg_graph.specs.Valid.{IsValid}
 use Rattle.tfpg_report.specs.declared.report_line.ReportLine.{ReportLine}
-use Rattle.tfpg_report.specs.Blocks.{Block}
+use Rattle.tfpg_report.specs.Blocks.{Block, block_lines}
+use Rattle.tfpg_report.specs.Reading.{IsHead}
 use Rattle.tfpg_check.specs.declared.cause.CheckCause.{CheckCause}
 use Rattle.tfpg_check.specs.Causes.{AreRead, AreReportLines, IsCause, Matter}
+
+-- The lines of a report of a valid graph and a log, of not too many bytes, say its first line and the lines of its blocks, and each may
+-- come where it stands.
+abbrev pub LinesOfReportsCanBeRead : Type 0
+LinesOfReportsCanBeRead =
+    (matter : Matter) (terms : Terms) (blocks : List Block) (lines : List (List ℕ))
+    → IsValid matter.graph → (are : AreReportLines matter terms blocks lines) → length are.bytes ≤ MAX_BYTES
+    → (head : ReportLine) × IsHead terms head × AreRead matter.graph lines (head ∷ flat_map block_lines blocks)
 
 -- A report of a valid graph and a log has no cause, where each of its lines can be read and may come where it stands.
 abbrev pub ReportsHaveNoCause : Type 0

@@ -4,12 +4,13 @@ ghost use Rattle.std.specs.Prelude.{◌≡◌, ℕ, List, [], ◌∷◌, ◌++�
 ghost use Rattle.tfpg_graph.specs.Graph.{Tfpg};
 ghost use Rattle.tfpg_report.specs.Blocks.{Block};
 ghost use Rattle.tfpg_check.specs.EqualReports.{EqualReportsSayTheSame};
-ghost use Rattle.tfpg_check.specs.RightReports.{ReportsHaveNoCause};
+ghost use Rattle.tfpg_check.specs.RightReports.{LinesOfReportsCanBeRead, ReportsHaveNoCause};
 ghost use Rattle.tfpg_check.specs.Report.{new_progress, progress_after, progress_of};
 
 use tfpg_hyp::laws::{
     a_round_is_of_its_graph, rounds_say_which_sets_fit, subsets_stand_before_their_supersets,
 };
+use tfpg_report::laws::a_report_is_read_in_its_order;
 
 /// A report goes on block by block: what it has come to after one more line and its block follows from what it had come to
 /// before.
@@ -29,6 +30,15 @@ pub fn equal_reports_say_the_same()
     rounds_say_which_sets_fit();
     a_round_is_of_its_graph();
     subsets_stand_before_their_supersets();
+}
+
+/// Each line of a report of a valid graph and a log can be read, whoever wrote it, where the report has at most 2^32 bytes: it names only
+/// what the graph has, its numbers are within their limits, it is not too long, and it may come where it stands.
+pub fn the_lines_of_a_report_can_be_read()
+    ensures { LinesOfReportsCanBeRead }
+{
+    a_round_is_of_its_graph();
+    a_report_is_read_in_its_order();
 }
 
 /// A report of a valid graph and a log has no cause for which it would not be accepted, whoever wrote it, where each of its lines can be

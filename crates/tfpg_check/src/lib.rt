@@ -1,10 +1,11 @@
-//! What a report of a list of lines is.
+//! What a report of a list of lines is, and the judge of reports.
 //!
-//! So far the crate has the definition, in `specs/`, and the causes for which lines are refused, [`CheckCause`]. The judge of
-//! reports is still to come.
+//! - [`Judge`] takes a report line by line, and judges it by a graph and the text of a log. It keeps what the next lines are judged
+//!   by, and not the report.
+//! - [`JudgeFault`] is why a report is not accepted, and [`CheckCause`] the cause of its first wrong line.
 //!
-//! [`laws`] says how far a report has come after each block, that equal reports say the same, and that a report whose lines can be read has
-//! no cause for which it would not be accepted.
+//! [`laws`] says how far a report has come after each block, that equal reports say the same, that each line of a report can be read, and
+//! that a report whose lines can be read has no cause for which it would not be accepted.
 //!
 //! A report of one line, which has none of the shapes of a line of a log:
 //!
@@ -14,7 +15,16 @@
 //! ```
 #![tactic(auto)]
 
+mod block_judge;
 mod cause;
+mod docket;
+mod judge;
+mod judge_fault;
 pub mod laws;
+mod log_lines;
+mod round;
+mod round_fault;
 
 pub use cause::CheckCause;
+pub use judge::Judge;
+pub use judge_fault::JudgeFault;

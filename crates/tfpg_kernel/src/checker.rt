@@ -66,6 +66,13 @@ impl Checker {
         }
     }
 
+    /// Whether the tree is closed: the steps taken are a refutation.
+    pub fn is_closed(&self) -> bool
+        ensures { result ≡ self.now.closed }
+    {
+        self.closed
+    }
+
     /// Makes room for one more step. The checker is unchanged but for its room, also where memory ran out.
     pub fn reserve(&mut self) -> Result<(), NoMemory>
         ensures ok { OnOk result (1 ≤ self.new.spare) }

@@ -5,7 +5,7 @@ ghost use Rattle.tfpg_report.specs.declared.fed.ReadRefusal.{ReadRefusal};
 ghost use Rattle.tfpg_report.specs.declared.fed.ReadRefusal.TheVariants.{BadReport};
 ghost use Rattle.tfpg_report.specs.declared.report_line.ReportLine.{ReportLine};
 ghost use Rattle.tfpg_report.specs.ReportLines.{Says};
-ghost use Rattle.tfpg_report.specs.Stands.{stand_after};
+ghost use Rattle.tfpg_report.specs.Stands.{may_begin_block, stand_after};
 ghost use Rattle.tfpg_report.specs.Represents.{ReaderRepresents, Takes, NoneMayCome};
 
 pub(crate) mod draft;
@@ -100,6 +100,13 @@ impl BlockReader {
                 Err(refusal)
             }
         }
+    }
+
+    /// Whether a report may end with the lines that were taken: after its first line, or after a whole block.
+    pub fn is_between_blocks(&self) -> bool
+        ensures { result ≡ may_begin_block self.now.stand }
+    {
+        self.stand.may_begin_block()
     }
 
     /// A reader that has refused a line. Takes no memory.

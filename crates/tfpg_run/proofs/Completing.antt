@@ -13,26 +13,34 @@ use Rattle.tfpg_graph.specs.Text.{Spells}
 use Rattle.tfpg_graph.specs.Valid.{IsValid}
 use Rattle.tfpg_graph.specs.Faults.{IsFirstFault}
 use Rattle.tfpg_log.specs.Log.{Logbook}
+use Rattle.tfpg_report.specs.declared.report_line.ReportLine.{ReportLine}
+use Rattle.tfpg_report.specs.Blocks.{Block}
+use Rattle.tfpg_check.specs.Causes.{AreRead, AreReportLines, Matter}
+use Rattle.tfpg_check.specs.RightReports.{ReportsHaveNoCause}
+use Rattle.tfpg_check.proofs.FirstLines.{OneLine, few_hypotheses}
 use Rattle.tfpg_sim.specs.Script.{IsScriptFault}
 use Rattle.tfpg_words.specs.declared.usage_cause.UsageCause.{UsageCause}
-use Rattle.tfpg_words.specs.Meaning.{Meaning, Diagnose, Explain, Simulate, Generate}
+use Rattle.tfpg_words.specs.Meaning.{Meaning, Diagnose, Explain, Check, Simulate, Generate}
 use Rattle.tfpg_run.specs.declared.end.End.{End}
 use Rattle.tfpg_run.specs.declared.end.End.TheVariants as ends
 use Rattle.tfpg_run.specs.declared.fault.FetchFault.{FetchFault}
 use Rattle.tfpg_run.specs.declared.fault.FetchFault.TheVariants.{Failed, TooLong, Graph, NoMemory}
 use Rattle.tfpg_run.specs.declared.fault.StreamFault.{StreamFault}
 use Rattle.tfpg_run.specs.declared.fault.StreamFault.TheVariants as streams
-use Rattle.tfpg_run.specs.declared.fault.JudgeFault.{JudgeFault}
-use Rattle.tfpg_run.specs.declared.fault.JudgeFault.TheVariants as judge
+use Rattle.tfpg_run.specs.declared.fault.ExplainFault.{ExplainFault}
+use Rattle.tfpg_run.specs.declared.fault.ExplainFault.TheVariants as explain
+use Rattle.tfpg_run.specs.declared.fault.CheckFault.{CheckFault}
+use Rattle.tfpg_run.specs.declared.fault.CheckFault.TheVariants as check
 use Rattle.tfpg_run.specs.declared.fault.SimulateFault.{SimulateFault}
 use Rattle.tfpg_run.specs.declared.fault.SimulateFault.TheVariants as simulate
 use Rattle.tfpg_run.specs.declared.fault.GenerateFault.{GenerateFault}
 use Rattle.tfpg_run.specs.declared.fault.GenerateFault.TheVariants as generate
-use Rattle.tfpg_run.specs.Completeness.{CanDiagnose, CanExplain, CanSimulate, CanBeDone, NothingFails, IsShort, IsCompleted}
-use Rattle.tfpg_run.specs.EndsOf.{end_of_fetch_fault, end_of_stream_fault, end_of_judge_fault, end_of_simulate_fault, end_of_generate_fault, end_of_result}
+use Rattle.tfpg_run.specs.Completeness.{CanCheck, CanDiagnose, CanExplain, CanSimulate, CanBeDone, NothingFails, IsShort, IsCompleted}
+use Rattle.tfpg_run.specs.EndsOf.{end_of_fetch_fault, end_of_stream_fault, end_of_check_fault, end_of_explain_fault, end_of_simulate_fault, end_of_generate_fault, end_of_result}
 use Rattle.tfpg_run.specs.Fetch.{HasFile, IsTooLong, GivesGraph, HasFaultyGraph, IsFetchFault, IsFilesFault}
 use Rattle.tfpg_run.specs.generate.Generating.{GenerationEnds}
-use Rattle.tfpg_run.specs.explain.Judging.{ExplainEnds, JudgingEnds}
+use Rattle.tfpg_run.specs.check.Checking.{CheckEnds, CheckingEnds, HasTooManyInHead, matter_of}
+use Rattle.tfpg_run.specs.explain.Explaining.{ExplainEnds, ExplainingEnds}
 use Rattle.tfpg_run.specs.map.Spelling.{HasMap, BeginsMap, IsMapFault}
 use Rattle.tfpg_run.specs.Outputs.{IsStreamFault, LineByLineEnds}
 use Rattle.tfpg_run.specs.Run.{CommandEnds, RunEnds}
@@ -45,6 +53,11 @@ use Rattle.tfpg_run.specs.World.{World, streams_of}
 -- no text of a valid graph has a fault
 abbrev NoFaultOfValid : Type 0
 NoFaultOfValid = (text : List ℕ) (graph : Tfpg) → Spells text graph → IsValid graph → (fault : GraphFault) → IsFirstFault text fault → ⊥
+
+-- What no report has, and what bytes say: the laws that a report that is checked needs.
+pub record CheckLaws : Type 0 where
+  pub no_cause : ReportsHaveNoCause
+  pub one_line : OneLine
 
 -- ---- files that are there
 
@@ -122,7 +135,7 @@ without_memory end fault is e = e ∙ ap end_of_fetch_fault is
 
 -- ---- each command
 
-module _ (law : NoFaultOfValid) (before now : World) (calm : NothingFails before now) where
+module _ (law : NoFaultOfValid) (laws : CheckLaws) (before now : World) (calm : NothingFails before now) where
   -- a diagnosis has no fault but that memory ran out
   no_stream_fault : IsShort before.input → (taken : List ℕ) → Takes before.input now.input taken → (fault : StreamFault) → IsStreamFault (streams_of before) (streams_of now) taken fault → fault ≡ streams.NoMemory
   no_stream_fault short taken takes streams.ReadFault is = absurd (calm.input is.0)
@@ -146,29 +159,64 @@ module _ (law : NoFaultOfValid) (before now : World) (calm : NothingFails before
       go (Ok done) is e = inl e
       go (Err fault) is e = inr (e ∙ ap end_of_stream_fault (no_stream_fault short file.ends.works.taken file.ends.works.takes fault is.0))
 
-  -- a map that is judged
-  judged : (short : IsShort before.input) (graph : Tfpg) (log : Logbook) (taken : List ℕ) → HasMap graph (lines_of short.known) → Takes before.input now.input taken → (result : Result (Unit {0}) JudgeFault)
-      → JudgingEnds graph log (streams_of before) (streams_of now) taken result → IsCompleted (end_of_result end_of_judge_fault result)
-  judged short graph log taken map takes (Ok done) is = inl refl
-  judged short graph log taken map takes (Err (judge.BadMap line)) is =
+  -- a map whose verdict is written
+  explained_map : (short : IsShort before.input) (graph : Tfpg) (log : Logbook) (taken : List ℕ) → HasMap graph (lines_of short.known) → Takes before.input now.input taken → (result : Result (Unit {0}) ExplainFault)
+      → ExplainingEnds graph log (streams_of before) (streams_of now) taken result → IsCompleted (end_of_result end_of_explain_fault result)
+  explained_map short graph log taken map takes (Ok done) is = inl refl
+  explained_map short graph log taken map takes (Err (explain.BadMap line)) is =
       let all : short.known ≡ taken ++ is.0.rest = all_of_input before.input now.input short.known taken is.0.rest short.left takes is.0.left in
       absurd (no_map_fault graph (lines_of (taken ++ is.0.rest)) line (subst (λ (bytes : List ℕ). HasMap graph (lines_of bytes)) all map) is.0.fault)
-  judged short graph log taken map takes (Err (judge.Stream streams.ReadFault)) is = absurd (calm.input is.0)
-  judged short graph log taken map takes (Err (judge.Stream streams.WriteFault)) is = absurd (calm.output is.0.rose)
-  judged short graph log taken map takes (Err (judge.Stream streams.TooMuchInput)) is =
+  explained_map short graph log taken map takes (Err (explain.Stream streams.ReadFault)) is = absurd (calm.input is.0)
+  explained_map short graph log taken map takes (Err (explain.Stream streams.WriteFault)) is = absurd (calm.output is.0.rose)
+  explained_map short graph log taken map takes (Err (explain.Stream streams.TooMuchInput)) is =
       let more : length taken ≡ MAX_BYTES + 1 = is.0 in
       absurd (omega (arith, few_taken before.input now.input taken short takes, more))
-  judged short graph log taken map takes (Err (judge.Stream streams.NoMemory)) is = inr refl
+  explained_map short graph log taken map takes (Err (explain.Stream streams.NoMemory)) is = inr refl
 
   explained : (end : End) (graph_name log_name : List ℕ) → CanExplain before.shelf before.input graph_name log_name → ExplainEnds graph_name log_name before now end → IsCompleted end
   explained end graph_name log_name can (inl lacks) =
       let file : HasFile before.shelf log_name can.gives.text = can.gives.gives.file in
       inr (without_memory end lacks.fault
       (both_fetched before.shelf can.files can.known law graph_name can.graph can.gives.gives.of_graph now.shelf log_name can.gives.text file lacks.fault calm.shelf lacks.is_fault) lacks.end_is)
-  explained end graph_name log_name can (inr judges) =
-      let map : HasMap judges.graph (lines_of can.short.known) = can.map judges.graph judges.gives.gives.of_graph in
-      subst IsCompleted (sym judges.works.end_is)
-      (judged can.short judges.graph judges.other judges.works.works.taken map judges.works.works.takes judges.works.result judges.works.works.ends)
+  explained end graph_name log_name can (inr explains) =
+      let map : HasMap explains.graph (lines_of can.short.known) = can.map explains.graph explains.gives.gives.of_graph in
+      subst IsCompleted (sym explains.works.end_is)
+      (explained_map can.short explains.graph explains.other explains.works.works.taken map explains.works.works.takes explains.works.result explains.works.works.ends)
+
+  -- a report that is judged
+  judged_report : (short : IsShort before.input) (matter : Matter) (taken : List ℕ) → IsValid matter.graph → (terms : Terms) (blocks : List Block) → AreReportLines matter terms blocks (lines_of short.known)
+      → (reads : List ReportLine) → AreRead matter.graph (lines_of short.known) reads → Takes before.input now.input taken → (result : Result (Unit {0}) CheckFault)
+      → CheckingEnds matter (streams_of before) (streams_of now) taken result → IsCompleted (end_of_result end_of_check_fault result)
+  judged_report short matter taken valid terms blocks report reads read takes (Ok done) is = inl refl
+  judged_report short matter taken valid terms blocks report reads read takes (Err (check.NotAccepted line cause)) is =
+      let all : short.known ≡ taken ++ is.0.rest = all_of_input before.input now.input short.known taken is.0.rest short.left takes is.0.left in
+      absurd (laws.no_cause matter terms blocks (lines_of (taken ++ is.0.rest)) reads line cause valid
+      (subst (λ (bytes : List ℕ). AreReportLines matter terms blocks (lines_of bytes)) all report)
+      (subst (λ (bytes : List ℕ). AreRead matter.graph (lines_of bytes) reads) all read) is.0.is_cause)
+  judged_report short matter taken valid terms blocks report reads read takes (Err (check.TooMany count)) is =
+      let many : HasTooManyInHead matter now.input taken count = is.0 in
+      let all : short.known ≡ taken ++ many.rest = all_of_input before.input now.input short.known taken many.rest short.left takes many.left in
+      let few = few_hypotheses laws.one_line matter valid terms blocks (lines_of (taken ++ many.rest))
+      (subst (λ (bytes : List ℕ). AreReportLines matter terms blocks (lines_of bytes)) all report) many.first many.at many.head many.says many.terms many.is_head count many.counted in
+      let too_many = many.too_many in
+      absurd (omega (arith, few, too_many))
+  judged_report short matter taken valid terms blocks report reads read takes (Err (check.Stream streams.ReadFault)) is = absurd (calm.input is.0)
+  judged_report short matter taken valid terms blocks report reads read takes (Err (check.Stream streams.WriteFault)) is = absurd (calm.output is.0.rose)
+  judged_report short matter taken valid terms blocks report reads read takes (Err (check.Stream streams.TooMuchInput)) is =
+      let more : length taken ≡ MAX_BYTES + 1 = is.0 in
+      absurd (omega (arith, few_taken before.input now.input taken short takes, more))
+  judged_report short matter taken valid terms blocks report reads read takes (Err (check.Stream streams.NoMemory)) is = inr refl
+
+  checked : (end : End) (graph_name log_name : List ℕ) → CanCheck before.shelf before.input graph_name log_name → CheckEnds graph_name log_name before now end → IsCompleted end
+  checked end graph_name log_name can (inl lacks) =
+      inr (without_memory end lacks.fault
+      (both_fetched before.shelf can.files can.known law graph_name can.graph can.gives.of_graph now.shelf log_name can.log_text can.gives.file lacks.fault calm.shelf lacks.is_fault) lacks.end_is)
+  checked end graph_name log_name can (inr checks) =
+      let report = can.report checks.graph checks.other checks.gives in
+      let read = can.readable checks.graph checks.gives.of_graph in
+      subst IsCompleted (sym checks.works.end_is)
+      (judged_report can.short (matter_of checks.graph checks.other) checks.works.works.taken checks.gives.of_graph.valid report.0 report.1 report.2 read.0 read.1
+      checks.works.works.takes checks.works.result checks.works.works.ends)
 
   -- a script that is simulated
   simulated : (IsRight : Tfpg → List ℕ → List ℕ → Type 0) (graph : Tfpg) (script : List ℕ) → ((line : ℕ) → IsScriptFault graph (lines_of script) line → ⊥) → (result : Result (Unit {0}) SimulateFault)
@@ -197,6 +245,7 @@ module _ (law : NoFaultOfValid) (before now : World) (calm : NothingFails before
   completed : (meant : Meaning) (end : End) → CanBeDone meant before → CommandEnds (Ok meant) before now end → IsCompleted end
   completed (Diagnose terms graph) end can is = diagnosed can.1 end terms graph can.0 is
   completed (Explain graph log) end can is = explained end graph log can is
+  completed (Check graph log) end can is = checked end graph log can is
   completed (Simulate draw trace graph script) end can is = simulated_files end (HasSimulation draw trace) graph script can is.0
   completed (Generate draw size) end can is = subst IsCompleted (sym is.0.end_is) (drawn draw size is.0.result is.0.works)
 

@@ -9,7 +9,7 @@ use Rattle.tfpg_hyp.specs.Hypotheses.{HasHypotheses}
 use Rattle.tfpg_hyp.specs.declared.limits.TheConstants.{MAX_HYPOTHESES}
 use Rattle.tfpg_hyp.specs.declared.table.TableFault.{TableFault}
 use Rattle.tfpg_hyp.specs.declared.table.TableFault.TheVariants.{TooMany, NoMemory}
-use Rattle.tfpg_words.specs.Meaning.{Meaning, Explain, Simulate}
+use Rattle.tfpg_words.specs.Meaning.{Meaning, Explain, Check, Simulate}
 use Rattle.tfpg_run.specs.declared.end.End.{End}
 use Rattle.tfpg_run.specs.declared.end.End.TheVariants as ends
 use Rattle.tfpg_run.specs.declared.end.End.TheVariants.{Done}
@@ -28,7 +28,8 @@ use Rattle.tfpg_words.specs.declared.usage_cause.UsageCause.{UsageCause}
 use Rattle.tfpg_run.specs.Fetch.{GivesGraph, IsFetchFault}
 use Rattle.tfpg_run.specs.Run.{CommandEnds}
 use Rattle.tfpg_run.specs.diagnose.Diagnosing.{Diagnoses, DiagnoseEnds}
-use Rattle.tfpg_run.specs.explain.Judging.{ExplainEnds}
+use Rattle.tfpg_run.specs.explain.Explaining.{ExplainEnds}
+use Rattle.tfpg_run.specs.check.Checking.{CheckEnds}
 use Rattle.tfpg_run.specs.simulate.Simulating.{HasSimulation, SimulateEnds}
 use Rattle.tfpg_run.specs.Streams.{Streams}
 use Rattle.tfpg_run.specs.World.{World, streams_of}
@@ -149,13 +150,21 @@ not_done (Err fault) end never err is = never (sym err ∙ is)
 -- ---- commands that were stopped, as the words name their files
 
 module _ {T : Type 0} (result : Result T End) (meant : Meaning) (first second : List ℕ) (before now : World) where
-  -- a map was not judged
+  -- the verdict on a map was not written
   pub explain_stopped : (graph log : List ℕ) → meant ≡ Explain graph log → first ≡ graph → second ≡ log → IfErr result (ExplainEnds first second before now)
       → IfErr result (CommandEnds (Ok meant) before now)
   explain_stopped graph log means one other is =
       subst (λ (m : Meaning). IfErr result (CommandEnds (Ok m) before now)) (sym means)
       (subst (λ (name : List ℕ). IfErr result (ExplainEnds name log before now)) one
       (subst (λ (name : List ℕ). IfErr result (ExplainEnds first name before now)) other is))
+
+  -- a report was not accepted
+  pub check_stopped : (graph log : List ℕ) → meant ≡ Check graph log → first ≡ graph → second ≡ log → IfErr result (CheckEnds first second before now)
+      → IfErr result (CommandEnds (Ok meant) before now)
+  check_stopped graph log means one other is =
+      subst (λ (m : Meaning). IfErr result (CommandEnds (Ok m) before now)) (sym means)
+      (subst (λ (name : List ℕ). IfErr result (CheckEnds name log before now)) one
+      (subst (λ (name : List ℕ). IfErr result (CheckEnds first name before now)) other is))
 
   -- a script was not simulated
   pub simulate_stopped : (draw : ℕ) (trace : Bool) (graph script : List ℕ) → meant ≡ Simulate draw trace graph script → first ≡ graph → second ≡ script → now.input ≡ before.input

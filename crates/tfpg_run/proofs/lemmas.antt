@@ -2,4 +2,5 @@
 pub mod map
 pub mod diagnose
 pub mod explain
+pub mod check
 pub mod generate

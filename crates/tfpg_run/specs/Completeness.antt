@@ -7,12 +7,16 @@ use Rattle.tfpg_graph.specs.Graph.{Tfpg}
 use Rattle.tfpg_log.specs.Log.{Logbook}
 use Rattle.tfpg_hyp.specs.Hypotheses.{HasHypotheses}
 use Rattle.tfpg_hyp.specs.declared.limits.TheConstants.{MAX_HYPOTHESES}
+use Rattle.tfpg_report.specs.Blocks.{Block}
+use Rattle.tfpg_report.specs.declared.report_line.ReportLine.{ReportLine}
+use Rattle.tfpg_check.specs.Causes.{AreRead, AreReportLines}
 use Rattle.tfpg_sim.specs.Script.{IsScriptFault}
-use Rattle.tfpg_words.specs.Meaning.{Meaning, Diagnose, Explain, Simulate, Generate}
+use Rattle.tfpg_words.specs.Meaning.{Meaning, Diagnose, Explain, Check, Simulate, Generate}
 use Rattle.tfpg_base.specs.declared.terms.Terms.{Terms}
 use Rattle.tfpg_run.specs.declared.end.End.{End}
 use Rattle.tfpg_run.specs.declared.end.End.TheVariants.{Done, NoMemory}
 use Rattle.tfpg_run.specs.Fetch.{GivesGraph, GivesGraphAndLog, GivesGraphAndText}
+use Rattle.tfpg_run.specs.check.Checking.{matter_of}
 use Rattle.tfpg_run.specs.map.Spelling.{HasMap}
 use Rattle.tfpg_run.specs.World.{World}
 
@@ -43,6 +47,20 @@ pub record CanExplain (shelf : ShelfState) (input : SourceState) (graph_name log
   pub short : IsShort input
   pub map : (other : Tfpg) → GivesGraph shelf graph_name other → HasMap other (lines_of short.known)
 
+-- The contents of the shelf are known, the files of these names give a graph and a text, and the lines of the input are those of a
+-- report of each graph and the lines of each text that the files give, each of which can be read.
+pub record CanCheck (shelf : ShelfState) (input : SourceState) (graph_name log_name : List ℕ) : Type 0 where
+  pub files : List (List ℕ × List ℕ)
+  pub known : shelf.files ≡ Some files
+  pub graph : Tfpg
+  pub log_text : List ℕ
+  pub gives : GivesGraphAndText shelf graph_name log_name graph log_text
+  pub short : IsShort input
+  pub report : (other : Tfpg) (text : List ℕ) → GivesGraphAndText shelf graph_name log_name other text
+      → (terms : Terms) × (blocks : List Block) × AreReportLines (matter_of other text) terms blocks (lines_of short.known)
+  pub readable : (other : Tfpg) → GivesGraph shelf graph_name other
+      → (reads : List ReportLine) × AreRead other (lines_of short.known) reads
+
 -- The contents of the shelf are known, and the files of these names give a graph and a text, which is a right script.
 pub record CanSimulate (shelf : ShelfState) (graph_name script_name : List ℕ) : Type 0 where
   pub files : List (List ℕ × List ℕ)
@@ -58,6 +76,7 @@ abbrev pub CanBeDone : Meaning → World → Type 0
 CanBeDone (Diagnose terms graph) before =
     CanDiagnose before.shelf terms graph × IsShort before.input
 CanBeDone (Explain graph log) before = CanExplain before.shelf before.input graph log
+CanBeDone (Check graph log) before = CanCheck before.shelf before.input graph log
 CanBeDone (Simulate draw trace graph script) before = CanSimulate before.shelf graph script
 CanBeDone (Generate draw size) before = Unit {0}
 

@@ -4,8 +4,10 @@ use Rattle.tfpg_run.specs.declared.fault.FetchFault.{FetchFault}
 use Rattle.tfpg_run.specs.declared.fault.FetchFault.TheVariants as fetch
 use Rattle.tfpg_run.specs.declared.fault.StreamFault.{StreamFault}
 use Rattle.tfpg_run.specs.declared.fault.StreamFault.TheVariants as streams
-use Rattle.tfpg_run.specs.declared.fault.JudgeFault.{JudgeFault}
-use Rattle.tfpg_run.specs.declared.fault.JudgeFault.TheVariants as judge
+use Rattle.tfpg_run.specs.declared.fault.ExplainFault.{ExplainFault}
+use Rattle.tfpg_run.specs.declared.fault.ExplainFault.TheVariants as explain
+use Rattle.tfpg_run.specs.declared.fault.CheckFault.{CheckFault}
+use Rattle.tfpg_run.specs.declared.fault.CheckFault.TheVariants as check
 use Rattle.tfpg_run.specs.declared.fault.SimulateFault.{SimulateFault}
 use Rattle.tfpg_run.specs.declared.fault.SimulateFault.TheVariants as simulate
 use Rattle.tfpg_run.specs.declared.fault.GenerateFault.{GenerateFault}
@@ -29,9 +31,15 @@ end_of_stream_fault streams.TooMuchInput = ends.TooMuchInput
 end_of_stream_fault streams.NoMemory = ends.NoMemory
 
 -- the end of a run whose map was not judged
-abbrev pub end_of_judge_fault : JudgeFault → End
-end_of_judge_fault (judge.BadMap line) = ends.NotAccepted line BadMap
-end_of_judge_fault (judge.Stream fault) = end_of_stream_fault fault
+abbrev pub end_of_explain_fault : ExplainFault → End
+end_of_explain_fault (explain.BadMap line) = ends.NotAccepted line BadMap
+end_of_explain_fault (explain.Stream fault) = end_of_stream_fault fault
+
+-- the end of a run whose report was not accepted
+abbrev pub end_of_check_fault : CheckFault → End
+end_of_check_fault (check.NotAccepted line cause) = ends.NotAccepted line cause
+end_of_check_fault (check.TooMany count) = ends.TooManyHypotheses count
+end_of_check_fault (check.Stream fault) = end_of_stream_fault fault
 
 -- the end of a run whose script was not simulated
 abbrev pub end_of_simulate_fault : SimulateFault → End

@@ -11,7 +11,7 @@ use Rattle.tfpg_graph.specs.Faults.{IsFirstFault}
 use Rattle.tfpg_log.specs.Log.{Logbook}
 use Rattle.tfpg_log.specs.LogOfLines.{log_of_lines}
 use Rattle.tfpg_words.specs.declared.usage_cause.UsageCause.{UsageCause}
-use Rattle.tfpg_words.specs.Meaning.{Meaning, Diagnose, Explain, Simulate, Generate}
+use Rattle.tfpg_words.specs.Meaning.{Meaning, Diagnose, Explain, Check, Simulate, Generate}
 use Rattle.tfpg_run.specs.declared.end.End.{End}
 use Rattle.tfpg_run.specs.declared.fault.FetchFault.{FetchFault}
 use Rattle.tfpg_run.specs.declared.fault.FetchFault.TheVariants.{Failed, TooLong, Graph, NoMemory}
@@ -90,6 +90,7 @@ abbrev pub AsksOnly : Result Meaning UsageCause → Option (List (List ℕ)) →
 AsksOnly (Err cause) before after = after ≡ before
 AsksOnly (Ok (Diagnose terms graph)) before after = AsksFor graph before after
 AsksOnly (Ok (Explain graph log)) before after = AsksInOrder (graph ∷ log ∷ []) before after
+AsksOnly (Ok (Check graph log)) before after = AsksInOrder (graph ∷ log ∷ []) before after
 AsksOnly (Ok (Simulate draw trace graph script)) before after = AsksInOrder (graph ∷ script ∷ []) before after
 AsksOnly (Ok (Generate draw size)) before after = after ≡ before
 

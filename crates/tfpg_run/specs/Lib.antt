@@ -11,6 +11,7 @@ pub mod Completeness
 pub mod map
 pub mod diagnose
 pub mod explain
+pub mod check
 pub mod simulate
 pub mod generate
 -- What the code and its proofs need besides. No public clause reaches it.

@@ -1,12 +1,13 @@
 -- How a run of the program ends, and what it has done with the outside by then.
 use Rattle.std.specs.Prelude.{◌≡◌, ◌⊎◌, Result, Ok, Err}
 use Rattle.tfpg_words.specs.declared.usage_cause.UsageCause.{UsageCause}
-use Rattle.tfpg_words.specs.Meaning.{Meaning, Diagnose, Explain, Simulate, Generate}
+use Rattle.tfpg_words.specs.Meaning.{Meaning, Diagnose, Explain, Check, Simulate, Generate}
 use Rattle.tfpg_run.specs.declared.end.End.{End}
 use Rattle.tfpg_run.specs.declared.end.End.TheVariants as ends
 use Rattle.tfpg_run.specs.World.{World}
 use Rattle.tfpg_run.specs.diagnose.Diagnosing.{DiagnoseEnds}
-use Rattle.tfpg_run.specs.explain.Judging.{ExplainEnds}
+use Rattle.tfpg_run.specs.explain.Explaining.{ExplainEnds}
+use Rattle.tfpg_run.specs.check.Checking.{CheckEnds}
 use Rattle.tfpg_run.specs.simulate.Simulating.{HasSimulation, SimulateEnds}
 use Rattle.tfpg_run.specs.generate.Generating.{GenerateEnds}
 
@@ -17,6 +18,7 @@ CommandEnds (Err cause) before now end = (now ≡ before) × (end ≡ ends.Usage
 CommandEnds (Ok (Diagnose terms graph)) before now end =
     DiagnoseEnds terms graph before now end
 CommandEnds (Ok (Explain graph log)) before now end = ExplainEnds graph log before now end
+CommandEnds (Ok (Check graph log)) before now end = CheckEnds graph log before now end
 CommandEnds (Ok (Simulate draw trace graph script)) before now end =
     SimulateEnds (HasSimulation draw trace) graph script before now end × (now.input ≡ before.input)
 CommandEnds (Ok (Generate draw size)) before now end = GenerateEnds draw size before now end

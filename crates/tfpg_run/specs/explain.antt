@@ -1,3 +1,3 @@
 -- How `explain` ends, and the text of a verdict.
 pub mod Verdicts
-pub mod Judging
+pub mod Explaining

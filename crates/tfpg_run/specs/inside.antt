@@ -4,4 +4,5 @@ pub mod Plans
 pub mod map
 pub mod diagnose
 pub mod explain
+pub mod check
 pub mod generate

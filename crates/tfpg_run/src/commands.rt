@@ -11,21 +11,25 @@ ghost use Rattle.tfpg_run.specs.Run.{RunEnds, CommandEnds};
 ghost use Rattle.tfpg_run.specs.World.{world};
 ghost use Rattle.tfpg_run.specs.diagnose.Work.{RunsWithin};
 
+use crate::check::check_by_files;
 use crate::diagnose::diagnose_file;
 use crate::end::End;
-use crate::explain::judge_by_files;
+use crate::explain::explain_by_files;
 use crate::generate::generate_summary;
 use crate::simulate::simulate_files;
 use std::alloc::Global;
 use std::sync::ledger::Ledger;
 use tfpg_base::{Shelf, Sink, Source, Steps, Terms};
+use tfpg_check::laws::a_report_has_no_cause;
 use tfpg_graph::laws::a_text_has_at_most_one_first_fault;
+use tfpg_report::laws::a_report_line_says_one_thing;
 use tfpg_words::laws::numbers_are_within_their_limits;
 use tfpg_words::{Command, plan};
 
 /// Does what the words say. To diagnose it reads the graph that they name, then takes the input line by line, and writes the
 /// block of each line before the next one is taken. To explain it reads the graph and the log that they name, then the map of
-/// the input, and then writes the verdict on it. To simulate it reads the graph and the script that they name, and writes the log
+/// the input, and then writes the verdict on it. To check it reads the same files, judges the report of the input line by line, and
+/// then writes how many rounds it has. To simulate it reads the graph and the script that they name, and writes the log
 /// or the map of what happens. To generate it draws a graph and a script, diagnoses the log, and writes what became of
 /// the truth. Searches count their steps on `work`.
 pub fn run<F: Shelf, S: Source, K: Sink, L: Ledger>(
@@ -59,6 +63,8 @@ pub fn run<F: Shelf, S: Source, K: Sink, L: Ledger>(
 {
     numbers_are_within_their_limits();
     a_text_has_at_most_one_first_fault();
+    a_report_has_no_cause();
+    a_report_line_says_one_thing();
     match plan(alloc, words) {
         Ok(planned) => end_of(perform(alloc, &planned.command, shelf, input, out, work)),
         Err(fault) => End::from(fault),
@@ -102,7 +108,10 @@ fn perform<F: Shelf, S: Source, K: Sink, L: Ledger>(
             diagnose_file(alloc, terms, graph.as_str(), shelf, input, out, work)
         }
         Command::Explain { graph, log } => {
-            judge_by_files(alloc, graph.as_str(), log.as_str(), shelf, input, out)
+            explain_by_files(alloc, graph.as_str(), log.as_str(), shelf, input, out)
+        }
+        Command::Check { graph, log } => {
+            check_by_files(alloc, graph.as_str(), log.as_str(), shelf, input, out)
         }
         Command::Simulate {
             draw,

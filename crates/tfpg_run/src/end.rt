@@ -5,10 +5,12 @@ ghost use Rattle.std.specs.Process.{exit_status};
 ghost use Rattle.tfpg_base.specs.Append.{Appends};
 ghost use Rattle.tfpg_base.specs.Words.{line_of};
 ghost use Rattle.tfpg_run.specs.Ends.{check_cause_name, graph_cause_name, line_of_end, status_of, usage_name};
-ghost use Rattle.tfpg_run.specs.EndsOf.{end_of_fetch_fault, end_of_generate_fault, end_of_judge_fault, end_of_simulate_fault, end_of_stream_fault};
+ghost use Rattle.tfpg_run.specs.EndsOf.{end_of_check_fault, end_of_explain_fault, end_of_fetch_fault, end_of_generate_fault, end_of_simulate_fault, end_of_stream_fault};
 ghost use Rattle.tfpg_run.specs.inside.Faults.{end_of_plan_fault, end_of_table_fault};
 
-use crate::fault::{FetchFault, GenerateFault, JudgeFault, SimulateFault, StreamFault};
+use crate::fault::{
+    CheckFault, ExplainFault, FetchFault, GenerateFault, SimulateFault, StreamFault,
+};
 use itoa::Buffer;
 use std::process::ExitCode;
 use tfpg_base::{NoMemory, append_words};
@@ -136,16 +138,28 @@ impl From<StreamFault> for End {
     }
 }
 
-impl From<JudgeFault> for End {
-    ghost from_gives = { λ fault e. e ≡ end_of_judge_fault fault };
+impl From<ExplainFault> for End {
+    ghost from_gives = { λ fault e. e ≡ end_of_explain_fault fault };
 
-    fn from(fault: JudgeFault) -> End {
+    fn from(fault: ExplainFault) -> End {
         match fault {
-            JudgeFault::BadMap { line } => End::NotAccepted {
+            ExplainFault::BadMap { line } => End::NotAccepted {
                 line,
                 cause: CheckCause::BadMap,
             },
-            JudgeFault::Stream(fault) => End::from(fault),
+            ExplainFault::Stream(fault) => End::from(fault),
+        }
+    }
+}
+
+impl From<CheckFault> for End {
+    ghost from_gives = { λ fault e. e ≡ end_of_check_fault fault };
+
+    fn from(fault: CheckFault) -> End {
+        match fault {
+            CheckFault::NotAccepted { line, cause } => End::NotAccepted { line, cause },
+            CheckFault::TooMany { count } => End::TooManyHypotheses { count },
+            CheckFault::Stream(fault) => End::from(fault),
         }
     }
 }

@@ -5,12 +5,12 @@ ghost use Rattle.tfpg_log.specs.Log.{IsLogOf};
 ghost use Rattle.tfpg_run.specs.Fetch.{AsksInOrder};
 ghost use Rattle.tfpg_run.specs.Streams.{streams};
 ghost use Rattle.tfpg_run.specs.World.{world};
-ghost use Rattle.tfpg_run.specs.explain.Judging.{ExplainEnds, JudgesMap};
+ghost use Rattle.tfpg_run.specs.explain.Explaining.{ExplainEnds, ExplainsMap};
 
 mod verdicts;
 
 use crate::end::End;
-use crate::fault::JudgeFault;
+use crate::fault::ExplainFault;
 use crate::fetching::fetch_graph_and_log;
 use crate::map::read_map;
 use crate::output::write_all;
@@ -22,7 +22,7 @@ use tfpg_trace::explains;
 use verdicts::verdict_line;
 
 /// Judges the map of the input by the graph and the log of the files of these names.
-pub(crate) fn judge_by_files<F: Shelf, S: Source, K: Sink>(
+pub(crate) fn explain_by_files<F: Shelf, S: Source, K: Sink>(
     alloc: Global,
     graph_name: &str,
     log_name: &str,
@@ -40,23 +40,23 @@ pub(crate) fn judge_by_files<F: Shelf, S: Source, K: Sink>(
         (F.state shelf.new).asked }
 {
     let (graph, mut log) = fetch_graph_and_log(alloc, shelf, graph_name, log_name)?;
-    Ok(judge_map(alloc, &graph, &mut log, input, out)?)
+    Ok(explain_map(alloc, &graph, &mut log, input, out)?)
 }
 
 /// Reads the map of the input, judges it by the graph and the log, and writes the verdict. From then on the log ignores the
 /// monitors that the map ignores.
-fn judge_map<S: Source, K: Sink>(
+fn explain_map<S: Source, K: Sink>(
     alloc: Global,
     graph: &Graph,
     log: &mut Log,
     input: &mut S,
     out: &mut K,
-) -> Result<(), JudgeFault>
+) -> Result<(), ExplainFault>
     requires { IsLogOf graph.now log.old }
-    ensures done { OnOk result (JudgesMap graph.now log.old
+    ensures done { OnOk result (ExplainsMap graph.now log.old
         (streams (S.state input.old) (K.state out.old))
         (streams (S.state input.new) (K.state out.new)) (Ok tt)) }
-    ensures stopped { IfErr result (λ fault. JudgesMap graph.now log.old
+    ensures stopped { IfErr result (λ fault. ExplainsMap graph.now log.old
         (streams (S.state input.old) (K.state out.old))
         (streams (S.state input.new) (K.state out.new)) (Err fault)) }
 {

@@ -1,15 +1,17 @@
 //! What ends the parts of a run early: fetching files, the streams of a diagnosis, and the work of the other commands.
 
 ghost use Rattle.std.specs.Prelude.{◌≡◌};
-ghost use Rattle.tfpg_run.specs.inside.Faults.{fetch_fault_of_shelf, fetch_fault_of_refusal, judge_fault_of_no_map, simulate_fault_of_sim, stream_fault_of_lines};
+ghost use Rattle.tfpg_run.specs.inside.Faults.{check_fault_of_judge, check_fault_of_lines, explain_fault_of_no_map, fetch_fault_of_refusal, fetch_fault_of_shelf, simulate_fault_of_sim, stream_fault_of_lines};
 ghost use Rattle.tfpg_run.specs.declared.fault.FetchFault.TheVariants as fetch;
 ghost use Rattle.tfpg_run.specs.declared.fault.StreamFault.TheVariants as streams;
-ghost use Rattle.tfpg_run.specs.declared.fault.JudgeFault.TheVariants as judge;
+ghost use Rattle.tfpg_run.specs.declared.fault.ExplainFault.TheVariants as explain;
+ghost use Rattle.tfpg_run.specs.declared.fault.CheckFault.TheVariants as check;
 ghost use Rattle.tfpg_run.specs.declared.fault.SimulateFault.TheVariants as simulate;
 ghost use Rattle.tfpg_run.specs.declared.fault.GenerateFault.TheVariants as generate;
 
 use crate::map::NoMap;
 use tfpg_base::{Failed, LineFault, NoMemory, ShelfFault};
+use tfpg_check::{CheckCause, JudgeFault};
 use tfpg_graph::{GraphFault, GraphRefusal};
 use tfpg_sim::SimFault;
 
@@ -99,38 +101,85 @@ impl From<Failed> for StreamFault {
 
 /// Why the map of the input was not judged, or the verdict not written.
 #[derive(Clone, Copy, Debug, PartialEq, Eq)]
-pub(crate) enum JudgeFault {
+pub(crate) enum ExplainFault {
     /// No map begins with the lines up to this one.
     BadMap { line: u64 },
     /// The input was not read to its end, or the output not written.
     Stream(StreamFault),
 }
 
-impl From<NoMap> for JudgeFault {
-    ghost from_gives = { λ fault e. e ≡ judge_fault_of_no_map fault };
+impl From<NoMap> for ExplainFault {
+    ghost from_gives = { λ fault e. e ≡ explain_fault_of_no_map fault };
 
-    fn from(fault: NoMap) -> JudgeFault {
+    fn from(fault: NoMap) -> ExplainFault {
         match fault {
-            NoMap::Refused { line } => JudgeFault::BadMap { line },
-            NoMap::Lines(fault) => JudgeFault::Stream(StreamFault::from(fault)),
-            NoMap::NoMemory => JudgeFault::Stream(StreamFault::NoMemory),
+            NoMap::Refused { line } => ExplainFault::BadMap { line },
+            NoMap::Lines(fault) => ExplainFault::Stream(StreamFault::from(fault)),
+            NoMap::NoMemory => ExplainFault::Stream(StreamFault::NoMemory),
         }
     }
 }
 
-impl From<NoMemory> for JudgeFault {
-    ghost from_gives = { λ _ e. e ≡ judge.Stream streams.NoMemory };
+impl From<NoMemory> for ExplainFault {
+    ghost from_gives = { λ _ e. e ≡ explain.Stream streams.NoMemory };
 
-    fn from(_e: NoMemory) -> JudgeFault {
-        JudgeFault::Stream(StreamFault::NoMemory)
+    fn from(_e: NoMemory) -> ExplainFault {
+        ExplainFault::Stream(StreamFault::NoMemory)
     }
 }
 
-impl From<Failed> for JudgeFault {
-    ghost from_gives = { λ _ e. e ≡ judge.Stream streams.WriteFault };
+impl From<Failed> for ExplainFault {
+    ghost from_gives = { λ _ e. e ≡ explain.Stream streams.WriteFault };
 
-    fn from(_e: Failed) -> JudgeFault {
-        JudgeFault::Stream(StreamFault::WriteFault)
+    fn from(_e: Failed) -> ExplainFault {
+        ExplainFault::Stream(StreamFault::WriteFault)
+    }
+}
+
+/// Why the report of the input was not accepted, or that it is accepted was not written.
+#[derive(Clone, Copy, Debug, PartialEq, Eq)]
+pub(crate) enum CheckFault {
+    /// This line of the report is the first that is wrong, for this cause.
+    NotAccepted { line: u64, cause: CheckCause },
+    /// The first line gives more than [`MAX_HYPOTHESES`](tfpg_hyp::MAX_HYPOTHESES) hypotheses, exactly this many.
+    TooMany { count: u128 },
+    /// The input was not read to its end, or the output not written.
+    Stream(StreamFault),
+}
+
+impl From<JudgeFault> for CheckFault {
+    ghost from_gives = { λ fault e. e ≡ check_fault_of_judge fault };
+
+    fn from(fault: JudgeFault) -> CheckFault {
+        match fault {
+            JudgeFault::NotAccepted { line, cause } => CheckFault::NotAccepted { line, cause },
+            JudgeFault::TooMany { count } => CheckFault::TooMany { count },
+            JudgeFault::NoMemory => CheckFault::Stream(StreamFault::NoMemory),
+        }
+    }
+}
+
+impl From<LineFault> for CheckFault {
+    ghost from_gives = { λ fault e. e ≡ check_fault_of_lines fault };
+
+    fn from(fault: LineFault) -> CheckFault {
+        CheckFault::Stream(StreamFault::from(fault))
+    }
+}
+
+impl From<NoMemory> for CheckFault {
+    ghost from_gives = { λ _ e. e ≡ check.Stream streams.NoMemory };
+
+    fn from(_e: NoMemory) -> CheckFault {
+        CheckFault::Stream(StreamFault::NoMemory)
+    }
+}
+
+impl From<Failed> for CheckFault {
+    ghost from_gives = { λ _ e. e ≡ check.Stream streams.WriteFault };
+
+    fn from(_e: Failed) -> CheckFault {
+        CheckFault::Stream(StreamFault::WriteFault)
     }
 }
 

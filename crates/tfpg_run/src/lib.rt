@@ -10,6 +10,7 @@
 //! ```
 #![tactic(auto)]
 
+mod check;
 mod commands;
 mod diagnose;
 mod end;

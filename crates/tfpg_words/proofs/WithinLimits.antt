@@ -5,7 +5,7 @@ use Rattle.std.proofs.lemmas.Bool.{and_parts, leb-true}
 use Rattle.tfpg_base.specs.Words.{number_of}
 use Rattle.tfpg_words.specs.declared.usage_cause.UsageCause.{UsageCause}
 use Rattle.tfpg_words.specs.declared.usage_cause.UsageCause.TheVariants.{OutOfRange, UnknownCommand}
-use Rattle.tfpg_words.specs.Meaning.{Meaning, Diagnose, Explain, Simulate, Generate, NumberOption, within, number_in, number_by, both, use_of, k_option, doubt_option, budget_option, draw_option, size_option, diagnose_form, diagnose_with, diagnose_on, diagnose_of, explain_form, explain_on, explain_of, simulate_form, simulate_with, simulate_on, simulate_of, generate_form, generate_with, generate_on, generate_of, meaning}
+use Rattle.tfpg_words.specs.Meaning.{Meaning, Diagnose, Explain, Check, Simulate, Generate, NumberOption, within, number_in, number_by, both, use_of, k_option, doubt_option, budget_option, draw_option, size_option, diagnose_form, diagnose_with, diagnose_on, diagnose_of, explain_form, explain_on, explain_of, check_form, check_on, check_of, simulate_form, simulate_with, simulate_on, simulate_of, generate_form, generate_with, generate_on, generate_of, meaning}
 use Rattle.tfpg_words.specs.Words.{Parts, Use, Word, parts_of_words}
 
 -- a number within the limits of an option
@@ -17,6 +17,7 @@ pub record IsInLimits (option : NumberOption) (number : ℕ) : Type 0 where
 abbrev pub AreInLimits : Meaning → Type 0
 AreInLimits (Diagnose terms graph) = (IsInLimits k_option terms.k × IsInLimits doubt_option terms.doubt) × IsInLimits budget_option terms.budget
 AreInLimits (Explain graph log) = ⊤
+AreInLimits (Check graph log) = ⊤
 AreInLimits (Simulate draw trace graph script) = IsInLimits draw_option draw
 AreInLimits (Generate draw size) = IsInLimits draw_option draw × IsInLimits size_option size
 
@@ -102,6 +103,16 @@ explain_within (Some parts) = go parts.positional
     go (a ∷ b ∷ []) = tt
     go (a ∷ b ∷ c ∷ others) = tt
 
+check_within : (parts : Option Parts) → IfOk (check_of parts) AreInLimits
+check_within None = tt
+check_within (Some parts) = go parts.positional
+  where
+    go : (positional : List Word) → IfOk (check_on positional) AreInLimits
+    go [] = tt
+    go (a ∷ []) = tt
+    go (a ∷ b ∷ []) = tt
+    go (a ∷ b ∷ c ∷ others) = tt
+
 simulate_within : (parts : Option Parts) → IfOk (simulate_of parts) AreInLimits
 simulate_within None = tt
 simulate_within (Some parts) = go parts.positional
@@ -135,16 +146,18 @@ generate_within (Some parts) = go parts.positional
 -- What the words mean is within the limits.
 pub meaning_within : (words : List Word) → IfOk (meaning words) AreInLimits
 meaning_within [] = tt
-meaning_within (command ∷ words) = by (bytes_eq command (codes "diagnose")) (bytes_eq command (codes "explain")) (bytes_eq command (codes "simulate")) (bytes_eq command (codes "generate"))
+meaning_within (command ∷ words) = by (bytes_eq command (codes "diagnose")) (bytes_eq command (codes "explain")) (bytes_eq command (codes "check")) (bytes_eq command (codes "simulate")) (bytes_eq command (codes "generate"))
   where
-    by : (diagnoses explains simulates generates : Bool)
+    by : (diagnoses explains checks simulates generates : Bool)
         → IfOk (if diagnoses then diagnose_of (parts_of_words diagnose_form words)
         else (if explains then explain_of (parts_of_words explain_form words)
+        else (if checks then check_of (parts_of_words check_form words)
         else (if simulates then simulate_of (parts_of_words simulate_form words)
         else (if generates then generate_of (parts_of_words generate_form words)
-        else Err UnknownCommand)))) AreInLimits
-    by true explains simulates generates = diagnose_within (parts_of_words diagnose_form words)
-    by false true simulates generates = explain_within (parts_of_words explain_form words)
-    by false false true generates = simulate_within (parts_of_words simulate_form words)
-    by false false false true = generate_within (parts_of_words generate_form words)
-    by false false false false = tt
+        else Err UnknownCommand))))) AreInLimits
+    by true explains checks simulates generates = diagnose_within (parts_of_words diagnose_form words)
+    by false true checks simulates generates = explain_within (parts_of_words explain_form words)
+    by false false true simulates generates = check_within (parts_of_words check_form words)
+    by false false false true generates = simulate_within (parts_of_words simulate_form words)
+    by false false false false true = generate_within (parts_of_words generate_form words)
+    by false false false false false = tt

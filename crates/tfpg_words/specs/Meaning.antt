@@ -13,6 +13,7 @@ use Rattle.tfpg_words.specs.Words.{Form, Parts, Use, Word, parts_of_words}
 pub data Meaning : Type 0 where
   Diagnose : (terms : Terms) (graph : Word) → Meaning
   Explain : (graph log : Word) → Meaning
+  Check : (graph log : Word) → Meaning
   Simulate : (draw : ℕ) (trace : Bool) (graph script : Word) → Meaning
   Generate : (draw size : ℕ) → Meaning
 
@@ -114,6 +115,19 @@ explain_on _ = Err BadWords
 abbrev pub explain_of : Option Parts → Result Meaning UsageCause
 explain_of = by_parts (λ parts. explain_on parts.positional)
 
+-- `check GRAPH LOG`
+abbrev pub check_form : Form
+check_form = record { options = []; flags = [] }
+
+-- what the positional words after `check` mean
+abbrev pub check_on : List Word → Result Meaning UsageCause
+check_on (graph ∷ log ∷ []) = Ok (Check graph log)
+check_on _ = Err BadWords
+
+-- what the words after `check` mean, by their parts
+abbrev pub check_of : Option Parts → Result Meaning UsageCause
+check_of = by_parts (λ parts. check_on parts.positional)
+
 -- `simulate [--draw N] [--trace] GRAPH SCRIPT`
 abbrev pub simulate_form : Form
 simulate_form = record { options = draw_option.name ∷ []; flags = codes "--trace" ∷ [] }
@@ -156,9 +170,10 @@ abbrev pub command_meaning : Word → List Word → Result Meaning UsageCause
 command_meaning command words =
     if bytes_eq command (codes "diagnose") then diagnose_of (parts_of_words diagnose_form words)
     else (if bytes_eq command (codes "explain") then explain_of (parts_of_words explain_form words)
+    else (if bytes_eq command (codes "check") then check_of (parts_of_words check_form words)
     else (if bytes_eq command (codes "simulate") then simulate_of (parts_of_words simulate_form words)
     else (if bytes_eq command (codes "generate") then generate_of (parts_of_words generate_form words)
-    else Err UnknownCommand)))
+    else Err UnknownCommand))))
 
 -- What the words after the program's name mean.
 abbrev pub meaning : List Word → Result Meaning UsageCause

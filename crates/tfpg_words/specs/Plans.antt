@@ -6,12 +6,13 @@ use Rattle.tfpg_words.specs.declared.plan_fault.PlanFault.TheVariants as fault
 use Rattle.tfpg_words.specs.declared.command.Command.{Command}
 use Rattle.tfpg_words.specs.declared.command.Command.TheVariants as command
 use Rattle.tfpg_words.specs.declared.command.Planned.{Planned}
-use Rattle.tfpg_words.specs.Meaning.{Meaning, Diagnose, Explain, Simulate, Generate}
+use Rattle.tfpg_words.specs.Meaning.{Meaning, Diagnose, Explain, Check, Simulate, Generate}
 
 -- what a command asks for
 abbrev pub meaning_of : Command → Meaning
 meaning_of (command.Diagnose k doubt budget graph) = Diagnose (record { k = k; doubt = doubt; budget = budget }) graph
 meaning_of (command.Explain graph log) = Explain graph log
+meaning_of (command.Check graph log) = Check graph log
 meaning_of (command.Simulate draw trace graph script) = Simulate draw trace graph script
 meaning_of (command.Generate draw size) = Generate draw size
 

@@ -21,6 +21,11 @@ pub enum Command {
         graph: Text,
         log: Text,
     },
+    /// `check GRAPH LOG`: whether a text is the report on the log.
+    Check {
+        graph: Text,
+        log: Text,
+    },
     /// `simulate [--draw N] [--trace] GRAPH SCRIPT`: the log of a script, or with `--trace` its map. `draw` is at most
     /// [`MAX_DRAW`](crate::MAX_DRAW), [`DEFAULT_DRAW`](crate::DEFAULT_DRAW) by default.
     Simulate {

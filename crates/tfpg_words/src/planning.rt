@@ -2,11 +2,11 @@
 
 ghost use Rattle.std.specs.Prelude.{◌≡◌, map};
 ghost use Rattle.std.specs.String.{string_bytes};
-ghost use Rattle.tfpg_words.specs.Meaning.{command_meaning, diagnose_form, diagnose_of, explain_form, explain_of, generate_form, generate_of, meaning, simulate_form, simulate_of};
+ghost use Rattle.tfpg_words.specs.Meaning.{check_form, check_of, command_meaning, diagnose_form, diagnose_of, explain_form, explain_of, generate_form, generate_of, meaning, simulate_form, simulate_of};
 ghost use Rattle.tfpg_words.specs.Plans.{IsPlanOf};
 ghost use Rattle.tfpg_words.specs.Words.{parts_of_words};
 ghost use Rattle.tfpg_words.specs.inside.CommandOf.{IsCommandOf};
-ghost use Rattle.tfpg_words.specs.inside.Given.{diagnose_given, explain_given, generate_given, simulate_given};
+ghost use Rattle.tfpg_words.specs.inside.Given.{check_given, diagnose_given, explain_given, generate_given, simulate_given};
 ghost use Rattle.tfpg_words.specs.inside.Parts.{rows_in};
 
 use crate::command::{Command, Planned};
@@ -91,6 +91,8 @@ fn command_of(alloc: Global, command: &str, words: &[String]) -> Result<Command,
         plan_diagnose(alloc, words)
     } else if command == "explain" {
         plan_explain(alloc, words)
+    } else if command == "check" {
+        plan_check(alloc, words)
     } else if command == "simulate" {
         plan_simulate(alloc, words)
     } else if command == "generate" {
@@ -150,6 +152,30 @@ fn plan_explain_by(alloc: Global, parts: &Parts) -> Result<Command, PlanFault>
         return Err(PlanFault::Usage(UsageCause::BadWords));
     };
     Ok(Command::Explain {
+        graph: Text::of(alloc, graph)?,
+        log: Text::of(alloc, log)?,
+    })
+}
+
+/// `check GRAPH LOG`
+fn plan_check(alloc: Global, words: &[String]) -> Result<Command, PlanFault>
+    ensures { IsCommandOf (check_of (parts_of_words check_form (map string_bytes words.now))) result }
+{
+    let form = Form {
+        options: &[],
+        flags: &[],
+    };
+    let parts = Parts::of(alloc, &form, words)?;
+    plan_check_by(alloc, &parts)
+}
+
+fn plan_check_by(alloc: Global, parts: &Parts) -> Result<Command, PlanFault>
+    ensures { IsCommandOf (check_given (rows_in parts.now)) result }
+{
+    let Some([graph, log]) = parts.positional() else {
+        return Err(PlanFault::Usage(UsageCause::BadWords));
+    };
+    Ok(Command::Check {
         graph: Text::of(alloc, graph)?,
         log: Text::of(alloc, log)?,
     })

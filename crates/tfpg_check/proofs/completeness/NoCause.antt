@@ -23,8 +23,8 @@ use Rattle.tfpg_check.specs.Report.{AreBlocks, HasReports}
 use Rattle.tfpg_check.specs.Causes.{AreRead, AreRightSoFar, BlockFails, EndFails, IsCause, LineFails, Matter}
 use Rattle.tfpg_check.proofs.completeness.EqualBlocks.{one_report}
 use Rattle.tfpg_check.proofs.completeness.LinesOfBlocks.{begun_after_last, blocks_end, completes_block}
-use Rattle.tfpg_check.proofs.completeness.RightBlocksPass.{completed_passes, others_pass}
-use Rattle.tfpg_check.proofs.completeness.RightFronts.{IsRightFront, head_is_last, right_front, right_so_far}
+use Rattle.tfpg_check.proofs.completeness.RightBlocksPass.{others_pass}
+use Rattle.tfpg_check.proofs.completeness.RightFronts.{IsRightFront, head_is_last, right_block_passes, right_front, right_so_far}
 
 -- ---- where reports may go on
 
@@ -133,7 +133,7 @@ module _ (matter : Matter) (one_thing : SayOneThing matter.graph) (terms : Terms
       elim (cases_Bool (completes_block here)) [
         | inl completes ↦ (
             let next = front.next completes in
-            completed_passes matter terms front.blocks next.0 (first ∷ reads) here completes front.right next.1 at why own
+            right_block_passes matter terms front.blocks next.0 (first ∷ reads) here completes next.1 at why own
             )
         | inr completes_none ↦ others_pass matter terms front.blocks (first ∷ reads) here completes_none at why own
       ]

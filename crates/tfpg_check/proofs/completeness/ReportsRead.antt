@@ -28,20 +28,21 @@ use Rattle.tfpg_check.proofs.completeness.WordsOfLines.{NamesOfGraph, within_nam
 -- ---- the lines of a report
 
 -- the text of blocks is that of their lines
-blocks_text : (graph : Tfpg) (blocks : List Block) → flat_map (block_text graph) blocks ≡ lines_text graph (flat_map block_lines blocks)
+pub blocks_text : (graph : Tfpg) (blocks : List Block) → flat_map (block_text graph) blocks ≡ lines_text graph (flat_map block_lines blocks)
 blocks_text graph [] = refl
 blocks_text graph (block ∷ blocks) =
     ap (λ (text : List ℕ). block_text graph block ++ text) (blocks_text graph blocks)
     ∙ sym (flat_map-append (λ (line : ReportLine). with_line_end (written_line graph line)) (block_lines block) (flat_map block_lines blocks))
 
 -- The first line of a report, with which its lines are these.
-record HasLines (graph : Tfpg) (terms : Terms) (blocks : List Block) (lines : List (List ℕ)) : Type 0 where
-  head : ReportLine
-  is_head : IsHead terms head
-  named : NamesOfGraph graph head
-  lines_are : lines ≡ map (written_line graph) (head ∷ flat_map block_lines blocks)
+pub record HasLines (graph : Tfpg) (terms : Terms) (blocks : List Block) (lines : List (List ℕ)) : Type 0 where
+  pub head : ReportLine
+  pub is_head : IsHead terms head
+  pub named : NamesOfGraph graph head
+  pub lines_are : lines ≡ map (written_line graph) (head ∷ flat_map block_lines blocks)
 
-has_lines : (matter : Matter) (terms : Terms) (blocks : List Block) (lines : List (List ℕ)) → IsValid matter.graph → AreReportLines matter terms blocks lines → HasLines matter.graph terms blocks lines
+-- The lines of a report are its first line and those of its blocks, as they are written.
+pub has_lines : (matter : Matter) (terms : Terms) (blocks : List Block) (lines : List (List ℕ)) → IsValid matter.graph → AreReportLines matter terms blocks lines → HasLines matter.graph terms blocks lines
 has_lines matter terms blocks lines valid are =
     let whole : lines_of are.bytes ≡ map (written_line matter.graph) (Head terms ∷ flat_map block_lines blocks) =
     ap lines_of (are.report.text ∙ ap (λ (text : List ℕ). head_text terms ++ text) (blocks_text matter.graph blocks))

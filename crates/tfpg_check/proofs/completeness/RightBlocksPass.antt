@@ -39,8 +39,8 @@ pub record IsNextBlock (matter : Matter) (terms : Terms) (blocks : List Block) (
   pub at : slice_get matter.log_lines (length blocks) ≡ Some text
   pub is_block : IsBlock matter.graph terms (progress_after_blocks matter blocks) (length blocks + 1) text block
 
--- the last of some blocks is the next one after those before it
-next_block : (matter : Matter) (terms : Terms) (blocks : List Block) (block : Block) (reads : List ReportLine) → AreRightSoFar matter terms (blocks ++ block ∷ []) reads
+-- The last of some blocks is the next one after those before it.
+pub next_block : (matter : Matter) (terms : Terms) (blocks : List Block) (block : Block) (reads : List ReportLine) → AreRightSoFar matter terms (blocks ++ block ∷ []) reads
     → IsNextBlock matter terms blocks block
 next_block matter terms blocks block reads right =
     let few = right.few in
@@ -128,7 +128,7 @@ ends_with_counts round losses begun counts lines = elim (cut_twice (round_lines 
     first_empty (x ∷ xs) ys same = absurd cc
 
 -- A round of the next line is right by the docket of that line.
-right_by_docket : (matter : Matter) (terms : Terms) (blocks : List Block) (event : Event) (docket : Docket) (line : ℕ) (round : RoundOf) → IsDocketOf matter terms blocks event docket
+pub right_by_docket : (matter : Matter) (terms : Terms) (blocks : List Block) (event : Event) (docket : Docket) (line : ℕ) (round : RoundOf) → IsDocketOf matter terms blocks event docket
     → IsRound matter.graph terms (progress_after_blocks matter blocks).rounds (with_event (progress_after_blocks matter blocks).log event) line round → IsRightBy docket line round
 right_by_docket matter terms blocks event docket line round is is_round =
     right_by matter.graph terms (progress_after_blocks matter blocks).rounds docket line round is.graph is.terms_are is.hypotheses is.steps
@@ -160,7 +160,7 @@ module _ (matter : Matter) (terms : Terms) (blocks : List Block) (block : Block)
       at why (subst (λ (o : Option (List ℕ)). RoundBlockFails matter terms blocks fails.0 o at why) next.at fails.2)
   completed _ completes next lines at why fails = absurd cc
 
-  -- A line with which one more block is right completes a block that does not fail.
+  -- Where lines are right so far, a line with which one more block is right completes a block that does not fail.
   pub completed_passes : (line : ReportLine) → completes_block line ≡ true → AreRightSoFar matter terms blocks reads → AreRightSoFar matter terms (blocks ++ block ∷ []) (reads ++ line ∷ [])
       → Passes (BlockFails matter terms blocks reads line)
   completed_passes line completes right also =

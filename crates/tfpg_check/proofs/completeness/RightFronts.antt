@@ -3,7 +3,7 @@ use Rattle.std.proofs.Common.{◌≡◌, ℕ, ◌+◌, ◌<◌, ◌≤◌, true,
 use Rattle.std.specs.Prelude.{flat_map, fold}
 use Rattle.std.proofs.Math.Seq.{take-append_seam}
 use Rattle.std.proofs.lemmas.Bool.{false≢true}
-use Rattle.std.proofs.lemmas.List.{length-take-le, take-append-drop, take-append-le, take-map, take-take}
+use Rattle.std.proofs.lemmas.List.{length-take-le, same_from_push, take-append-drop, take-append-le, take-map, take-take}
 use Rattle.std.proofs.lemmas.List.Concat.{flat_map-append}
 use Rattle.std.proofs.lemmas.List.Elements.{All-nil, All-cons, All-take, All-weaker}
 use Rattle.std.proofs.lemmas.List.Sums.{fold-append}
@@ -22,15 +22,16 @@ use Rattle.tfpg_report.specs.declared.report_line.ReportLine.TheVariants.{Refuse
 use Rattle.tfpg_report.specs.Blocks.{Block, RefusedBlock, RoundBlock, Loss, block_lines, loss_line, round_lines}
 use Rattle.tfpg_report.specs.Reading.{IsHead, begun_in, begun_with, is_last}
 use Rattle.tfpg_check.specs.Report.{AreBlocks, AreLosses, HasReports, IsBlock, IsBlockOf, Progress, event_of_line, progress_of}
-use Rattle.tfpg_check.specs.Causes.{AreRightSoFar, Matter, progress_after_blocks}
+use Rattle.tfpg_check.specs.Causes.{AreRightSoFar, BlockFails, Matter, progress_after_blocks}
+use Rattle.tfpg_check.specs.Tests.{Passes}
 use Rattle.tfpg_check.proofs.completeness.LinesOfBlocks.{begun_after_last, begun_more, blocks_end, completes_block, is_panel, is_within, last_completes, losses_are_panels, middle, middle_within, panel_completes_none, round_line, within_not_last}
-use Rattle.tfpg_check.proofs.completeness.RightBlocksPass.{IsNextBlock}
+use Rattle.tfpg_check.proofs.completeness.RightBlocksPass.{IsNextBlock, completed_passes}
 
 -- ---- blocks
 
 module _ (graph : Tfpg) (terms : Terms) (lines : List (List ℕ)) where
   -- What right blocks begin with is right.
-  blocks_front : (front back : List Block) → AreBlocks graph terms lines (front ++ back) → AreBlocks graph terms (take (length front) lines) front
+  pub blocks_front : (front back : List Block) → AreBlocks graph terms lines (front ++ back) → AreBlocks graph terms (take (length front) lines) front
   blocks_front front back are =
       let one_each = are.one_each in
       let long : length (front ++ back) ≡ length front + length back = length-append front back in
@@ -181,8 +182,8 @@ module _ (matter : Matter) (terms : Terms) (has_reports : HasReports matter.grap
         lines_are = same ∙ ap (λ (ls : List ReportLine). head ∷ (flat_map block_lines blocks ++ ls)) (sym counted);
       }
 
-  -- so are right blocks with the lines of the next one
-  right_with_block : (earlier : List Block) (block : Block) (reads : List ReportLine) → AreBlocks matter.graph terms (take (length earlier) matter.log_lines) earlier
+  -- So are right blocks with the lines of the next one.
+  pub right_with_block : (earlier : List Block) (block : Block) (reads : List ReportLine) → AreBlocks matter.graph terms (take (length earlier) matter.log_lines) earlier
       → IsNextBlock matter terms earlier block → reads ≡ head ∷ (flat_map block_lines earlier ++ block_lines block) → AreRightSoFar matter terms (earlier ++ block ∷ []) reads
   right_with_block earlier block reads are next same =
       let inside : length earlier < length matter.log_lines = slice_get_within matter.log_lines (length earlier) next.text next.at in
@@ -317,3 +318,65 @@ module _ (matter : Matter) (terms : Terms) (has_reports : HasReports matter.grap
       } in
       subst (λ (ls : List ReportLine). IsRightFront matter terms (head ∷ ls) here) (sym at.front_is)
       (front_in at.earlier (omega (arith, one_each, long)) (blocks_front matter.graph terms matter.log_lines at.earlier (at.block ∷ at.later) own) at.part here at.more at.block next at.lines_are)
+
+-- ---- before a block that is complete
+
+-- The lines of a block before the line that completes it.
+record IsCompletedBy (line : ReportLine) (block : Block) : Type 0 where
+  begun : List ReportLine
+  lines_are : block_lines block ≡ begun ++ line ∷ []
+  not_last : All (λ other. is_last other ≡ false) begun
+
+-- where the last line of a block completes it, it is the only one that can
+completed_by : (front reads : List ReportLine) (line : ReportLine) (block : Block) → completes_block line ≡ true → reads ++ line ∷ [] ≡ front ++ block_lines block → IsCompletedBy line block
+completed_by front reads line (RefusedBlock number cause) completes same =
+    let last = same_from_push reads front line (Refused number cause) same in
+    record { begun = []; lines_are = ap (λ (l : ReportLine). l ∷ []) (sym last.1); not_last = All-nil (λ other. is_last other ≡ false) }
+completed_by front reads line (RoundBlock round []) completes same =
+    let whole : block_lines (RoundBlock round []) ≡ (round_line round ∷ middle round) ++ Counts round.counts ∷ [] = append-nil (round_lines round) in
+    let last = same_from_push reads (front ++ round_line round ∷ middle round) line (Counts round.counts)
+    (same ∙ ap (λ (ls : List ReportLine). front ++ ls) whole ∙ sym (append_assoc front (round_line round ∷ middle round) (Counts round.counts ∷ []))) in
+    record {
+      begun = round_line round ∷ middle round;
+      lines_are = whole ∙ ap (λ (l : ReportLine). (round_line round ∷ middle round) ++ l ∷ []) (sym last.1);
+      not_last = All-cons (λ other. is_last other ≡ false) (round_line round) (middle round) refl
+          (All-weaker (λ other. is_within other ≡ true) (λ other. is_last other ≡ false) within_not_last (middle round) (middle_within round));
+    }
+completed_by front reads line (RoundBlock round (loss ∷ losses)) completes same =
+    let lost : List ReportLine = map loss_line (loss ∷ losses) in
+    elim (cut_twice (front ++ round_lines round) lost reads (line ∷ []) (append_assoc front (round_lines round) lost ∙ sym same)) [
+      | inl past ↦ absurd (false≢true
+          (sym (panel_completes_none line (All-middle (λ l. is_panel l ≡ true) past.mid line [] (subst (All (λ l. is_panel l ≡ true)) past.rest_is (losses_are_panels (loss ∷ losses))))) ∙ completes))
+      | inr within ↦ (
+          let back : line ∷ [] ≡ within.here ∷ (within.mid ++ lost) = within.back_is in
+          let none : [] ≡ within.mid ++ loss_line loss ∷ map loss_line losses = cc in
+          absurd (append_cons-not_nil within.mid (loss_line loss) (map loss_line losses) none)
+          )
+    ]
+
+module _ (matter : Matter) (terms : Terms) (blocks : List Block) (block : Block) (reads : List ReportLine) (line : ReportLine) (completes : completes_block line ≡ true)
+    (right : AreRightSoFar matter terms (blocks ++ block ∷ []) (reads ++ line ∷ [])) where
+  -- without the line and the block that it completes lines are right so far
+  right_before : AreRightSoFar matter terms blocks reads
+  right_before =
+      let head : ReportLine = right.head in
+      let few = right.few in
+      let long : length (blocks ++ block ∷ []) ≡ length blocks + 1 = length-append blocks (block ∷ []) in
+      let ended : begun_in (reads ++ line ∷ []) ≡ [] = fold-append begun_with [] reads (line ∷ []) ∙ begun_after_last (begun_in reads) line (last_completes line completes) in
+      let lines : reads ++ line ∷ [] ≡ (head ∷ flat_map block_lines blocks) ++ block_lines block =
+      right.lines_are ∙ ap (λ (begun : List ReportLine). head ∷ flat_map block_lines (blocks ++ block ∷ []) ++ begun) ended
+      ∙ ap (λ (ls : List ReportLine). head ∷ ls)
+      (append-nil (flat_map block_lines (blocks ++ block ∷ [])) ∙ flat_map-append block_lines blocks (block ∷ [])
+      ∙ ap (λ (ls : List ReportLine). flat_map block_lines blocks ++ ls) (append-nil (block_lines block))) in
+      let own = completed_by (head ∷ flat_map block_lines blocks) reads line block completes lines in
+      let before = same_from_push reads ((head ∷ flat_map block_lines blocks) ++ own.begun) line line
+      (lines ∙ ap (λ (ls : List ReportLine). (head ∷ flat_map block_lines blocks) ++ ls) own.lines_are
+      ∙ sym (append_assoc (head ∷ flat_map block_lines blocks) own.begun (line ∷ []))) in
+      right_so_far matter terms right.has_reports head right.is_head blocks own.begun reads (omega (arith, few, long))
+      (subst (λ (ls : List (List ℕ)). AreBlocks matter.graph terms ls blocks) (take-take (length blocks) (length (blocks ++ block ∷ [])) matter.log_lines (omega (arith, long)))
+      (blocks_front matter.graph terms (take (length (blocks ++ block ∷ [])) matter.log_lines) blocks (block ∷ []) right.are_blocks))
+      own.not_last before.0
+
+  -- A block with which lines are right so far does not fail at the line that completes it.
+  pub right_block_passes : Passes (BlockFails matter terms blocks reads line)
+  right_block_passes = completed_passes matter terms blocks block reads line completes right_before right

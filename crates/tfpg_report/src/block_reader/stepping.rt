@@ -37,7 +37,7 @@ impl Stand {
     }
 
     /// Whether a refused line or a round may come.
-    fn may_begin_block(self) -> bool
+    pub(crate) fn may_begin_block(self) -> bool
         ensures { result ≡ may_begin_block self }
     {
         match self {

@@ -1,3 +1,3 @@
--- How judging ends.
-pub mod Judged
+-- How explaining ends.
+pub mod ExplainedMaps
 pub mod NamedNodes

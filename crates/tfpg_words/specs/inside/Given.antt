@@ -6,7 +6,7 @@ use Rattle.tfpg_base.specs.Words.{number_of}
 use Rattle.tfpg_words.specs.declared.usage_cause.UsageCause.{UsageCause}
 use Rattle.tfpg_words.specs.declared.usage_cause.UsageCause.TheVariants.{BadWords}
 use Rattle.tfpg_words.specs.Words.{Word}
-use Rattle.tfpg_words.specs.Meaning.{Meaning, NumberOption, both, within, k_option, doubt_option, budget_option, draw_option, size_option, diagnose_with, explain_on, generate_with, simulate_with}
+use Rattle.tfpg_words.specs.Meaning.{Meaning, NumberOption, both, within, k_option, doubt_option, budget_option, draw_option, size_option, diagnose_with, explain_on, check_on, generate_with, simulate_with}
 use Rattle.tfpg_words.specs.inside.Rules.{words_id}
 use Rattle.tfpg_words.specs.inside.Rows.{vals}
 
@@ -37,6 +37,9 @@ diagnose_given rows =
 
 abbrev pub explain_given : List Row → Result Meaning UsageCause
 explain_given rows = explain_on (vals words_id rows)
+
+abbrev pub check_given : List Row → Result Meaning UsageCause
+check_given rows = check_on (vals words_id rows)
 
 abbrev pub simulate_by : Bool → Result ℕ UsageCause → List Word → Result Meaning UsageCause
 simulate_by trace draw (graph ∷ script ∷ []) = simulate_with trace graph script draw

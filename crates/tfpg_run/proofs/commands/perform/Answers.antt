@@ -1,7 +1,7 @@
 use Rattle.std.proofs.Common.{◌≡◌, ap, rules, refl}
 use Rattle.tfpg_words.specs.Plans.{meaning_of}
 use Rattle.tfpg_run.specs.World.{world}
-use Rattle.tfpg_run.proofs.Stops.{OnOk-with, explain_stopped, simulate_stopped}
+use Rattle.tfpg_run.proofs.Stops.{OnOk-with, check_stopped, explain_stopped, simulate_stopped}
 use Rattle.tfpg_run.proofs.commands.perform.Goals as goal
 
 -- the input is untouched
@@ -24,6 +24,13 @@ returns-in-Simulate-clause-stopped g c =
 pub returns-in-Explain-clause-stopped : goal.returns-in-Explain-clause-stopped
 returns-in-Explain-clause-stopped g c =
     let before = world (g.F.Shelf.state c.args.shelf.now) (g.S.Source.state c.args.input.now) (g.K.Sink.state c.args.out.now) in
-    let now = world (g.F.Shelf.state c.judge_by_files.new.shelf) (g.S.Source.state c.judge_by_files.new.input) (g.K.Sink.state c.judge_by_files.new.out) in
-    explain_stopped c.judge_by_files.result (meaning_of c.args.command.now) c.as_str-in-Explain.result.now c.as_str-in-Explain-2.result.now before now
-    c.in-Explain.graph c.in-Explain.log (ap meaning_of c.in-Explain.is) c.as_str-in-Explain.ensures c.as_str-in-Explain-2.ensures c.judge_by_files.ensures.stopped
+    let now = world (g.F.Shelf.state c.explain_by_files.new.shelf) (g.S.Source.state c.explain_by_files.new.input) (g.K.Sink.state c.explain_by_files.new.out) in
+    explain_stopped c.explain_by_files.result (meaning_of c.args.command.now) c.as_str-in-Explain.result.now c.as_str-in-Explain-2.result.now before now
+    c.in-Explain.graph c.in-Explain.log (ap meaning_of c.in-Explain.is) c.as_str-in-Explain.ensures c.as_str-in-Explain-2.ensures c.explain_by_files.ensures.stopped
+
+pub returns-in-Check-clause-stopped : goal.returns-in-Check-clause-stopped
+returns-in-Check-clause-stopped g c =
+    let before = world (g.F.Shelf.state c.args.shelf.now) (g.S.Source.state c.args.input.now) (g.K.Sink.state c.args.out.now) in
+    let now = world (g.F.Shelf.state c.check_by_files.new.shelf) (g.S.Source.state c.check_by_files.new.input) (g.K.Sink.state c.check_by_files.new.out) in
+    check_stopped c.check_by_files.result (meaning_of c.args.command.now) c.as_str-in-Check.result.now c.as_str-in-Check-2.result.now before now
+    c.in-Check.graph c.in-Check.log (ap meaning_of c.in-Check.is) c.as_str-in-Check.ensures c.as_str-in-Check-2.ensures c.check_by_files.ensures.stopped

@@ -10,10 +10,10 @@ use Rattle.tfpg_log.specs.Log.{Logbook, ignoring}
 use Rattle.tfpg_trace.specs.declared.verdict.Verdict.{Verdict}
 use Rattle.tfpg_trace.specs.FirstFault.{IsVerdict}
 use Rattle.tfpg_run.specs.declared.end.End.{End}
-use Rattle.tfpg_run.specs.declared.fault.JudgeFault.{JudgeFault}
-use Rattle.tfpg_run.specs.declared.fault.JudgeFault.TheVariants.{BadMap, Stream}
+use Rattle.tfpg_run.specs.declared.fault.ExplainFault.{ExplainFault}
+use Rattle.tfpg_run.specs.declared.fault.ExplainFault.TheVariants.{BadMap, Stream}
 use Rattle.tfpg_run.specs.declared.fault.StreamFault.TheVariants.{ReadFault, WriteFault, TooMuchInput, NoMemory}
-use Rattle.tfpg_run.specs.EndsOf.{EndsBy, end_of_judge_fault}
+use Rattle.tfpg_run.specs.EndsOf.{EndsBy, end_of_explain_fault}
 use Rattle.tfpg_run.specs.Fetch.{GivesGraphAndLog, LacksGraphOrText, WorksByFiles}
 use Rattle.tfpg_run.specs.Outputs.{WritesText, BeginsText}
 use Rattle.tfpg_run.specs.Streams.{Streams}
@@ -35,34 +35,34 @@ pub record HasVerdict (graph : Tfpg) (log : Logbook) (input : SourceState) (take
 -- How judging a map ends, where these bytes were taken. Before the verdict is known, nothing is written. Where the
 -- input fails or is too long, no line that came whole is faulty. Where the input fails, the output does not, and where
 -- the output fails, the input does not; where it ends otherwise, neither does.
-abbrev pub JudgingEnds : Tfpg → Logbook → Streams → Streams → List ℕ → Result (Unit {0}) JudgeFault → Type 0
-JudgingEnds graph log before now taken (Ok done) =
+abbrev pub ExplainingEnds : Tfpg → Logbook → Streams → Streams → List ℕ → Result (Unit {0}) ExplainFault → Type 0
+ExplainingEnds graph log before now taken (Ok done) =
     WritesText (HasVerdict graph log now.input taken) before.output now.output
     × (now.input.faults ≡ before.input.faults)
-JudgingEnds graph log before now taken (Err (BadMap line)) =
+ExplainingEnds graph log before now taken (Err (BadMap line)) =
     RefusesMap graph before.input now.input taken line × (now.output ≡ before.output)
-JudgingEnds graph log before now taken (Err (Stream ReadFault)) =
+ExplainingEnds graph log before now taken (Err (Stream ReadFault)) =
     Rose before.input.faults now.input.faults × BeginsMap graph (whole_lines taken) × (now.output ≡ before.output)
-JudgingEnds graph log before now taken (Err (Stream WriteFault)) =
+ExplainingEnds graph log before now taken (Err (Stream WriteFault)) =
     BeginsText (HasVerdict graph log now.input taken) before.output now.output
     × (now.input.faults ≡ before.input.faults)
-JudgingEnds graph log before now taken (Err (Stream TooMuchInput)) =
+ExplainingEnds graph log before now taken (Err (Stream TooMuchInput)) =
     (length taken ≡ MAX_BYTES + 1) × BeginsMap graph (whole_lines (take MAX_BYTES taken))
     × (now.output ≡ before.output) × (now.input.faults ≡ before.input.faults)
-JudgingEnds graph log before now taken (Err (Stream NoMemory)) =
+ExplainingEnds graph log before now taken (Err (Stream NoMemory)) =
     (now.output ≡ before.output) × (now.input.faults ≡ before.input.faults)
 
 -- A map was read from the input and judged by the graph and the log, with this result.
-pub record JudgesMap (graph : Tfpg) (log : Logbook) (before now : Streams)
-    (result : Result (Unit {0}) JudgeFault) : Type 0 where
+pub record ExplainsMap (graph : Tfpg) (log : Logbook) (before now : Streams)
+    (result : Result (Unit {0}) ExplainFault) : Type 0 where
   pub taken : List ℕ
   pub takes : Takes before.input now.input taken
-  pub ends : JudgingEnds graph log before now taken result
+  pub ends : ExplainingEnds graph log before now taken result
 
 -- There is no graph or no log of the files of those names; or a map was judged by them.
 abbrev pub ExplainEnds : List ℕ → List ℕ → World → World → End → Type 0
 ExplainEnds graph_name log_name before now end =
     LacksGraphOrText graph_name log_name before now end
     ⊎ WorksByFiles (GivesGraphAndLog before.shelf graph_name log_name)
-    (λ graph log. EndsBy (JudgesMap graph log (streams_of before) (streams_of now)) end_of_judge_fault)
+    (λ graph log. EndsBy (ExplainsMap graph log (streams_of before) (streams_of now)) end_of_explain_fault)
     before now end

@@ -5,10 +5,10 @@ use Rattle.tfpg_graph.specs.Graph.{Tfpg, is_monitored}
 use Rattle.tfpg_log.specs.Log.{Logbook, IsLogOf, ignoring}
 use Rattle.tfpg_trace.specs.declared.verdict.Verdict.{Verdict}
 use Rattle.tfpg_trace.specs.FirstFault.{IsVerdict}
-use Rattle.tfpg_run.specs.declared.fault.JudgeFault.TheVariants.{Stream}
+use Rattle.tfpg_run.specs.declared.fault.ExplainFault.TheVariants.{Stream}
 use Rattle.tfpg_run.specs.declared.fault.StreamFault.TheVariants.{WriteFault}
 use Rattle.tfpg_run.specs.declared.map.Map.{Map}
-use Rattle.tfpg_run.specs.explain.Judging.{HasVerdict, JudgesMap}
+use Rattle.tfpg_run.specs.explain.Explaining.{HasVerdict, ExplainsMap}
 use Rattle.tfpg_run.specs.Streams.{Streams, streams}
 use Rattle.tfpg_run.specs.explain.Verdicts.{verdict_text}
 use Rattle.tfpg_report.specs.ReadSets.{hypothesis_of}
@@ -20,18 +20,18 @@ module _ (graph : Tfpg) (log : Logbook) (before : Streams) (input : SourceState)
   has_verdict text is = record { hypothesis = hypothesis_of map.members; trace = map.trace; gives = reads.gives; verdict = v; right = right; text_is = is }
 
   -- the verdict is written
-  pub judges_well : (line text : List ℕ) (output : SinkState) → line ≡ verdict_text graph v → text ≡ line → Puts before.output output text
-      → output.faults ≡ before.output.faults → JudgesMap graph log before (streams input output) (Ok tt)
-  judges_well line text output line_is same puts no_fault = record {
+  pub explains_well : (line text : List ℕ) (output : SinkState) → line ≡ verdict_text graph v → text ≡ line → Puts before.output output text
+      → output.faults ≡ before.output.faults → ExplainsMap graph log before (streams input output) (Ok tt)
+  explains_well line text output line_is same puts no_fault = record {
     taken = reads.taken;
     takes = reads.takes;
     ends = (record { text = text; right = has_verdict text (same ∙ line_is); writes = puts; no_fault = no_fault }, reads.no_fault);
   }
 
   -- the output fails
-  pub judges_badly : (line : List ℕ) (output : SinkState) (front rest : List ℕ) → line ≡ verdict_text graph v → line ≡ front ++ rest → Puts before.output output front
-      → Rose before.output.faults output.faults → JudgesMap graph log before (streams input output) (Err (Stream WriteFault))
-  judges_badly line output front rest line_is parts puts rose = record {
+  pub explains_badly : (line : List ℕ) (output : SinkState) (front rest : List ℕ) → line ≡ verdict_text graph v → line ≡ front ++ rest → Puts before.output output front
+      → Rose before.output.faults output.faults → ExplainsMap graph log before (streams input output) (Err (Stream WriteFault))
+  explains_badly line output front rest line_is parts puts rose = record {
     taken = reads.taken;
     takes = reads.takes;
     ends = (record { front = front; rest = rest; right = has_verdict (front ++ rest) (sym parts ∙ line_is); writes = puts; rose = rose }, reads.no_fault);

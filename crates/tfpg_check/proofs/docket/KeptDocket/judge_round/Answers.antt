@@ -1,0 +1,75 @@
+use Rattle.std.proofs.Common.{List, [], length, map, sym, ap, subst, ◌∙◌}
+use Rattle.std.proofs.lemmas.Result.{err_from_is_err_and}
+use Rattle.tfpg_kernel.specs.CheckerState.{CheckerState}
+use Rattle.tfpg_report.specs.declared.read_round.Part.{Part}
+use Rattle.tfpg_check.specs.DocketState.{DocketState, KeepsDocket}
+use Rattle.tfpg_check.specs.Judging.{PartFails, RoundFails}
+use Rattle.tfpg_check.specs.Tests.{InTurn}
+use Rattle.tfpg_check.specs.inside.InTurn.{IsFaultOf}
+use Rattle.tfpg_check.proofs.judging.Hearings.{closed_flags_are}
+use Rattle.tfpg_check.proofs.judging.RoundJudged.{fault_at, part_fails, round_passes, round_fails, kept_as, kept_after, taken_of, keeps_here, on_ok, written_back}
+use Rattle.tfpg_check.proofs.docket.KeptDocket.judge_round.Goals as goal
+
+pub returns-in_err-judge_parts-clause-fails : goal.returns-in_err-judge_parts-clause-fails
+returns-in_err-judge_parts-clause-fails c = λ docket earlier same_graph same_log goes_on keeps at why said.
+    let here = keeps_here docket earlier c.args.log.now c.args.self.now c.is_always_ordered.ensures same_log goes_on keeps in
+    let kept = kept_as docket c.args.self.now c.self.inside.terms c.self.inside.table c.self.inside.checkers.items c.deref_mut.result.now c.self.view_is keeps.terms c.deref_mut.ensures.value in
+    let failed = err_from_is_err_and c.from_residual-in_err-judge_parts.result c.from_residual-in_err-judge_parts.ensures.1 in
+    let fails =
+    subst (λ (parts : List Part). IsFaultOf (InTurn (PartFails docket) [] parts) c.in_err-judge_parts.field-0.0) c.as_slice.ensures
+    (c.in_err-judge_parts.ensures.taken docket same_graph same_log (subst (KeepsDocket docket docket.log) kept here)) in
+    fault_at (RoundFails docket c.args.line c.args.read.now) c.from_residual-in_err-judge_parts.result failed.0 failed.1
+    (subst (IsFaultOf (RoundFails docket c.args.line c.args.read.now)) (sym failed.2)
+    (part_fails docket c.args.line c.args.read.now (c.in_ok-judge_first_line.ensures docket same_log) c.in_err-judge_parts.field-0.0 fails))
+    at
+    why
+    said
+
+pub returns-clause-keeps : goal.returns-clause-keeps
+returns-clause-keeps c = λ docket earlier same_graph same_log goes_on keeps.
+    let here = keeps_here docket earlier c.args.log.now c.args.self.now c.is_always_ordered.ensures same_log goes_on keeps in
+    let kept = kept_as docket c.args.self.now c.self.inside.terms c.self.inside.table c.self.inside.checkers.items c.deref_mut.result.now c.self.view_is keeps.terms c.deref_mut.ensures.value in
+    let taken =
+    taken_of docket c.args.read.now.parts c.as_slice.result.now _ c.as_slice.ensures
+    (c.in_ok-judge_parts.ensures.taken docket same_graph same_log (subst (KeepsDocket docket docket.log) kept here)) in
+    let back =
+    written_back c.self.inside.checkers.len c.self.inside.checkers.items c.judge_parts.new.checkers c.self.inside.checkers.ok.0
+    (c.judge_parts.auto.checkers ∙ ap length c.deref_mut.ensures.value) in
+    on_ok _
+    (kept_after docket c.args.read.now c.self.inside.terms c.self.inside.table c.judge_parts.new.checkers _ (ap (λ (s : DocketState). s.terms) c.self.view_is ∙ keeps.terms) back taken)
+
+pub returns-clause-passes : goal.returns-clause-passes
+returns-clause-passes c = λ docket earlier same_graph same_log goes_on keeps.
+    let here = keeps_here docket earlier c.args.log.now c.args.self.now c.is_always_ordered.ensures same_log goes_on keeps in
+    let kept = kept_as docket c.args.self.now c.self.inside.terms c.self.inside.table c.self.inside.checkers.items c.deref_mut.result.now c.self.view_is keeps.terms c.deref_mut.ensures.value in
+    let taken =
+    taken_of docket c.args.read.now.parts c.as_slice.result.now _ c.as_slice.ensures
+    (c.in_ok-judge_parts.ensures.taken docket same_graph same_log (subst (KeepsDocket docket docket.log) kept here)) in
+    let back =
+    written_back c.self.inside.checkers.len c.self.inside.checkers.items c.judge_parts.new.checkers c.self.inside.checkers.ok.0
+    (c.judge_parts.auto.checkers ∙ ap length c.deref_mut.ensures.value) in
+    let after =
+    kept_after docket c.args.read.now c.self.inside.terms c.self.inside.table c.judge_parts.new.checkers _ (ap (λ (s : DocketState). s.terms) c.self.view_is ∙ keeps.terms) back taken in
+    let flags =
+    closed_flags_are docket docket.steps c.args.self.now here c.deref-2.result.now
+    (c.deref-2.ensures.value ∙ c.in_ok-was_closed.ensures ∙ ap (map (λ (checker : CheckerState). checker.closed)) (c.deref.ensures.value ∙ ap (λ (s : DocketState). s.checkers) c.self.view_is)) in
+    round_passes docket c.args.line c.args.read.now (c.in_ok-judge_first_line.ensures docket same_log) _ taken _
+    (c.judge_statuses.ensures.rest docket same_graph (same_log ∙ sym c.in_ok-judge_parts.ensures.log) after flags)
+
+pub returns-clause-fails : goal.returns-clause-fails
+returns-clause-fails c = λ docket earlier same_graph same_log goes_on keeps at why said.
+    let here = keeps_here docket earlier c.args.log.now c.args.self.now c.is_always_ordered.ensures same_log goes_on keeps in
+    let kept = kept_as docket c.args.self.now c.self.inside.terms c.self.inside.table c.self.inside.checkers.items c.deref_mut.result.now c.self.view_is keeps.terms c.deref_mut.ensures.value in
+    let taken =
+    taken_of docket c.args.read.now.parts c.as_slice.result.now _ c.as_slice.ensures
+    (c.in_ok-judge_parts.ensures.taken docket same_graph same_log (subst (KeepsDocket docket docket.log) kept here)) in
+    let back =
+    written_back c.self.inside.checkers.len c.self.inside.checkers.items c.judge_parts.new.checkers c.self.inside.checkers.ok.0
+    (c.judge_parts.auto.checkers ∙ ap length c.deref_mut.ensures.value) in
+    let after =
+    kept_after docket c.args.read.now c.self.inside.terms c.self.inside.table c.judge_parts.new.checkers _ (ap (λ (s : DocketState). s.terms) c.self.view_is ∙ keeps.terms) back taken in
+    let flags =
+    closed_flags_are docket docket.steps c.args.self.now here c.deref-2.result.now
+    (c.deref-2.ensures.value ∙ c.in_ok-was_closed.ensures ∙ ap (map (λ (checker : CheckerState). checker.closed)) (c.deref.ensures.value ∙ ap (λ (s : DocketState). s.checkers) c.self.view_is)) in
+    round_fails docket c.args.line c.args.read.now (c.in_ok-judge_first_line.ensures docket same_log) _ taken _
+    (c.judge_statuses.ensures.rest docket same_graph (same_log ∙ sym c.in_ok-judge_parts.ensures.log) after flags) at why said

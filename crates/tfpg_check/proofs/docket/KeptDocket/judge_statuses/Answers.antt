@@ -1,0 +1,47 @@
+use Rattle.std.proofs.Common.{ℕ, List, Bool, Option, None, map, get_or, eqb, sym, ap, subst, ◌∙◌}
+use Rattle.std.specs.List.{list_any}
+use Rattle.std.proofs.lemmas.Result.{err_from_is_err_and}
+use Rattle.tfpg_kernel.specs.CheckerState.{CheckerState}
+use Rattle.tfpg_report.specs.declared.read_round.Part.{Part}
+use Rattle.tfpg_report.specs.declared.read_round.RankedLine.{RankedLine}
+use Rattle.tfpg_report.specs.declared.read_round.NamedSet.{NamedSet}
+use Rattle.tfpg_check.specs.DocketState.{DocketState}
+use Rattle.tfpg_check.specs.inside.Hearings.{flag_at, part_index}
+use Rattle.tfpg_check.specs.inside.InTurn.{IsFaultOf}
+use Rattle.tfpg_check.specs.inside.Kept.{RestFails}
+use Rattle.tfpg_check.specs.declared.round_fault.RoundFault.{RoundFault}
+use Rattle.tfpg_check.proofs.judging.Hearings.{hearing_is}
+use Rattle.tfpg_check.proofs.docket.KeptDocket.judge_statuses.Goals as goal
+
+pub returns-in_err-judge_hearing-clause-rest : goal.returns-in_err-judge_hearing-clause-rest
+returns-in_err-judge_hearing-clause-rest c = λ docket same_graph same_log keeps flags.
+    let p = err_from_is_err_and c.from_residual-in_err-judge_hearing.result c.from_residual-in_err-judge_hearing.ensures.1 in
+    rw p.1
+    (subst (λ (fault : RoundFault). IsFaultOf (RestFails docket c.args.read.now) fault) (sym p.2)
+    (c.in_err-judge_hearing.ensures.rest docket
+    (hearing_is docket _ c.args.self.now c.len-count.result same_graph keeps (sym (ap (λ (s : DocketState). s.table) c.self.view_is)) (sym (ap (λ (s : DocketState). s.terms.budget) c.self.view_is))
+    c.len-count.ensures.count flags
+    (record {
+      closed = c.deref-2.ensures.value ∙ c.in_ok-closed.ensures ∙ ap (map (λ (checker : CheckerState). checker.closed)) (c.deref.ensures.value ∙ ap (λ (s : DocketState). s.checkers) c.self.view_is);
+      ranked = λ number within. ap (λ (flags : List Bool). flag_at flags number) c.deref-3.ensures.value ∙ c.in_ok-ranked.ensures number within
+          ∙ ap (list_any (λ (r : RankedLine). eqb r.number number)) c.as_slice.ensures;
+      unsettled = λ number within. ap (λ (flags : List Bool). flag_at flags number) c.deref-4.ensures.value ∙ c.in_ok-unsettled.ensures number within
+          ∙ ap (list_any (λ (named : NamedSet). eqb named.number number)) c.as_slice-2.ensures;
+      parts = λ number within. ap (λ (indexes : List (Option ℕ)). get_or indexes number None) c.deref-5.ensures.value ∙ c.in_ok-parts.ensures number within
+          ∙ ap (λ (parts : List Part). part_index parts number) c.as_slice-3.ensures;
+    })) same_log))
+
+pub returns-clause-rest : goal.returns-clause-rest
+returns-clause-rest c = λ docket same_graph same_log keeps flags.
+    c.in_ok-judge_hearing.ensures.rest docket
+    (hearing_is docket _ c.args.self.now c.len-count.result same_graph keeps (sym (ap (λ (s : DocketState). s.table) c.self.view_is)) (sym (ap (λ (s : DocketState). s.terms.budget) c.self.view_is))
+    c.len-count.ensures.count flags
+    (record {
+      closed = c.deref-2.ensures.value ∙ c.in_ok-closed.ensures ∙ ap (map (λ (checker : CheckerState). checker.closed)) (c.deref.ensures.value ∙ ap (λ (s : DocketState). s.checkers) c.self.view_is);
+      ranked = λ number within. ap (λ (flags : List Bool). flag_at flags number) c.deref-3.ensures.value ∙ c.in_ok-ranked.ensures number within
+          ∙ ap (list_any (λ (r : RankedLine). eqb r.number number)) c.as_slice.ensures;
+      unsettled = λ number within. ap (λ (flags : List Bool). flag_at flags number) c.deref-4.ensures.value ∙ c.in_ok-unsettled.ensures number within
+          ∙ ap (list_any (λ (named : NamedSet). eqb named.number number)) c.as_slice-2.ensures;
+      parts = λ number within. ap (λ (indexes : List (Option ℕ)). get_or indexes number None) c.deref-5.ensures.value ∙ c.in_ok-parts.ensures number within
+          ∙ ap (λ (parts : List Part). part_index parts number) c.as_slice-3.ensures;
+    })) same_log

@@ -1,0 +1,191 @@
+-- What the stand after some lines says of the last of them.
+use Rattle.std.proofs.Common.{◌≡◌, ℕ, zero, suc, ◌-◌, Bool, true, false, List, [], ◌∷◌, ◌++◌, Option, Some, None, inl, inr, refl, sym, ap, ◌∙◌}
+use Rattle.std.specs.Prelude.{fold, option_and_then}
+use Rattle.std.specs.Bool.{then_some}
+use Rattle.std.proofs.lemmas.Bool.{false≢true}
+use Rattle.std.proofs.lemmas.List.Sums.{fold-append}
+use Rattle.std.proofs.lemmas.Option.{same_Some}
+use Rattle.tfpg_base.proofs.lists.Choices.{then_some-true}
+use Rattle.tfpg_base.specs.declared.terms.Terms.{Terms}
+use Rattle.tfpg_report.specs.declared.stand.Stand.{Stand}
+use Rattle.tfpg_report.specs.declared.stand.Stand.TheVariants as stand
+use Rattle.tfpg_report.specs.declared.report_line.ReportLine.{ReportLine}
+use Rattle.tfpg_report.specs.declared.report_line.ReportLine.TheVariants.{Head, OldHead, Refused, Round, Hyp, Split, Cycle, Why, Again, Ranked, At, Open, Rejected, Counts, Panel}
+use Rattle.tfpg_report.specs.Stands.{after_activation, after_reason, after_reasons, is_later, may_begin, may_begin_block, may_begin_steps, may_open, may_rank, may_reject, may_step, stand_after, stand_after_all, stand_of}
+use Rattle.tfpg_report.specs.Reading.{IsHead, begun_in, is_last}
+use Rattle.tfpg_report.proofs.lemmas.block_reader.BegunLines.{begun_in_ended}
+
+-- ---- the last line
+
+-- the lines up to the last, and the last
+pub record EndsWith {X : Type 0} (xs : List X) : Type 0 where
+  pub front : List X
+  pub last : X
+  pub is : xs ≡ front ++ last ∷ []
+
+-- Some lines have a last one.
+pub ends_with : {X : Type 0} (x : X) (xs : List X) → EndsWith (x ∷ xs)
+ends_with x [] = record { front = []; last = x; is = refl }
+ends_with x (y ∷ xs) = let rest = ends_with y xs in record { front = x ∷ rest.front; last = rest.last; is = ap (λ ls. x ∷ ls) rest.is }
+
+-- the stand after one more line, if there was one before
+abbrev next_stand : Option Stand → ReportLine → Option Stand
+next_stand reached line = option_and_then (λ (at : Stand). stand_after at line) reached
+
+no_stand : (lines : List ReportLine) → fold next_stand None lines ≡ None
+no_stand [] = refl
+no_stand (line ∷ lines) = no_stand lines
+
+-- what lines come to, by what the first of them come to
+pub record ComesBy (from : Stand) (front back : List ReportLine) (to : Stand) : Type 0 where
+  pub between : Stand
+  pub front_leads : stand_after_all from front ≡ Some between
+  pub back_leads : stand_after_all between back ≡ Some to
+
+-- Lines that may come are two parts that may come, one after the other.
+pub comes_by : (from : Stand) (front back : List ReportLine) (to : Stand) → stand_after_all from (front ++ back) ≡ Some to → ComesBy from front back to
+comes_by from front back to leads = by (stand_after_all from front) refl
+  where
+    by : (reached : Option Stand) → stand_after_all from front ≡ reached → ComesBy from front back to
+    by (Some between) at = record {
+      between = between;
+      front_leads = at;
+      back_leads = ap (λ (reached : Option Stand). fold next_stand reached back) (sym at) ∙ sym (fold-append next_stand (Some from) front back) ∙ leads;
+    }
+    by None at =
+        let none : None ≡ Some to =
+        sym (no_stand back) ∙ ap (λ (reached : Option Stand). fold next_stand reached back) (sym at) ∙ sym (fold-append next_stand (Some from) front back) ∙ leads in
+        absurd cc
+
+-- ---- where a block may begin
+
+-- the stand where reasons are to come is not one
+reasons_begin_none : (owed : ℕ) → may_begin_block (after_reasons owed) ≡ false
+reasons_begin_none zero = refl
+reasons_begin_none (suc owed) = refl
+
+-- a line that leads to another stand than this leads to no stand that passes
+leads_elsewhere : (may : Bool) (to at : Stand) → may_begin_block to ≡ false → (then_some may to) ≡ Some at → may_begin_block at ≡ false
+leads_elsewhere may to at none leads = sym (ap may_begin_block (then_some-true may to at leads).1) ∙ none
+
+by_reason : (before at : Stand) → after_reason before ≡ Some at → may_begin_block at ≡ false
+by_reason (stand.Reasons owed) at leads = sym (ap may_begin_block (same_Some (after_reasons (owed - 1)) at leads)) ∙ reasons_begin_none (owed - 1)
+by_reason stand.Nothing at leads = absurd cc
+by_reason stand.Block at leads = absurd cc
+by_reason stand.Round at leads = absurd cc
+by_reason stand.Hyp at leads = absurd cc
+by_reason stand.Step at leads = absurd cc
+by_reason (stand.Ranked last) at leads = absurd cc
+by_reason stand.Open at leads = absurd cc
+by_reason stand.Rejected at leads = absurd cc
+by_reason (stand.Counts last) at leads = absurd cc
+
+by_activation : (before at : Stand) (node : ℕ) → after_activation before node ≡ Some at → may_begin_block at ≡ false
+by_activation (stand.Ranked last) at node leads = leads_elsewhere (is_later last node) (stand.Ranked (Some node)) at refl leads
+by_activation stand.Nothing at node leads = absurd cc
+by_activation stand.Block at node leads = absurd cc
+by_activation stand.Round at node leads = absurd cc
+by_activation stand.Hyp at node leads = absurd cc
+by_activation (stand.Reasons owed) at node leads = absurd cc
+by_activation stand.Step at node leads = absurd cc
+by_activation stand.Open at node leads = absurd cc
+by_activation stand.Rejected at node leads = absurd cc
+by_activation (stand.Counts last) at node leads = absurd cc
+
+-- a line after which a block may begin ends what it belongs to
+last_by_stand : (before at : Stand) (line : ReportLine) → stand_after before line ≡ Some at → may_begin_block at ≡ true → is_last line ≡ true
+last_by_stand before at (Head terms) leads may = refl
+last_by_stand before at (OldHead k budget) leads may = refl
+last_by_stand before at (Refused number cause) leads may = refl
+last_by_stand before at (Round number line now) leads may = absurd (false≢true (sym (leads_elsewhere (may_begin_block before) stand.Round at refl leads) ∙ may))
+last_by_stand before at (Hyp number) leads may = absurd (false≢true (sym (leads_elsewhere (may_begin_steps before) stand.Hyp at refl leads) ∙ may))
+last_by_stand before at (Split name) leads may = absurd (false≢true (sym (leads_elsewhere (may_step before) stand.Step at refl leads) ∙ may))
+last_by_stand before at (Cycle count) leads may = absurd (false≢true (sym (leads_elsewhere (may_step before) (after_reasons count) at (reasons_begin_none count) leads) ∙ may))
+last_by_stand before at (Why reason) leads may = absurd (false≢true (sym (by_reason before at leads) ∙ may))
+last_by_stand before at Again leads may = absurd (false≢true (sym (leads_elsewhere (may_step before) stand.Step at refl leads) ∙ may))
+last_by_stand before at (Ranked number cost alarmed monitored set doubts) leads may = absurd (false≢true (sym (leads_elsewhere (may_rank before) (stand.Ranked None) at refl leads) ∙ may))
+last_by_stand before at (At activation) leads may = absurd (false≢true (sym (by_activation before at activation.node leads) ∙ may))
+last_by_stand before at (Open number set doubts) leads may = absurd (false≢true (sym (leads_elsewhere (may_open before) stand.Open at refl leads) ∙ may))
+last_by_stand before at (Rejected number set doubts) leads may = absurd (false≢true (sym (leads_elsewhere (may_reject before) stand.Rejected at refl leads) ∙ may))
+last_by_stand before at (Counts counts) leads may = refl
+last_by_stand before at (Panel panel no_memory) leads may = refl
+
+-- After a line that ends what it belongs to, a block may begin.
+pub last_leads : (before at : Stand) (line : ReportLine) → stand_after before line ≡ Some at → is_last line ≡ true → may_begin_block at ≡ true
+last_leads before at (Head terms) leads last = ap may_begin_block (sym (then_some-true (may_begin before) stand.Block at leads).1)
+last_leads before at (OldHead k budget) leads last = ap may_begin_block (sym (then_some-true (may_begin before) stand.Block at leads).1)
+last_leads before at (Refused number cause) leads last = ap may_begin_block (sym (then_some-true (may_begin_block before) stand.Block at leads).1)
+last_leads before at (Counts counts) leads last = ap may_begin_block (sym (then_some-true (may_reject before) (stand.Counts None) at leads).1)
+last_leads (stand.Counts held) at (Panel panel no_memory) leads last = ap may_begin_block (sym (then_some-true (is_later held panel) (stand.Counts (Some panel)) at leads).1)
+last_leads _ at (Panel panel no_memory) leads last = absurd cc
+last_leads before at _ leads last = absurd cc
+
+-- Where a block may begin, no round has begun.
+pub none_begun : (reads : List ReportLine) (at : Stand) → stand_of reads ≡ Some at → may_begin_block at ≡ true → begun_in reads ≡ []
+none_begun [] at stands may = refl
+none_begun (read ∷ reads) at stands may =
+    let whole = ends_with read reads in
+    let by = comes_by stand.Nothing whole.front (whole.last ∷ []) at (ap stand_of (sym whole.is) ∙ stands) in
+    ap begun_in whole.is ∙ begun_in_ended whole.front whole.last (last_by_stand by.between at whole.last by.back_leads may)
+
+-- ---- before the first line
+
+-- only nothing at all leads to the stand where nothing was read
+pub none_read : (reads : List ReportLine) → stand_of reads ≡ Some stand.Nothing → reads ≡ []
+none_read [] stands = refl
+none_read (read ∷ reads) stands =
+    let whole = ends_with read reads in
+    let by = comes_by stand.Nothing whole.front (whole.last ∷ []) stand.Nothing (ap stand_of (sym whole.is) ∙ stands) in
+    absurd (never_back by.between whole.last by.back_leads)
+  where
+    elsewhere : (may : Bool) (to : Stand) → then_some may to ≡ Some stand.Nothing → to ≡ stand.Nothing
+    elsewhere may to leads = (then_some-true may to stand.Nothing leads).1
+
+    no_reasons : (owed : ℕ) → after_reasons owed ≡ stand.Nothing → ⊥
+    no_reasons zero is = cc
+    no_reasons (suc owed) is = cc
+
+    never_back : (before : Stand) (line : ReportLine) → stand_after before line ≡ Some stand.Nothing → ⊥
+    never_back before (Head terms) leads = let to = elsewhere (may_begin before) stand.Block leads in cc
+    never_back before (OldHead k budget) leads = let to = elsewhere (may_begin before) stand.Block leads in cc
+    never_back before (Refused number cause) leads = let to = elsewhere (may_begin_block before) stand.Block leads in cc
+    never_back before (Round number line now) leads = let to = elsewhere (may_begin_block before) stand.Round leads in cc
+    never_back before (Hyp number) leads = let to = elsewhere (may_begin_steps before) stand.Hyp leads in cc
+    never_back before (Split name) leads = let to = elsewhere (may_step before) stand.Step leads in cc
+    never_back before (Cycle count) leads = no_reasons count (elsewhere (may_step before) (after_reasons count) leads)
+    never_back (stand.Reasons owed) (Why reason) leads = no_reasons (owed - 1) (same_Some (after_reasons (owed - 1)) stand.Nothing leads)
+    never_back _ (Why reason) leads = cc
+    never_back before Again leads = let to = elsewhere (may_step before) stand.Step leads in cc
+    never_back before (Ranked number cost alarmed monitored set doubts) leads = let to = elsewhere (may_rank before) (stand.Ranked None) leads in cc
+    never_back (stand.Ranked last) (At activation) leads = let to = elsewhere (is_later last activation.node) (stand.Ranked (Some activation.node)) leads in cc
+    never_back _ (At activation) leads = cc
+    never_back before (Open number set doubts) leads = let to = elsewhere (may_open before) stand.Open leads in cc
+    never_back before (Rejected number set doubts) leads = let to = elsewhere (may_reject before) stand.Rejected leads in cc
+    never_back before (Counts counts) leads = let to = elsewhere (may_reject before) (stand.Counts None) leads in cc
+    never_back (stand.Counts last) (Panel panel no_memory) leads = let to = elsewhere (is_later last panel) (stand.Counts (Some panel)) leads in cc
+    never_back _ (Panel panel no_memory) leads = cc
+
+-- So a first line comes first.
+pub head_comes_first : (reads : List ReportLine) (terms : Terms) (read : ReportLine) (at : Stand) → IsHead terms read → stand_of (reads ++ read ∷ []) ≡ Some at → reads ≡ []
+head_comes_first reads terms read at is_head stands = none_read reads (by is_head comes.between comes.back_leads comes.front_leads)
+  where
+    comes : ComesBy stand.Nothing reads (read ∷ []) at
+    comes = comes_by stand.Nothing reads (read ∷ []) at stands
+
+    at_begin : (before : Stand) → may_begin before ≡ true → before ≡ stand.Nothing
+    at_begin stand.Nothing may = refl
+    at_begin stand.Block may = absurd cc
+    at_begin stand.Round may = absurd cc
+    at_begin stand.Hyp may = absurd cc
+    at_begin (stand.Reasons owed) may = absurd cc
+    at_begin stand.Step may = absurd cc
+    at_begin (stand.Ranked last) may = absurd cc
+    at_begin stand.Open may = absurd cc
+    at_begin stand.Rejected may = absurd cc
+    at_begin (stand.Counts last) may = absurd cc
+
+    by : IsHead terms read → (before : Stand) → stand_after before read ≡ Some at → stand_of reads ≡ Some before → stand_of reads ≡ Some stand.Nothing
+    by (inl new) before leads front =
+        front ∙ ap Some (at_begin before (then_some-true (may_begin before) stand.Block at (ap (stand_after before) (sym new) ∙ leads)).0)
+    by (inr old) before leads front =
+        front ∙ ap Some (at_begin before (then_some-true (may_begin before) stand.Block at (ap (stand_after before) (sym old.1) ∙ leads)).0)

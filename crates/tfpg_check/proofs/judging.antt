@@ -1,0 +1,19 @@
+-- That the code judges a round as the definitions say.
+pub mod SetTests
+pub mod NotedParts
+pub mod Listed
+pub mod TestsInTurn
+pub mod HearingSays
+pub mod LastKeys
+pub mod PassingTests
+pub mod NewlyClosed
+pub mod RejectedLines
+pub mod RejectedSoFar
+pub mod RightCounts
+pub mod NewDockets
+pub mod StepsTaken
+pub mod ClosedTrees
+pub mod PartsTaken
+pub mod PartsSoFar
+pub mod Hearings
+pub mod RoundJudged

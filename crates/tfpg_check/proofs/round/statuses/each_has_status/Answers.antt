@@ -1,0 +1,19 @@
+use Rattle.std.proofs.Common.{refl, arith}
+use Rattle.std.proofs.lemmas.Bool.{false≢true}
+use Rattle.tfpg_check.proofs.judging.HearingSays.{statuses_hold, statuses_fail}
+use Rattle.tfpg_check.proofs.judging.TestsInTurn.{not_where_false}
+use Rattle.tfpg_check.proofs.round.statuses.each_has_status.Goals as goal
+
+pub returns-then-not-has_status : goal.returns-then-not-has_status
+returns-then-not-has_status c = λ docket is. (
+  λ holds. absurd (false≢true holds),
+  λ each. absurd
+      (statuses_fail docket c.args.hearing.now is c.loop-number.number (omega (arith, c.loop-number-test.true, c.len-number-end.ensures.count))
+      (not_where_false _ c.has_status.result c.if-not-has_status.true c.has_status.ensures) each),
+)
+
+pub returns : goal.returns
+returns c = λ docket is. (
+  λ holds. statuses_hold docket c.args.hearing.now is c.loop-number.number (omega (arith, c.loop-number-test.false, c.len-number-end.ensures.count)) c.loop-number.invariant,
+  λ each. refl,
+)

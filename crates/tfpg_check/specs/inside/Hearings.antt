@@ -1,0 +1,50 @@
+-- What the tests of a round are judged by, once its steps are taken.
+use Rattle.std.specs.Prelude.{◌≡◌, ◌↔◌, ℕ, ◌<◌, List, length, get_or, Bool, false, not, ◌&&◌, ◌==◌, if◌then◌else◌, IsTrue, Option, Some, None, position, slice_get}
+use Rattle.tfpg_base.specs.Hypothesis.{Hypothesis, IsProperPart}
+use Rattle.tfpg_hyp.specs.Hypotheses.{IsTableOf}
+use Rattle.tfpg_report.specs.declared.read_round.Part.{Part}
+use Rattle.tfpg_report.specs.declared.read_round.RankedLine.{RankedLine}
+use Rattle.tfpg_check.specs.declared.round.hearing.Hearing.{Hearing}
+use Rattle.tfpg_check.specs.Judging.{Docket, WasClosed, IsClosed, IsRankedLine, IsOpenLine}
+
+-- the flag of a number, which is down past the end
+abbrev pub flag_at : List Bool → ℕ → Bool
+flag_at flags number = get_or flags number false
+
+-- the index of the first part of a number
+abbrev pub part_index : List Part → ℕ → Option ℕ
+part_index parts number = position (λ (part : Part). part.number == number) parts
+
+-- the index noted for a number, where this one is the first or another was noted
+abbrev pub noted : Option ℕ → Bool → ℕ → Option ℕ
+noted None is_same index = if is_same then Some index else None
+noted (Some before) is_same index = Some before
+
+-- Of each number of the table, what is looked up is what the round says.
+pub record IsHearing (docket : Docket) (hearing : Hearing) : Type 0 where
+  pub graph : docket.graph ≡ hearing.graph.now
+  pub budget : docket.terms.budget ≡ hearing.budget
+  pub table : IsTableOf docket.graph docket.terms hearing.table.now
+  pub hypotheses : docket.hypotheses ≡ hearing.table.now.hypotheses
+  pub was_closed : (number : ℕ) → IsTrue (flag_at hearing.was_closed.now number) ↔ WasClosed docket number
+  pub closed : (number : ℕ) → IsTrue (flag_at hearing.closed.now number) ↔ IsClosed docket hearing.read.now number
+  pub ranked : (number : ℕ) → number < length docket.hypotheses
+      → IsTrue (flag_at hearing.ranked.now number) ↔ IsRankedLine hearing.read.now number
+  pub unsettled : (number : ℕ) → number < length docket.hypotheses
+      → IsTrue (flag_at hearing.unsettled.now number) ↔ IsOpenLine hearing.read.now number
+  pub parts : (number : ℕ) → number < length docket.hypotheses
+      → get_or hearing.parts.now number None ≡ part_index hearing.read.now.parts number
+
+-- A ranked line is of a proper part of the hypothesis.
+abbrev pub IsRankedPart : List Hypothesis → Hypothesis → RankedLine → Type 0
+IsRankedPart hypotheses hypothesis r =
+    (part : Hypothesis) × (slice_get hypotheses r.number ≡ Some part) × IsProperPart part hypothesis
+
+-- Some ranked line is of a proper part of the hypothesis.
+abbrev pub HasRankedPartAmong : List Hypothesis → List RankedLine → Hypothesis → Type 0
+HasRankedPartAmong hypotheses ranked hypothesis =
+    (index : ℕ) × (r : RankedLine) × (slice_get ranked index ≡ Some r) × IsRankedPart hypotheses hypothesis r
+
+-- whether the tree of the hypothesis of a number was closed in this round
+abbrev pub is_newly_closed : Hearing → ℕ → Bool
+is_newly_closed hearing number = flag_at hearing.closed.now number && not (flag_at hearing.was_closed.now number)

@@ -1,0 +1,214 @@
+//! What the judge keeps of the hypotheses between two rounds, and how a round is judged by it.
+
+ghost use Rattle.std.specs.Prelude.{◌≡◌, ◌≤◌, ◌<◌, ◌↔◌, ℕ, [], All, IfOk, OnOk, MatchResult, Err};
+ghost use Rattle.tfpg_base.specs.declared.limits.TheConstants.{MAX_DOUBT};
+ghost use Rattle.tfpg_log.specs.Log.{Logbook, GoesOn, IsLogOf};
+ghost use Rattle.tfpg_hyp.specs.Hypotheses.{HasHypotheses, IsTableOf};
+ghost use Rattle.tfpg_hyp.specs.declared.limits.TheConstants.{MAX_HYPOTHESES};
+ghost use Rattle.tfpg_check.specs.DocketState.{KeepsDocket};
+ghost use Rattle.tfpg_check.specs.inside.AfterRound.{after_round};
+ghost use Rattle.tfpg_check.specs.Judging.{Docket, RoundFails, BeginsWell};
+ghost use Rattle.tfpg_check.specs.inside.ReadRoundOf.{IsReadRoundOf, IsRankedLineOf};
+ghost use Rattle.tfpg_check.specs.Tests.{Owes};
+ghost use Rattle.tfpg_check.specs.declared.cause.CheckCause.{CheckCause as CauseOf};
+ghost use Rattle.tfpg_check.specs.declared.cause.CheckCause.TheVariants as cause;
+ghost use Rattle.tfpg_check.specs.inside.Passing.{RoundPasses};
+ghost use Rattle.tfpg_check.specs.inside.InTurn.{IsFailure, IsFaultOf};
+ghost use Rattle.tfpg_check.specs.inside.Hearings.{IsHearing};
+ghost use Rattle.tfpg_check.specs.inside.Kept.{AreNewCheckers, AreFlagsBefore, PassesRest, RestFails};
+
+use crate::cause::CheckCause;
+use crate::round::counts::are_right_counts;
+use crate::round::hearing::{Hearing, closed_flags, named_flags, part_indexes, ranked_flags};
+use crate::round::parts::judge_parts;
+use crate::round::ranked::judge_ranked;
+use crate::round::rejected::judge_rejected;
+use crate::round::statuses::each_has_status;
+use crate::round::unsettled::judge_open;
+use crate::round_fault::{FailedTest, RoundFault};
+use std::alloc::Global;
+use std::marker::Model;
+use tfpg_base::{NoMemory, Terms};
+use tfpg_graph::Graph;
+use tfpg_hyp::{Table, TableFault};
+use tfpg_kernel::Checker;
+use tfpg_log::Log;
+use tfpg_report::ReadRound;
+
+/// The hypotheses of a report, with what is kept of each between two rounds: the checker of its steps so far.
+#[derive(Drop)]
+pub(crate) struct KeptDocket {
+    alloc: Global,
+    terms: Terms,
+    table: Table,
+    checkers: Vec<Checker>,
+}
+
+impl Model for KeptDocket {
+    ghost use Rattle.std.specs.Prelude.{◌≡◌, length};
+    ghost use Rattle.tfpg_check.specs.DocketState.{DocketState};
+
+    ghost Value = { DocketState };
+
+    ghost view = { λ docket. record { terms = docket.terms; table = docket.table; checkers = docket.checkers.items } };
+
+    ghost invariant = { λ docket. length docket.checkers.items ≡ length docket.table.hypotheses };
+}
+
+impl KeptDocket {
+    /// The docket of a graph before its first round, for all hypotheses on these terms. Where there are more than
+    /// [`MAX_HYPOTHESES`](tfpg_hyp::MAX_HYPOTHESES) of them, the fault says how many.
+    pub(crate) fn new(alloc: Global, graph: &Graph, terms: Terms) -> Result<KeptDocket, TableFault>
+        requires doubt { terms.doubt ≤ MAX_DOUBT }
+        ensures keeps { IfOk result (λ kept. (docket : Docket) (log : Logbook) → docket.graph ≡ graph.now →
+            docket.terms ≡ terms → docket.hypotheses ≡ kept.table.hypotheses →
+            ((number : ℕ) → docket.steps number ≡ []) → KeepsDocket docket log kept) }
+        ensures table { IfOk result (λ kept. IsTableOf graph.now kept.terms kept.table) }
+        ensures terms { IfOk result (λ kept. kept.terms ≡ terms) }
+        ensures too_many { (count : ℕ) → (result ≡ Err (TableFault.TooMany count)) ↔
+            ((MAX_HYPOTHESES < count) × HasHypotheses graph.now terms count) }
+        ensures few { OnOk result ((count : ℕ) → HasHypotheses graph.now terms count → count ≤ MAX_HYPOTHESES) }
+    {
+        let table = Table::new(alloc, graph, terms.k, terms.doubt)?;
+        let checkers = new_checkers(alloc, &table)?;
+        Ok(KeptDocket {
+            alloc,
+            terms,
+            table,
+            checkers,
+        })
+    }
+
+    /// Judges a round of the report, for this line of the log, by the log with the event of that line. Where no test fails its
+    /// steps are kept. Else the docket is of no more use.
+    ///
+    /// It costs what the steps and traces cost, and for each ranked, each open and each covered hypothesis a look at the ranked
+    /// lines.
+    pub(crate) fn judge_round(
+        &mut self,
+        graph: &Graph,
+        log: &mut Log,
+        read: &ReadRound,
+        line: u64,
+    ) -> Result<(), RoundFault>
+        requires of { IsLogOf graph.now log.old }
+        requires ignores { log.old.ignored ≡ [] }
+        requires table { IsTableOf graph.now self.old.terms self.old.table }
+        requires lines { IsReadRoundOf graph.now read.now }
+        ensures passes { (docket : Docket) (earlier : Logbook) → docket.graph ≡ graph.now → docket.log ≡ log.old →
+            GoesOn earlier log.old → KeepsDocket docket earlier self.old →
+            OnOk result (RoundPasses docket line read.entry.now) }
+        ensures keeps { (docket : Docket) (earlier : Logbook) → docket.graph ≡ graph.now → docket.log ≡ log.old →
+            GoesOn earlier log.old → KeepsDocket docket earlier self.old →
+            OnOk result (KeepsDocket (after_round docket read.entry.now) docket.log self.new) }
+        ensures fails { (docket : Docket) (earlier : Logbook) → docket.graph ≡ graph.now → docket.log ≡ log.old →
+            GoesOn earlier log.old → KeepsDocket docket earlier self.old →
+            (at : ℕ) (why : CauseOf) → result ≡ Err (RoundFault.NotAccepted at why) →
+            RoundFails docket line read.entry.now at why }
+        ensures log { log.new ≡ log.old }
+        ensures terms { self.new.terms ≡ self.old.terms }
+        ensures table { self.new.table ≡ self.old.table }
+    {
+        log.is_always_ordered();
+        judge_first_line(log, read, line)?;
+        let was_closed = closed_flags(self.alloc, &self.checkers)?;
+        judge_parts(
+            &self.table,
+            &mut self.checkers,
+            graph,
+            log,
+            read.parts.as_slice(),
+        )?;
+        self.judge_statuses(graph, log, read, &was_closed)
+    }
+
+    /// Judges what a round says of each hypothesis, once its steps are taken.
+    fn judge_statuses(
+        &self,
+        graph: &Graph,
+        log: &mut Log,
+        read: &ReadRound,
+        was_closed: &[bool],
+    ) -> Result<(), RoundFault>
+        requires of { IsLogOf graph.now log.old }
+        requires ignores { log.old.ignored ≡ [] }
+        requires lines { IsReadRoundOf graph.now read.now }
+        ensures rest { (docket : Docket) → docket.graph ≡ graph.now → docket.log ≡ log.old →
+            KeepsDocket (after_round docket read.entry.now) docket.log self.now → AreFlagsBefore docket was_closed.now →
+            MatchResult result (λ _. PassesRest docket read.entry.now) (IsFaultOf (RestFails docket read.entry.now)) }
+        ensures log { log.new ≡ log.old }
+    {
+        let count = self.table.len();
+        let closed = closed_flags(self.alloc, &self.checkers)?;
+        let ranked = ranked_flags(self.alloc, count, read.ranked.as_slice())?;
+        let unsettled = named_flags(self.alloc, count, read.unsettled.as_slice())?;
+        let parts = part_indexes(self.alloc, count, read.parts.as_slice())?;
+        let hearing = Hearing {
+            graph,
+            table: &self.table,
+            budget: self.terms.budget,
+            read,
+            was_closed,
+            closed: &closed,
+            ranked: &ranked,
+            unsettled: &unsettled,
+            parts: &parts,
+        };
+        judge_hearing(&hearing, log)?;
+        Ok(())
+    }
+}
+
+/// Tests the first line of a round.
+fn judge_first_line(log: &Log, read: &ReadRound, line: u64) -> Result<(), FailedTest>
+    ensures { (docket : Docket) → docket.log ≡ log.now →
+        MatchResult result (λ _. BeginsWell docket line read.entry.now)
+        (IsFailure (Owes (BeginsWell docket line read.entry.now) read.entry.now.first_line cause.WrongRound)) }
+{
+    if read.number == log.len() && read.line == line && read.now == log.now() {
+        return Ok(());
+    }
+    Err(FailedTest {
+        line: read.first_line,
+        cause: CheckCause::WrongRound,
+    })
+}
+
+/// The tests after those of the steps, in their order.
+fn judge_hearing(hearing: &Hearing<'_>, log: &mut Log) -> Result<(), FailedTest>
+    requires of { IsLogOf hearing.now.graph.now log.old }
+    requires ignores { log.old.ignored ≡ [] }
+    requires lines { All (IsRankedLineOf hearing.now.graph.now) hearing.now.read.now.ranked }
+    ensures rest { (docket : Docket) → IsHearing docket hearing.now → docket.log ≡ log.old →
+        MatchResult result (λ _. PassesRest docket hearing.now.read.now)
+        (IsFailure (RestFails docket hearing.now.read.now)) }
+    ensures log { log.new ≡ log.old }
+{
+    judge_ranked(hearing, log)?;
+    judge_open(hearing)?;
+    judge_rejected(hearing)?;
+    if !each_has_status(hearing) {
+        return Err(FailedTest {
+            line: hearing.read.counts_line,
+            cause: CheckCause::WrongStatus,
+        });
+    }
+    if !are_right_counts(hearing) {
+        return Err(FailedTest {
+            line: hearing.read.counts_line,
+            cause: CheckCause::WrongCounts,
+        });
+    }
+    Ok(())
+}
+
+/// A checker that took no step for each hypothesis of a table.
+fn new_checkers(alloc: Global, table: &Table) -> Result<Vec<Checker>, NoMemory>
+    ensures { IfOk result (λ checkers. AreNewCheckers table.now.reaches checkers.items) }
+{
+    let mut checkers = Vec::with_capacity(alloc, table.len() as usize)?;
+    for number in 0..table.len() {
+        checkers.push(Checker::new(alloc, *table.reach(number)))?;
+    }
+    Ok(checkers)
+}

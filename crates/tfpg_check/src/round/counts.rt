@@ -1,0 +1,36 @@
+//! The counts of a round.
+
+ghost use Rattle.std.specs.Prelude.{◌≡◌, ◌↔◌, ◌+◌, ℕ, length, count_by, IsTrue};
+ghost use Rattle.tfpg_check.specs.inside.Named.{AreCountsHeard};
+
+use crate::round::hearing::Hearing;
+use tfpg_evidence::Counts;
+
+/// Whether the counts are right.
+pub(crate) fn are_right_counts(hearing: &Hearing<'_>) -> bool
+    ensures { IsTrue result ↔ AreCountsHeard hearing.now }
+{
+    let read = hearing.read;
+    let counts = read.counts;
+    counts.ranked as usize == read.ranked.as_slice().len()
+        && counts.left_open as usize == read.unsettled.as_slice().len()
+        && counts.rejected as usize == count_raised(hearing.closed)
+        && total(counts) == u64::from(hearing.table.len())
+}
+
+/// How many hypotheses the counts are of.
+fn total(counts: Counts) -> u64
+    ensures { result ≡ counts.ranked + counts.covered + counts.rejected + counts.left_open }
+{
+    u64::from(counts.ranked)
+        + u64::from(counts.covered)
+        + u64::from(counts.rejected)
+        + u64::from(counts.left_open)
+}
+
+/// How many flags are raised.
+fn count_raised(flags: &[bool]) -> usize
+    ensures { result ≡ count_by (λ flag. flag) flags.now }
+{
+    flags.iter().filter(|flag| **flag).count()
+}

@@ -1,0 +1,65 @@
+//! The rejected hypotheses of a round.
+
+ghost use Rattle.std.specs.Prelude.{◌≡◌, ◌↔◌, ◌<◌, ℕ, length, map, MatchResult, IsTrue, slice_get};
+ghost use Rattle.tfpg_check.specs.declared.cause.CheckCause.TheVariants as cause;
+ghost use Rattle.tfpg_check.specs.Judging.{Docket, AreNewlyClosed, RejectedFails, named_by};
+ghost use Rattle.tfpg_check.specs.inside.InTurn.{IsFailure};
+ghost use Rattle.tfpg_check.specs.inside.Hearings.{IsHearing};
+ghost use Rattle.tfpg_check.specs.inside.Named.{line_at, Names};
+
+use crate::cause::CheckCause;
+use crate::round::hearing::Hearing;
+use crate::round_fault::FailedTest;
+use tfpg_report::ReadRound;
+
+/// Tests that the rejected lines are those of the hypotheses whose trees were closed in this round. Goes once through the
+/// hypotheses.
+pub(crate) fn judge_rejected(hearing: &Hearing<'_>) -> Result<(), FailedTest>
+    ensures { (docket : Docket) → IsHearing docket hearing.now →
+        MatchResult result
+        (λ _. AreNewlyClosed docket hearing.now.read.now (map named_by hearing.now.read.now.rejected))
+        (IsFailure (RejectedFails docket hearing.now.read.now)) }
+{
+    let mut index = 0;
+    for number in 0..hearing.table.len() {
+        if hearing.is_newly_closed(number) {
+            if !names(hearing, index, number) {
+                return Err(fails_at(hearing.read, index));
+            }
+            index += 1;
+        }
+    }
+    if index < hearing.read.rejected.as_slice().len() {
+        return Err(fails_at(hearing.read, index));
+    }
+    Ok(())
+}
+
+/// Whether there is a rejected line of this index, and it names the hypothesis of this number.
+fn names(hearing: &Hearing<'_>, index: usize, number: u32) -> bool
+    requires { number < length hearing.now.table.now.hypotheses }
+    ensures { IsTrue result ↔
+        Names hearing.now.table.now.hypotheses number (slice_get hearing.now.read.now.rejected index) }
+{
+    match hearing.read.rejected.as_slice().get(index) {
+        Some(named) => {
+            named.number == number && hearing.is_listed(number, named.set, named.doubts)
+        }
+        None => false,
+    }
+}
+
+/// The failure at the rejected line of this index, or at the line of the counts, if there is none.
+fn fails_at(read: &ReadRound, index: usize) -> FailedTest
+    ensures line { result.line ≡ line_at read.entry.now index }
+    ensures cause { result.cause ≡ cause.WrongRejected }
+{
+    let line = match read.rejected.as_slice().get(index) {
+        Some(named) => named.first_line,
+        None => read.counts_line,
+    };
+    FailedTest {
+        line,
+        cause: CheckCause::WrongRejected,
+    }
+}

@@ -1,0 +1,98 @@
+//! The open hypotheses of a round.
+
+ghost use Rattle.std.specs.Prelude.{◌≡◌, ◌↔◌, ◌≤◌, List, [], MatchResult, IsOk, IsTrue};
+ghost use Rattle.tfpg_report.specs.declared.read_round.NamedSet.{NamedSet as NamedRead};
+ghost use Rattle.tfpg_evidence.specs.declared.step.Step.{Step as StepRead};
+ghost use Rattle.tfpg_clause.specs.Trees.{split_count, is_split};
+ghost use Rattle.tfpg_check.specs.Judging.{Docket, MayBeOpen, OpenFails};
+ghost use Rattle.tfpg_check.specs.Tests.{InTurn};
+ghost use Rattle.tfpg_check.specs.inside.InTurn.{HoldInTurn, IsFailure};
+ghost use Rattle.tfpg_check.specs.inside.Parts.{IsNextAfter};
+ghost use Rattle.tfpg_check.specs.inside.Hearings.{IsHearing};
+ghost use Rattle.tfpg_check.specs.inside.Named.{IsLeftOpen, steps_heard};
+
+use crate::cause::CheckCause;
+use crate::round::hearing::Hearing;
+use crate::round::ranked_parts::has_ranked_part;
+use crate::round_fault::FailedTest;
+use tfpg_evidence::Step;
+use tfpg_report::NamedSet;
+
+/// Tests each open hypothesis in turn.
+pub(crate) fn judge_open(hearing: &Hearing<'_>) -> Result<(), FailedTest>
+    ensures { (docket : Docket) → IsHearing docket hearing.now →
+        MatchResult result
+        (λ _. HoldInTurn (MayBeOpen docket hearing.now.read.now) hearing.now.read.now.unsettled)
+        (IsFailure (InTurn (OpenFails docket hearing.now.read.now) [] hearing.now.read.now.unsettled)) }
+{
+    let mut next = 0;
+    for named in hearing.read.unsettled.as_slice() {
+        judge_line(hearing, next, named)?;
+        next = u64::from(named.number) + 1;
+    }
+    Ok(())
+}
+
+/// Tests an open hypothesis, whose number may be `next` or more.
+fn judge_line(hearing: &Hearing<'_>, next: u64, named: &NamedSet) -> Result<(), FailedTest>
+    ensures unsettled { (docket : Docket) (before : List NamedRead) → IsHearing docket hearing.now →
+        IsNextAfter (λ named. named.number) before next →
+        MatchResult result
+        (λ _. MayBeOpen docket hearing.now.read.now before named.now)
+        (IsFailure (OpenFails docket hearing.now.read.now before named.now)) }
+    ensures next { IsOk result → next ≤ named.now.number }
+{
+    if !may_be_open(hearing, next, named) {
+        return Err(FailedTest {
+            line: named.first_line,
+            cause: CheckCause::WrongOpen,
+        });
+    }
+    Ok(())
+}
+
+/// Whether the line says what is right: numbers rise, it names a hypothesis of the table whose tree is not closed, neither it
+/// nor a proper part of it is ranked, and the whole budget was spent on it.
+fn may_be_open(hearing: &Hearing<'_>, next: u64, named: &NamedSet) -> bool
+    ensures { IsTrue result ↔ IsLeftOpen hearing.now next named.now }
+{
+    next <= u64::from(named.number)
+        && hearing.is_listed(named.number, named.set, named.doubts)
+        && !hearing.is_closed(named.number)
+        && !hearing.is_ranked(named.number)
+        && !has_ranked_part(
+            hearing.table,
+            hearing.read.ranked.as_slice(),
+            named.set,
+            named.doubts,
+        )
+        && split_count(hearing, named.number) == hearing.budget
+}
+
+/// How many splits the hypothesis of a number has in this round.
+fn split_count(hearing: &Hearing<'_>, number: u32) -> u64
+    ensures { result ≡ split_count (steps_heard hearing.now number) }
+{
+    match hearing.part(number) {
+        Some(part) => splits_among(part.steps.as_slice()),
+        None => 0,
+    }
+}
+
+/// How many of the steps are splits.
+fn splits_among(steps: &[Step]) -> u64
+    ensures { result ≡ split_count steps.now }
+{
+    steps.iter().filter(|step| is_split(step)).count() as u64
+}
+
+/// Whether the step is a split.
+fn is_split(step: &Step) -> bool
+    ensures { result ≡ is_split step.now }
+{
+    match step {
+        Step::Split(_) => true,
+        Step::Cycle(_) => false,
+        Step::Again => false,
+    }
+}

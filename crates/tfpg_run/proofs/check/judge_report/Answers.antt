@@ -1,0 +1,14 @@
+use Rattle.std.proofs.Common.{refl}
+use Rattle.tfpg_run.specs.check.Checking.{matter_of}
+use Rattle.tfpg_run.proofs.lemmas.check.CheckedReports.{new_judge}
+use Rattle.tfpg_run.proofs.check.judge_report.Goals as goal
+
+pub returns-clause-accepted : goal.returns-clause-accepted
+returns-clause-accepted g c =
+    let matter = matter_of c.args.graph c.args.log_text.items in
+    c.judge_lines.ensures.accepted matter (new_judge c.args.graph c.args.log_text.items c.new-judge.result c.is_always_valid.ensures.valid c.requires (c.new-judge.ensures.represents matter refl refl))
+
+pub returns-clause-stopped : goal.returns-clause-stopped
+returns-clause-stopped g c =
+    let matter = matter_of c.args.graph c.args.log_text.items in
+    c.judge_lines.ensures.stopped matter (new_judge c.args.graph c.args.log_text.items c.new-judge.result c.is_always_valid.ensures.valid c.requires (c.new-judge.ensures.represents matter refl refl))

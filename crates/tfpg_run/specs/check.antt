@@ -1,0 +1,2 @@
+-- How `check` ends.
+pub mod Checking

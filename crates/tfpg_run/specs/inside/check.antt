@@ -1,0 +1,2 @@
+-- Judging the report of the input.
+pub mod UnderWay

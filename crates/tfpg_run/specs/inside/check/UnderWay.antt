@@ -1,0 +1,118 @@
+-- Judging the report of the input, under way and ended.
+use Rattle.std.specs.Prelude.{◌≡◌, ◌⊎◌, ℕ, ◌+◌, ◌≤◌, List, [], length, take, flat_map, Some, None, Ok}
+use Rattle.tfpg_base.specs.declared.line.Line.TheVariants as line
+use Rattle.tfpg_base.specs.declared.limits.TheConstants.{MAX_BYTES, MAX_LINE_NUMBER}
+use Rattle.tfpg_base.specs.declared.terms.Terms.{Terms}
+use Rattle.tfpg_base.specs.Lines.{Reading, LinesState, LinesRepresent, lines_of, whole_lines}
+use Rattle.tfpg_base.specs.Outside.{SourceState, Rose, Takes, IsAtEnd}
+use Rattle.tfpg_graph.specs.Valid.{IsValid}
+use Rattle.tfpg_report.specs.declared.report_line.ReportLine.{ReportLine}
+use Rattle.tfpg_report.specs.Blocks.{Block}
+use Rattle.tfpg_check.specs.Report.{rounds_of}
+use Rattle.tfpg_check.specs.Causes.{Matter, AreRead, AreRight, AreReportLines}
+use Rattle.tfpg_check.specs.JudgeState.{JudgeState, JudgeRepresents}
+use Rattle.tfpg_run.specs.declared.fault.CheckFault.{CheckFault}
+use Rattle.tfpg_run.specs.declared.fault.CheckFault.TheVariants.{NotAccepted, TooMany, Stream}
+use Rattle.tfpg_run.specs.declared.fault.StreamFault.TheVariants.{ReadFault, WriteFault, TooMuchInput, NoMemory}
+use Rattle.tfpg_run.specs.declared.check.report_lines.NextReportLine.{NextReportLine}
+use Rattle.tfpg_run.specs.declared.check.report_lines.NextReportLine.TheVariants.{Right, Ended}
+use Rattle.tfpg_run.specs.check.Checking.{IsRefused, HasTooManyInHead, IsRightSoFar}
+
+-- the judging of a report at one moment: the input, the reader of lines and the judge
+pub record CheckingState : Type 0 where
+  pub input : SourceState
+  pub lines : LinesState
+  pub judge : JudgeState
+
+-- the judging with these
+abbrev pub checking_at : SourceState → LinesState → JudgeState → CheckingState
+checking_at input lines judge = record { input = input; lines = lines; judge = judge }
+
+-- The judge is of a valid graph and of a log that has not too many lines, and no line came to it yet.
+pub record IsNewJudge (matter : Matter) (judge : JudgeState) : Type 0 where
+  pub valid : IsValid matter.graph
+  pub few : length matter.log_lines ≤ MAX_LINE_NUMBER
+  pub represents : JudgeRepresents matter judge []
+
+-- Reading lines that began with this input has come to this, and nothing has failed.
+pub record IsReadingLines (before input : SourceState) (lines : LinesState) : Type 0 where
+  pub reading : Reading
+  pub takes : Takes before input reading.taken
+  pub few : length reading.taken ≤ MAX_BYTES
+  pub represents : LinesRepresent lines reading
+  pub goes_on : (reading.ended ≡ None) ⊎ ((reading.ended ≡ Some (Ok line.End)) × IsAtEnd input)
+  pub front : take (length reading.given) (lines_of reading.taken) ≡ reading.given
+  pub no_fault : input.faults ≡ before.faults
+
+-- Reading lines is under way, and the judge was given as many as the reader returned.
+pub record IsReadingOn (before : SourceState) (now : CheckingState) : Type 0 where
+  pub under : IsReadingLines before now.input now.lines
+  pub counted : now.judge.lines ≡ now.lines.number
+
+-- Judging that began with this input has come to this: each line that the reader returned was read and is right.
+pub record IsChecking (matter : Matter) (before : SourceState) (now : CheckingState) : Type 0 where
+  pub under : IsReadingLines before now.input now.lines
+  pub reads : List ReportLine
+  pub are_read : AreRead matter.graph under.reading.given reads
+  pub right : AreRight matter reads
+  pub represents : JudgeRepresents matter now.judge reads
+
+-- The lines so far are right for whatever the judge is of.
+pub record IsJudging (first : JudgeState) (before : SourceState) (now : CheckingState) : Type 0 where
+  pub reads_on : IsReadingOn before now
+  pub checks : (matter : Matter) → IsNewJudge matter first → IsChecking matter before now
+
+-- some reading of lines has come to this
+abbrev pub CanTakeNext : CheckingState → Type 0
+CanTakeNext now = (before : SourceState) × IsReadingOn before now
+
+-- The whole input was taken, and each of its lines was read and is right.
+pub record HasJudgedAll (matter : Matter) (before now : SourceState) (judge : JudgeState) : Type 0 where
+  pub taken : List ℕ
+  pub takes : Takes before now taken
+  pub few : length taken ≤ MAX_BYTES
+  pub at_end : IsAtEnd now
+  pub reads : List ReportLine
+  pub are_read : AreRead matter.graph (lines_of taken) reads
+  pub right : AreRight matter reads
+  pub represents : JudgeRepresents matter judge reads
+  pub no_fault : now.faults ≡ before.faults
+
+-- Where a line was read, reading is under way still, one line on.
+abbrev pub ReadsOn : SourceState → ℕ → CheckingState → NextReportLine → Type 0
+ReadsOn before number now Right = IsReadingOn before now × (now.lines.number ≡ number + 1)
+ReadsOn before number now Ended = Unit {0}
+
+-- What judging the next line leads to: judging is under way still; or all is judged.
+abbrev pub ChecksOn : Matter → SourceState → CheckingState → NextReportLine → Type 0
+ChecksOn matter before now Right = IsChecking matter before now
+ChecksOn matter before now Ended = HasJudgedAll matter before now.input now.judge
+
+-- The lines of the whole input are those of a report with so many rounds.
+pub record AcceptsReport (matter : Matter) (before now : SourceState) (rounds : ℕ) : Type 0 where
+  pub taken : List ℕ
+  pub takes : Takes before now taken
+  pub few : length taken ≤ MAX_BYTES
+  pub at_end : IsAtEnd now
+  pub terms : Terms
+  pub blocks : List Block
+  pub report : AreReportLines matter terms blocks (lines_of taken)
+  pub counted : rounds ≡ length (flat_map rounds_of blocks)
+  pub no_fault : now.faults ≡ before.faults
+
+-- what shows why the report is not accepted, where these bytes were taken
+abbrev pub ShowsCheckFault : Matter → SourceState → SourceState → List ℕ → CheckFault → Type 0
+ShowsCheckFault matter before now taken (NotAccepted at why) = IsRefused matter now taken at why × (now.faults ≡ before.faults)
+ShowsCheckFault matter before now taken (TooMany count) = HasTooManyInHead matter now taken count × (now.faults ≡ before.faults)
+ShowsCheckFault matter before now taken (Stream ReadFault) =
+    Rose before.faults now.faults × IsRightSoFar matter (whole_lines taken)
+ShowsCheckFault matter before now taken (Stream WriteFault) = ⊥
+ShowsCheckFault matter before now taken (Stream TooMuchInput) =
+    (length taken ≡ MAX_BYTES + 1) × IsRightSoFar matter (whole_lines (take MAX_BYTES taken)) × (now.faults ≡ before.faults)
+ShowsCheckFault matter before now taken (Stream NoMemory) = now.faults ≡ before.faults
+
+-- The report of the input is not accepted, with this cause.
+pub record LacksReport (matter : Matter) (before now : SourceState) (fault : CheckFault) : Type 0 where
+  pub taken : List ℕ
+  pub takes : Takes before now taken
+  pub shown : ShowsCheckFault matter before now taken fault

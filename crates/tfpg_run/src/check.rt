@@ -1,0 +1,99 @@
+//! The command `check`: from the names of a graph file and a log file to whether the input is the report on the log.
+
+ghost use Rattle.std.specs.Prelude.{◌≡◌, ◌≤◌, ◌∷◌, [], IfErr, IfOk, OnOk, Ok, Err, codes, decimal, length};
+ghost use Rattle.tfpg_base.specs.TextLine.{text_line};
+ghost use Rattle.tfpg_base.specs.declared.limits.TheConstants.{LONGEST_FILE};
+ghost use Rattle.tfpg_run.specs.Fetch.{AsksInOrder};
+ghost use Rattle.tfpg_run.specs.Streams.{streams};
+ghost use Rattle.tfpg_run.specs.World.{world};
+ghost use Rattle.tfpg_run.specs.check.Checking.{CheckEnds, ChecksReport, matter_of};
+ghost use Rattle.tfpg_run.specs.inside.check.UnderWay.{AcceptsReport, LacksReport};
+
+mod report_lines;
+
+use crate::end::End;
+use crate::fault::CheckFault;
+use crate::fetching::fetch_graph_and_text;
+use crate::output::write_all;
+use itoa::Buffer;
+use report_lines::judge_lines;
+use std::alloc::Global;
+use tfpg_base::{NoMemory, Shelf, Sink, Source, append_line};
+use tfpg_check::Judge;
+use tfpg_graph::Graph;
+
+/// Judges the report of the input by the graph and the log of the files of these names.
+pub(crate) fn check_by_files<F: Shelf, S: Source, K: Sink>(
+    alloc: Global,
+    graph_name: &str,
+    log_name: &str,
+    shelf: &mut F,
+    input: &mut S,
+    out: &mut K,
+) -> Result<(), End>
+    ensures done { OnOk result (CheckEnds graph_name.now log_name.now
+        (world (F.state shelf.old) (S.state input.old) (K.state out.old))
+        (world (F.state shelf.new) (S.state input.new) (K.state out.new)) End.Done) }
+    ensures stopped { IfErr result (CheckEnds graph_name.now log_name.now
+        (world (F.state shelf.old) (S.state input.old) (K.state out.old))
+        (world (F.state shelf.new) (S.state input.new) (K.state out.new))) }
+    ensures asks { AsksInOrder (graph_name.now ∷ log_name.now ∷ []) (F.state shelf.old).asked
+        (F.state shelf.new).asked }
+{
+    let (graph, log_text) = fetch_graph_and_text(alloc, shelf, graph_name, log_name)?;
+    Ok(check_report(alloc, graph, log_text, input, out)?)
+}
+
+/// Judges the report of the input by the graph and the lines of the log, and writes how many rounds it has.
+///
+/// # Errors
+///
+/// The first line of the report that is wrong, and why. No line of a report is too long, so one that is says no line of it.
+fn check_report<S: Source, K: Sink>(
+    alloc: Global,
+    graph: Graph,
+    log_text: Vec<u8>,
+    input: &mut S,
+    out: &mut K,
+) -> Result<(), CheckFault>
+    requires { length log_text.items ≤ LONGEST_FILE }
+    ensures done { OnOk result (ChecksReport (matter_of graph log_text.items)
+        (streams (S.state input.old) (K.state out.old))
+        (streams (S.state input.new) (K.state out.new)) (Ok tt)) }
+    ensures stopped { IfErr result (λ fault. ChecksReport (matter_of graph log_text.items)
+        (streams (S.state input.old) (K.state out.old))
+        (streams (S.state input.new) (K.state out.new)) (Err fault)) }
+{
+    let rounds = judge_report(alloc, graph, log_text, input)?;
+    let line = accepted_line(alloc, rounds)?;
+    write_all(out, &line)?;
+    Ok(())
+}
+
+/// Judges the report of the input by the graph and the lines of the log, and returns how many rounds it has.
+fn judge_report<S: Source>(
+    alloc: Global,
+    graph: Graph,
+    log_text: Vec<u8>,
+    input: &mut S,
+) -> Result<u32, CheckFault>
+    requires { length log_text.items ≤ LONGEST_FILE }
+    ensures accepted { IfOk result (AcceptsReport (matter_of graph log_text.items) (S.state input.old)
+        (S.state input.new)) }
+    ensures stopped { IfErr result (LacksReport (matter_of graph log_text.items) (S.state input.old)
+        (S.state input.new)) }
+{
+    graph.is_always_valid();
+    let mut judge = Judge::new(alloc, graph, log_text);
+    judge_lines(alloc, &mut judge, input)
+}
+
+/// The line for a report that is accepted, with so many rounds.
+fn accepted_line(alloc: Global, rounds: u32) -> Result<Vec<u8>, NoMemory>
+    ensures { IfOk result (λ line. line.items ≡ text_line (codes "accepted" ∷ decimal rounds ∷ [])) }
+{
+    let mut digits = Buffer::new();
+    let mut line = Vec::new(alloc);
+    append_line(&mut line, &[b"accepted", digits.format(rounds).as_bytes()])?;
+    Ok(line)
+}

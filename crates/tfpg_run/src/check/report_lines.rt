@@ -1,0 +1,80 @@
+//! The lines of the report, judged one by one.
+
+ghost use Rattle.std.specs.Prelude.{◌≡◌, IfErr, IfOk};
+ghost use Rattle.tfpg_base.specs.Outside.{SourceState};
+ghost use Rattle.tfpg_check.specs.Causes.{Matter};
+ghost use Rattle.tfpg_run.specs.inside.check.UnderWay.{AcceptsReport, CanTakeNext, ChecksOn, IsChecking, IsNewJudge, IsReadingOn, LacksReport, ReadsOn, checking_at};
+
+use crate::fault::CheckFault;
+use std::alloc::Global;
+use tfpg_base::{Line, Lines, Source};
+use tfpg_check::{CheckCause, Judge};
+
+/// Whether one more line is right, or the input has ended.
+#[derive(Clone, Copy)]
+pub(super) enum NextReportLine {
+    Right,
+    Ended,
+}
+
+/// Gives the lines of the input to a new judge, and returns how many rounds the report has.
+///
+/// # Errors
+///
+/// `NotAccepted` at the first line that is wrong, or after the last line; `TooMany` at the first line.
+pub(super) fn judge_lines<S: Source>(
+    alloc: Global,
+    judge: &mut Judge,
+    input: &mut S,
+) -> Result<u32, CheckFault>
+    requires { judge.old.lines ≡ 0 }
+    ensures accepted { (matter : Matter) → IsNewJudge matter judge.old →
+        IfOk result (AcceptsReport matter (S.state input.old) (S.state input.new)) }
+    ensures stopped { (matter : Matter) → IsNewJudge matter judge.old →
+        IfErr result (LacksReport matter (S.state input.old) (S.state input.new)) }
+{
+    let mut lines = Lines::new(alloc)?;
+    loop {
+        match judge_next_line(judge, &mut lines, input)? {
+            NextReportLine::Right => {}
+            NextReportLine::Ended => return Ok(judge.end()?),
+        }
+    }
+}
+
+/// Takes the next line, and gives it to the judge.
+fn judge_next_line<S: Source>(
+    judge: &mut Judge,
+    lines: &mut Lines,
+    input: &mut S,
+) -> Result<NextReportLine, CheckFault>
+    requires { CanTakeNext (checking_at (S.state input.old) lines.old judge.old) }
+    ensures reads_on { (before : SourceState) →
+        IsReadingOn before (checking_at (S.state input.old) lines.old judge.old) →
+        IfOk result (ReadsOn before lines.old.number (checking_at (S.state input.new) lines.new judge.new)) }
+    ensures checks_on { (matter : Matter) (before : SourceState) →
+        IsChecking matter before (checking_at (S.state input.old) lines.old judge.old) →
+        IfOk result (ChecksOn matter before (checking_at (S.state input.new) lines.new judge.new)) }
+    ensures stopped { (matter : Matter) (before : SourceState) →
+        IsChecking matter before (checking_at (S.state input.old) lines.old judge.old) →
+        IfErr result (LacksReport matter before (S.state input.new)) }
+{
+    match lines.next(input)? {
+        Line::End => Ok(NextReportLine::Ended),
+        Line::TooLong => Err(no_report_line(lines)),
+        Line::Text => {
+            judge.take(lines.number(), lines.text())?;
+            Ok(NextReportLine::Right)
+        }
+    }
+}
+
+/// The line that was returned last is none of a report.
+fn no_report_line(lines: &Lines) -> CheckFault
+    ensures { result ≡ CheckFault.NotAccepted lines.now.number CheckCause.BadReport }
+{
+    CheckFault::NotAccepted {
+        line: lines.number(),
+        cause: CheckCause::BadReport,
+    }
+}
