@@ -4,3 +4,4 @@ pub mod reading
 pub mod writing
 pub mod reach
 pub mod zero_cycle
+pub mod probing

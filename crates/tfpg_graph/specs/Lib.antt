@@ -12,5 +12,6 @@ pub mod Statements
 pub mod Declares
 pub mod Causes
 pub mod Faults
+pub mod Probe
 -- What the code and its proofs need besides. No public clause reaches it.
 pub mod inside

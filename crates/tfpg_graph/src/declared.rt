@@ -79,7 +79,6 @@ impl Declared {
         name: &[u8],
         kind: Kind,
     ) -> Result<Declared, NoMemory>
-        requires before_edges { self.edges ≡ [] }
         requires name { IsTrue (is_name name.now) }
         requires new { node_named self name.now ≡ None }
         requires number { HasValidNumber kind }

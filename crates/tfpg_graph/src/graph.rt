@@ -43,6 +43,13 @@ impl Graph {
         Graph { declared }
     }
 
+    /// What is declared of the graph.
+    pub(crate) fn into_declared(self) -> Declared
+        ensures { result ≡ self }
+    {
+        self.declared
+    }
+
     /// A copy of the graph, with the allocator that the graph keeps. Takes time and memory linear in the graph.
     pub fn copy(&self) -> Result<Graph, NoMemory>
         ensures { IfOk result (λ graph. graph ≡ self.now) }

@@ -27,6 +27,7 @@ mod graph;
 mod kind;
 pub mod laws;
 mod limits;
+mod probe;
 mod reach;
 mod reading;
 mod version;

@@ -1,16 +1,17 @@
 -- What is declared stays valid so far, and indexed, when one thing more is declared.
-use Rattle.std.proofs.Common.{◌≡◌, ◌≢◌, ℕ, ◌+◌, ◌<◌, ◌≤◌, ◌==◌, Bool, true, false, cond, List, [], ◌∷◌, ◌++◌, map, length, get_or, slice_get, Option, Some, None, position, IsTrue, refl, ap, sym, ◌∙◌, subst, arith, set, ◌&&◌, ⊎_elim}
+use Rattle.std.proofs.Common.{◌≡◌, ◌≢◌, ℕ, ◌+◌, ◌<◌, ◌≤◌, ◌==◌, Bool, true, false, cond, not, All, List, [], ◌∷◌, ◌++◌, map, length, get_or, slice_get, Option, Some, None, position, IsTrue, refl, ap, sym, ◌∙◌, subst, arith, set, ◌&&◌, ⊎_elim}
 use Rattle.std.specs.Str.{bytes_eq}
+use Rattle.std.specs.Option.{option_map, option_map_or}
 use Rattle.std.proofs.lemmas.Bool.{cases_lt, cases_eq, eq-eqb, ne_eqb, and_from, false≢true}
 use Rattle.std.proofs.lemmas.List.{length_push, length-set, append-nil}
-use Rattle.std.proofs.lemmas.List.Elements.{All-push, All-nil, All-same, All-get_or, All-weaker}
+use Rattle.std.proofs.lemmas.List.Elements.{All-push, All-head, All-tail, All-nil, All-same, All-get_or, All-weaker}
 use Rattle.std.proofs.lemmas.List.Quantifiers.{all_pairs_push}
 use Rattle.tfpg_base.specs.Words.{is_name}
 use Rattle.tfpg_graph.specs.declared.declared.Declared.TheInside.{Inside}
 use Rattle.tfpg_graph.specs.declared.kind.Kind.{Kind}
 use Rattle.tfpg_graph.specs.declared.edge.Edge.{Edge}
 use Rattle.tfpg_graph.specs.declared.limits.TheConstants.{MAX_NODES, MAX_FAILURES, MAX_EDGES, MAX_INCOMING, MAX_MODES}
-use Rattle.tfpg_graph.specs.Graph.{Tfpg, Node, is_failure, failures, incoming, position_of_failure, node_named, mode_named, edge_from_to}
+use Rattle.tfpg_graph.specs.Graph.{Tfpg, Node, is_failure, is_kind_at, failures, incoming, position_of_failure, node_named, mode_named, edge_from_to}
 use Rattle.tfpg_base.specs.Choice.{numbers_from}
 use Rattle.tfpg_graph.specs.Valid.{HasValidNumber, IsValidEdge, IsSamePair, IsValidSoFar}
 use Rattle.tfpg_graph.specs.inside.declaring.Indexes.{graph_of, with_mode, with_node, with_edge, HasIndexes, IsDeclared}
@@ -75,17 +76,48 @@ few_with_failure : (failure : Bool) (node : ℕ) (failed : List ℕ) → length 
 few_with_failure true node failed few room = omega (arith, length_push failed node, room refl)
 few_with_failure false node failed few room = subst (λ xs. length xs ≤ MAX_FAILURES) (sym (append-nil failed)) few
 
+-- where no edge enters it, a node has no incoming edges
+numbers_from-none : (node number : ℕ) (edges : List Edge) → All (λ edge. edge.target < node) edges → numbers_from number (λ edge. edge.target == node) edges ≡ []
+numbers_from-none node number [] below = refl
+numbers_from-none node number (edge ∷ edges) below =
+    ap (λ b. cond b (number ∷ numbers_from (number + 1) (λ e. e.target == node) edges) (numbers_from (number + 1) (λ e. e.target == node) edges))
+    (let less = All-head (λ e. e.target < node) edge edges below in ne_eqb edge.target node (λ same. omega (arith, same)))
+    ∙ numbers_from-none node (number + 1) edges (All-tail (λ e. e.target < node) edge edges below)
+
+-- no valid edge enters what is no node
+pub no_edge_into : (graph : Tfpg) → All (IsValidEdge graph) graph.edges → (node : ℕ) → length graph.nodes ≤ node → incoming graph node ≡ []
+no_edge_into graph edges node from = numbers_from-none node 0 graph.edges
+    (All-weaker (IsValidEdge graph) (λ edge. edge.target < node) (λ edge valid. let within = valid.target in omega (arith, within, from)) graph.edges edges)
+
 module _ (graph : Tfpg) (name : List ℕ) (kind : Kind) where
   abbrev new_node : Node
   new_node = record { name = name; kind = kind }
 
-  pub HasIndexes-with_node : (rows : List (List ℕ)) (failed : List ℕ) (positions : List (Option ℕ)) → graph.edges ≡ [] → HasIndexes graph rows failed positions
+  -- what a test says of a node stays so with one node more
+  pub is_kind_at-with_node : (test : Kind → Bool) (node : ℕ) → node < length graph.nodes → is_kind_at test (with_node graph name kind) node ≡ is_kind_at test graph node
+  is_kind_at-with_node test node within =
+      ap (λ (o : Option Node). option_map_or test (option_map (λ n. n.kind) o) false) (slice_get-push_before graph.nodes new_node node within)
+
+  -- an edge is as valid with one node more
+  IsValidEdge-with_node : (edge : Edge) → IsValidEdge graph edge → IsValidEdge (with_node graph name kind) edge
+  IsValidEdge-with_node edge is = record {
+    source = let within = is.source in omega (arith, length_push graph.nodes new_node);
+    target = let within = is.target in omega (arith, length_push graph.nodes new_node);
+    into_discrepancy = ap not (is_kind_at-with_node is_failure edge.target is.target) ∙ is.into_discrepancy;
+    no_self_edge = is.no_self_edge;
+    least = is.least;
+    greatest = is.greatest;
+    some_mode = is.some_mode;
+    own_modes = is.own_modes;
+  }
+
+  pub HasIndexes-with_node : (rows : List (List ℕ)) (failed : List ℕ) (positions : List (Option ℕ)) → All (IsValidEdge graph) graph.edges → HasIndexes graph rows failed positions
       → HasIndexes (with_node graph name kind) (rows ++ [] ∷ []) (with_failure (is_failure kind) (length graph.nodes) failed) (positions ++ cond (is_failure kind) (Some (length failed)) None ∷ [])
-  HasIndexes-with_node rows failed positions none is = record {
+  HasIndexes-with_node rows failed positions edges is = record {
     row_count = length_push rows [] ∙ ap (λ n. n + 1) is.row_count ∙ sym (length_push graph.nodes new_node);
     row_is = λ node within. ⊎_elim
         (λ lt. slice_get-push_before rows [] node (omega (arith, is.row_count)) ∙ is.row_is node lt)
-        (λ ge. slice_get-push_at rows [] node (omega (arith, is.row_count, length_push graph.nodes new_node)) ∙ ap Some (sym (ap (numbers_from 0 (λ edge. edge.target == node)) none)))
+        (λ ge. slice_get-push_at rows [] node (omega (arith, is.row_count, length_push graph.nodes new_node)) ∙ ap Some (sym (no_edge_into graph edges node (omega (arith, length_push graph.nodes new_node)))))
         (cases_lt node (length graph.nodes));
     failed_are = ap (with_failure (is_failure kind) (length graph.nodes)) is.failed_are ∙ sym (failures-with_node graph name kind);
     position_count = length_push positions _ ∙ ap (λ n. n + 1) is.position_count ∙ sym (length_push graph.nodes new_node);
@@ -107,9 +139,9 @@ module _ (graph : Tfpg) (name : List ℕ) (kind : Kind) where
           ∙ (λ i. position (λ f. f == sym last i) (with_failure (is_failure kind) (length graph.nodes) (failures graph)))
           ∙ sym (ap (position (λ f. f == node)) (failures-with_node graph name kind))
 
-  pub IsValidSoFar-with_node : graph.edges ≡ [] → IsTrue (is_name name) → node_named graph name ≡ None → HasValidNumber kind → length graph.nodes < MAX_NODES
+  pub IsValidSoFar-with_node : IsTrue (is_name name) → node_named graph name ≡ None → HasValidNumber kind → length graph.nodes < MAX_NODES
       → (IsTrue (is_failure kind) → length (failures graph) < MAX_FAILURES) → IsValidSoFar graph → IsValidSoFar (with_node graph name kind)
-  IsValidSoFar-with_node none named new number room failure_room is =
+  IsValidSoFar-with_node named new number room failure_room is =
       record {
         node_names = All-push (λ n. IsTrue (is_name n.name)) graph.nodes new_node is.node_names named;
         nodes_differ = all_pairs_push (λ a b. a.name ≢ b.name) graph.nodes new_node is.nodes_differ
@@ -117,7 +149,7 @@ module _ (graph : Tfpg) (name : List ℕ) (kind : Kind) where
         node_numbers = All-push (λ n. HasValidNumber n.kind) graph.nodes new_node is.node_numbers number;
         mode_names = is.mode_names;
         modes_differ = is.modes_differ;
-        edges = All-same (IsValidEdge (with_node graph name kind)) graph.edges [] none (All-nil (IsValidEdge (with_node graph name kind)));
+        edges = All-weaker (IsValidEdge graph) (IsValidEdge (with_node graph name kind)) IsValidEdge-with_node graph.edges is.edges;
         edges_differ = is.edges_differ;
         few_nodes = omega (arith, length_push graph.nodes new_node);
         few_failures = subst (λ xs. length xs ≤ MAX_FAILURES) (sym (failures-with_node graph name kind)) (few_with_failure (is_failure kind) (length graph.nodes) (failures graph) is.few_failures failure_room);
@@ -131,23 +163,23 @@ module _ (d e : Inside) (graph : Tfpg) (name : List ℕ) (kind : Kind) (before :
       → map (λ row. row.items) e.incoming.items ≡ map (λ row. row.items) d.incoming.items ++ [] ∷ []
       → e.failures.items ≡ with_failure (is_failure kind) (length graph.nodes) d.failures.items
       → e.positions.items ≡ d.positions.items ++ cond (is_failure kind) (Some (length d.failures.items)) None ∷ []
-      → graph.edges ≡ [] → IsTrue (is_name name) → node_named graph name ≡ None → HasValidNumber kind → length graph.nodes < MAX_NODES
+      → IsTrue (is_name name) → node_named graph name ≡ None → HasValidNumber kind → length graph.nodes < MAX_NODES
       → (IsTrue (is_failure kind) → length (failures graph) < MAX_FAILURES) → IsDeclared e
-  IsDeclared-with_node is rows failed positions none named new number room failure_room =
+  IsDeclared-with_node is rows failed positions named new number room failure_room =
       let was = IsDeclared-seen_as d graph before is in
-      let more = HasIndexes-with_node graph name kind (map (λ row. row.items) d.incoming.items) d.failures.items d.positions.items none was.0 in
+      let more = HasIndexes-with_node graph name kind (map (λ row. row.items) d.incoming.items) d.failures.items d.positions.items was.1.edges was.0 in
       IsDeclared-seen e (with_node graph name kind) after (coe 1 0 (i. HasIndexes (with_node graph name kind) (rows i) (failed i) (positions i)) more)
-      (IsValidSoFar-with_node graph name kind none named new number room failure_room was.1)
+      (IsValidSoFar-with_node graph name kind named new number room failure_room was.1)
 
 -- ---- an edge
 
-incoming-with_edge : (graph : Tfpg) (edge : Edge) (node : ℕ) → incoming (with_edge graph edge) node ≡ incoming graph node ++ cond (edge.target == node) (length graph.edges ∷ []) []
+pub incoming-with_edge : (graph : Tfpg) (edge : Edge) (node : ℕ) → incoming (with_edge graph edge) node ≡ incoming graph node ++ cond (edge.target == node) (length graph.edges ∷ []) []
 incoming-with_edge graph edge node =
     numbers_from-push (λ e. e.target == node) 0 graph.edges edge ∙ ap (λ n. incoming graph node ++ cond (edge.target == node) (n ∷ []) []) (omega arith)
 
 module _ (graph : Tfpg) (edge : Edge) where
   -- into the target goes one more edge
-  incoming-target : (node : ℕ) → node ≡ edge.target → incoming (with_edge graph edge) node ≡ incoming graph edge.target ++ length graph.edges ∷ []
+  pub incoming-target : (node : ℕ) → node ≡ edge.target → incoming (with_edge graph edge) node ≡ incoming graph edge.target ++ length graph.edges ∷ []
   incoming-target node same =
       incoming-with_edge graph edge node ∙ (λ i. incoming graph (same i) ++ cond (eq-eqb edge.target node (sym same) i) (length graph.edges ∷ []) [])
 

@@ -35,4 +35,4 @@ returns c = λ i. record { nodes = nodes_seen c i; edges = (c.self.view_is i).ed
 pub invariant_of-result : goal.invariant_of-result
 invariant_of-result c =
     IsDeclared-with_node c.self.inside _ c.args.self c.args.name.now c.args.kind c.self.view_is (returns c) c.self.invariant (more_rows c) (more_failed c) (more_positions c)
-    c.requires.before_edges c.requires.name c.requires.new c.requires.number c.requires.room c.requires.failure_room
+    c.requires.name c.requires.new c.requires.number c.requires.room c.requires.failure_room

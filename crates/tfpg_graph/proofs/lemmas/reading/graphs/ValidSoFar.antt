@@ -227,7 +227,7 @@ module _ (version : Version) (graph : Tfpg) (is : IsValidSoFar graph) where
       let made : reader_with version graph (DeclaresNode name words) ≡ Some (record { part = Declarations; version = version; declared = with_node graph name read.kind }) =
       ap (option_map (λ kind. record { part = Declarations; version = version; declared = with_node graph name kind })) read.is in
       subst (λ (reader : Reader). IsValidSoFar reader.declared) (same_Some _ next (sym made ∙ with_it))
-      (IsValidSoFar-with_node graph name read.kind (no_item graph.edges (or_parts _ _ without.in_order).1)
+      (IsValidSoFar-with_node graph name read.kind
       (and_parts (is_name name) true (not-false _ without.named)).0 (not_there (node_named graph name) without.new) read.small
       (leb-false MAX_NODES (length graph.nodes) without.node_room)
       (λ failure. leb-false MAX_FAILURES (length (failures graph))
