@@ -102,6 +102,15 @@ impl Log {
         let _opened = &self.events;
     }
 
+    /// Does nothing: brings into a proof that the log has at most [`MAX_EVENTS`](crate::MAX_EVENTS) events, and among them at
+    /// most [`MAX_MODE_CHANGES`](crate::MAX_MODE_CHANGES) changes of mode.
+    pub fn is_always_within_limits(&self)
+        ensures events { length self.now.events ≤ MAX_EVENTS }
+        ensures changes { count_by is_mode_change self.now.events ≤ MAX_MODE_CHANGES }
+    {
+        let _opened = &self.events;
+    }
+
     /// The event of this number. Numbers begin with 1.
     pub fn event(&self, number: u32) -> Event
         requires low { 1 ≤ number }

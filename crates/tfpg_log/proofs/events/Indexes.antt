@@ -9,7 +9,7 @@ use Rattle.tfpg_log.specs.declared.event.Event.TheVariants.{Alarm, Silent, Sweep
 use Rattle.tfpg_log.specs.declared.mode_change.ModeChange.{ModeChange}
 use Rattle.tfpg_log.specs.Log.{Logbook, now_of, is_alarm_of, time_of_event, is_mode_change, mode_after, with_event, ignoring}
 use Rattle.tfpg_base.specs.declared.limits.TheConstants.{MAX_TIME}
-use Rattle.tfpg_log.specs.declared.limits.TheConstants.{MAX_EVENTS}
+use Rattle.tfpg_log.specs.declared.limits.TheConstants.{MAX_EVENTS, MAX_MODE_CHANGES}
 use Rattle.tfpg_log.specs.inside.SpanIndex.{begin_of_span, BeginSpans, with_change}
 use Rattle.tfpg_log.specs.inside.LogIndex.{IsLogIndex}
 use Rattle.tfpg_log.specs.declared.node_events.NodeEvents.{NodeEvents}
@@ -44,6 +44,7 @@ indexed_by log nodes longer sweep last changes count event index room not_back i
   own = own;
   swept = swept;
   counted = grind (arith, index.counted, changes-push log.events event, uncounted);
+  few_changes = index.few_changes;
   fewer = index.fewer;
   spans = same_spans log.events changes event no_change index.spans;
   in_order = index.in_order;
@@ -88,8 +89,8 @@ module _ (log : Logbook) (nodes : List NodeEvents) (sweep : Option ℕ) (changes
       (last_sweep_new log time number at)
 
   -- A change of mode may begin a span, and is counted.
-  pub indexed_mode : (mode : ℕ) → IsLogIndex (with_event log (Mode time mode)) nodes sweep (with_change changes time mode) (count + 1)
-  indexed_mode mode =
+  pub indexed_mode : (mode : ℕ) → count < MAX_MODE_CHANGES → IsLogIndex (with_event log (Mode time mode)) nodes sweep (with_change changes time mode) (count + 1)
+  indexed_mode mode mode_room =
       let last : begin_of_span changes (length changes) ≤ time + 1 = omega (arith, index.by_now, not_back) in
       let spans : BeginSpans (mode_after 0 (log.events ++ Mode time mode ∷ [])) (with_change changes time mode) =
       spans_with_change (mode_after 0 log.events) (mode_after 0 (log.events ++ Mode time mode ∷ [])) changes time mode index.spans last
@@ -99,6 +100,7 @@ module _ (log : Logbook) (nodes : List NodeEvents) (sweep : Option ℕ) (changes
         own = own_kept log nodes (Mode time mode) index.own (λ node. refl) (λ node t e. absurd cc);
         swept = last_sweep_kept log (Mode time mode) sweep (λ t e. absurd cc) index.swept;
         counted = omega (arith, index.counted, changes-push log.events (Mode time mode));
+        few_changes = omega (arith, mode_room);
         fewer = omega (arith, index.fewer, one_more_change changes time mode);
         spans = spans;
         in_order = times_rise (with_change changes time mode) spans.rise;
@@ -142,6 +144,7 @@ indexed_ignoring log ignored nodes sweep changes count index = record {
   };
   swept = index.swept;
   counted = index.counted;
+  few_changes = index.few_changes;
   fewer = index.fewer;
   spans = index.spans;
   in_order = index.in_order;

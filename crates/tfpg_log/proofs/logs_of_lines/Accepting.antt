@@ -1,11 +1,11 @@
 -- What an accepted event is, and that a log with it is of its graph.
 use Rattle.std.proofs.Common.{◌≡◌, ℕ, ◌<◌, ◌≤◌, List, [], ◌++◌, length, Option, Some, None, refl, sym, ap, subst, ◌∙◌, arith}
-use Rattle.std.specs.Prelude.{IsTrue, not, is_some, is_none, nat_lt, nat_le, bytes_eq, option_map, option_and_then, unwrap_or}
+use Rattle.std.specs.Prelude.{IsTrue, count_by, not, is_some, is_none, nat_lt, nat_le, bytes_eq, option_map, option_and_then, unwrap_or}
 use Rattle.std.specs.Bool.{then_some}
 use Rattle.std.specs.Option.{option_map_or}
 use Rattle.std.specs.Str.Parse.{digits_value}
 use Rattle.std.specs.List.{AllByRecursion}
-use Rattle.std.proofs.lemmas.Bool.{ltb-false, leb-false, not-false}
+use Rattle.std.proofs.lemmas.Bool.{false≢true, ltb-false, leb-false, not-false}
 use Rattle.std.proofs.lemmas.List.Elements.{All-push, recursion_from_All}
 use Rattle.std.proofs.lemmas.List.Quantifiers.{position-Some}
 use Rattle.tfpg_base.specs.Choice.{first_of, unless_refused}
@@ -15,19 +15,13 @@ use Rattle.tfpg_graph.specs.Graph.{Tfpg, node_named, mode_named, is_monitored}
 use Rattle.tfpg_log.specs.declared.event.Event.{Event}
 use Rattle.tfpg_log.specs.declared.event.Event.TheVariants as kinds
 use Rattle.tfpg_log.specs.declared.event.Offered.TheVariants.{Accepted, Refused}
-use Rattle.tfpg_log.specs.declared.limits.TheConstants.{MAX_EVENTS}
+use Rattle.tfpg_log.specs.declared.limits.TheConstants.{MAX_EVENTS, MAX_MODE_CHANGES}
 use Rattle.tfpg_log.specs.declared.refusal.Refusal.{Refusal}
-use Rattle.tfpg_log.specs.declared.refusal.Refusal.TheVariants.{BadLine, TimeTooLarge, TimeBack, UnknownName, NotMonitored, NotAMode, LogFull}
-use Rattle.tfpg_log.specs.Log.{Logbook, now_of, time_of_event, with_event, IsEventOf, IsLogOf}
+use Rattle.tfpg_log.specs.declared.refusal.Refusal.TheVariants.{BadLine, TimeTooLarge, TimeBack, UnknownName, NotMonitored, NotAMode, LogFull, ModesFull}
+use Rattle.tfpg_log.specs.Log.{Logbook, now_of, time_of_event, is_mode_change, with_event, IsEventOf, IsLogOf}
+use Rattle.tfpg_log.specs.EventLines.{IsNextEvent}
 use Rattle.tfpg_log.specs.LogStatements.{LogStatement, Alarm, Silent, Sweep, Tick, Mode, log_statement_of}
 use Rattle.tfpg_log.specs.Accepted.{time_refusals, statement_refusals, room_refusal, event_of, offered, reply_to_statement, reply_to}
-
--- The event may come next: it is of the graph, not before now and not too late, and there is room for it.
-pub record MayCome (graph : Tfpg) (log : Logbook) (event : Event) : Type 0 where
-  pub own : IsEventOf graph event
-  pub not_back : now_of log ≤ time_of_event event
-  pub in_range : time_of_event event ≤ MAX_TIME
-  pub room : length log.events < MAX_EVENTS
 
 -- ---- what the tests say, where none refuses
 
@@ -57,8 +51,9 @@ monitor graph (Some node) unknown hidden = record {
 module _ (graph : Tfpg) (log : Logbook) (time : List ℕ) where
   module _ (statement : LogStatement) (none : AreNone (time_refusals (now_of log) time ++ statement_refusals graph log statement)) where
     -- an event at that time, once no test refuses the line
-    comes : (event : Event) → time_of_event event ≡ digits_value 10 time → room_refusal log ≡ None → IsEventOf graph event → MayCome graph log event
-    comes event at room own =
+    comes : (event : Event) → time_of_event event ≡ digits_value 10 time → room_refusal log ≡ None → IsEventOf graph event
+        → (IsTrue (is_mode_change event) → count_by is_mode_change log.events < MAX_MODE_CHANGES) → IsNextEvent graph log event
+    comes event at room own mode_room =
         let in_range : digits_value 10 time ≤ MAX_TIME = ltb-false MAX_TIME (digits_value 10 time) (then_some-none (nat_lt MAX_TIME (digits_value 10 time)) TimeTooLarge none.1.0) in
         let not_back : now_of log ≤ digits_value 10 time =
         ltb-false (digits_value 10 time) (now_of log) (then_some-none (nat_lt (digits_value 10 time) (now_of log)) (TimeBack (now_of log)) none.1.1.0) in
@@ -67,45 +62,48 @@ module _ (graph : Tfpg) (log : Logbook) (time : List ℕ) where
           not_back = omega (arith, at, not_back);
           in_range = omega (arith, at, in_range);
           room = leb-false MAX_EVENTS (length log.events) (then_some-none (nat_le MAX_EVENTS (length log.events)) LogFull room);
+          mode_room = mode_room;
         }
 
   may_come : (statement : LogStatement) → AreNone (time_refusals (now_of log) time ++ statement_refusals graph log statement)
-      → MayCome graph log (event_of graph (digits_value 10 time) statement)
+      → IsNextEvent graph log (event_of graph (digits_value 10 time) statement)
   may_come (Alarm name) none =
       let found = monitor graph (node_named graph name) none.1.1.1.0 none.1.1.1.1.0 in
-      subst (λ node. MayCome graph log (kinds.Alarm (digits_value 10 time) (unwrap_or node 0))) (sym found.there)
-      (comes (Alarm name) none (kinds.Alarm (digits_value 10 time) found.node) refl none.1.1.1.1.1.0 found.monitored)
+      subst (λ node. IsNextEvent graph log (kinds.Alarm (digits_value 10 time) (unwrap_or node 0))) (sym found.there)
+      (comes (Alarm name) none (kinds.Alarm (digits_value 10 time) found.node) refl none.1.1.1.1.1.0 found.monitored (λ changes. absurd (false≢true changes)))
   may_come (Silent name) none =
       let found = monitor graph (node_named graph name) none.1.1.1.0 none.1.1.1.1.0 in
-      subst (λ node. MayCome graph log (kinds.Silent (digits_value 10 time) (unwrap_or node 0))) (sym found.there)
-      (comes (Silent name) none (kinds.Silent (digits_value 10 time) found.node) refl none.1.1.1.1.1.0 found.monitored)
-  may_come Sweep none = comes Sweep none (kinds.Sweep (digits_value 10 time)) refl none.1.1.1.0 tt
-  may_come Tick none = comes Tick none (kinds.Tick (digits_value 10 time)) refl none.1.1.1.0 tt
+      subst (λ node. IsNextEvent graph log (kinds.Silent (digits_value 10 time) (unwrap_or node 0))) (sym found.there)
+      (comes (Silent name) none (kinds.Silent (digits_value 10 time) found.node) refl none.1.1.1.1.1.0 found.monitored (λ changes. absurd (false≢true changes)))
+  may_come Sweep none = comes Sweep none (kinds.Sweep (digits_value 10 time)) refl none.1.1.1.0 tt (λ changes. absurd (false≢true changes))
+  may_come Tick none = comes Tick none (kinds.Tick (digits_value 10 time)) refl none.1.1.1.0 tt (λ changes. absurd (false≢true changes))
   may_come (Mode name) none =
       let found = is_some-there (mode_named graph name)
       (not-false (is_some (mode_named graph name)) (then_some-none (is_none (mode_named graph name)) NotAMode none.1.1.1.0)) in
       let below : found.0 < length graph.modes = (position-Some (λ m. bytes_eq m name) graph.modes found.0 [] found.1).0 in
-      subst (λ mode. MayCome graph log (kinds.Mode (digits_value 10 time) (unwrap_or mode 0))) (sym found.1)
-      (comes (Mode name) none (kinds.Mode (digits_value 10 time) found.0) refl none.1.1.1.1.0 below)
+      subst (λ mode. IsNextEvent graph log (kinds.Mode (digits_value 10 time) (unwrap_or mode 0))) (sym found.1)
+      (comes (Mode name) none (kinds.Mode (digits_value 10 time) found.0) refl none.1.1.1.1.0 below
+      (λ changes. leb-false MAX_MODE_CHANGES (count_by is_mode_change log.events)
+      (then_some-none (nat_le MAX_MODE_CHANGES (count_by is_mode_change log.events)) ModesFull none.1.1.1.1.1.0)))
 
   by_tests : (statement : LogStatement) (event : Event) (first : Option Refusal) → first_of (time_refusals (now_of log) time ++ statement_refusals graph log statement) ≡ first
-      → offered (unless_refused first (event_of graph (digits_value 10 time) statement)) ≡ Accepted event → MayCome graph log event
+      → offered (unless_refused first (event_of graph (digits_value 10 time) statement)) ≡ Accepted event → IsNextEvent graph log event
   by_tests statement event (Some refusal) at e = absurd cc
   by_tests statement event None at e =
       let tests : List (Option Refusal) = time_refusals (now_of log) time ++ statement_refusals graph log statement in
       let same : event_of graph (digits_value 10 time) statement ≡ event = cc in
-      subst (MayCome graph log) same (may_come statement (recursion_from_All (λ test. test ≡ None) tests (first_of-none tests at)))
+      subst (IsNextEvent graph log) same (may_come statement (recursion_from_All (λ test. test ≡ None) tests (first_of-none tests at)))
 
 by_statement : (graph : Tfpg) (log : Logbook) (event : Event) (says : Option (List ℕ × LogStatement))
-    → option_map_or (λ parts. reply_to_statement graph log parts.0 parts.1) says (Refused BadLine) ≡ Accepted event → MayCome graph log event
+    → option_map_or (λ parts. reply_to_statement graph log parts.0 parts.1) says (Refused BadLine) ≡ Accepted event → IsNextEvent graph log event
 by_statement graph log event None e = absurd cc
 by_statement graph log event (Some parts) e =
     by_tests graph log parts.0 parts.1 event (first_of (time_refusals (now_of log) parts.0 ++ statement_refusals graph log parts.1)) refl e
 
 -- An accepted event may come.
-pub accepted_may_come : (graph : Tfpg) (log : Logbook) (line : List ℕ) (event : Event) → reply_to graph log line ≡ Accepted event → MayCome graph log event
+pub accepted_may_come : (graph : Tfpg) (log : Logbook) (line : List ℕ) (event : Event) → reply_to graph log line ≡ Accepted event → IsNextEvent graph log event
 accepted_may_come graph log line event e = by_statement graph log event (log_statement_of line) e
 
 -- A log with one more event that may come is of the graph.
-pub of-with_event : (graph : Tfpg) (log : Logbook) (event : Event) → IsLogOf graph log → MayCome graph log event → IsLogOf graph (with_event log event)
+pub of-with_event : (graph : Tfpg) (log : Logbook) (event : Event) → IsLogOf graph log → IsNextEvent graph log event → IsLogOf graph (with_event log event)
 of-with_event graph log event of may = record { own = All-push (IsEventOf graph) log.events event of.own may.own; ignored = of.ignored }

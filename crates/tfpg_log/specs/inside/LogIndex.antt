@@ -7,7 +7,7 @@ use Rattle.tfpg_log.specs.declared.event.Event.TheVariants.{Alarm, Silent, Sweep
 use Rattle.tfpg_log.specs.declared.mode_change.ModeChange.{ModeChange}
 use Rattle.tfpg_log.specs.Log.{Logbook, IsOrdered, now_of, event_at, alarm_of, alarm_event, is_mode_change, mode_after}
 use Rattle.tfpg_base.specs.declared.limits.TheConstants.{MAX_TIME}
-use Rattle.tfpg_log.specs.declared.limits.TheConstants.{MAX_EVENTS}
+use Rattle.tfpg_log.specs.declared.limits.TheConstants.{MAX_EVENTS, MAX_MODE_CHANGES}
 use Rattle.tfpg_log.specs.declared.node_events.NodeEvents.{NodeEvents}
 use Rattle.tfpg_log.specs.inside.NodeEvents.{IsLast, IsSweep, IsNodeEvents, events_of}
 use Rattle.tfpg_log.specs.inside.SpanIndex.{begin_of_span, BeginSpans}
@@ -20,6 +20,7 @@ pub record IsLogIndex (log : Logbook) (nodes : List NodeEvents) (sweep : Option 
   pub own : (node : ℕ) → IsNodeEvents log node (events_of nodes node)
   pub swept : IsLast (IsSweep log) sweep
   pub counted : count ≡ count_by is_mode_change log.events
+  pub few_changes : count ≤ MAX_MODE_CHANGES
   pub fewer : length changes ≤ count
   pub spans : BeginSpans (mode_after 0 log.events) changes
   pub in_order : IsNonDecreasingBy (λ (change : ModeChange). change.time) changes

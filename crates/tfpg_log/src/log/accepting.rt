@@ -1,7 +1,8 @@
 //! How a log takes one more event, and keeps its indexes.
 
-ghost use Rattle.std.specs.Prelude.{◌≡◌, ◌≤◌, OnOk, OnErr, vec_len};
-ghost use Rattle.tfpg_log.specs.Log.{with_event, time_of_event};
+ghost use Rattle.std.specs.Prelude.{◌≡◌, ◌<◌, ◌≤◌, count_by, IsTrue, OnOk, OnErr, vec_len};
+ghost use Rattle.tfpg_log.specs.Log.{with_event, time_of_event, is_mode_change};
+ghost use Rattle.tfpg_log.specs.declared.limits.TheConstants.{MAX_MODE_CHANGES};
 ghost use Rattle.tfpg_log.specs.inside.LogIndex.{MayComeAt};
 ghost use Rattle.tfpg_log.specs.inside.NodeEvents.{AreSameOfNodes};
 
@@ -14,7 +15,9 @@ use tfpg_base::NoMemory;
 impl Log {
     /// Takes the event as its last. Where there is no memory for it, the log stays as it was.
     pub(crate) fn accept(&mut self, event: Event) -> Result<(), NoMemory>
-        requires { MayComeAt self.old (time_of_event event) }
+        requires may_come { MayComeAt self.old (time_of_event event) }
+        requires mode_room { IsTrue (is_mode_change event) →
+            count_by is_mode_change self.old.events < MAX_MODE_CHANGES }
         ensures ok { OnOk result (self.new ≡ with_event self.old event) }
         ensures err { OnErr result (self.new ≡ self.old) }
     {
@@ -77,7 +80,8 @@ impl Log {
 
     /// Takes a change of mode.
     fn accept_mode_change(&mut self, time: u64, mode: u32) -> Result<(), NoMemory>
-        requires { MayComeAt self.old time }
+        requires may_come { MayComeAt self.old time }
+        requires mode_room { count_by is_mode_change self.old.events < MAX_MODE_CHANGES }
         ensures ok { OnOk result (self.new ≡ with_event self.old (Event.Mode time mode)) }
         ensures err { OnErr result (self.new ≡ self.old) }
     {
