@@ -4,6 +4,7 @@ pub use Rattle.tfpg_base.specs.Set
 pub use Rattle.tfpg_base.specs.NodeSet
 -- What the public contracts say.
 pub mod Graph
+pub mod Members
 pub mod Valid
 pub mod ZeroCycle
 pub mod Reach

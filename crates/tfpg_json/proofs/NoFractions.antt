@@ -15,7 +15,7 @@ use Rattle.tfpg_evidence.specs.declared.finding.Status.TheVariants.{Ranked, Cove
 use Rattle.tfpg_evidence.specs.declared.finding.Finding.{Finding}
 use Rattle.tfpg_evidence.specs.declared.round.Round.{Round}
 use Rattle.tfpg_evidence.specs.Findings.{hypothesis_of, ranked_in_order, open_in, newly_rejected}
-use Rattle.tfpg_json.specs.Members.{member_words}
+use Rattle.tfpg_graph.specs.Members.{member_words}
 use Rattle.tfpg_json.specs.GraphData.{texts, greatest_data, mode_names, edge_data, discrepancy_data, kind_data, node_data, graph_data}
 use Rattle.tfpg_json.specs.RoundData.{set_data, ranked_data, round_data}
 

@@ -1,7 +1,6 @@
 pub use Rattle.tfpg_evidence.specs.Findings
 pub use Rattle.tfpg_graph.specs.Faults
 -- What the public contracts say.
-pub mod Members
 pub mod GraphData
 pub mod RoundData
 pub mod GraphSaid

@@ -10,7 +10,7 @@ use Rattle.tfpg_evidence.specs.declared.finding.Finding.{Finding}
 use Rattle.tfpg_evidence.specs.declared.round.Counts.{Counts}
 use Rattle.tfpg_evidence.specs.declared.round.Round.{Round}
 use Rattle.tfpg_evidence.specs.Findings.{hypothesis_of, ranked_in_order, open_in, newly_rejected}
-use Rattle.tfpg_json.specs.Members.{member_words}
+use Rattle.tfpg_graph.specs.Members.{member_words}
 use Rattle.tfpg_json.specs.GraphData.{whole, texts}
 
 -- how many hypotheses have each status

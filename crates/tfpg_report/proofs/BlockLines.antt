@@ -40,7 +40,8 @@ use Rattle.tfpg_report.specs.declared.refused_line.RefusedLine.{RefusedLine}
 use Rattle.tfpg_report.specs.declared.refused_line.RefusedLine.TheVariants.{TooLong, Offer}
 use Rattle.tfpg_report.proofs.CleanLines.{after, cause_clean, clause_clean, clean_line, name, number, robustness, set, words}
 use Rattle.tfpg_report.proofs.WrittenLines.{written_losses}
-use Rattle.tfpg_report.specs.SetText.{doubt_word, hyphen_or_joined, member_words, set_word}
+use Rattle.tfpg_report.specs.SetText.{hyphen_or_joined, set_word}
+use Rattle.tfpg_graph.specs.Members.{doubt_word, member_words}
 use Rattle.tfpg_report.specs.Blocks.{refused_text, Loss, lost_text, Block, RefusedBlock, RoundBlock, block_text}
 use Rattle.tfpg_report.specs.LineWords.{refusal_name, refusal_time, time_words, cause_words, edge_words, clause_words, activation_line, activation_text, robustness_word, counts_words}
 use Rattle.tfpg_report.specs.inside.Texts.{reason_text, step_text, steps_text, hypothesis_words, ranked_line, ranked_text, open_text, rejected_text, counts_text}

@@ -30,7 +30,8 @@ use Rattle.tfpg_report.specs.declared.refused_line.RefusedLine.{RefusedLine}
 use Rattle.tfpg_report.specs.declared.refused_line.RefusedLine.TheVariants.{TooLong, Offer}
 use Rattle.tfpg_report.specs.declared.report_line.ReportLine.{ReportLine}
 use Rattle.tfpg_report.specs.declared.report_line.ReportLine.TheVariants.{Head, OldHead, Refused, Round, Hyp, Split, Cycle, Why, Again, Ranked, At, Open, Rejected, Counts, Panel}
-use Rattle.tfpg_report.specs.SetText.{doubt_word, hyphen_or_joined, member_words, set_word}
+use Rattle.tfpg_report.specs.SetText.{hyphen_or_joined, set_word}
+use Rattle.tfpg_graph.specs.Members.{doubt_word, member_words}
 use Rattle.tfpg_report.specs.LineWords.{head_words, old_head_words, refused_words, refusal_name, refusal_time, time_words, cause_words, edge_words, clause_words, reason_words, numbered_set_words, robustness_word, counts_words, lost_words}
 use Rattle.tfpg_report.specs.ReportLines.{hypothesis_with, line_words, written_line, lines_text}
 

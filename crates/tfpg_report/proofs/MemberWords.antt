@@ -17,7 +17,8 @@ use Rattle.tfpg_graph.proofs.NodeAt.{monitored_within}
 use Rattle.tfpg_graph.proofs.Numbered.{failure_at-below}
 use Rattle.tfpg_graph.proofs.lemmas.declaring.Named.{named_found}
 use Rattle.tfpg_graph.proofs.lemmas.reading.spelling.SpelledEdges.{is_name-name_word, node_named-name_word}
-use Rattle.tfpg_report.specs.SetText.{IsHypothesisOf, doubt_word, member_words}
+use Rattle.tfpg_report.specs.SetText.{IsHypothesisOf}
+use Rattle.tfpg_graph.specs.Members.{doubt_word, member_words}
 
 -- ---- names of nodes
 

@@ -9,7 +9,8 @@ use Rattle.tfpg_base.proofs.lists.Joined.{All-join}
 use Rattle.tfpg_base.proofs.lists.Lacking.{Lacks, slice_split-join}
 use Rattle.tfpg_graph.specs.Graph.{Tfpg, failures, failure_word, is_monitored}
 use Rattle.tfpg_graph.specs.Valid.{IsValid}
-use Rattle.tfpg_report.specs.SetText.{IsHypothesisOf, doubt_word, hyphen_or_joined, member_words, set_word}
+use Rattle.tfpg_report.specs.SetText.{IsHypothesisOf, hyphen_or_joined, set_word}
+use Rattle.tfpg_graph.specs.Members.{doubt_word, member_words}
 use Rattle.tfpg_report.proofs.MemberWords.{IsMemberWord, failure_not_doubt, member_lacks, member_not_hyphen, member_words_are, one_doubt, one_failure}
 
 -- ---- words with commas between

@@ -7,7 +7,8 @@ use Rattle.tfpg_base.specs.Hypothesis.{Hypothesis}
 use Rattle.tfpg_base.specs.TextLine.{separated}
 use Rattle.tfpg_base.proofs.lists.Below.{below, below-absent, below-all, below-member, below-zero}
 use Rattle.tfpg_graph.specs.Graph.{Tfpg, failure_word}
-use Rattle.tfpg_report.specs.SetText.{doubt_word, hyphen_or_joined, set_word}
+use Rattle.tfpg_report.specs.SetText.{hyphen_or_joined, set_word}
+use Rattle.tfpg_graph.specs.Members.{doubt_word}
 use Rattle.tfpg_report.specs.inside.Further.{further_words}
 
 -- whether a word after these items is the first one still

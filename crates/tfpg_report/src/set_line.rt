@@ -4,7 +4,8 @@ ghost use Rattle.std.specs.Prelude.{◌≡◌, ◌<◌, ◌++◌, ◌∷◌, [],
 ghost use Rattle.tfpg_base.specs.Append.{Appends};
 ghost use Rattle.tfpg_base.specs.TextLine.{separated};
 ghost use Rattle.tfpg_graph.specs.Graph.{AreFailures, failure_word};
-ghost use Rattle.tfpg_report.specs.SetText.{doubt_word, set_word};
+ghost use Rattle.tfpg_report.specs.SetText.{set_word};
+ghost use Rattle.tfpg_graph.specs.Members.{doubt_word};
 ghost use Rattle.tfpg_report.specs.inside.Further.{further_words};
 
 use crate::names::failure_word;

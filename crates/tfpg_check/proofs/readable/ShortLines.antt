@@ -26,7 +26,8 @@ use Rattle.tfpg_report.specs.declared.refused_line.RefusedLine.{RefusedLine}
 use Rattle.tfpg_report.specs.declared.refused_line.RefusedLine.TheVariants.{TooLong, Offer}
 use Rattle.tfpg_report.specs.declared.report_line.ReportLine.{ReportLine}
 use Rattle.tfpg_report.specs.declared.report_line.ReportLine.TheVariants.{Head, OldHead, Refused, Round, Hyp, Split, Cycle, Why, Again, Ranked, At, Open, Rejected, Counts, Panel}
-use Rattle.tfpg_report.specs.SetText.{doubt_word, hyphen_or_joined, member_words, set_word}
+use Rattle.tfpg_report.specs.SetText.{hyphen_or_joined, set_word}
+use Rattle.tfpg_graph.specs.Members.{doubt_word, member_words}
 use Rattle.tfpg_report.specs.LineWords.{edge_words, head_words, lost_words, old_head_words, robustness_word}
 use Rattle.tfpg_report.specs.ReportLines.{IsCauseWithin, hypothesis_with, line_words, written_line}
 use Rattle.tfpg_check.proofs.readable.SmallNumbers.{HasFewMembers, HasSmallName, HasSmallNumbers, HasSmallReason}

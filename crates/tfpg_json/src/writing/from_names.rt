@@ -3,7 +3,7 @@
 ghost use Rattle.std.specs.Prelude.{◌≡◌, ◌<◌, IfOk, IsTrue, Some, length, slice_get, string_bytes};
 ghost use Rattle.tfpg_base.specs.Words.{is_name};
 ghost use Rattle.tfpg_graph.specs.Graph.{failures, failure_word, name_at, name_word};
-ghost use Rattle.tfpg_json.specs.Members.{doubt_word};
+ghost use Rattle.tfpg_graph.specs.Members.{doubt_word};
 
 use std::alloc::Global;
 use tfpg_base::NoMemory;

@@ -7,7 +7,7 @@ ghost use Rattle.serde_json.specs.View.{items_view, view};
 ghost use Rattle.tfpg_evidence.specs.Findings.{findings_at, is_rejected_now};
 ghost use Rattle.tfpg_evidence.specs.RoundOf.{IsFindingOf, IsRoundOf, finding_numbered, is_open};
 ghost use Rattle.tfpg_graph.specs.Graph.{AreFailures, failure_word, sizes_of};
-ghost use Rattle.tfpg_json.specs.Members.{doubt_word};
+ghost use Rattle.tfpg_graph.specs.Members.{doubt_word};
 ghost use Rattle.tfpg_json.specs.RoundData.{counts_data, ranked_data, round_data, round_object, set_data};
 
 use crate::writing::from_names::{doubt_word, failure_name};

@@ -5,7 +5,8 @@ ghost use Rattle.tfpg_base.specs.Hypothesis.{Hypothesis};
 ghost use Rattle.tfpg_graph.specs.Valid.{IsValid};
 ghost use Rattle.tfpg_graph.specs.Graph.{failure_word};
 ghost use Rattle.tfpg_graph.specs.declared.limits.TheConstants.{MAX_NODES};
-ghost use Rattle.tfpg_report.specs.SetText.{IsHypothesisOf, doubt_word, member_words};
+ghost use Rattle.tfpg_report.specs.SetText.{IsHypothesisOf};
+ghost use Rattle.tfpg_graph.specs.Members.{doubt_word, member_words};
 ghost use Rattle.tfpg_report.specs.ReadSets.{hypothesis_of, AreMembersIn};
 ghost use Rattle.tfpg_report.specs.inside.ReadMembers.{position_named, monitor_named, doubt_named, is_marked, IsPosition, IsMonitor, AreRisingFrom};
 

@@ -11,7 +11,8 @@ use Rattle.tfpg_base.specs.Words.{is_name}
 use Rattle.tfpg_base.proofs.lists.Positions.{position-cons, position-map}
 use Rattle.tfpg_graph.specs.Graph.{Tfpg, failure_word}
 use Rattle.tfpg_graph.specs.Valid.{IsValid}
-use Rattle.tfpg_report.specs.SetText.{IsHypothesisOf, doubt_word, member_words}
+use Rattle.tfpg_report.specs.SetText.{IsHypothesisOf}
+use Rattle.tfpg_graph.specs.Members.{doubt_word, member_words}
 use Rattle.tfpg_report.proofs.MemberWords.{failure_word-is_name}
 use Rattle.tfpg_report.specs.inside.ReadMembers.{is_marked, IsPosition, IsMonitor, AreRisingFrom}
 

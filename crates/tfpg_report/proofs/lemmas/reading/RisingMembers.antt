@@ -11,7 +11,7 @@ use Rattle.tfpg_base.proofs.lists.Elements.{AllPairs-head, AllPairs-tail, AllPai
 use Rattle.tfpg_graph.specs.Graph.{Tfpg, name_word, node_named, failures, failure_at, position_of_failure, failure_word, is_monitored}
 use Rattle.tfpg_graph.specs.Valid.{IsValid}
 use Rattle.tfpg_graph.proofs.NodeAt.{monitored_within}
-use Rattle.tfpg_report.specs.SetText.{doubt_word}
+use Rattle.tfpg_graph.specs.Members.{doubt_word}
 use Rattle.tfpg_report.proofs.MemberWords.{failure_word-named, failure_word-node, node_of_word}
 use Rattle.tfpg_report.specs.inside.ReadMembers.{position_named, monitor_named, doubt_named, IsPosition, IsMonitor, AreRisingFrom}
 use Rattle.tfpg_report.proofs.MemberWords.{word_of_named}

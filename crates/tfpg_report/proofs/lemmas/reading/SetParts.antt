@@ -12,7 +12,8 @@ use Rattle.tfpg_graph.specs.Graph.{Tfpg}
 use Rattle.tfpg_graph.specs.Valid.{IsValid}
 use Rattle.tfpg_report.specs.ReadSets.{AreMembersIn, hypothesis_of}
 use Rattle.tfpg_report.specs.declared.reading.set_word.Members.{Members}
-use Rattle.tfpg_report.specs.SetText.{IsHypothesisOf, hyphen_or_joined, member_words, set_word}
+use Rattle.tfpg_report.specs.SetText.{IsHypothesisOf, hyphen_or_joined, set_word}
+use Rattle.tfpg_graph.specs.Members.{member_words}
 use Rattle.tfpg_report.proofs.SetWords.{set_word-parts}
 
 -- a word whose parts are the words for the members of a hypothesis is the text of its set

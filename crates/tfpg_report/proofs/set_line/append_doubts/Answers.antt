@@ -1,6 +1,6 @@
 use Rattle.std.proofs.Common.{◌≡◌, true, arith}
 use Rattle.tfpg_base.proofs.Appended.{Appends-err_after}
-use Rattle.tfpg_report.specs.SetText.{doubt_word}
+use Rattle.tfpg_graph.specs.Members.{doubt_word}
 use Rattle.tfpg_report.proofs.WrittenMembers.{AreMembersWritten-none, AreMembersWritten-more, AreMembersWritten-same, AreMembersWritten-all}
 use Rattle.tfpg_report.proofs.set_line.append_doubts.Goals as goal
 use Rattle.tfpg_report.proofs.set_line.append_doubts.Goals.{then-has+in_ok-append_doubt, else-has}

@@ -1,4 +1,4 @@
-use Rattle.tfpg_report.specs.SetText.{doubt_word}
+use Rattle.tfpg_graph.specs.Members.{doubt_word}
 use Rattle.tfpg_report.proofs.WrittenMembers.{AreMembersWritten}
 use Rattle.tfpg_report.proofs.set_line.append_doubts.Given as goal
 

@@ -3,7 +3,7 @@ use Rattle.std.proofs.lemmas.Bool.{both_ways}
 use Rattle.tfpg_base.specs.Append.{Appends}
 use Rattle.tfpg_base.proofs.Appended.{Appends-after}
 use Rattle.tfpg_graph.specs.Graph.{failure_word}
-use Rattle.tfpg_report.specs.SetText.{doubt_word}
+use Rattle.tfpg_graph.specs.Members.{doubt_word}
 use Rattle.tfpg_report.specs.inside.Further.{further_words}
 use Rattle.tfpg_report.proofs.WrittenMembers.{set_written, still_first-test}
 use Rattle.tfpg_report.proofs.set_line.append_set.Goals as goal

@@ -20,7 +20,8 @@ use Rattle.tfpg_graph.specs.Graph.{Tfpg, name_word, node_named}
 use Rattle.tfpg_graph.specs.Valid.{IsValid}
 use Rattle.tfpg_graph.proofs.lemmas.declaring.Named.{named_found}
 use Rattle.tfpg_report.specs.LineWords.{activation_line}
-use Rattle.tfpg_report.specs.SetText.{IsHypothesisOf, hyphen_or_joined, member_words, set_word}
+use Rattle.tfpg_report.specs.SetText.{IsHypothesisOf, hyphen_or_joined, set_word}
+use Rattle.tfpg_graph.specs.Members.{member_words}
 use Rattle.tfpg_report.proofs.ActivationLines.{IsInRange, activation_words, one_activation}
 use Rattle.tfpg_report.proofs.SetWords.{set_word-no_space, set_word-parts}
 use Rattle.tfpg_run.specs.map.Spelling.{IsActivationOf, set_line}

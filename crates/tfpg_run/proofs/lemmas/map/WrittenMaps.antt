@@ -24,7 +24,8 @@ use Rattle.tfpg_log.specs.Explains.{Explains}
 use Rattle.tfpg_clause.proofs.logs.TimesInRange.{now_in_range}
 use Rattle.tfpg_sim.specs.declared.simulated.Simulated.{Simulated}
 use Rattle.tfpg_report.specs.LineWords.{activation_line}
-use Rattle.tfpg_report.specs.SetText.{IsHypothesisOf, hyphen_or_joined, member_words, set_word}
+use Rattle.tfpg_report.specs.SetText.{IsHypothesisOf, hyphen_or_joined, set_word}
+use Rattle.tfpg_graph.specs.Members.{member_words}
 use Rattle.tfpg_report.proofs.MemberWords.{IsMemberWord, member_short, member_words_are}
 use Rattle.tfpg_report.proofs.SetWords.{set_word-no_line_end}
 use Rattle.tfpg_run.specs.map.Spelling.{IsActivationOf, SpellsMap, set_line}

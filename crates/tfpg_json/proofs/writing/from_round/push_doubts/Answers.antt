@@ -1,7 +1,7 @@
 use Rattle.std.proofs.Common.{◌≡◌, true, refl, ap, ◌∙◌, map, arith}
 use Rattle.serde_json.specs.Data.{string}
 use Rattle.serde_json.specs.View.{view}
-use Rattle.tfpg_json.specs.Members.{doubt_word}
+use Rattle.tfpg_graph.specs.Members.{doubt_word}
 use Rattle.tfpg_json.proofs.Pushed.{no_member_pushed, member_pushed, member_passed, members_pushed}
 use Rattle.tfpg_json.proofs.writing.from_round.push_doubts.Goals as goal
 use Rattle.tfpg_json.proofs.writing.from_round.push_doubts.Goals.{then-has+in_ok-doubt_word+in_ok-push, else-has}

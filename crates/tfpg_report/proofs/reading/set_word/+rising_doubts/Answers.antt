@@ -1,5 +1,5 @@
 use Rattle.std.proofs.Common.{rules, ◌≡◌, ◌∷◌, map, sym, ap, ◌∙◌}
-use Rattle.tfpg_report.specs.SetText.{doubt_word}
+use Rattle.tfpg_graph.specs.Members.{doubt_word}
 use Rattle.tfpg_report.specs.inside.ReadMembers.{doubt_named, IsMonitor}
 use Rattle.tfpg_report.proofs.lemmas.reading.RisingMembers.{doubt_naming, no_numbers-unknown, no_numbers-early, no_numbers-others, numbers-more}
 use Rattle.tfpg_report.proofs.reading.set_word.+rising_doubts.Goals as goal

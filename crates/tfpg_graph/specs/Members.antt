@@ -7,7 +7,7 @@ use Rattle.tfpg_graph.specs.Graph.{Tfpg, name_word, failure_word}
 abbrev pub doubt_word : Tfpg → ℕ → List ℕ
 doubt_word graph node = codes "!" ++ name_word graph node
 
--- the words for the members: the names of the failure modes in the order of their positions, and then the words for the monitors
--- that are not believed, in the order of their nodes
+-- the words for the members of a hypothesis: the names of its failure modes in the order of their positions, and then the
+-- words for the monitors that it does not believe, in the order of their nodes
 abbrev pub member_words : Tfpg → Hypothesis → List (List ℕ)
 member_words graph hypothesis = map (failure_word graph) hypothesis.set ++ map (doubt_word graph) hypothesis.doubts
