@@ -1,29 +1,19 @@
 -- The lines of the text of a block: none has a line end, the first one alone begins a block, and those of open hypotheses and of
 -- ranked ones with their traces are known by how they begin.
-use Rattle.std.proofs.Common.{◌≡◌, ℕ, ◌+◌, ◌<◌, ltb, ◌==◌, not, ◌/◌, ◌%◌, Bool, true, false, cond, zero, suc, eqb, List, [], ◌∷◌, ◌++◌, length, map, get_or, All, Option, Some, None, codes, refl, sym, ap, subst, ◌∙◌, append_assoc, append-nil, slice_get, arith}
-use Rattle.std.specs.Prelude.{◌&&◌, ◌||◌, flat_map, filter, decimal, option_map, option_and_then, unwrap_or}
+use Rattle.std.proofs.Common.{◌≡◌, ℕ, ◌==◌, not, Bool, true, false, cond, List, [], ◌∷◌, ◌++◌, length, map, get_or, All, codes, refl, sym, ap, subst, ◌∙◌, append_assoc, append-nil}
+use Rattle.std.specs.Prelude.{◌&&◌, ◌||◌, flat_map, filter, decimal}
 use Rattle.std.specs.List.{AllByRecursion, list_all}
-use Rattle.tfpg_base.specs.Words.{is_name}
-use Rattle.std.specs.Fmt.{digits, digits_onto, digit_glyph}
 use Rattle.std.proofs.lemmas.Bool.{cond_both}
-use Rattle.std.proofs.lemmas.Bool.Decides.{nat_tests}
 use Rattle.std.proofs.lemmas.Grind.{flat_map-append}
 use Rattle.std.proofs.lemmas.List.Concat.{flat_map_single}
-use Rattle.std.proofs.lemmas.List.Elements.{All-nil, All-cons, All-append, All-map, All-from_recursion, filter-append}
-use Rattle.tfpg_base.specs.Hypothesis.{Hypothesis}
+use Rattle.std.proofs.lemmas.List.Elements.{All-nil, All-cons, All-append, filter-append}
 use Rattle.tfpg_base.specs.TextLine.{text_line}
-use Rattle.tfpg_base.specs.Lines.{HasNoLineEnd, ends_line, with_line_end}
+use Rattle.tfpg_base.specs.Lines.{HasNoLineEnd, with_line_end}
 use Rattle.tfpg_base.specs.Words.{line_of}
 use Rattle.tfpg_base.specs.declared.activation.Activation.{Activation}
-use Rattle.tfpg_base.proofs.Separators.{name_lacks}
-use Rattle.tfpg_base.proofs.lists.Elements.{All-at}
-use Rattle.tfpg_base.proofs.lists.Joined.{All-join}
-use Rattle.tfpg_base.proofs.lists.Lacking.{Lacks, lacks_checked}
-use Rattle.tfpg_graph.specs.Graph.{Tfpg, Node, name_at, name_word, failure_at, failure_word}
-use Rattle.tfpg_graph.specs.declared.edge.Edge.{Edge}
+use Rattle.tfpg_base.proofs.lists.Lacking.{lacks_checked}
+use Rattle.tfpg_graph.specs.Graph.{Tfpg, name_word}
 use Rattle.tfpg_graph.specs.Valid.{IsValid}
-use Rattle.tfpg_log.specs.declared.refusal.Refusal.{Refusal}
-use Rattle.tfpg_log.specs.declared.refusal.Refusal.TheVariants.{BadLine, BadNumber, TimeTooLarge, TimeBack, UnknownName, NotMonitored, NotAMode, LogFull, ModesFull}
 use Rattle.tfpg_evidence.specs.declared.clause_name.ClauseName.{ClauseName}
 use Rattle.tfpg_evidence.specs.declared.clause_name.ClauseName.TheVariants.{OrMay, AndMay, OrMust, AndMust}
 use Rattle.tfpg_evidence.specs.declared.reason.Reason.{Reason}
@@ -37,13 +27,11 @@ use Rattle.tfpg_evidence.specs.declared.round.Counts.{Counts}
 use Rattle.tfpg_evidence.specs.declared.round.Round.{Round}
 use Rattle.tfpg_evidence.specs.Findings.{hypothesis_of, ranked_in_order, open_in, newly_rejected}
 use Rattle.tfpg_report.specs.declared.refused_line.RefusedLine.{RefusedLine}
-use Rattle.tfpg_report.specs.declared.refused_line.RefusedLine.TheVariants.{TooLong, Offer}
 use Rattle.tfpg_report.proofs.CleanLines.{after, cause_clean, clause_clean, clean_line, name, number, robustness, set, words}
 use Rattle.tfpg_report.proofs.WrittenLines.{written_losses}
-use Rattle.tfpg_report.specs.SetText.{hyphen_or_joined, set_word}
-use Rattle.tfpg_graph.specs.Members.{doubt_word, member_words}
-use Rattle.tfpg_report.specs.Blocks.{refused_text, Loss, lost_text, Block, RefusedBlock, RoundBlock, block_text}
-use Rattle.tfpg_report.specs.LineWords.{refusal_name, refusal_time, time_words, cause_words, edge_words, clause_words, activation_line, activation_text, robustness_word, counts_words}
+use Rattle.tfpg_report.specs.SetText.{set_word}
+use Rattle.tfpg_report.specs.Blocks.{Loss, lost_text, Block, RefusedBlock, RoundBlock, block_text}
+use Rattle.tfpg_report.specs.LineWords.{cause_words, edge_words, clause_words, activation_line, activation_text, robustness_word, counts_words}
 use Rattle.tfpg_report.specs.inside.Texts.{reason_text, step_text, steps_text, hypothesis_words, ranked_line, ranked_text, open_text, rejected_text, counts_text}
 
 -- ---- how lines begin

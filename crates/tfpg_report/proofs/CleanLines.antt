@@ -1,6 +1,6 @@
 -- No line of a report has a line end in it, so the lines of a text of lines are these.
-use Rattle.std.proofs.Common.{◌≡◌, ℕ, ◌+◌, ◌<◌, ltb, not, ◌/◌, ◌%◌, Bool, true, false, cond, zero, suc, eqb, List, [], ◌∷◌, ◌++◌, length, map, get_or, All, Option, Some, None, codes, refl, sym, ap, ◌∙◌, slice_get, arith}
-use Rattle.std.specs.Prelude.{◌==◌, flat_map, decimal, option_map, option_and_then, unwrap_or}
+use Rattle.std.proofs.Common.{◌≡◌, ℕ, ◌+◌, ◌<◌, ltb, not, ◌/◌, ◌%◌, Bool, true, false, zero, suc, eqb, List, [], ◌∷◌, ◌++◌, map, get_or, All, Option, Some, None, codes, refl, sym, ap, ◌∙◌, slice_get, arith}
+use Rattle.std.specs.Prelude.{◌==◌, decimal, option_map, option_and_then, unwrap_or}
 use Rattle.std.specs.List.{AllByRecursion, list_all}
 use Rattle.tfpg_base.specs.Words.{is_name, line_of}
 use Rattle.std.specs.Fmt.{digits, digits_onto, digit_glyph}
@@ -8,7 +8,6 @@ use Rattle.std.proofs.lemmas.Bool.{cond_both}
 use Rattle.std.proofs.lemmas.Bool.Decides.{nat_tests}
 use Rattle.std.proofs.lemmas.List.Folds.{flat_map-map}
 use Rattle.std.proofs.lemmas.List.Elements.{All-nil, All-cons, All-append, All-map, All-from_recursion}
-use Rattle.tfpg_base.specs.declared.terms.Terms.{Terms}
 use Rattle.tfpg_base.specs.Hypothesis.{Hypothesis}
 use Rattle.tfpg_base.specs.Lines.{HasNoLineEnd, ends_line, lines_of, with_line_end}
 use Rattle.tfpg_base.proofs.LinesOf.{lines_of-after, lines_again}
@@ -25,14 +24,13 @@ use Rattle.tfpg_evidence.specs.declared.clause_name.ClauseName.{ClauseName}
 use Rattle.tfpg_evidence.specs.declared.clause_name.ClauseName.TheVariants.{OrMay, AndMay, OrMust, AndMust}
 use Rattle.tfpg_evidence.specs.declared.reason.Reason.{Reason}
 use Rattle.tfpg_evidence.specs.declared.reason.Reason.TheVariants.{Zero, Top, Unreached, From, Upto, Quiet, Pick}
-use Rattle.tfpg_evidence.specs.declared.round.Counts.{Counts as CountsOf}
 use Rattle.tfpg_report.specs.declared.refused_line.RefusedLine.{RefusedLine}
 use Rattle.tfpg_report.specs.declared.refused_line.RefusedLine.TheVariants.{TooLong, Offer}
 use Rattle.tfpg_report.specs.declared.report_line.ReportLine.{ReportLine}
 use Rattle.tfpg_report.specs.declared.report_line.ReportLine.TheVariants.{Head, OldHead, Refused, Round, Hyp, Split, Cycle, Why, Again, Ranked, At, Open, Rejected, Counts, Panel}
 use Rattle.tfpg_report.specs.SetText.{hyphen_or_joined, set_word}
 use Rattle.tfpg_graph.specs.Members.{doubt_word, member_words}
-use Rattle.tfpg_report.specs.LineWords.{head_words, old_head_words, refused_words, refusal_name, refusal_time, time_words, cause_words, edge_words, clause_words, reason_words, numbered_set_words, robustness_word, counts_words, lost_words}
+use Rattle.tfpg_report.specs.LineWords.{head_words, old_head_words, refusal_name, refusal_time, time_words, cause_words, edge_words, clause_words, reason_words, numbered_set_words, robustness_word, counts_words, lost_words}
 use Rattle.tfpg_report.specs.ReportLines.{hypothesis_with, line_words, written_line, lines_text}
 
 -- ---- words without a line end

@@ -18,9 +18,8 @@ use Rattle.tfpg_report.specs.declared.report_line.ReportLine.{ReportLine}
 use Rattle.tfpg_report.specs.declared.report_line.ReportLine.TheVariants as line
 use Rattle.tfpg_report.specs.ReportLines.{written_line, lines_text}
 use Rattle.tfpg_report.specs.ReadRounds.{step_lines}
-use Rattle.tfpg_report.specs.LineWords.{activation_text}
-use Rattle.tfpg_report.specs.Blocks.{lines_of_finding, lines_if_ranked, open_line, rejected_line, loss_line, Loss, Block, RefusedBlock, RoundBlock, block_lines, block_text, refused_text, round_text, lost_text, round_lines}
-use Rattle.tfpg_report.specs.inside.Texts.{reason_text, step_text, steps_text, ranked_text, open_text, rejected_text, counts_text, written_round}
+use Rattle.tfpg_report.specs.Blocks.{lines_of_finding, lines_if_ranked, open_line, rejected_line, loss_line, Loss, RefusedBlock, RoundBlock, block_text, refused_text, round_text, lost_text, round_lines}
+use Rattle.tfpg_report.specs.inside.Texts.{step_text, steps_text, ranked_text, open_text, rejected_text, counts_text, written_round}
 
 -- a list of lists of lists is flat in one way
 flat_map-flat_map : {X Y Z : Type 0} (f : Y → List Z) (g : X → List Y) (xs : List X) → flat_map f (flat_map g xs) ≡ flat_map (λ x. flat_map f (g x)) xs

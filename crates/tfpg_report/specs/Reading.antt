@@ -1,13 +1,10 @@
 -- What a reader of reports represents, and what it says of a line.
-use Rattle.std.specs.Prelude.{◌≡◌, ◌⊎◌, ℕ, suc, ◌+◌, ◌-◌, List, [], ◌∷◌, ◌++◌, length, fold, All, Bool, true, false, if◌then◌else◌, Option, Some, None, Result, Ok, Err}
+use Rattle.std.specs.Prelude.{◌≡◌, ◌⊎◌, ℕ, ◌+◌, ◌-◌, List, [], ◌∷◌, ◌++◌, length, fold, All, Bool, true, false, if◌then◌else◌, Some}
 use Rattle.tfpg_base.specs.declared.terms.Terms.{Terms}
 use Rattle.tfpg_graph.specs.Graph.{Tfpg}
 use Rattle.tfpg_report.specs.declared.fed.Fed.{Fed}
 use Rattle.tfpg_report.specs.declared.fed.Fed.TheVariants as fed
-use Rattle.tfpg_report.specs.declared.fed.ReadRefusal.{ReadRefusal}
-use Rattle.tfpg_report.specs.declared.fed.ReadRefusal.TheVariants as refusal
 use Rattle.tfpg_report.specs.declared.stand.Stand.{Stand}
-use Rattle.tfpg_report.specs.declared.read_round.Part.{Part}
 use Rattle.tfpg_report.specs.declared.read_round.ReadRound.{ReadRound}
 use Rattle.tfpg_report.specs.declared.report_line.ReportLine.{ReportLine}
 use Rattle.tfpg_report.specs.declared.report_line.ReportLine.TheVariants.{Head, OldHead, Refused, Counts, Panel}

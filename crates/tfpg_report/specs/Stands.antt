@@ -1,5 +1,5 @@
 -- What may come after what in a report.
-use Rattle.std.specs.Prelude.{ℕ, zero, suc, ◌-◌, List, fold, Bool, true, false, ◌||◌, nat_lt, Option, Some, None, option_and_then}
+use Rattle.std.specs.Prelude.{ℕ, zero, suc, ◌-◌, List, fold, Bool, true, false, nat_lt, Option, Some, None, option_and_then}
 use Rattle.std.specs.Bool.{then_some}
 use Rattle.std.specs.Option.{option_map_or}
 use Rattle.tfpg_report.specs.declared.stand.Stand.{Stand}

@@ -12,7 +12,7 @@ use Rattle.tfpg_evidence.specs.declared.round.Counts.{Counts}
 use Rattle.tfpg_evidence.specs.declared.round.Round.{Round}
 use Rattle.tfpg_evidence.specs.Findings.{hypothesis_of, ranked_in_order, open_in, newly_rejected}
 use Rattle.tfpg_report.specs.SetText.{set_word}
-use Rattle.tfpg_report.specs.LineWords.{clause_words, reason_words, numbered_set_words, robustness_word, activation_text, counts_words}
+use Rattle.tfpg_report.specs.LineWords.{clause_words, reason_words, robustness_word, activation_text, counts_words}
 
 -- the line of a reason
 abbrev pub reason_text : Tfpg → Reason → List ℕ

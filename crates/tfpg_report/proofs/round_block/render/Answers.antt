@@ -1,4 +1,4 @@
-use Rattle.std.proofs.Common.{subst, sym, ◌++◌, List, ℕ}
+use Rattle.std.proofs.Common.{subst, sym}
 use Rattle.tfpg_base.specs.Append.{Appends}
 use Rattle.tfpg_base.proofs.Appended.{Appends-after_five}
 use Rattle.tfpg_report.proofs.SectionLines.{open_lines, rejected_lines}
