@@ -12,7 +12,9 @@ use tfpg_evidence::{
     ClauseName, Counts, Finding, Findings, Reason, Reasons, Round, Status, Step, StepList,
 };
 use tfpg_graph::{Graph, read};
-use tfpg_report::{head, lost, render};
+use tfpg_report::{
+    BlockReader, Fed, ReadRefusal, ReportLine, head, lost, read_report_line, render,
+};
 
 #[test]
 fn the_head_and_the_lines_of_lost_panels(rt: HostRuntime) -> Result<(), Fail> {
@@ -181,6 +183,24 @@ fn text_of_copy(alloc: Global, graph: &Graph, round: &Round) -> Result<Vec<u8>, 
     Ok(text)
 }
 
+/// Which line of the report ends its only round, if it has three parts and one ranked line.
+fn end_of_round(alloc: Global, graph: &Graph, report: &[u8]) -> Result<Option<u64>, ReadRefusal> {
+    let mut reader = BlockReader::new(alloc);
+    let mut number: u64 = 0;
+    for line in report.split(|byte| *byte == b'\n') {
+        number = number.saturating_add(1);
+        if let Fed::Round(round) = reader.take(graph, number, line)? {
+            if round.parts.as_slice().len() == 3
+                && round.ranked.as_slice().len() == 1
+                && reader.is_between_blocks()
+            {
+                return Ok(Some(number));
+            }
+        }
+    }
+    Ok(None)
+}
+
 #[test]
 fn a_round_with_each_kind_of_line(rt: HostRuntime) -> Result<(), Fail> {
     let text = b"tfpg 1\n\
@@ -232,5 +252,17 @@ fn a_round_with_each_kind_of_line(rt: HostRuntime) -> Result<(), Fail> {
         counts ranked 1 covered 2 rejected 3 open 4\n";
     assert_eq!(rt; text.as_slice(), wanted.as_slice());
     assert_eq!(rt; copied.as_slice(), wanted.as_slice(), "of the copy");
+    let mut report = Vec::new(rt.alloc());
+    head(1, 0, 1000, &mut report)?;
+    report.extend_from_slice(wanted)?;
+    assert!(rt;
+        end_of_round(rt.alloc(), &graph, &report) == Ok(Some(31)),
+        "as it is read back"
+    );
+    let read = read_report_line(rt.alloc(), &graph, b"hyp 3");
+    assert!(rt;
+        matches!(read, Ok(ReportLine::Hyp { number: 3 })),
+        "one line"
+    );
     Ok(())
 }
