@@ -45,7 +45,7 @@ pub record IsShownSilence (graph : Tfpg) (before : Logbook) (trace : List Activa
   pub shown : ShowsSilence graph before trace node time
   pub at : time_of_event event ≡ time
 
-silence_shown : (graph : Tfpg) (before : Logbook) (trace : List Activation) (event : Event) (node time : ℕ) → IsEventOf graph event → Shows graph before trace event
+pub silence_shown : (graph : Tfpg) (before : Logbook) (trace : List Activation) (event : Event) (node time : ℕ) → IsEventOf graph event → Shows graph before trace event
     → silence_time graph before event node ≡ Some time → IsShownSilence graph before trace node time event
 silence_shown graph before trace (Alarm own alarmed) node time of shows is = absurd cc
 silence_shown graph before trace (Silent own silent) node time of shows is =
@@ -68,7 +68,7 @@ silence_shown graph before trace (Tick own) node time of shows is = absurd cc
 silence_shown graph before trace (Mode own mode) node time of shows is = absurd cc
 
 -- the silence of an event's number, by the event
-silence_of : (graph : Tfpg) (log : Logbook) (index node : ℕ) (event : Event) → slice_get log.events index ≡ Some event
+pub silence_of : (graph : Tfpg) (log : Logbook) (index node : ℕ) (event : Event) → slice_get log.events index ≡ Some event
     → silence_at graph log (suc index) node ≡ silence_time graph (first_events log index) event node
 silence_of graph log index node event at =
     let same : suc index - 1 ≡ index = omega arith in

@@ -24,11 +24,14 @@ silence_monitored graph before (Sweep at) node time own is = (and_parts _ _ (con
 silence_monitored graph before (Tick at) node time own is = absurd cc
 silence_monitored graph before (Mode at mode) node time own is = absurd cc
 
--- A node that is silent is a node of the graph.
-pub silent_within : (graph : Tfpg) (log : Logbook) (number node time : ℕ) → IsLogOf graph log → silence_at graph log number node ≡ Some time → node < length graph.nodes
-silent_within graph log number node time of is =
+-- A node that is silent is a monitored node of the graph.
+pub silent_monitored : (graph : Tfpg) (log : Logbook) (number node time : ℕ) → IsLogOf graph log → silence_at graph log number node ≡ Some time → IsTrue (is_monitored graph node)
+silent_monitored graph log number node time of is =
     option_and_then_some (λ (event : Event). silence_time graph (first_events log (number - 1)) event node) (event_at log number) time is
-    (λ event at rest. monitored_within graph node (silence_monitored graph (first_events log (number - 1)) event node time (event_own graph log number event of at) rest))
+    (λ event at rest. silence_monitored graph (first_events log (number - 1)) event node time (event_own graph log number event of at) rest)
+
+pub silent_within : (graph : Tfpg) (log : Logbook) (number node time : ℕ) → IsLogOf graph log → silence_at graph log number node ≡ Some time → node < length graph.nodes
+silent_within graph log number node time of is = monitored_within graph node (silent_monitored graph log number node time of is)
 
 -- So is one of which an event says that it is not active.
 pub quiet_within : (graph : Tfpg) (log : Logbook) (number node until : ℕ) → IsLogOf graph log → quiet_at graph log number node ≡ Some until → node < length graph.nodes
