@@ -68,6 +68,16 @@ impl Model for Table {
 }
 
 impl Table {
+    /// How many hypotheses a table of the graph has: those of at most `k` failure modes and monitors, at most `doubt` of them
+    /// monitors. Takes no memory, and a few thousand additions.
+    pub fn count(graph: &Graph, k: u32, doubt: u32) -> u128
+        requires { doubt ≤ MAX_DOUBT }
+        ensures { (terms : Terms) → terms.k ≡ k → terms.doubt ≡ doubt → HasHypotheses graph.now terms result }
+    {
+        graph.is_always_valid();
+        count_hypotheses(graph.failure_count(), monitor_count(graph), k, doubt)
+    }
+
     /// The table of all hypotheses of at most `k` failure modes and monitors of the graph, at most `doubt` of them monitors.
     /// Where there are more than [`MAX_HYPOTHESES`](crate::MAX_HYPOTHESES) of them, the fault says how many, and none is
     /// listed.
