@@ -24,3 +24,6 @@ pub mod WordsOfLines
 pub mod OneLine
 pub mod NamedLines
 pub mod ReportsRead
+-- No lines have two causes.
+pub mod OneRoundCause
+pub mod OneCause

@@ -1,6 +1,7 @@
--- What holds of the lines of a report: each can be read, and they have no cause.
-use Rattle.std.specs.Prelude.{ℕ, ◌≤◌, List, ◌∷◌, length, flat_map}
+-- What holds of the lines of a report: each can be read, and they have no cause; and no lines have more than one.
+use Rattle.std.specs.Prelude.{◌≡◌, ℕ, ◌≤◌, List, ◌∷◌, length, flat_map}
 use Rattle.tfpg_base.specs.declared.limits.TheConstants.{MAX_BYTES}
+use Rattle.tfpg_base.specs.Lines.{lines_of}
 use Rattle.tfpg_base.specs.declared.terms.Terms.{Terms}
 use Rattle.tfpg_graph.specs.Valid.{IsValid}
 use Rattle.tfpg_report.specs.declared.report_line.ReportLine.{ReportLine}
@@ -9,16 +10,29 @@ use Rattle.tfpg_report.specs.Reading.{IsHead}
 use Rattle.tfpg_check.specs.declared.cause.CheckCause.{CheckCause}
 use Rattle.tfpg_check.specs.Causes.{AreRead, AreReportLines, IsCause, Matter}
 
--- The lines of a report of a valid graph and a log, of not too many bytes, say its first line and the lines of its blocks, and each may
--- come where it stands.
+-- Bytes, not too many, whose lines are those of a report of a valid graph and a log: the lines say its first line and the lines of its
+-- blocks, and each may come where it stands.
 abbrev pub LinesOfReportsCanBeRead : Type 0
 LinesOfReportsCanBeRead =
-    (matter : Matter) (terms : Terms) (blocks : List Block) (lines : List (List ℕ))
-    → IsValid matter.graph → (are : AreReportLines matter terms blocks lines) → length are.bytes ≤ MAX_BYTES
-    → (head : ReportLine) × IsHead terms head × AreRead matter.graph lines (head ∷ flat_map block_lines blocks)
+    (matter : Matter) (terms : Terms) (blocks : List Block) (bytes : List ℕ)
+    → IsValid matter.graph → AreReportLines matter terms blocks (lines_of bytes) → length bytes ≤ MAX_BYTES
+    → (head : ReportLine) × IsHead terms head × AreRead matter.graph (lines_of bytes) (head ∷ flat_map block_lines blocks)
 
 -- A report of a valid graph and a log has no cause, where each of its lines can be read and may come where it stands.
 abbrev pub ReportsHaveNoCause : Type 0
 ReportsHaveNoCause =
     (matter : Matter) (terms : Terms) (blocks : List Block) (lines : List (List ℕ)) (reads : List ReportLine) (at : ℕ) (why : CheckCause)
     → IsValid matter.graph → AreReportLines matter terms blocks lines → AreRead matter.graph lines reads → IsCause matter lines at why → ⊥
+
+-- So bytes, not too many, whose lines are those of a report of a valid graph and a log have no cause.
+abbrev pub ShortReportsHaveNoCause : Type 0
+ShortReportsHaveNoCause =
+    (matter : Matter) (terms : Terms) (blocks : List Block) (bytes : List ℕ) (at : ℕ) (why : CheckCause)
+    → IsValid matter.graph → AreReportLines matter terms blocks (lines_of bytes) → length bytes ≤ MAX_BYTES
+    → IsCause matter (lines_of bytes) at why → ⊥
+
+-- Lines, whatever they are, have no more than one cause, at one line.
+abbrev pub LinesHaveOneCause : Type 0
+LinesHaveOneCause =
+    (matter : Matter) (lines : List (List ℕ)) (at other : ℕ) (why also : CheckCause)
+    → IsValid matter.graph → IsCause matter lines at why → IsCause matter lines other also → (at ≡ other) × (why ≡ also)

@@ -4,13 +4,14 @@ ghost use Rattle.std.specs.Prelude.{◌≡◌, ℕ, List, [], ◌∷◌, ◌++�
 ghost use Rattle.tfpg_graph.specs.Graph.{Tfpg};
 ghost use Rattle.tfpg_report.specs.Blocks.{Block};
 ghost use Rattle.tfpg_check.specs.EqualReports.{EqualReportsSayTheSame};
-ghost use Rattle.tfpg_check.specs.RightReports.{LinesOfReportsCanBeRead, ReportsHaveNoCause};
+ghost use Rattle.tfpg_check.specs.RightReports.{LinesHaveOneCause, LinesOfReportsCanBeRead, ReportsHaveNoCause, ShortReportsHaveNoCause};
 ghost use Rattle.tfpg_check.specs.Report.{new_progress, progress_after, progress_of};
 
+use tfpg_clause::laws::{a_partial_tree_has_one_present_leaf, a_refutation_is_finished};
 use tfpg_hyp::laws::{
     a_round_is_of_its_graph, rounds_say_which_sets_fit, subsets_stand_before_their_supersets,
 };
-use tfpg_report::laws::a_report_is_read_in_its_order;
+use tfpg_report::laws::{a_report_is_read_in_its_order, a_report_line_says_one_thing};
 
 /// A report goes on block by block: what it has come to after one more line and its block follows from what it had come to
 /// before.
@@ -32,8 +33,8 @@ pub fn equal_reports_say_the_same()
     subsets_stand_before_their_supersets();
 }
 
-/// Each line of a report of a valid graph and a log can be read, whoever wrote it, where the report has at most 2^32 bytes: it names only
-/// what the graph has, its numbers are within their limits, it is not too long, and it may come where it stands.
+/// Each line of a report of a valid graph and a log can be read, whoever wrote it, where its lines are those of at most 2^32 bytes: it names
+/// only what the graph has, its numbers are within their limits, it is not too long, and it may come where it stands.
 pub fn the_lines_of_a_report_can_be_read()
     ensures { LinesOfReportsCanBeRead }
 {
@@ -47,4 +48,17 @@ pub fn a_report_has_no_cause()
     ensures { ReportsHaveNoCause }
 {
     a_round_is_of_its_graph();
+}
+
+/// Lines have at most one cause for which they are not accepted, at one line. Where they are those of at most 2^32 bytes and of a report of a
+/// valid graph and a log, they have none.
+pub fn lines_have_at_most_one_cause()
+    ensures one { LinesHaveOneCause }
+    ensures none { ShortReportsHaveNoCause }
+{
+    a_partial_tree_has_one_present_leaf();
+    a_refutation_is_finished();
+    a_report_line_says_one_thing();
+    a_round_is_of_its_graph();
+    a_report_is_read_in_its_order();
 }

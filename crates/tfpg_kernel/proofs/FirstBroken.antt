@@ -9,11 +9,12 @@ use Rattle.tfpg_base.specs.ConstraintCycle.{IsNegativeCycle}
 use Rattle.tfpg_evidence.specs.declared.reason.Reason.{Reason}
 use Rattle.tfpg_evidence.specs.declared.step.Step.{Step}
 use Rattle.tfpg_evidence.specs.declared.step.Step.TheVariants.{Split, Cycle, Again}
-use Rattle.tfpg_clause.specs.Case.{Case}
-use Rattle.tfpg_clause.specs.Trees.{stated, IsRightStep}
+use Rattle.tfpg_clause.specs.Case.{Case, case_at}
+use Rattle.tfpg_clause.specs.Laws.{PresentLeavesAreAlone, RefutationsAreNotPartial}
+use Rattle.tfpg_clause.specs.Trees.{Judged, stated, IsRightStep}
 use Rattle.tfpg_clause.specs.declared.path.PathSplit.{PathSplit}
 use Rattle.tfpg_kernel.specs.declared.taken.BadStep.{BadStep}
-use Rattle.tfpg_kernel.specs.Breaks.{fault_of, reasons_fault, ClosingBreaks, CycleBreaks, BreaksAt}
+use Rattle.tfpg_kernel.specs.Breaks.{fault_of, reasons_fault, ClosingBreaks, CycleBreaks, BreaksAt, IsFirstBroken}
 
 closing_unique : (constraints : List Constraint) (one other : BadStep) → ClosingBreaks constraints one → ClosingBreaks constraints other → one ≡ other
 closing_unique constraints one other (inl a) (inl b) = a.0 ∙ sym b.0
@@ -67,3 +68,13 @@ module _ (case : Case) where
   breaks_wrong path subtrees (Split name) bad breaks right = let both : None ≡ Some subtrees = sym breaks.1 ∙ right in cc
   breaks_wrong path subtrees (Cycle reasons) bad breaks right = cycle_wrong (stated case path) reasons bad breaks right.constraints right.hold right.negative_cycle
   breaks_wrong path subtrees Again bad breaks right = breaks.1 right
+
+-- So does the step that comes next after these steps.
+pub first_broken_unique : PresentLeavesAreAlone → RefutationsAreNotPartial → (case : Case) (steps : List Judged) (next : Judged) (one other : BadStep) → IsFirstBroken case steps next one
+    → IsFirstBroken case steps next other → one ≡ other
+first_broken_unique only_one finished case steps next one other (inl a) (inl b) = a.0 ∙ sym b.0
+first_broken_unique only_one finished case steps next one other (inl a) (inr b) = absurd (finished case steps a.1 b.1.partial)
+first_broken_unique only_one finished case steps next one other (inr a) (inl b) = absurd (finished case steps b.1 a.1.partial)
+first_broken_unique only_one finished case steps next one other (inr a) (inr b) =
+    let same : a.0 ≡ b.0 = only_one case steps a.0 b.0 a.1 b.1 in
+    breaks_unique (case_at case next.seen) b.0 next.step one other (subst (λ (p : List PathSplit). BreaksAt (case_at case next.seen) p next.step one) same a.2) b.2

@@ -18,7 +18,7 @@ use Rattle.tfpg_kernel.specs.Breaks.{BreaksAt, IsFirstBroken}
 use Rattle.tfpg_kernel.specs.Represents.{Represented, CheckerRepresents}
 use Rattle.tfpg_kernel.specs.inside.StepResults.{IsStepResult}
 use Rattle.tfpg_kernel.specs.inside.Paths.{Moves}
-use Rattle.tfpg_kernel.proofs.FirstBroken.{breaks_unique, breaks_wrong}
+use Rattle.tfpg_kernel.proofs.FirstBroken.{breaks_wrong, first_broken_unique}
 
 -- what the laws say of all trees
 pub record ResultLaws : Type 0 where
@@ -32,14 +32,6 @@ pub record ResultLaws : Type 0 where
   pub leaf_ends : LastLeavesEndInRefutations
 
 module _ (laws : ResultLaws) (case : Case) where
-  broken_unique : (steps : List Judged) (next : Judged) (one other : BadStep) → IsFirstBroken case steps next one → IsFirstBroken case steps next other → one ≡ other
-  broken_unique steps next one other (inl a) (inl b) = a.0 ∙ sym b.0
-  broken_unique steps next one other (inl a) (inr b) = absurd (laws.finished case steps a.1 b.1.partial)
-  broken_unique steps next one other (inr a) (inl b) = absurd (laws.finished case steps b.1 a.1.partial)
-  broken_unique steps next one other (inr a) (inr b) =
-      let same : a.0 ≡ b.0 = laws.only_one case steps a.0 b.0 a.1 b.1 in
-      breaks_unique (case_at case next.seen) b.0 next.step one other (subst (λ (p : List PathSplit). BreaksAt (case_at case next.seen) p next.step one) same a.2) b.2
-
   broken_wrong : (steps : List Judged) (next : Judged) (bad : BadStep) → IsFirstBroken case steps next bad → IsRightNext case steps next → ⊥
   broken_wrong steps next bad (inl a) last = laws.finished case steps a.1 last.leaf.partial
   broken_wrong steps next bad (inr a) last =
@@ -71,7 +63,7 @@ module _ (laws : ResultLaws) (case : Case) where
       partial = (λ same. cc, λ partial. absurd (broken_wrong steps (judged_by case.log step) cause broken (laws.last_of_partial case steps (judged_by case.log step) partial)));
       bad = λ other. (
         λ same. let causes : cause ≡ other = cc in subst (IsFirstBroken case steps (judged_by case.log step)) causes broken,
-        λ also. ap (λ (b : BadStep). Bad b) (broken_unique steps (judged_by case.log step) cause other broken also),
+        λ also. ap (λ (b : BadStep). Bad b) (first_broken_unique laws.only_one laws.finished case steps (judged_by case.log step) cause other broken also),
       );
       represents = represents;
     }

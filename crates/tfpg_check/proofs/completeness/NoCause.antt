@@ -1,14 +1,14 @@
 -- A report has no cause.
-use Rattle.std.proofs.Common.{◌≡◌, ◌⊎◌, ℕ, suc, ◌+◌, ◌<◌, ◌≤◌, false, List, [], ◌∷◌, ◌++◌, length, get_or, take, drop, Option, Some, None, slice_get, inl, inr, refl, sym, ap, subst, subst₂, ◌∙◌, arith, append-nil, append_assoc, length-append}
+use Rattle.std.proofs.Common.{◌≡◌, ◌⊎◌, ℕ, suc, ◌+◌, ◌<◌, ◌≤◌, cond, Bool, true, false, List, [], ◌∷◌, ◌++◌, length, get_or, take, drop, All, Option, Some, None, slice_get, inl, inr, refl, sym, ap, subst, subst₂, ◌∙◌, arith, append-nil, append_assoc, length-append}
 use Rattle.std.specs.Prelude.{flat_map, fold, option_and_then}
-use Rattle.std.proofs.lemmas.Bool.{cases_Bool}
-use Rattle.std.proofs.lemmas.List.{length-take-le, same_lists, take_all}
-use Rattle.std.proofs.lemmas.List.Elements.{All-nil}
+use Rattle.std.proofs.lemmas.Bool.{cases_Bool, false≢true}
+use Rattle.std.proofs.lemmas.List.{length-take, length-take-le, same_lists, take-take, take_all}
+use Rattle.std.proofs.lemmas.List.Elements.{All-nil, All-push}
 use Rattle.std.proofs.lemmas.List.Sums.{fold-append}
 use Rattle.std.proofs.lemmas.Option.{get_or_from_slice_get, slice_get_within, slice_get-get_or}
 use Rattle.tfpg_base.specs.declared.terms.Terms.{Terms}
-use Rattle.tfpg_base.proofs.lists.Cuts.{cut_at, slice_get-take}
-use Rattle.tfpg_base.proofs.lists.Elements.{slice_get-there}
+use Rattle.tfpg_base.proofs.lists.Cuts.{cut_at, cut_twice, slice_get-take}
+use Rattle.tfpg_base.proofs.lists.Elements.{All-middle, slice_get-there}
 use Rattle.tfpg_base.proofs.lists.Written.{slice_get-after, slice_get-append_some}
 use Rattle.tfpg_graph.specs.Graph.{Tfpg}
 use Rattle.tfpg_report.specs.declared.report_line.ReportLine.{ReportLine}
@@ -22,7 +22,7 @@ use Rattle.tfpg_check.specs.declared.cause.CheckCause.{CheckCause}
 use Rattle.tfpg_check.specs.Report.{AreBlocks, HasReports}
 use Rattle.tfpg_check.specs.Causes.{AreRead, AreRightSoFar, BlockFails, EndFails, IsCause, LineFails, Matter}
 use Rattle.tfpg_check.proofs.completeness.EqualBlocks.{one_report}
-use Rattle.tfpg_check.proofs.completeness.LinesOfBlocks.{begun_after_last, blocks_end, completes_block}
+use Rattle.tfpg_check.proofs.completeness.LinesOfBlocks.{begun_after_last, blocks_end, completes_block, last_completes}
 use Rattle.tfpg_check.proofs.completeness.RightBlocksPass.{others_pass}
 use Rattle.tfpg_check.proofs.completeness.RightFronts.{IsRightFront, head_is_last, right_block_passes, right_front, right_so_far}
 
@@ -74,7 +74,7 @@ module _ (graph : Tfpg) (one_thing : SayOneThing graph) (lines : List (List ℕ)
         other.1 ∙ ap Some (one_thing other.0 read bytes.0 (are_own.each index bytes.0 other.0 line other.1) (are.each index bytes.0 read bytes.1 at))
 
     -- So what they say is what all lines begin with.
-    reads_are : take (length reads) own ≡ reads
+    pub reads_are : take (length reads) own ≡ reads
     reads_are =
         let few = few_reads in
         let long : length (take (length reads) own) ≡ length reads = length-take-le (length reads) own few in
@@ -100,6 +100,92 @@ module _ (graph : Tfpg) (one_thing : SayOneThing graph) (lines : List (List ℕ)
         cut_at own (length reads) here.0 here.1 ∙ ap (λ (front : List ReportLine). front ++ here.0 ∷ drop (suc (length reads)) own) (reads_are before (bytes ∷ more) reads are lines_are),
       )
 
+-- ---- lines that are right
+
+-- Right for the first lines of a log is right for all of them.
+right_for_all : (matter : Matter) (count : ℕ) (terms : Terms) (blocks : List Block) (reads : List ReportLine)
+    → AreRightSoFar (record { graph = matter.graph; log_lines = take count matter.log_lines }) terms blocks reads → AreRightSoFar matter terms blocks reads
+right_for_all matter count terms blocks reads right =
+    let few = right.few in
+    let counted = length-take count matter.log_lines in
+    record {
+      has_reports = right.has_reports;
+      head = right.head;
+      is_head = right.is_head;
+      few = omega (arith, few, counted);
+      are_blocks = subst (λ (ls : List (List ℕ)). AreBlocks matter.graph terms ls blocks) (take-take (length blocks) count matter.log_lines (omega (arith, few, counted))) right.are_blocks;
+      lines_are = right.lines_are;
+    }
+
+-- the lines of a round that has not ended are no last ones
+begun_not_last : (begun lines : List ReportLine) → All (λ line. is_last line ≡ false) begun → All (λ line. is_last line ≡ false) (fold begun_with begun lines)
+begun_not_last begun [] not_last = not_last
+begun_not_last begun (line ∷ lines) not_last = begun_not_last (begun_with begun line) lines (by (is_last line) refl)
+  where
+    by : (last : Bool) → is_last line ≡ last → All (λ other. is_last other ≡ false) (cond last [] (begun ++ line ∷ []))
+    by true is = All-nil (λ other. is_last other ≡ false)
+    by false is = All-push (λ other. is_last other ≡ false) begun line not_last is
+
+module _ (matter : Matter) (one_thing : SayOneThing matter.graph) (terms : Terms) (blocks : List Block) (lines : List (List ℕ)) (own : List ReportLine) (whole : AreRightSoFar matter terms blocks own)
+    (are_own : AreRead matter.graph lines own) where
+  -- The front before one of their lines is right, and so it is with this line and its block, where it completes one.
+  front_before : (first : ReportLine) (reads : List ReportLine) (here : ReportLine) (rest : List ReportLine) → own ≡ first ∷ (reads ++ here ∷ rest) → completes_block here ≡ true
+      → IsRightFront matter terms (first ∷ reads) here
+  front_before first reads here rest same completes =
+      let all : whole.head ∷ (flat_map block_lines blocks ++ begun_in own) ≡ first ∷ (reads ++ here ∷ rest) = sym whole.lines_are ∙ same in
+      let heads : whole.head ≡ first = cc in
+      let later : flat_map block_lines blocks ++ begun_in own ≡ reads ++ here ∷ rest = cc in
+      elim (cut_twice (flat_map block_lines blocks) (begun_in own) reads (here ∷ rest) later) [
+        | inl past ↦ (
+            let begun : All (λ line. is_last line ≡ false) (past.mid ++ here ∷ rest) =
+            subst (All (λ line. is_last line ≡ false)) past.rest_is (begun_not_last [] own (All-nil (λ line. is_last line ≡ false))) in
+            absurd (false≢true (sym (All-middle (λ line. is_last line ≡ false) past.mid here rest begun) ∙ last_completes here completes))
+            )
+        | inr within ↦ (
+            let same_here : within.here ≡ here = (let back = within.back_is in cc) in
+            let front = right_front (record { graph = matter.graph; log_lines = take (length blocks) matter.log_lines }) terms whole.has_reports whole.head whole.is_head blocks whole.are_blocks
+            reads here within.mid (within.xs_is ∙ ap (λ (line : ReportLine). reads ++ line ∷ within.mid) same_here) in
+            subst (λ (line : ReportLine). IsRightFront matter terms (line ∷ reads) here) heads
+            (record {
+              blocks = front.blocks;
+              right = right_for_all matter (length blocks) terms front.blocks (whole.head ∷ reads) front.right;
+              next = λ completes. (
+                  let next = front.next completes in (
+                    next.0,
+                    right_for_all matter (length blocks) terms (front.blocks ++ next.0 ∷ []) (whole.head ∷ (reads ++ here ∷ [])) next.1,
+                  )
+                  );
+            })
+            )
+      ]
+
+  -- after what they begin with no block fails
+  no_block_fails : (reads : List ReportLine) (here : ReportLine) (rest : List ReportLine) → own ≡ reads ++ here ∷ rest → (others : Terms) (more : List Block) → AreRightSoFar matter others more reads
+      → (at : ℕ) (why : CheckCause) → BlockFails matter others more reads here at why → ⊥
+  no_block_fails [] here rest same others more right at why fails = let none : [] ≡ right.head ∷ flat_map block_lines more ++ begun_in [] = right.lines_are in absurd cc
+  no_block_fails (first ∷ reads) here rest same others more right at why fails = elim (cases_Bool (completes_block here)) [
+    | inl completes ↦ (
+        let front = front_before first reads here rest same completes in
+        let one = one_report matter others terms more front.blocks (first ∷ reads) right front.right in
+        let next = front.next completes in
+        right_block_passes matter terms front.blocks next.0 (first ∷ reads) here completes next.1 at why
+        (subst₂ (λ (t : Terms) (bs : List Block). BlockFails matter t bs (first ∷ reads) here at why) one.0 one.1 fails)
+        )
+    | inr completes_none ↦ others_pass matter others more (first ∷ reads) here completes_none at why fails
+  ]
+
+  -- After what right lines begin with no line of theirs fails.
+  pub no_line_fails : (before : List (List ℕ)) (bytes : List ℕ) (more : List (List ℕ)) (reads : List ReportLine) → AreRead matter.graph before reads → lines ≡ before ++ bytes ∷ more
+      → (at : ℕ) (why : CheckCause) → LineFails matter reads bytes at why → ⊥
+  no_line_fails before bytes more reads are_read lines_are at why (inl bad) =
+      let next = next_read matter.graph one_thing lines own are_own before bytes more reads are_read lines_are in
+      let stand = front_may_come (reads ++ next.0 ∷ []) next.1 are_own.stand (ap stand_of (append_assoc reads (next.0 ∷ []) next.1 ∙ sym next.3) ∙ are_own.stands) in
+      bad.2 next.0 (record { says = next.2; stand = stand.0; stands = stand.1 })
+  no_line_fails before bytes more reads are_read lines_are at why (inr fails) =
+      let next = next_read matter.graph one_thing lines own are_own before bytes more reads are_read lines_are in
+      let same : fails.0 ≡ next.0 = one_thing fails.0 next.0 bytes fails.3.says next.2 in
+      no_block_fails reads next.0 next.1 next.3 fails.1 fails.2 fails.4 at why (subst (λ (line : ReportLine). BlockFails matter fails.1 fails.2 reads line at why) same fails.5)
+
 -- ---- a report
 
 module _ (matter : Matter) (one_thing : SayOneThing matter.graph) (terms : Terms) (blocks : List Block) (lines : List (List ℕ)) (has_reports : HasReports matter.graph terms) (head : ReportLine)
@@ -119,36 +205,6 @@ module _ (matter : Matter) (one_thing : SayOneThing matter.graph) (terms : Terms
   none_begun : begun_in Own ≡ []
   none_begun = ap (λ (begun : List ReportLine). fold begun_with begun (flat_map block_lines blocks)) (begun_after_last [] head (head_is_last terms head is_head)) ∙ blocks_end blocks
 
-  -- after what it begins with no block fails
-  no_block_fails : (reads : List ReportLine) (here : ReportLine) (rest : List ReportLine) → Own ≡ reads ++ here ∷ rest → (others : Terms) (more : List Block) → AreRightSoFar matter others more reads
-      → (at : ℕ) (why : CheckCause) → BlockFails matter others more reads here at why → ⊥
-  no_block_fails [] here rest same others more right at why fails = let none : [] ≡ right.head ∷ flat_map block_lines more ++ begun_in [] = right.lines_are in absurd cc
-  no_block_fails (first ∷ reads) here rest same others more right at why fails =
-      let heads : head ≡ first = cc in
-      let later : flat_map block_lines blocks ≡ reads ++ here ∷ rest = cc in
-      let front : IsRightFront matter terms (first ∷ reads) here =
-      subst (λ (line : ReportLine). IsRightFront matter terms (line ∷ reads) here) heads (right_front matter terms has_reports head is_head blocks are reads here rest later) in
-      let one = one_report matter others terms more front.blocks (first ∷ reads) right front.right in
-      let own : BlockFails matter terms front.blocks (first ∷ reads) here at why = subst₂ (λ (t : Terms) (bs : List Block). BlockFails matter t bs (first ∷ reads) here at why) one.0 one.1 fails in
-      elim (cases_Bool (completes_block here)) [
-        | inl completes ↦ (
-            let next = front.next completes in
-            right_block_passes matter terms front.blocks next.0 (first ∷ reads) here completes next.1 at why own
-            )
-        | inr completes_none ↦ others_pass matter terms front.blocks (first ∷ reads) here completes_none at why own
-      ]
-
-  no_line_fails : (before : List (List ℕ)) (bytes : List ℕ) (more : List (List ℕ)) (reads : List ReportLine) → AreRead matter.graph before reads → lines ≡ before ++ bytes ∷ more
-      → (at : ℕ) (why : CheckCause) → LineFails matter reads bytes at why → ⊥
-  no_line_fails before bytes more reads are_read lines_are at why (inl bad) =
-      let next = next_read matter.graph one_thing lines Own are_own before bytes more reads are_read lines_are in
-      let stand = front_may_come (reads ++ next.0 ∷ []) next.1 are_own.stand (ap stand_of (append_assoc reads (next.0 ∷ []) next.1 ∙ sym next.3) ∙ are_own.stands) in
-      bad.2 next.0 (record { says = next.2; stand = stand.0; stands = stand.1 })
-  no_line_fails before bytes more reads are_read lines_are at why (inr fails) =
-      let next = next_read matter.graph one_thing lines Own are_own before bytes more reads are_read lines_are in
-      let same : fails.0 ≡ next.0 = one_thing fails.0 next.0 bytes fails.3.says next.2 in
-      no_block_fails reads next.0 next.1 next.3 fails.1 fails.2 fails.4 at why (subst (λ (line : ReportLine). BlockFails matter fails.1 fails.2 reads line at why) same fails.5)
-
   no_end_fails : (reads : List ReportLine) → Own ≡ reads → (at : ℕ) (why : CheckCause) → EndFails matter reads at why → ⊥
   no_end_fails reads same at why (_, _, inl none) = let empty : head ∷ flat_map block_lines blocks ≡ [] = same ∙ none in absurd cc
   no_end_fails reads same at why (_, _, inr (others, more, right, inl begun)) = begun (sym (ap begun_in same) ∙ none_begun)
@@ -164,7 +220,7 @@ module _ (matter : Matter) (one_thing : SayOneThing matter.graph) (terms : Terms
     where
       by : ((bytes : List ℕ) × (more : List (List ℕ)) × (lines ≡ cause.before ++ bytes ∷ more) × LineFails matter cause.reads bytes at why)
           ⊎ ((lines ≡ cause.before) × EndFails matter cause.reads at why) → ⊥
-      by (inl fails) = no_line_fails cause.before fails.0 fails.1 cause.reads cause.are_read fails.2 at why fails.3
+      by (inl fails) = no_line_fails matter one_thing terms blocks lines Own whole_is_right are_own cause.before fails.0 fails.1 cause.reads cause.are_read fails.2 at why fails.3
       by (inr fails) =
           let whole : lines ≡ cause.before ++ [] = fails.0 ∙ sym (append-nil cause.before) in
           let each = cause.are_read.one_each in

@@ -1,4 +1,4 @@
--- A report has a line for each step, and a byte for each line.
+-- A report has a line for each step.
 use Rattle.std.proofs.Common.{◌≡◌, ℕ, zero, suc, ◌+◌, ◌<◌, ◌≤◌, eqb, List, [], ◌∷◌, ◌++◌, length, map, take, Option, Some, None, refl, ap, ◌∙◌, arith}
 use Rattle.std.specs.Prelude.{flat_map, option_map, slice_get, unwrap_or}
 use Rattle.std.proofs.lemmas.Bool.{cond_both, eqb-true}
@@ -6,9 +6,7 @@ use Rattle.std.proofs.lemmas.List.{length-append, length-map}
 use Rattle.std.proofs.lemmas.List.Concat.{length-flat_map}
 use Rattle.std.proofs.lemmas.List.Sums.{sum_by-take-le}
 use Rattle.std.proofs.lemmas.Grind.{flat_map-append}
-use Rattle.tfpg_base.specs.Lines.{with_line_end}
 use Rattle.tfpg_base.proofs.lists.Cuts.{take-next}
-use Rattle.tfpg_graph.specs.Graph.{Tfpg}
 use Rattle.tfpg_evidence.specs.declared.finding.Finding.{Finding}
 use Rattle.tfpg_evidence.specs.declared.round.Round.{Round}
 use Rattle.tfpg_evidence.specs.declared.step.Step.{Step}
@@ -20,7 +18,6 @@ use Rattle.tfpg_report.specs.declared.report_line.ReportLine.{ReportLine}
 use Rattle.tfpg_report.specs.declared.report_line.ReportLine.TheVariants.{Hyp, Counts}
 use Rattle.tfpg_report.specs.Blocks.{Block, RefusedBlock, RoundBlock, Loss, block_lines, lines_of_finding, lines_if_ranked, loss_line, open_line, rejected_line, round_lines}
 use Rattle.tfpg_report.specs.ReadRounds.{step_lines}
-use Rattle.tfpg_report.specs.ReportLines.{lines_text, written_line}
 use Rattle.tfpg_check.specs.Report.{rounds_of}
 
 -- ---- steps
@@ -109,16 +106,3 @@ module _ (number : ℕ) where
         length-flat_map block_lines blocks,
         sum_by-take-le (λ (block : Block). length (block_lines block)) blocks (index + 1),
       )
-
--- ---- bytes
-
--- A text of lines has a byte for each.
-pub lines_few : (graph : Tfpg) (lines : List ReportLine) → length lines ≤ length (lines_text graph lines)
-lines_few graph [] = omega arith
-lines_few graph (line ∷ lines) =
-    omega (
-      arith,
-      length-append (with_line_end (written_line graph line)) (lines_text graph lines),
-      length-append (written_line graph line) (10 ∷ []),
-      lines_few graph lines,
-    )

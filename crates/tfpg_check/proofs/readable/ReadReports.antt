@@ -1,29 +1,29 @@
 -- Each line of a report that is not too long can be read, and may come where it stands.
 use Rattle.std.proofs.Common.{◌≡◌, ℕ, ◌≤◌, ◌^◌, List, ◌∷◌, length, map, All, Some, slice_get, inl, inr, sym, ap, subst, ◌∙◌, arith}
 use Rattle.std.specs.Prelude.{flat_map, option_map, true}
-use Rattle.std.proofs.lemmas.List.{length-append, length-map}
+use Rattle.std.proofs.lemmas.List.{length-map}
 use Rattle.std.proofs.lemmas.List.Elements.{All-cons}
 use Rattle.std.proofs.lemmas.Option.{same_Some, slice_get-map}
 use Rattle.tfpg_base.specs.declared.terms.Terms.{Terms}
 use Rattle.tfpg_base.specs.declared.limits.TheConstants.{LONGEST_LINE, MAX_BYTES}
+use Rattle.tfpg_base.specs.Lines.{lines_of}
 use Rattle.tfpg_base.specs.Terms.{AreReportTerms}
 use Rattle.tfpg_base.proofs.lists.Elements.{All-at}
 use Rattle.tfpg_graph.specs.Graph.{Tfpg}
 use Rattle.tfpg_graph.specs.Valid.{IsValid}
 use Rattle.tfpg_report.specs.declared.report_line.ReportLine.{ReportLine}
 use Rattle.tfpg_report.specs.declared.stand.Stand.{Stand}
-use Rattle.tfpg_report.specs.Blocks.{Block, block_lines, block_text, head_text}
+use Rattle.tfpg_report.specs.Blocks.{Block, block_lines}
 use Rattle.tfpg_report.specs.InOrder.{IsInOrder}
 use Rattle.tfpg_report.specs.Reading.{IsHead}
 use Rattle.tfpg_report.specs.ReportLines.{Says, written_line}
 use Rattle.tfpg_report.specs.Stands.{may_begin_block, stand_of}
-use Rattle.tfpg_check.specs.Report.{IsReport}
-use Rattle.tfpg_check.specs.RightReports.{LinesOfReportsCanBeRead}
+use Rattle.tfpg_check.specs.RightReports.{LinesOfReportsCanBeRead, ShortReportsHaveNoCause}
 use Rattle.tfpg_check.proofs.EqualSayings.{RoundsAreOfTheirGraph}
+use Rattle.tfpg_check.proofs.FewLines.{few_lines}
 use Rattle.tfpg_check.proofs.completeness.NamedLines.{blocks_named}
-use Rattle.tfpg_check.proofs.completeness.ReportsRead.{blocks_text, has_lines}
+use Rattle.tfpg_check.proofs.completeness.ReportsRead.{has_lines, reports_have_no_cause}
 use Rattle.tfpg_check.proofs.completeness.WordsOfLines.{NamesOfGraph}
-use Rattle.tfpg_check.proofs.readable.LinesCounted.{lines_few}
 use Rattle.tfpg_check.proofs.readable.RightBlocks.{blocks_in_order, blocks_small}
 use Rattle.tfpg_check.proofs.readable.ShortLines.{line_short}
 use Rattle.tfpg_check.proofs.readable.SmallNumbers.{HasSmallNumbers, line_within}
@@ -41,18 +41,11 @@ head_small terms head within (inr old) =
     subst HasSmallNumbers (sym old.1)
     (record { few_members = within.few_members; few_doubts = omega arith; some_splits = within.some_splits; few_splits = within.few_splits })
 
--- There are not more lines of blocks than bytes of the report.
-block_lines_few : (graph : Tfpg) (terms : Terms) (log_lines : List (List ℕ)) (blocks : List Block) (bytes : List ℕ) → IsReport graph terms log_lines blocks bytes → length bytes ≤ MAX_BYTES
-    → length (flat_map block_lines blocks) ≤ 2 ^ 32
-block_lines_few graph terms log_lines blocks bytes report few =
-    omega (
-      arith,
-      few,
-      ap length report.text,
-      length-append (head_text terms) (flat_map (block_text graph) blocks),
-      ap length (blocks_text graph blocks),
-      lines_few graph (flat_map block_lines blocks),
-    )
+-- There are not more lines of blocks than bytes.
+block_lines_few : (graph : Tfpg) (head : ReportLine) (blocks : List Block) (bytes : List ℕ) → lines_of bytes ≡ map (written_line graph) (head ∷ flat_map block_lines blocks)
+    → length bytes ≤ MAX_BYTES → length (flat_map block_lines blocks) ≤ 2 ^ 32
+block_lines_few graph head blocks bytes lines_are few =
+    omega (arith, few, few_lines bytes, ap length lines_are, length-map (flat_map block_lines blocks) (written_line graph))
 
 -- Written lines that name what the graph has, with small numbers, can be read.
 lines_say : (graph : Tfpg) → IsValid graph → (lines : List (List ℕ)) (own : List ReportLine) → lines ≡ map (written_line graph) own → All (NamesOfGraph graph) own → All HasSmallNumbers own
@@ -70,8 +63,8 @@ lines_say graph valid lines own are named small index bytes read at there =
 
 -- The lines of a report can be read.
 pub lines_can_be_read : RoundsAreOfTheirGraph → LinesComeInOrder → LinesOfReportsCanBeRead
-lines_can_be_read of_graph in_order matter terms blocks lines valid are few =
-    let has = has_lines matter terms blocks lines valid are in
+lines_can_be_read of_graph in_order matter terms blocks bytes valid are few =
+    let has = has_lines matter terms blocks (lines_of bytes) valid are in
     let report = are.report in
     let own : List ReportLine = has.head ∷ flat_map block_lines blocks in
     let named : All (NamesOfGraph matter.graph) own =
@@ -79,14 +72,20 @@ lines_can_be_read of_graph in_order matter terms blocks lines valid are few =
     let small : All HasSmallNumbers own =
     All-cons HasSmallNumbers has.head (flat_map block_lines blocks) (head_small terms has.head report.has_reports.within has.is_head)
     (blocks_small matter.graph terms matter.log_lines blocks report.are_blocks valid report.has_reports report.few_lines
-    (block_lines_few matter.graph terms matter.log_lines blocks are.bytes report few)) in
+    (block_lines_few matter.graph has.head blocks bytes has.lines_are few)) in
     let stands = in_order terms has.head blocks has.is_head (blocks_in_order matter.graph terms matter.log_lines blocks report.are_blocks) in (
       has.head,
       has.is_head,
       record {
         one_each = sym (ap length has.lines_are ∙ length-map own (written_line matter.graph));
-        each = lines_say matter.graph valid lines own has.lines_are named small;
+        each = lines_say matter.graph valid (lines_of bytes) own has.lines_are named small;
         stand = stands.0;
         stands = stands.1;
       },
     )
+
+-- So they have no cause.
+pub short_reports_have_no_cause : RoundsAreOfTheirGraph → LinesComeInOrder → ShortReportsHaveNoCause
+short_reports_have_no_cause of_graph in_order matter terms blocks bytes at why valid are few cause =
+    let read = lines_can_be_read of_graph in_order matter terms blocks bytes valid are few in
+    reports_have_no_cause of_graph matter terms blocks (lines_of bytes) (read.0 ∷ flat_map block_lines blocks) at why valid are read.2 cause
