@@ -4,8 +4,8 @@
 //!   by, and not the report.
 //! - [`JudgeFault`] is why a report is not accepted, and [`CheckCause`] the cause of its first wrong line.
 //!
-//! [`laws`] says how far a report has come after each block, that equal reports say the same, that each line of a report can be read, and
-//! that a report whose lines can be read has no cause for which it would not be accepted.
+//! [`laws`] says how far a report has come after each block, that equal reports say the same, that each line of a report can be read,
+//! that a report whose lines can be read has no cause for which it would not be accepted, and that no lines have more than one.
 //!
 //! A report of one line, which has none of the shapes of a line of a log:
 //!

@@ -13,10 +13,9 @@ use Rattle.tfpg_graph.specs.Text.{Spells}
 use Rattle.tfpg_graph.specs.Valid.{IsValid}
 use Rattle.tfpg_graph.specs.Faults.{IsFirstFault}
 use Rattle.tfpg_log.specs.Log.{Logbook}
-use Rattle.tfpg_report.specs.declared.report_line.ReportLine.{ReportLine}
 use Rattle.tfpg_report.specs.Blocks.{Block}
-use Rattle.tfpg_check.specs.Causes.{AreRead, AreReportLines, Matter}
-use Rattle.tfpg_check.specs.RightReports.{ReportsHaveNoCause}
+use Rattle.tfpg_check.specs.Causes.{AreReportLines, IsCause, Matter}
+use Rattle.tfpg_check.specs.RightReports.{ShortReportsHaveNoCause}
 use Rattle.tfpg_check.proofs.FirstLines.{OneLine, few_hypotheses}
 use Rattle.tfpg_sim.specs.Script.{IsScriptFault}
 use Rattle.tfpg_words.specs.declared.usage_cause.UsageCause.{UsageCause}
@@ -56,14 +55,14 @@ NoFaultOfValid = (text : List ℕ) (graph : Tfpg) → Spells text graph → IsVa
 
 -- What no report has, and what bytes say: the laws that a report that is checked needs.
 pub record CheckLaws : Type 0 where
-  pub no_cause : ReportsHaveNoCause
+  pub no_cause : ShortReportsHaveNoCause
   pub one_line : OneLine
 
 -- ---- files that are there
 
 module _ (shelf : ShelfState) (files : List (List ℕ × List ℕ)) (known : shelf.files ≡ Some files) where
   -- what a file gives is what it has
-  gives_is : (name text : List ℕ) → Gives shelf name text → file_of files name ≡ Some text
+  pub gives_is : (name text : List ℕ) → Gives shelf name text → file_of files name ≡ Some text
   gives_is name text gives = subst (λ (fs : Option (List (List ℕ × List ℕ))). IfSome fs (λ them. file_of them name ≡ Some text)) known gives
 
   -- a file that is short enough is not too long
@@ -185,27 +184,26 @@ module _ (law : NoFaultOfValid) (laws : CheckLaws) (before now : World) (calm : 
 
   -- a report that is judged
   judged_report : (short : IsShort before.input) (matter : Matter) (taken : List ℕ) → IsValid matter.graph → (terms : Terms) (blocks : List Block) → AreReportLines matter terms blocks (lines_of short.known)
-      → (reads : List ReportLine) → AreRead matter.graph (lines_of short.known) reads → Takes before.input now.input taken → (result : Result (Unit {0}) CheckFault)
+      → Takes before.input now.input taken → (result : Result (Unit {0}) CheckFault)
       → CheckingEnds matter (streams_of before) (streams_of now) taken result → IsCompleted (end_of_result end_of_check_fault result)
-  judged_report short matter taken valid terms blocks report reads read takes (Ok done) is = inl refl
-  judged_report short matter taken valid terms blocks report reads read takes (Err (check.NotAccepted line cause)) is =
+  judged_report short matter taken valid terms blocks report takes (Ok done) is = inl refl
+  judged_report short matter taken valid terms blocks report takes (Err (check.NotAccepted line cause)) is =
       let all : short.known ≡ taken ++ is.0.rest = all_of_input before.input now.input short.known taken is.0.rest short.left takes is.0.left in
-      absurd (laws.no_cause matter terms blocks (lines_of (taken ++ is.0.rest)) reads line cause valid
-      (subst (λ (bytes : List ℕ). AreReportLines matter terms blocks (lines_of bytes)) all report)
-      (subst (λ (bytes : List ℕ). AreRead matter.graph (lines_of bytes) reads) all read) is.0.is_cause)
-  judged_report short matter taken valid terms blocks report reads read takes (Err (check.TooMany count)) is =
+      absurd (laws.no_cause matter terms blocks short.known line cause valid report short.few
+      (subst (λ (bytes : List ℕ). IsCause matter (lines_of bytes) line cause) (sym all) is.0.is_cause))
+  judged_report short matter taken valid terms blocks report takes (Err (check.TooMany count)) is =
       let many : HasTooManyInHead matter now.input taken count = is.0 in
       let all : short.known ≡ taken ++ many.rest = all_of_input before.input now.input short.known taken many.rest short.left takes many.left in
       let few = few_hypotheses laws.one_line matter valid terms blocks (lines_of (taken ++ many.rest))
       (subst (λ (bytes : List ℕ). AreReportLines matter terms blocks (lines_of bytes)) all report) many.first many.at many.head many.says many.terms many.is_head count many.counted in
       let too_many = many.too_many in
       absurd (omega (arith, few, too_many))
-  judged_report short matter taken valid terms blocks report reads read takes (Err (check.Stream streams.ReadFault)) is = absurd (calm.input is.0)
-  judged_report short matter taken valid terms blocks report reads read takes (Err (check.Stream streams.WriteFault)) is = absurd (calm.output is.0.rose)
-  judged_report short matter taken valid terms blocks report reads read takes (Err (check.Stream streams.TooMuchInput)) is =
+  judged_report short matter taken valid terms blocks report takes (Err (check.Stream streams.ReadFault)) is = absurd (calm.input is.0)
+  judged_report short matter taken valid terms blocks report takes (Err (check.Stream streams.WriteFault)) is = absurd (calm.output is.0.rose)
+  judged_report short matter taken valid terms blocks report takes (Err (check.Stream streams.TooMuchInput)) is =
       let more : length taken ≡ MAX_BYTES + 1 = is.0 in
       absurd (omega (arith, few_taken before.input now.input taken short takes, more))
-  judged_report short matter taken valid terms blocks report reads read takes (Err (check.Stream streams.NoMemory)) is = inr refl
+  judged_report short matter taken valid terms blocks report takes (Err (check.Stream streams.NoMemory)) is = inr refl
 
   checked : (end : End) (graph_name log_name : List ℕ) → CanCheck before.shelf before.input graph_name log_name → CheckEnds graph_name log_name before now end → IsCompleted end
   checked end graph_name log_name can (inl lacks) =
@@ -213,9 +211,8 @@ module _ (law : NoFaultOfValid) (laws : CheckLaws) (before now : World) (calm : 
       (both_fetched before.shelf can.files can.known law graph_name can.graph can.gives.of_graph now.shelf log_name can.log_text can.gives.file lacks.fault calm.shelf lacks.is_fault) lacks.end_is)
   checked end graph_name log_name can (inr checks) =
       let report = can.report checks.graph checks.other checks.gives in
-      let read = can.readable checks.graph checks.gives.of_graph in
       subst IsCompleted (sym checks.works.end_is)
-      (judged_report can.short (matter_of checks.graph checks.other) checks.works.works.taken checks.gives.of_graph.valid report.0 report.1 report.2 read.0 read.1
+      (judged_report can.short (matter_of checks.graph checks.other) checks.works.works.taken checks.gives.of_graph.valid report.0 report.1 report.2
       checks.works.works.takes checks.works.result checks.works.works.ends)
 
   -- a script that is simulated

@@ -1,19 +1,17 @@
 -- The lines of the input, as a reader of lines comes to them.
 use Rattle.std.proofs.Common.{◌-◌, ◌≡◌, ◌⊎◌, ℕ, ◌+◌, ◌<◌, ◌≤◌, List, [], ◌∷◌, ◌++◌, length, take, Option, Some, None, Result, Ok, refl, sym, ap, subst, ◌∙◌, arith, inl, inr}
 use Rattle.std.specs.Prelude.{IfSome, unwrap_or, slice_get}
-use Rattle.std.specs.List.{slice_split}
-use Rattle.std.proofs.lemmas.List.Splits.{length-slice_split}
-use Rattle.std.proofs.lemmas.List.Sums.{count_by-le-length}
-use Rattle.std.proofs.lemmas.List.{take-append-le, append-nil, length-append, length-take, take_all}
+use Rattle.std.proofs.lemmas.List.{take-append-le, append-nil, take_all}
 use Rattle.std.proofs.lemmas.Option.{slice_get_within}
 use Rattle.tfpg_base.specs.declared.line.Line.{Line}
 use Rattle.tfpg_base.specs.declared.line.Line.TheVariants as line
 use Rattle.tfpg_base.specs.declared.line.LineFault.{LineFault}
 use Rattle.tfpg_base.specs.Outside.{SourceState, Takes, IsAtEnd}
-use Rattle.tfpg_base.specs.Lines.{Reading, LinesState, LinesRepresent, Continues, IsNext, next_whole, lines_of, whole_lines, line_of_part, last_part, ends_line}
+use Rattle.tfpg_base.specs.Lines.{Reading, LinesState, LinesRepresent, Continues, IsNext, next_whole, lines_of, whole_lines, line_of_part, last_part}
 use Rattle.tfpg_base.specs.declared.limits.TheConstants.{MAX_BYTES}
 use Rattle.tfpg_base.proofs.LinesOf.{lines_of-append}
 use Rattle.tfpg_base.proofs.Taking.{Takes-nothing}
+pub use Rattle.tfpg_check.proofs.FewLines.{few_lines}
 use Rattle.tfpg_run.specs.Streams.{HasLeft}
 
 -- ---- what is left of the input
@@ -85,22 +83,6 @@ came_to_end reading before after old reader few goes_on represents continues = g
       end = subst IsAtEnd (sym turn.1) is.1;
       no_fault = ap (λ (source : SourceState). source.faults) turn.1;
     }
-
-short_part : (part : List ℕ) → length (line_of_part part) ≤ 1
-short_part [] = omega arith
-short_part (byte ∷ bytes) = omega arith
-
-pub few_lines : (bytes : List ℕ) → length (lines_of bytes) ≤ length bytes + 1
-few_lines bytes =
-    let parts = slice_split ends_line bytes in
-    omega (
-      arith,
-      length-append (whole_lines bytes) (line_of_part (last_part bytes)),
-      length-take (length parts - 1) parts,
-      short_part (last_part bytes),
-      length-slice_split ends_line bytes,
-      count_by-le-length ends_line bytes,
-    )
 
 -- one line on, fewer are left
 pub falls_short : (number after : ℕ) → number ≤ MAX_BYTES + 1 → after ≡ number + 1 → MAX_BYTES + 2 - after < MAX_BYTES + 2 - number

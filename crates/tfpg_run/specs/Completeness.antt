@@ -8,8 +8,7 @@ use Rattle.tfpg_log.specs.Log.{Logbook}
 use Rattle.tfpg_hyp.specs.Hypotheses.{HasHypotheses}
 use Rattle.tfpg_hyp.specs.declared.limits.TheConstants.{MAX_HYPOTHESES}
 use Rattle.tfpg_report.specs.Blocks.{Block}
-use Rattle.tfpg_report.specs.declared.report_line.ReportLine.{ReportLine}
-use Rattle.tfpg_check.specs.Causes.{AreRead, AreReportLines}
+use Rattle.tfpg_check.specs.Causes.{AreReportLines}
 use Rattle.tfpg_sim.specs.Script.{IsScriptFault}
 use Rattle.tfpg_words.specs.Meaning.{Meaning, Diagnose, Explain, Check, Simulate, Generate}
 use Rattle.tfpg_base.specs.declared.terms.Terms.{Terms}
@@ -48,7 +47,7 @@ pub record CanExplain (shelf : ShelfState) (input : SourceState) (graph_name log
   pub map : (other : Tfpg) → GivesGraph shelf graph_name other → HasMap other (lines_of short.known)
 
 -- The contents of the shelf are known, the files of these names give a graph and a text, and the lines of the input are those of a
--- report of each graph and the lines of each text that the files give, each of which can be read.
+-- report of each graph and the lines of each text that the files give.
 pub record CanCheck (shelf : ShelfState) (input : SourceState) (graph_name log_name : List ℕ) : Type 0 where
   pub files : List (List ℕ × List ℕ)
   pub known : shelf.files ≡ Some files
@@ -58,8 +57,6 @@ pub record CanCheck (shelf : ShelfState) (input : SourceState) (graph_name log_n
   pub short : IsShort input
   pub report : (other : Tfpg) (text : List ℕ) → GivesGraphAndText shelf graph_name log_name other text
       → (terms : Terms) × (blocks : List Block) × AreReportLines (matter_of other text) terms blocks (lines_of short.known)
-  pub readable : (other : Tfpg) → GivesGraph shelf graph_name other
-      → (reads : List ReportLine) × AreRead other (lines_of short.known) reads
 
 -- The contents of the shelf are known, and the files of these names give a graph and a text, which is a right script.
 pub record CanSimulate (shelf : ShelfState) (graph_name script_name : List ℕ) : Type 0 where

@@ -1,14 +1,15 @@
 //! The top call: from the words and the bytes of the outside to the bytes of a report, or of a verdict.
 
-ghost use Rattle.std.specs.Prelude.{◌≡◌, map, string_bytes, OnOk, IfErr, Ok};
-ghost use Rattle.tfpg_words.specs.Meaning.{Meaning, meaning};
+ghost use Rattle.std.specs.Prelude.{◌≡◌, ℕ, List, map, string_bytes, OnOk, IfErr, Ok};
+ghost use Rattle.tfpg_words.specs.Meaning.{Meaning, Check, Diagnose, meaning};
 ghost use Rattle.tfpg_run.specs.Completeness.{CanBeDone, IsCompleted, NothingFails};
 ghost use Rattle.tfpg_words.specs.Plans.{meaning_of};
 ghost use Rattle.tfpg_run.specs.inside.Plans.{AreWithinLimits};
 ghost use Rattle.tfpg_run.specs.EndsOf.{end_of_result};
 ghost use Rattle.tfpg_run.specs.Fetch.{AsksOnly};
 ghost use Rattle.tfpg_run.specs.Run.{RunEnds, CommandEnds};
-ghost use Rattle.tfpg_run.specs.World.{world};
+ghost use Rattle.tfpg_run.specs.World.{World, world};
+ghost use Rattle.tfpg_run.specs.check.AfterDiagnosis.{FollowsDiagnosis};
 ghost use Rattle.tfpg_run.specs.diagnose.Work.{RunsWithin};
 
 use crate::check::check_by_files;
@@ -20,7 +21,7 @@ use crate::simulate::simulate_files;
 use std::alloc::Global;
 use std::sync::ledger::Ledger;
 use tfpg_base::{Shelf, Sink, Source, Steps, Terms};
-use tfpg_check::laws::a_report_has_no_cause;
+use tfpg_check::laws::lines_have_at_most_one_cause;
 use tfpg_graph::laws::a_text_has_at_most_one_first_fault;
 use tfpg_report::laws::a_report_line_says_one_thing;
 use tfpg_words::laws::numbers_are_within_their_limits;
@@ -57,13 +58,20 @@ pub fn run<F: Shelf, S: Source, K: Sink, L: Ledger>(
         RunsWithin meant (world (F.state shelf.old) (S.state input.old) (K.state out.old))
         (world (F.state shelf.new) (S.state input.new) (K.state out.new)) work.old work.new }
 
+    // What a diagnosis has written that is done can be checked by the same graph and the same lines.
+    ensures rechecks { (terms : Terms) (diagnosed : List ℕ) →
+        meaning (map string_bytes words.now) ≡ Ok (Diagnose terms diagnosed) → result ≡ End.Done →
+        (graph log : List ℕ) (later : World) → FollowsDiagnosis diagnosed graph log
+        (world (F.state shelf.old) (S.state input.old) (K.state out.old))
+        (world (F.state shelf.new) (S.state input.new) (K.state out.new)) later → CanBeDone (Check graph log) later }
+
     // No file is asked for but those that the words name.
     ensures asks { AsksOnly (meaning (map string_bytes words.now)) (F.state shelf.old).asked
         (F.state shelf.new).asked }
 {
     numbers_are_within_their_limits();
     a_text_has_at_most_one_first_fault();
-    a_report_has_no_cause();
+    lines_have_at_most_one_cause();
     a_report_line_says_one_thing();
     match plan(alloc, words) {
         Ok(planned) => end_of(perform(alloc, &planned.command, shelf, input, out, work)),

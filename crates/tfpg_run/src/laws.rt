@@ -1,6 +1,6 @@
-//! What the definitions of maps and of reports come to, as functions that do nothing: each says its laws in its clauses.
+//! What the definitions of maps, of reports and of runs come to, as functions that do nothing: each says its laws in its clauses.
 
-ghost use Rattle.std.specs.Prelude.{◌≡◌, ◌<◌, ◌≤◌, ℕ, List, length, [], All, Contains, Some, false, slice_get};
+ghost use Rattle.std.specs.Prelude.{◌≡◌, ◌<◌, ◌≤◌, ℕ, List, length, [], All, Contains, Some, Ok, false, slice_get};
 ghost use Rattle.tfpg_base.specs.declared.activation.Activation.{Activation};
 ghost use Rattle.tfpg_base.specs.declared.terms.Terms.{Terms};
 ghost use Rattle.tfpg_base.specs.Hypothesis.{Hypothesis, believing};
@@ -22,11 +22,21 @@ ghost use Rattle.tfpg_run.specs.diagnose.BlockFindings.{HasFindingInBlock};
 ghost use Rattle.tfpg_report.specs.SetText.{IsHypothesisOf};
 ghost use Rattle.tfpg_run.specs.map.Spelling.{IsActivationOf, SpellsMap, set_line};
 ghost use Rattle.tfpg_run.specs.map.MapText.{map_text};
+ghost use Rattle.tfpg_words.specs.Meaning.{Check, Diagnose};
+ghost use Rattle.tfpg_run.specs.declared.end.End.{End};
+ghost use Rattle.tfpg_run.specs.declared.end.End.TheVariants.{Done};
+ghost use Rattle.tfpg_run.specs.Completeness.{CanBeDone, IsCompleted, NothingFails};
+ghost use Rattle.tfpg_run.specs.Run.{RunEnds};
+ghost use Rattle.tfpg_run.specs.World.{World};
+ghost use Rattle.tfpg_run.specs.check.AfterDiagnosis.{FollowsDiagnosis};
 
+use tfpg_check::laws::lines_have_at_most_one_cause;
 use tfpg_clause::laws::{
     a_refutation_is_finished, a_refutation_leaves_no_trace, a_tree_stays,
     the_front_of_a_tree_is_a_partial_tree,
 };
+use tfpg_graph::laws::a_text_has_at_most_one_first_fault;
+use tfpg_report::laws::a_report_line_says_one_thing;
 use tfpg_sim::laws::a_simulated_log_is_accepted_and_explained;
 
 /// Lines spell at most one map of a valid graph. So a verdict on a map that they spell is the verdict on theirs.
@@ -79,4 +89,20 @@ pub fn a_rejected_set_stays_rejected()
     a_refutation_is_finished();
     the_front_of_a_tree_is_a_partial_tree();
     a_tree_stays();
+}
+
+/// What a diagnosis has written that is done is accepted by `check`, with the same graph file, and with a log file that has the lines of the
+/// input that was diagnosed: the check is done, or memory runs out, where neither files, input nor output fail.
+pub fn what_diagnose_wrote_is_accepted()
+    ensures can_be_done { (terms : Terms) (diagnosed graph log : List ℕ) (before now later : World) →
+        RunEnds (Ok (Diagnose terms diagnosed)) before now Done →
+        FollowsDiagnosis diagnosed graph log before now later → CanBeDone (Check graph log) later }
+    ensures accepted { (terms : Terms) (diagnosed graph log : List ℕ) (before now later after : World)
+        (end : End) → RunEnds (Ok (Diagnose terms diagnosed)) before now Done →
+        FollowsDiagnosis diagnosed graph log before now later →
+        RunEnds (Ok (Check graph log)) later after end → NothingFails later after → IsCompleted end }
+{
+    a_text_has_at_most_one_first_fault();
+    lines_have_at_most_one_cause();
+    a_report_line_says_one_thing();
 }

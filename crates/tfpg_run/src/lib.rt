@@ -2,7 +2,7 @@
 //!
 //! [`run`] is the call that the program makes. It says how it ended by an [`End`], which has an exit code and a line.
 //! [`laws`] says that lines spell at most one map, that the text of a map spells it, that a simulated set is rejected in no
-//! round, and that a rejected set stays rejected.
+//! round, that a rejected set stays rejected, and that what `diagnose` wrote is accepted by `check`.
 //!
 //! ```
 //! // The words `diagnose pump.tfpg`, over a shelf that has the graph, and an input that has a log of it.

@@ -1,0 +1,154 @@
+-- What a diagnosis has written that is done can be checked, and is accepted.
+use Rattle.std.proofs.Common.{◌≡◌, ℕ, List, [], ◌++◌, Some, IfSome, Result, Ok, Err, inl, inr, refl, sym, ap, subst, subst₂, ◌∙◌, append-nil}
+use Rattle.std.proofs.lemmas.List.{append_cancel_left}
+use Rattle.std.proofs.lemmas.Option.{same_Some}
+use Rattle.tfpg_base.specs.declared.terms.Terms.{Terms}
+use Rattle.tfpg_base.specs.Lines.{lines_of}
+use Rattle.tfpg_base.specs.Outside.{Gives, IsAtEnd, Puts, ShelfState, SinkState, SourceState, Takes, file_of}
+use Rattle.tfpg_graph.specs.Graph.{Tfpg}
+use Rattle.tfpg_graph.specs.Text.{Spells}
+use Rattle.tfpg_graph.specs.Valid.{IsValid}
+use Rattle.tfpg_graph.proofs.lemmas.reading.faults.NoFault.{Spells-clean}
+use Rattle.tfpg_check.specs.Report.{IsReport}
+use Rattle.tfpg_words.specs.declared.usage_cause.UsageCause.{UsageCause}
+use Rattle.tfpg_words.specs.Meaning.{Meaning, Check, Diagnose}
+use Rattle.tfpg_run.specs.declared.end.End.{End}
+use Rattle.tfpg_run.specs.declared.end.End.TheVariants.{Done, NoMemory, TooManyHypotheses}
+use Rattle.tfpg_run.specs.declared.fault.StreamFault.{StreamFault}
+use Rattle.tfpg_run.specs.Completeness.{CanBeDone}
+use Rattle.tfpg_run.specs.EndsOf.{end_of_result, end_of_stream_fault}
+use Rattle.tfpg_run.specs.Fetch.{GivesGraph}
+use Rattle.tfpg_run.specs.Outputs.{LineByLineEnds}
+use Rattle.tfpg_run.specs.Run.{RunEnds}
+use Rattle.tfpg_run.specs.World.{World, streams_of}
+use Rattle.tfpg_run.specs.check.AfterDiagnosis.{FollowsDiagnosis}
+use Rattle.tfpg_run.specs.diagnose.RightReport.{IsRightReport}
+use Rattle.tfpg_run.proofs.Completing.{gives_is}
+use Rattle.tfpg_run.proofs.Stops.{fetch_not_done, stream_not_done}
+
+-- ---- what a diagnosis has done
+
+-- A diagnosis took all of the input, and wrote the report of its lines.
+record WroteReport (terms : Terms) (name : List ℕ) (before now : World) : Type 0 where
+  graph : Tfpg
+  gives : GivesGraph before.shelf name graph
+  taken : List ℕ
+  takes : Takes before.input now.input taken
+  at_end : IsAtEnd now.input
+  written : List ℕ
+  writes : Puts before.output now.output written
+  right : IsRightReport graph terms (lines_of taken) written
+
+wrote_report : (terms : Terms) (name : List ℕ) (before now : World) → RunEnds (Ok (Diagnose terms name)) before now Done → WroteReport terms name before now
+wrote_report terms name before now (inl (inl lacks)) = absurd (fetch_not_done lacks.fault (sym lacks.end_is))
+wrote_report terms name before now (inl (inr (inl many))) = let is : Done ≡ TooManyHypotheses many.count = many.end_is in absurd cc
+wrote_report terms name before now (inl (inr (inr file))) = by file.ends.result file.ends.works.ends file.ends.end_is
+  where
+    by : (result : Result (Unit {0}) StreamFault)
+        → LineByLineEnds (IsRightReport file.graph terms) (streams_of before) (streams_of now) file.ends.works.taken file.ends.works.written result
+        → Done ≡ end_of_result end_of_stream_fault result → WroteReport terms name before now
+    by (Ok done) writes is = record {
+      graph = file.graph;
+      gives = file.gives;
+      taken = file.ends.works.taken;
+      takes = file.ends.works.takes;
+      at_end = writes.at_end;
+      written = file.ends.works.written;
+      writes = file.ends.works.writes;
+      right = writes.right;
+    }
+    by (Err fault) stopped is = absurd (stream_not_done fault (sym is))
+wrote_report terms name before now (inr none) = let is : Done ≡ NoMemory = none.1 in absurd cc
+
+-- ---- what is known is what was taken, written and spelled
+
+-- where the source has come to its end, all that it had was taken
+all_taken : (before now : SourceState) (input taken : List ℕ) → before.left ≡ Some input → Takes before now taken → IsAtEnd now → input ≡ taken
+all_taken before now input taken left takes end =
+    let there = subst (λ (l : _). IfSome l (λ (had : List ℕ). (rest : List ℕ) × (now.left ≡ Some rest) × (had ≡ taken ++ rest))) left takes in
+    let none : there.0 ≡ [] = subst (λ (l : _). IfSome l (λ (rest : List ℕ). rest ≡ [])) there.1 end.left in
+    there.2 ∙ ap (λ (rest : List ℕ). taken ++ rest) none ∙ append-nil taken
+
+-- what was appended to what was held was written
+all_written : (before now : SinkState) (held appended written : List ℕ) → before.holds ≡ Some held → now.holds ≡ Some (held ++ appended) → Puts before now written → written ≡ appended
+all_written before now held appended written holds is puts =
+    let own : now.holds ≡ Some (held ++ written) = subst (λ (h : _). IfSome h (λ (had : List ℕ). now.holds ≡ Some (had ++ written))) holds puts in
+    append_cancel_left held written appended (same_Some (held ++ written) (held ++ appended) (sym own ∙ is))
+
+-- a file that is there is given
+is_given : (shelf : ShelfState) (files : List (List ℕ × List ℕ)) (name text : List ℕ) → shelf.files ≡ Some files → file_of files name ≡ Some text → Gives shelf name text
+is_given shelf files name text known is = subst (λ (fs : _). IfSome fs (λ (them : List (List ℕ × List ℕ)). file_of them name ≡ Some text)) (sym known) is
+
+-- a text spells at most one valid graph
+one_graph : (text : List ℕ) (graph other : Tfpg) → Spells text graph → IsValid graph → Spells text other → IsValid other → graph ≡ other
+one_graph text graph other is valid also too = sym (Spells-clean text graph is valid).1 ∙ (Spells-clean text other also too).1
+
+-- ---- the check
+
+module _ (terms : Terms) (diagnosed graph log : List ℕ) (before now later : World) (ends : RunEnds (Ok (Diagnose terms diagnosed)) before now Done)
+    (follows : FollowsDiagnosis diagnosed graph log before now later) where
+  wrote : WroteReport terms diagnosed before now
+  wrote = wrote_report terms diagnosed before now ends
+
+  -- the graph file is there, and spells the graph that was diagnosed
+  gives_graph : GivesGraph later.shelf graph wrote.graph
+  gives_graph = record {
+    text = wrote.gives.text;
+    file = record {
+      gives = is_given later.shelf follows.files graph wrote.gives.text follows.files_are
+          (follows.same_graph ∙ gives_is before.shelf follows.run.files follows.run.files_are diagnosed wrote.gives.text wrote.gives.file.gives);
+      small = wrote.gives.file.small;
+    };
+    spells = wrote.gives.spells;
+    valid = wrote.gives.valid;
+  }
+
+  -- and no other
+  same_graph : (other : Tfpg) → GivesGraph later.shelf graph other → wrote.graph ≡ other
+  same_graph other gives =
+      let there = gives_is later.shelf follows.files follows.files_are in
+      let own = gives_graph in
+      let texts : own.text ≡ gives.text = same_Some own.text gives.text (sym (there graph own.text own.file.gives) ∙ there graph gives.text gives.file.gives) in
+      one_graph gives.text wrote.graph other (subst (λ (text : List ℕ). Spells text wrote.graph) texts own.spells) own.valid gives.spells gives.valid
+
+  -- the log file has the lines that were taken
+  same_lines : (text : List ℕ) → Gives later.shelf log text → lines_of wrote.taken ≡ lines_of text
+  same_lines text gives =
+      let texts : follows.log_text ≡ text =
+      same_Some follows.log_text text (sym follows.log_is ∙ gives_is later.shelf follows.files follows.files_are log text gives) in
+      ap lines_of (sym (all_taken before.input now.input follows.run.input wrote.taken follows.run.input_is wrote.takes wrote.at_end))
+      ∙ sym follows.same_lines ∙ ap lines_of texts
+
+  same_bytes : wrote.written ≡ follows.run.written
+  same_bytes = all_written before.output now.output follows.run.held follows.run.written wrote.written follows.run.held_is follows.run.written_is wrote.writes
+
+  -- What was written can be checked.
+  pub can_check : CanBeDone (Check graph log) later
+  can_check = record {
+    files = follows.files;
+    known = follows.files_are;
+    graph = wrote.graph;
+    log_text = follows.log_text;
+    gives = record {
+      of_graph = gives_graph;
+      file = record { gives = is_given later.shelf follows.files log follows.log_text follows.files_are follows.log_is; small = follows.log_small };
+    };
+    short = record { known = follows.run.written; left = follows.input_is; few = follows.few };
+    report = λ other text gives. (
+      terms,
+      wrote.right.blocks,
+      record {
+        bytes = follows.run.written;
+        report = subst (λ (bytes : List ℕ). IsReport other terms (lines_of text) wrote.right.blocks bytes) same_bytes
+            (subst₂ (λ (g : Tfpg) (lines : List (List ℕ)). IsReport g terms lines wrote.right.blocks wrote.written) (same_graph other gives.of_graph) (same_lines text gives.file.gives)
+            wrote.right.report);
+        lines_are = inl refl;
+      },
+    );
+  }
+
+-- So it is where a run ended so whose words meant the diagnosis.
+pub can_check_after : (words : Result Meaning UsageCause) (end : End) (terms : Terms) (diagnosed graph log : List ℕ) (before now later : World) → words ≡ Ok (Diagnose terms diagnosed) → end ≡ Done
+    → RunEnds words before now end → FollowsDiagnosis diagnosed graph log before now later → CanBeDone (Check graph log) later
+can_check_after words end terms diagnosed graph log before now later means done ends follows =
+    can_check terms diagnosed graph log before now later (subst₂ (λ (w : Result Meaning UsageCause) (e : End). RunEnds w before now e) means done ends) follows
