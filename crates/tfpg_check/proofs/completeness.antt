@@ -18,10 +18,7 @@ pub mod EqualBlocks
 pub mod RightBlocksPass
 pub mod RightFronts
 pub mod NoCause
--- Lines that can be read are those that were written.
-pub mod DecimalTexts
-pub mod WordsOfLines
-pub mod OneLine
+-- What the lines of a report name, and that they have no cause.
 pub mod NamedLines
 pub mod ReportsRead
 -- No lines have two causes.

@@ -18,11 +18,13 @@ LinesOfReportsCanBeRead =
     → IsValid matter.graph → AreReportLines matter terms blocks (lines_of bytes) → length bytes ≤ MAX_BYTES
     → (head : ReportLine) × IsHead terms head × AreRead matter.graph (lines_of bytes) (head ∷ flat_map block_lines blocks)
 
--- A report of a valid graph and a log has no cause, where each of its lines can be read and may come where it stands.
+-- A report of a valid graph and a log has no cause, where its lines say its first line and the lines of its blocks, and each may come where
+-- it stands.
 abbrev pub ReportsHaveNoCause : Type 0
 ReportsHaveNoCause =
-    (matter : Matter) (terms : Terms) (blocks : List Block) (lines : List (List ℕ)) (reads : List ReportLine) (at : ℕ) (why : CheckCause)
-    → IsValid matter.graph → AreReportLines matter terms blocks lines → AreRead matter.graph lines reads → IsCause matter lines at why → ⊥
+    (matter : Matter) (terms : Terms) (blocks : List Block) (lines : List (List ℕ)) (head : ReportLine) (at : ℕ) (why : CheckCause)
+    → IsValid matter.graph → AreReportLines matter terms blocks lines
+    → IsHead terms head → AreRead matter.graph lines (head ∷ flat_map block_lines blocks) → IsCause matter lines at why → ⊥
 
 -- So bytes, not too many, whose lines are those of a report of a valid graph and a log have no cause.
 abbrev pub ShortReportsHaveNoCause : Type 0

@@ -47,7 +47,7 @@ pub fn the_lines_of_a_report_can_be_read()
 pub fn a_report_has_no_cause()
     ensures { ReportsHaveNoCause }
 {
-    a_round_is_of_its_graph();
+    a_report_line_says_one_thing();
 }
 
 /// Lines have at most one cause for which they are not accepted, at one line. Where they are those of at most 2^32 bytes and of a report of a

@@ -1,5 +1,5 @@
 -- The lines of a report name only what its graph has.
-use Rattle.std.proofs.Common.{◌≡◌, ℕ, ◌+◌, cond, eqb, Bool, true, false, List, [], ◌∷◌, ◌++◌, length, get_or, map, take, All, Some, slice_get, sym, subst}
+use Rattle.std.proofs.Common.{◌≡◌, ℕ, ◌+◌, cond, eqb, Bool, true, false, ◌<◌, List, [], ◌∷◌, ◌++◌, length, get_or, map, take, All, Some, slice_get, sym, subst}
 use Rattle.std.specs.Prelude.{flat_map}
 use Rattle.std.proofs.lemmas.List.Elements.{All-nil, All-cons, All-append, All-contains, All-filter, All-map}
 use Rattle.tfpg_base.specs.declared.terms.Terms.{Terms}
@@ -16,12 +16,13 @@ use Rattle.tfpg_evidence.specs.declared.finding.Status.TheVariants as status
 use Rattle.tfpg_evidence.specs.declared.round.Round.{Round as RoundOf}
 use Rattle.tfpg_evidence.specs.declared.step.Step.{Step}
 use Rattle.tfpg_evidence.specs.declared.step.Step.TheVariants as step
-use Rattle.tfpg_evidence.specs.RoundOf.{IsFindingOf, IsStatusOf, IsStepOf, finding_numbered, is_open}
+use Rattle.tfpg_evidence.specs.RoundOf.{IsClauseOf, IsFindingOf, IsReasonOf, IsStatusOf, IsStepOf, finding_numbered, is_open}
 use Rattle.tfpg_evidence.specs.Findings.{hypothesis_of, is_rejected_now, newly_rejected, open_in, ranked_in_order}
 use Rattle.tfpg_hyp.specs.Rounds.{IsRound}
 use Rattle.tfpg_hyp.proofs.FindingsOfRound.{evidence}
 use Rattle.tfpg_report.specs.declared.report_line.ReportLine.{ReportLine}
-use Rattle.tfpg_report.specs.declared.report_line.ReportLine.TheVariants.{Refused, Hyp, Split, Cycle, Why, Again, Ranked, At, Counts}
+use Rattle.tfpg_report.specs.declared.report_line.ReportLine.TheVariants.{Head, OldHead, Refused, Round, Hyp, Split, Cycle, Why, Again, Ranked, At, Open, Rejected, Counts, Panel}
+use Rattle.tfpg_report.specs.ReportLines.{hypothesis_with}
 use Rattle.tfpg_report.specs.SetText.{IsHypothesisOf}
 use Rattle.tfpg_report.specs.Blocks.{Block, RefusedBlock, RoundBlock, block_lines, lines_of_finding, lines_if_ranked, loss_line, open_line, rejected_line, round_lines}
 use Rattle.tfpg_report.specs.ReadRounds.{step_lines}
@@ -30,7 +31,24 @@ use Rattle.tfpg_check.proofs.EqualSayings.{RoundsAreOfTheirGraph}
 use Rattle.tfpg_check.proofs.RoundsOfReports.{round_there}
 use Rattle.tfpg_check.proofs.completeness.LinesOfBlocks.{round_line, middle}
 use Rattle.tfpg_check.proofs.completeness.MappedLists.{All-flat_map}
-use Rattle.tfpg_check.proofs.completeness.WordsOfLines.{NamesOfGraph}
+
+-- The line names only what the graph has.
+abbrev pub NamesOfGraph : Tfpg → ReportLine → Type 0
+NamesOfGraph graph (Head terms) = Unit {0}
+NamesOfGraph graph (OldHead k budget) = Unit {0}
+NamesOfGraph graph (Refused line cause) = Unit {0}
+NamesOfGraph graph (Round number line now) = Unit {0}
+NamesOfGraph graph (Hyp number) = Unit {0}
+NamesOfGraph graph (Split name) = IsClauseOf (sizes_of graph) name
+NamesOfGraph graph (Cycle count) = Unit {0}
+NamesOfGraph graph (Why reason) = IsReasonOf (sizes_of graph) reason
+NamesOfGraph graph Again = Unit {0}
+NamesOfGraph graph (Ranked number cost alarmed monitored set doubts) = IsHypothesisOf graph (hypothesis_with set doubts)
+NamesOfGraph graph (At activation) = activation.node < length graph.nodes
+NamesOfGraph graph (Open number set doubts) = IsHypothesisOf graph (hypothesis_with set doubts)
+NamesOfGraph graph (Rejected number set doubts) = IsHypothesisOf graph (hypothesis_with set doubts)
+NamesOfGraph graph (Counts counts) = Unit {0}
+NamesOfGraph graph (Panel panel no_memory) = Unit {0}
 
 module _ (of_graph : RoundsAreOfTheirGraph) (graph : Tfpg) where
   abbrev AreNamed : List ReportLine → Type 0

@@ -1,14 +1,11 @@
 -- Lines have no more than one cause for which they are not accepted, at one line.
-use Rattle.std.proofs.Common.{◌≡◌, ◌⊎◌, ℕ, ◌+◌, ◌<◌, List, [], ◌∷◌, ◌++◌, length, take, Option, Some, None, Result, Ok, Err, slice_get, inl, inr, refl, sym, ap, subst, subst₂, ◌∙◌, arith, append-nil, length-append}
+use Rattle.std.proofs.Common.{◌≡◌, ◌⊎◌, ℕ, ◌+◌, ◌<◌, List, [], ◌∷◌, ◌++◌, length, take, Option, Some, None, Result, Ok, Err, slice_get, inl, inr, sym, ap, subst, subst₂, ◌∙◌, arith, append-nil, length-append}
 use Rattle.std.proofs.Math.Seq.{take-append_seam}
 use Rattle.std.proofs.lemmas.Bool.{cases_order}
 use Rattle.std.proofs.lemmas.List.{append_cancel_left, take_all}
 use Rattle.tfpg_base.specs.declared.terms.Terms.{Terms}
-use Rattle.tfpg_base.specs.Hypothesis.{Hypothesis}
 use Rattle.tfpg_base.proofs.lists.Cuts.{cut_twice}
-use Rattle.tfpg_graph.specs.Graph.{Tfpg}
 use Rattle.tfpg_log.specs.declared.event.Event.{Event}
-use Rattle.tfpg_log.specs.Log.{Logbook}
 use Rattle.tfpg_clause.specs.Laws.{PresentLeavesAreAlone, RefutationsAreNotPartial}
 use Rattle.tfpg_hyp.proofs.Tables.{one_table}
 use Rattle.tfpg_report.specs.declared.read_round.ReadRound.{ReadRound}
@@ -19,7 +16,7 @@ use Rattle.tfpg_report.specs.Blocks.{Block}
 use Rattle.tfpg_report.specs.Reading.{begun_in}
 use Rattle.tfpg_report.proofs.lemmas.laws.LinesOfOneRound.{one_round_read}
 use Rattle.tfpg_check.specs.declared.cause.CheckCause.{CheckCause}
-use Rattle.tfpg_check.specs.Causes.{AreRead, AreRight, AreRightSoFar, BlockFails, EndFails, IsCause, IsDocketOf, LineFails, Matter, RefusedBlockFails, RefusedFails, RoundBlockFails, RoundOfLineFails, next_event}
+use Rattle.tfpg_check.specs.Causes.{AreRight, BlockFails, EndFails, IsCause, IsDocketOf, LineFails, Matter, RefusedBlockFails, RefusedFails, RoundBlockFails, RoundOfLineFails, next_event}
 use Rattle.tfpg_check.specs.Judging.{Docket, RoundFails}
 use Rattle.tfpg_check.specs.RightReports.{LinesHaveOneCause}
 use Rattle.tfpg_check.proofs.FirstLines.{OneLine}

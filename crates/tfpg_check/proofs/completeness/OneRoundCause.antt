@@ -1,6 +1,6 @@
 -- A round fails at no more than one line, and for no more than one cause.
-use Rattle.std.proofs.Common.{◌≡◌, ℕ, ◌<◌, List, [], ◌∷◌, ◌++◌, map, take, Some, slice_get, inl, inr, sym, ap, subst, subst₂, ◌∙◌}
-use Rattle.std.specs.Prelude.{AllPairs, Contains, option_map, unwrap_or}
+use Rattle.std.proofs.Common.{◌≡◌, ℕ, ◌<◌, List, [], ◌∷◌, ◌++◌, map, take, slice_get, inl, inr, sym, ap, subst, subst₂, ◌∙◌}
+use Rattle.std.specs.Prelude.{option_map, unwrap_or}
 use Rattle.std.proofs.lemmas.Bool.{cases_order}
 use Rattle.std.proofs.lemmas.Option.{same_Some}
 use Rattle.tfpg_base.specs.Hypothesis.{Hypothesis}
@@ -9,7 +9,6 @@ use Rattle.tfpg_graph.proofs.lemmas.reach.Reaches.{reach_is_one}
 use Rattle.tfpg_evidence.specs.declared.step.Step.{Step}
 use Rattle.tfpg_clause.specs.Laws.{PresentLeavesAreAlone, RefutationsAreNotPartial}
 use Rattle.tfpg_clause.specs.Paths.{judged_by, with_steps}
-use Rattle.tfpg_kernel.specs.declared.taken.BadStep.{BadStep}
 use Rattle.tfpg_kernel.specs.Breaks.{IsFirstBroken}
 use Rattle.tfpg_kernel.proofs.FirstBroken.{first_broken_unique}
 use Rattle.tfpg_hyp.specs.Views.{IsReachOf, case_for}
@@ -20,7 +19,7 @@ use Rattle.tfpg_report.specs.declared.read_round.ReadRound.{ReadRound}
 use Rattle.tfpg_check.specs.declared.cause.CheckCause.{CheckCause}
 use Rattle.tfpg_check.specs.declared.cause.CheckCause.TheVariants as cause
 use Rattle.tfpg_check.specs.Tests.{Fails, InTurn, Owes, Then}
-use Rattle.tfpg_check.specs.Judging.{AreNewlyClosed, AreRightCounts, BeginsWell, Docket, EachHasStatus, MayBeOpen, MayBeRanked, MayHaveSteps, NumberedHypothesis, OpenFails, PartFails, RankedFails, RejectedFails, RoundFails, StepFails, cause_of_step, named_by}
+use Rattle.tfpg_check.specs.Judging.{AreNewlyClosed, Docket, MayBeOpen, MayHaveSteps, NumberedHypothesis, OpenFails, PartFails, RankedFails, RejectedFails, RoundFails, StepFails, cause_of_step, named_by}
 use Rattle.tfpg_check.proofs.passing.ByNumber.{same_by_number}
 
 -- ---- tests

@@ -21,9 +21,9 @@ use Rattle.tfpg_report.specs.Stands.{may_begin_block, stand_of}
 use Rattle.tfpg_check.specs.RightReports.{LinesOfReportsCanBeRead, ShortReportsHaveNoCause}
 use Rattle.tfpg_check.proofs.EqualSayings.{RoundsAreOfTheirGraph}
 use Rattle.tfpg_check.proofs.FewLines.{few_lines}
-use Rattle.tfpg_check.proofs.completeness.NamedLines.{blocks_named}
+use Rattle.tfpg_check.proofs.FirstLines.{OneLine}
 use Rattle.tfpg_check.proofs.completeness.ReportsRead.{has_lines, reports_have_no_cause}
-use Rattle.tfpg_check.proofs.completeness.WordsOfLines.{NamesOfGraph}
+use Rattle.tfpg_check.proofs.completeness.NamedLines.{NamesOfGraph, blocks_named}
 use Rattle.tfpg_check.proofs.readable.RightBlocks.{blocks_in_order, blocks_small}
 use Rattle.tfpg_check.proofs.readable.ShortLines.{line_short}
 use Rattle.tfpg_check.proofs.readable.SmallNumbers.{HasSmallNumbers, line_within}
@@ -85,7 +85,7 @@ lines_can_be_read of_graph in_order matter terms blocks bytes valid are few =
     )
 
 -- So they have no cause.
-pub short_reports_have_no_cause : RoundsAreOfTheirGraph → LinesComeInOrder → ShortReportsHaveNoCause
-short_reports_have_no_cause of_graph in_order matter terms blocks bytes at why valid are few cause =
+pub short_reports_have_no_cause : OneLine → RoundsAreOfTheirGraph → LinesComeInOrder → ShortReportsHaveNoCause
+short_reports_have_no_cause one_line of_graph in_order matter terms blocks bytes at why valid are few =
     let read = lines_can_be_read of_graph in_order matter terms blocks bytes valid are few in
-    reports_have_no_cause of_graph matter terms blocks (lines_of bytes) (read.0 ∷ flat_map block_lines blocks) at why valid are read.2 cause
+    reports_have_no_cause one_line matter terms blocks (lines_of bytes) read.0 at why valid are read.1 read.2

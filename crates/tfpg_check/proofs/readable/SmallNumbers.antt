@@ -11,7 +11,7 @@ use Rattle.tfpg_clause.specs.Order.{horizon_of, span_of}
 use Rattle.tfpg_report.specs.declared.report_line.ReportLine.{ReportLine}
 use Rattle.tfpg_report.specs.declared.report_line.ReportLine.TheVariants.{Head, OldHead, Refused, Round, Hyp, Split, Cycle, Why, Again, Ranked, At, Open, Rejected, Counts, Panel}
 use Rattle.tfpg_report.specs.ReportLines.{AreCountsWithin, IsCauseWithin, IsLineWithin, IsNameWithin, IsReasonWithin, IsSmall}
-use Rattle.tfpg_check.proofs.completeness.WordsOfLines.{NamesOfGraph}
+use Rattle.tfpg_check.proofs.completeness.NamedLines.{NamesOfGraph}
 
 -- The span and the horizon of a clause are within their limits.
 abbrev pub HasSmallName : ClauseName → Type 0

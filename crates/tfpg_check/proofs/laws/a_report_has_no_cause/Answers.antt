@@ -2,4 +2,4 @@ use Rattle.tfpg_check.proofs.completeness.ReportsRead.{reports_have_no_cause}
 use Rattle.tfpg_check.proofs.laws.a_report_has_no_cause.Goals as goal
 
 pub returns : goal.returns
-returns c = reports_have_no_cause c.a_round_is_of_its_graph.ensures
+returns c = reports_have_no_cause c.a_report_line_says_one_thing.ensures
