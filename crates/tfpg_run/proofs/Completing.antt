@@ -1,5 +1,5 @@
 -- A run ends well where nothing stands in its way.
-use Rattle.std.proofs.Common.{◌≡◌, ℕ, ◌+◌, ◌<◌, ◌≤◌, List, ◌++◌, length, take, drop, Option, Some, IfSome, Result, Ok, Err, refl, sym, ap, subst, ◌∙◌, inl, inr, ⊎_elim, arith}
+use Rattle.std.proofs.Common.{◌≡◌, ℕ, ◌+◌, ◌<◌, ◌≤◌, Bool, true, false, List, ◌++◌, length, take, drop, Option, Some, IfSome, Result, Ok, Err, refl, sym, ap, subst, ◌∙◌, inl, inr, ⊎_elim, arith}
 use Rattle.std.specs.Prelude.{OnOk, IfErr}
 use Rattle.std.proofs.lemmas.List.{length-append, take-append-drop}
 use Rattle.std.proofs.lemmas.Option.{same_Some}
@@ -12,6 +12,7 @@ use Rattle.tfpg_graph.specs.Graph.{Tfpg}
 use Rattle.tfpg_graph.specs.Text.{Spells}
 use Rattle.tfpg_graph.specs.Valid.{IsValid}
 use Rattle.tfpg_graph.specs.Faults.{IsFirstFault}
+use Rattle.tfpg_json.specs.GraphText.{IsJsonFault, SpellsAsJson}
 use Rattle.tfpg_log.specs.Log.{Logbook}
 use Rattle.tfpg_report.specs.Blocks.{Block}
 use Rattle.tfpg_check.specs.Causes.{AreReportLines, IsCause, Matter}
@@ -19,7 +20,7 @@ use Rattle.tfpg_check.specs.RightReports.{ShortReportsHaveNoCause}
 use Rattle.tfpg_check.proofs.FirstLines.{OneLine, few_hypotheses}
 use Rattle.tfpg_sim.specs.Script.{IsScriptFault}
 use Rattle.tfpg_words.specs.declared.usage_cause.UsageCause.{UsageCause}
-use Rattle.tfpg_words.specs.Meaning.{Meaning, Diagnose, Explain, Check, Simulate, Generate}
+use Rattle.tfpg_words.specs.Meaning.{Meaning, Diagnose, Explain, Check, Simulate, Generate, Convert}
 use Rattle.tfpg_run.specs.declared.end.End.{End}
 use Rattle.tfpg_run.specs.declared.end.End.TheVariants as ends
 use Rattle.tfpg_run.specs.declared.fault.FetchFault.{FetchFault}
@@ -32,16 +33,17 @@ use Rattle.tfpg_run.specs.declared.fault.CheckFault.{CheckFault}
 use Rattle.tfpg_run.specs.declared.fault.CheckFault.TheVariants as check
 use Rattle.tfpg_run.specs.declared.fault.SimulateFault.{SimulateFault}
 use Rattle.tfpg_run.specs.declared.fault.SimulateFault.TheVariants as simulate
-use Rattle.tfpg_run.specs.declared.fault.GenerateFault.{GenerateFault}
-use Rattle.tfpg_run.specs.declared.fault.GenerateFault.TheVariants as generate
-use Rattle.tfpg_run.specs.Completeness.{CanCheck, CanDiagnose, CanExplain, CanSimulate, CanBeDone, NothingFails, IsShort, IsCompleted}
-use Rattle.tfpg_run.specs.EndsOf.{end_of_fetch_fault, end_of_stream_fault, end_of_check_fault, end_of_explain_fault, end_of_simulate_fault, end_of_generate_fault, end_of_result}
-use Rattle.tfpg_run.specs.Fetch.{HasFile, IsTooLong, GivesGraph, HasFaultyGraph, IsFetchFault, IsFilesFault}
-use Rattle.tfpg_run.specs.generate.Generating.{GenerationEnds}
+use Rattle.tfpg_run.specs.declared.fault.OutputFault.{OutputFault}
+use Rattle.tfpg_run.specs.declared.fault.OutputFault.TheVariants as output
+use Rattle.tfpg_run.specs.Completeness.{CanCheck, CanConvert, CanDiagnose, CanExplain, CanSimulate, CanBeDone, NothingFails, IsShort, IsCompleted}
+use Rattle.tfpg_run.specs.EndsOf.{end_of_fetch_fault, end_of_stream_fault, end_of_check_fault, end_of_explain_fault, end_of_simulate_fault, end_of_output_fault, end_of_result}
+use Rattle.tfpg_run.specs.Fetch.{HasFile, IsTooLong, GivesGraph, GivesGraphBy, HasFaultyGraphBy, IsFetchFaultBy, IsFilesFault}
+use Rattle.tfpg_run.specs.generate.Generating.{HasSummary}
+use Rattle.tfpg_run.specs.convert.Converting.{ConvertEnds, IsFaultFrom, SpellsFrom, converted_text}
 use Rattle.tfpg_run.specs.check.Checking.{CheckEnds, CheckingEnds, HasTooManyInHead, matter_of}
 use Rattle.tfpg_run.specs.explain.Explaining.{ExplainEnds, ExplainingEnds}
 use Rattle.tfpg_run.specs.map.Spelling.{HasMap, BeginsMap, IsMapFault}
-use Rattle.tfpg_run.specs.Outputs.{IsStreamFault, LineByLineEnds}
+use Rattle.tfpg_run.specs.Outputs.{IsStreamFault, LineByLineEnds, TextEnds}
 use Rattle.tfpg_run.specs.Run.{CommandEnds, RunEnds}
 use Rattle.tfpg_run.specs.diagnose.Diagnosing.{DiagnoseEnds}
 use Rattle.tfpg_run.specs.diagnose.RightReport.{IsRightReport}
@@ -49,9 +51,19 @@ use Rattle.tfpg_run.specs.simulate.Simulating.{HasSimulation, SimulateEnds, Simu
 use Rattle.tfpg_run.specs.Streams.{HasLeft}
 use Rattle.tfpg_run.specs.World.{World, streams_of}
 
--- no text of a valid graph has a fault
-abbrev NoFaultOfValid : Type 0
-NoFaultOfValid = (text : List ℕ) (graph : Tfpg) → Spells text graph → IsValid graph → (fault : GraphFault) → IsFirstFault text fault → ⊥
+-- no text of a valid graph has a fault, for any notions of both
+abbrev NoFaultBy : (List ℕ → Tfpg → Type 0) → (List ℕ → GraphFault → Type 0) → Type 0
+NoFaultBy SpellsIt IsFirst = (text : List ℕ) (graph : Tfpg) → SpellsIt text graph → IsValid graph → (fault : GraphFault) → IsFirst text fault → ⊥
+
+-- no graph text of a valid graph has one, and no JSON
+pub record GraphLaws : Type 0 where
+  pub text : NoFaultBy Spells IsFirstFault
+  pub json : NoFaultBy SpellsAsJson IsJsonFault
+
+-- nor has what is read to be converted
+no_fault_from : GraphLaws → (json : Bool) → NoFaultBy (SpellsFrom json) (IsFaultFrom json)
+no_fault_from laws true = laws.json
+no_fault_from laws false = laws.text
 
 -- What no report has, and what bytes say: the laws that a report that is checked needs.
 pub record CheckLaws : Type 0 where
@@ -74,20 +86,22 @@ module _ (shelf : ShelfState) (files : List (List ℕ × List ℕ)) (known : she
       let long_is : length text ≡ length (front ++ there.0) = ap length same in
       omega (arith, long_is, length-append front there.0, long.1.0, there.1, small)
 
-  module _ (law : NoFaultOfValid) (name : List ℕ) (graph : Tfpg) (gives : GivesGraph shelf name graph) where
+  module _ (SpellsIt : List ℕ → Tfpg → Type 0) (IsFirst : List ℕ → GraphFault → Type 0) (law : NoFaultBy SpellsIt IsFirst)
+      (name : List ℕ) (graph : Tfpg) (gives : GivesGraphBy SpellsIt shelf name graph) where
     -- a graph that is there has no fault
-    no_graph_fault : (fault : GraphFault) → HasFaultyGraph shelf name fault → ⊥
+    no_graph_fault : (fault : GraphFault) → HasFaultyGraphBy IsFirst shelf name fault → ⊥
     no_graph_fault fault faulty =
         let same : faulty.text ≡ gives.text = same_Some _ _ (sym (gives_is name faulty.text faulty.file.gives) ∙ gives_is name gives.text gives.file.gives) in
-        law gives.text graph gives.spells gives.valid fault (subst (λ (t : List ℕ). IsFirstFault t fault) same faulty.first)
+        law gives.text graph gives.spells gives.valid fault (subst (λ (t : List ℕ). IsFirst t fault) same faulty.first)
 
     -- where it is not fetched, memory ran out
-    fetched : (now : ShelfState) (fault : FetchFault) → (Rose shelf.faults now.faults → ⊥) → IsFetchFault shelf now name fault → fault ≡ NoMemory
+    fetched : (now : ShelfState) (fault : FetchFault) → (Rose shelf.faults now.faults → ⊥) → IsFetchFaultBy IsFirst shelf now name fault → fault ≡ NoMemory
     fetched now Failed calm is = absurd (calm is)
     fetched now TooLong calm is = absurd (not_too_long name gives.text gives.file.gives gives.file.small is.0)
     fetched now (Graph fault) calm is = absurd (no_graph_fault fault is.0)
     fetched now NoMemory calm is = refl
 
+  module _ (laws : GraphLaws) (name : List ℕ) (graph : Tfpg) (gives : GivesGraph shelf name graph) where
     -- so it is with two files
     both_fetched : (now : ShelfState) (other text : List ℕ) → HasFile shelf other text → (fault : FetchFault) → (Rose shelf.faults now.faults → ⊥)
         → IsFilesFault shelf now name other fault → fault ≡ NoMemory
@@ -96,7 +110,7 @@ module _ (shelf : ShelfState) (files : List (List ℕ × List ℕ)) (known : she
         (λ long. absurd (not_too_long name gives.text gives.file.gives gives.file.small long))
         (λ long. absurd (not_too_long other text file.gives file.small long.2))
         is.0
-    both_fetched now other text file (Graph fault) calm is = absurd (no_graph_fault fault is.1)
+    both_fetched now other text file (Graph fault) calm is = absurd (no_graph_fault Spells IsFirstFault laws.text name graph gives fault is.1)
     both_fetched now other text file NoMemory calm is = refl
 
 -- ---- input that is short
@@ -134,7 +148,7 @@ without_memory end fault is e = e ∙ ap end_of_fetch_fault is
 
 -- ---- each command
 
-module _ (law : NoFaultOfValid) (laws : CheckLaws) (before now : World) (calm : NothingFails before now) where
+module _ (graphs : GraphLaws) (laws : CheckLaws) (before now : World) (calm : NothingFails before now) where
   -- a diagnosis has no fault but that memory ran out
   no_stream_fault : IsShort before.input → (taken : List ℕ) → Takes before.input now.input taken → (fault : StreamFault) → IsStreamFault (streams_of before) (streams_of now) taken fault → fault ≡ streams.NoMemory
   no_stream_fault short taken takes streams.ReadFault is = absurd (calm.input is.0)
@@ -148,7 +162,7 @@ module _ (law : NoFaultOfValid) (laws : CheckLaws) (before now : World) (calm : 
   diagnosed : IsShort before.input → (end : End) (terms : Terms) (name : List ℕ) → CanDiagnose before.shelf terms name → DiagnoseEnds terms name before now end
       → IsCompleted end
   diagnosed short end terms name can (inl lacks) =
-      inr (without_memory end lacks.fault (fetched before.shelf can.files can.known law name can.graph can.gives now.shelf lacks.fault calm.shelf lacks.is_fault) lacks.end_is)
+      inr (without_memory end lacks.fault (fetched before.shelf can.files can.known Spells IsFirstFault graphs.text name can.graph can.gives now.shelf lacks.fault calm.shelf lacks.is_fault) lacks.end_is)
   diagnosed short end terms name can (inr (inl many)) = absurd (omega (arith, many.too_many, can.few many.graph many.count many.gives many.counted))
   diagnosed short end terms name can (inr (inr file)) = go file.ends.result file.ends.works.ends file.ends.end_is
     where
@@ -176,7 +190,7 @@ module _ (law : NoFaultOfValid) (laws : CheckLaws) (before now : World) (calm : 
   explained end graph_name log_name can (inl lacks) =
       let file : HasFile before.shelf log_name can.gives.text = can.gives.gives.file in
       inr (without_memory end lacks.fault
-      (both_fetched before.shelf can.files can.known law graph_name can.graph can.gives.gives.of_graph now.shelf log_name can.gives.text file lacks.fault calm.shelf lacks.is_fault) lacks.end_is)
+      (both_fetched before.shelf can.files can.known graphs graph_name can.graph can.gives.gives.of_graph now.shelf log_name can.gives.text file lacks.fault calm.shelf lacks.is_fault) lacks.end_is)
   explained end graph_name log_name can (inr explains) =
       let map : HasMap explains.graph (lines_of can.short.known) = can.map explains.graph explains.gives.gives.of_graph in
       subst IsCompleted (sym explains.works.end_is)
@@ -208,7 +222,7 @@ module _ (law : NoFaultOfValid) (laws : CheckLaws) (before now : World) (calm : 
   checked : (end : End) (graph_name log_name : List ℕ) → CanCheck before.shelf before.input graph_name log_name → CheckEnds graph_name log_name before now end → IsCompleted end
   checked end graph_name log_name can (inl lacks) =
       inr (without_memory end lacks.fault
-      (both_fetched before.shelf can.files can.known law graph_name can.graph can.gives.of_graph now.shelf log_name can.log_text can.gives.file lacks.fault calm.shelf lacks.is_fault) lacks.end_is)
+      (both_fetched before.shelf can.files can.known graphs graph_name can.graph can.gives.of_graph now.shelf log_name can.log_text can.gives.file lacks.fault calm.shelf lacks.is_fault) lacks.end_is)
   checked end graph_name log_name can (inr checks) =
       let report = can.report checks.graph checks.other checks.gives in
       subst IsCompleted (sym checks.works.end_is)
@@ -227,24 +241,33 @@ module _ (law : NoFaultOfValid) (laws : CheckLaws) (before now : World) (calm : 
       → SimulateEnds IsRight graph_name script_name before now end → IsCompleted end
   simulated_files end IsRight graph_name script_name can (inl lacks) =
       inr (without_memory end lacks.fault
-      (both_fetched before.shelf can.files can.known law graph_name can.graph can.gives.of_graph now.shelf script_name can.script can.gives.file lacks.fault calm.shelf lacks.is_fault) lacks.end_is)
+      (both_fetched before.shelf can.files can.known graphs graph_name can.graph can.gives.of_graph now.shelf script_name can.script can.gives.file lacks.fault calm.shelf lacks.is_fault) lacks.end_is)
   simulated_files end IsRight graph_name script_name can (inr simulates) =
       subst IsCompleted (sym simulates.works.end_is)
       (simulated IsRight simulates.graph simulates.other (λ line. can.right simulates.graph simulates.other line simulates.gives) simulates.works.result simulates.works.works)
 
-  -- what is drawn
-  drawn : (draw size : ℕ) (result : Result (Unit {0}) GenerateFault) → GenerationEnds draw size before.output now.output result
-      → IsCompleted (end_of_result end_of_generate_fault result)
-  drawn draw size (Ok done) is = inl refl
-  drawn draw size (Err generate.WriteFault) is = absurd (calm.output is.rose)
-  drawn draw size (Err generate.NoMemory) is = inr refl
+  -- one text that is written
+  text_written : (IsRight : List ℕ → Type 0) (result : Result (Unit {0}) OutputFault) → TextEnds IsRight before.output now.output result
+      → IsCompleted (end_of_result end_of_output_fault result)
+  text_written IsRight (Ok done) is = inl refl
+  text_written IsRight (Err output.WriteFault) is = absurd (calm.output is.rose)
+  text_written IsRight (Err output.NoMemory) is = inr refl
+
+  -- a graph that is converted
+  converted : (json : Bool) (end : End) (name : List ℕ) → CanConvert before.shelf json name → ConvertEnds json name before now end → IsCompleted end
+  converted json end name can (inl lacks) =
+      inr (without_memory end lacks.fault
+      (fetched before.shelf can.files can.known (SpellsFrom json) (IsFaultFrom json) (no_fault_from graphs json) name can.graph can.gives now.shelf lacks.fault calm.shelf lacks.is_fault) lacks.end_is)
+  converted json end name can (inr converts) =
+      subst IsCompleted (sym converts.ends.end_is) (text_written (λ text. text ≡ converted_text json converts.graph) converts.ends.result converts.ends.works)
 
   completed : (meant : Meaning) (end : End) → CanBeDone meant before → CommandEnds (Ok meant) before now end → IsCompleted end
   completed (Diagnose terms graph) end can is = diagnosed can.1 end terms graph can.0 is
   completed (Explain graph log) end can is = explained end graph log can is
   completed (Check graph log) end can is = checked end graph log can is
   completed (Simulate draw trace graph script) end can is = simulated_files end (HasSimulation draw trace) graph script can is.0
-  completed (Generate draw size) end can is = subst IsCompleted (sym is.0.end_is) (drawn draw size is.0.result is.0.works)
+  completed (Generate draw size) end can is = subst IsCompleted (sym is.0.end_is) (text_written (HasSummary draw size) is.0.result is.0.works)
+  completed (Convert json graph) end can is = converted json end graph can is.0
 
   -- the whole run
   pub run_completes : (words : Result Meaning UsageCause) (meant : Meaning) (end : End) → words ≡ Ok meant → CanBeDone meant before → RunEnds words before now end

@@ -5,5 +5,6 @@ pub mod Putting
 pub mod InputLines
 pub mod Stops
 pub mod Completing
+pub mod ConvertedBack
 -- The lemmas of each room, in a folder named like that of the source.
 pub mod lemmas

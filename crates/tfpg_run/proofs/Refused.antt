@@ -1,5 +1,5 @@
 -- Files that give no graph, or no log.
-use Rattle.std.proofs.Common.{◌≡◌, ◌⊎◌, ℕ, ◌<◌, List, [], ◌∷◌, ◌++◌, length, take, Option, Some, None, IfSome, ap, subst, ◌∙◌, inl, inr, append_assoc}
+use Rattle.std.proofs.Common.{◌≡◌, ◌⊎◌, ℕ, ◌<◌, Bool, true, false, List, [], ◌∷◌, ◌++◌, length, take, Option, Some, None, IfSome, ap, subst, ◌∙◌, inl, inr, append_assoc}
 use Rattle.tfpg_base.specs.declared.outside.ShelfFault.{ShelfFault}
 use Rattle.tfpg_base.specs.declared.outside.ShelfFault.TheVariants as faults
 use Rattle.tfpg_base.specs.Outside.{ShelfState, Rose, NotesName, file_of}
@@ -7,13 +7,17 @@ use Rattle.tfpg_graph.specs.declared.cause.GraphRefusal.{GraphRefusal}
 use Rattle.tfpg_graph.specs.declared.cause.GraphRefusal.TheVariants.{Fault, NoMemory}
 use Rattle.tfpg_graph.specs.Faults.{IsRefusalOf}
 use Rattle.tfpg_run.specs.inside.Faults.{IsFileFault, fetch_fault_of_refusal, fetch_fault_of_shelf}
-use Rattle.tfpg_run.specs.Fetch.{HasFile, IsTooLong, IsFetchFault, IsFilesFault, AsksFor, AsksInOrder}
+use Rattle.tfpg_run.specs.Fetch.{HasFile, IsTooLong, IsFetchFaultBy, IsFilesFault, AsksFor, AsksInOrder}
+use Rattle.tfpg_run.specs.convert.Converting.{IsFaultFrom}
+use Rattle.tfpg_run.specs.inside.convert.Refusals.{IsRefusalFrom}
 
--- the refusal of a text that was fetched is why there is no graph
-pub IsFetchFault-refused : (before now : ShelfState) (name text : List ℕ) (refusal : GraphRefusal)
-    → HasFile before name text → now.faults ≡ before.faults → IsRefusalOf text refusal → IsFetchFault before now name (fetch_fault_of_refusal refusal)
-IsFetchFault-refused before now name text (Fault fault) file unchanged refused = (record { text = text; file = file; first = refused }, unchanged)
-IsFetchFault-refused before now name text NoMemory file unchanged refused = unchanged
+-- the refusal of a text that was fetched is why there is no graph, where JSON is read or not
+pub IsFetchFault-refused : (json : Bool) (before now : ShelfState) (name text : List ℕ) (refusal : GraphRefusal)
+    → HasFile before name text → now.faults ≡ before.faults → IsRefusalFrom json text refusal → IsFetchFaultBy (IsFaultFrom json) before now name (fetch_fault_of_refusal refusal)
+IsFetchFault-refused true before now name text (Fault fault) file unchanged refused = (record { text = text; file = file; first = refused }, unchanged)
+IsFetchFault-refused true before now name text NoMemory file unchanged refused = unchanged
+IsFetchFault-refused false before now name text (Fault fault) file unchanged refused = (record { text = text; file = file; first = refused }, unchanged)
+IsFetchFault-refused false before now name text NoMemory file unchanged refused = unchanged
 
 -- ---- two files
 

@@ -9,7 +9,7 @@ use Rattle.tfpg_hyp.specs.Hypotheses.{HasHypotheses}
 use Rattle.tfpg_hyp.specs.declared.limits.TheConstants.{MAX_HYPOTHESES}
 use Rattle.tfpg_hyp.specs.declared.table.TableFault.{TableFault}
 use Rattle.tfpg_hyp.specs.declared.table.TableFault.TheVariants.{TooMany, NoMemory}
-use Rattle.tfpg_words.specs.Meaning.{Meaning, Explain, Check, Simulate}
+use Rattle.tfpg_words.specs.Meaning.{Meaning, Explain, Check, Simulate, Convert}
 use Rattle.tfpg_run.specs.declared.end.End.{End}
 use Rattle.tfpg_run.specs.declared.end.End.TheVariants as ends
 use Rattle.tfpg_run.specs.declared.end.End.TheVariants.{Done}
@@ -31,6 +31,7 @@ use Rattle.tfpg_run.specs.diagnose.Diagnosing.{Diagnoses, DiagnoseEnds}
 use Rattle.tfpg_run.specs.explain.Explaining.{ExplainEnds}
 use Rattle.tfpg_run.specs.check.Checking.{CheckEnds}
 use Rattle.tfpg_run.specs.simulate.Simulating.{HasSimulation, SimulateEnds}
+use Rattle.tfpg_run.specs.convert.Converting.{ConvertEnds}
 use Rattle.tfpg_run.specs.Streams.{Streams}
 use Rattle.tfpg_run.specs.World.{World, streams_of}
 
@@ -174,6 +175,14 @@ module _ {T : Type 0} (result : Result T End) (meant : Meaning) (first second : 
       (IfErr-with result (SimulateEnds (HasSimulation draw trace) graph script before now) (now.input ≡ before.input)
       (subst (λ (name : List ℕ). IfErr result (SimulateEnds (HasSimulation draw trace) name script before now)) one
       (subst (λ (name : List ℕ). IfErr result (SimulateEnds (HasSimulation draw trace) first name before now)) other is)) same)
+
+-- a graph was not converted, as the words name its file
+pub convert_stopped : {T : Type 0} (result : Result T End) (meant : Meaning) (name : List ℕ) (before now : World) (json : Bool) (graph : List ℕ) → meant ≡ Convert json graph → name ≡ graph → now.input ≡ before.input
+    → IfErr result (ConvertEnds json name before now) → IfErr result (CommandEnds (Ok meant) before now)
+convert_stopped result meant name before now json graph means named same is =
+    subst (λ (m : Meaning). IfErr result (CommandEnds (Ok m) before now)) (sym means)
+    (IfErr-with result (ConvertEnds json graph before now) (now.input ≡ before.input)
+    (subst (λ (n : List ℕ). IfErr result (ConvertEnds json n before now)) named is) same)
 
 -- ---- within the limits
 

@@ -1,5 +1,5 @@
 -- When a run is done, or memory ran out: where the files, the input and the output serve what the words mean.
-use Rattle.std.specs.Prelude.{◌≡◌, ◌⊎◌, ℕ, ◌≤◌, List, length, Some}
+use Rattle.std.specs.Prelude.{◌≡◌, ◌⊎◌, ℕ, ◌≤◌, List, length, Bool, Some}
 use Rattle.tfpg_base.specs.declared.limits.TheConstants.{MAX_BYTES}
 use Rattle.tfpg_base.specs.Outside.{SourceState, ShelfState, Rose}
 use Rattle.tfpg_base.specs.Lines.{lines_of}
@@ -10,12 +10,13 @@ use Rattle.tfpg_hyp.specs.declared.limits.TheConstants.{MAX_HYPOTHESES}
 use Rattle.tfpg_report.specs.Blocks.{Block}
 use Rattle.tfpg_check.specs.Causes.{AreReportLines}
 use Rattle.tfpg_sim.specs.Script.{IsScriptFault}
-use Rattle.tfpg_words.specs.Meaning.{Meaning, Diagnose, Explain, Check, Simulate, Generate}
+use Rattle.tfpg_words.specs.Meaning.{Meaning, Diagnose, Explain, Check, Simulate, Generate, Convert}
 use Rattle.tfpg_base.specs.declared.terms.Terms.{Terms}
 use Rattle.tfpg_run.specs.declared.end.End.{End}
 use Rattle.tfpg_run.specs.declared.end.End.TheVariants.{Done, NoMemory}
-use Rattle.tfpg_run.specs.Fetch.{GivesGraph, GivesGraphAndLog, GivesGraphAndText}
+use Rattle.tfpg_run.specs.Fetch.{GivesGraph, GivesGraphBy, GivesGraphAndLog, GivesGraphAndText}
 use Rattle.tfpg_run.specs.check.Checking.{matter_of}
+use Rattle.tfpg_run.specs.convert.Converting.{SpellsFrom}
 use Rattle.tfpg_run.specs.map.Spelling.{HasMap}
 use Rattle.tfpg_run.specs.World.{World}
 
@@ -68,6 +69,13 @@ pub record CanSimulate (shelf : ShelfState) (graph_name script_name : List ℕ) 
   pub right : (other : Tfpg) (text : List ℕ) (line : ℕ) → GivesGraphAndText shelf graph_name script_name other text
       → IsScriptFault other (lines_of text) line → ⊥
 
+-- The contents of the shelf are known, and the file of this name spells a valid graph, as JSON or as a graph text.
+pub record CanConvert (shelf : ShelfState) (json : Bool) (name : List ℕ) : Type 0 where
+  pub files : List (List ℕ × List ℕ)
+  pub known : shelf.files ≡ Some files
+  pub graph : Tfpg
+  pub gives : GivesGraphBy (SpellsFrom json) shelf name graph
+
 -- The files serve what the words mean, and so does the input where it is read.
 abbrev pub CanBeDone : Meaning → World → Type 0
 CanBeDone (Diagnose terms graph) before =
@@ -76,6 +84,7 @@ CanBeDone (Explain graph log) before = CanExplain before.shelf before.input grap
 CanBeDone (Check graph log) before = CanCheck before.shelf before.input graph log
 CanBeDone (Simulate draw trace graph script) before = CanSimulate before.shelf graph script
 CanBeDone (Generate draw size) before = Unit {0}
+CanBeDone (Convert json graph) before = CanConvert before.shelf json graph
 
 -- Neither the shelf, nor the input, nor the output failed.
 pub record NothingFails (before now : World) : Type 0 where

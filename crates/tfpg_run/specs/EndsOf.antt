@@ -10,8 +10,8 @@ use Rattle.tfpg_run.specs.declared.fault.CheckFault.{CheckFault}
 use Rattle.tfpg_run.specs.declared.fault.CheckFault.TheVariants as check
 use Rattle.tfpg_run.specs.declared.fault.SimulateFault.{SimulateFault}
 use Rattle.tfpg_run.specs.declared.fault.SimulateFault.TheVariants as simulate
-use Rattle.tfpg_run.specs.declared.fault.GenerateFault.{GenerateFault}
-use Rattle.tfpg_run.specs.declared.fault.GenerateFault.TheVariants as generate
+use Rattle.tfpg_run.specs.declared.fault.OutputFault.{OutputFault}
+use Rattle.tfpg_run.specs.declared.fault.OutputFault.TheVariants as output
 use Rattle.tfpg_check.specs.declared.cause.CheckCause.TheVariants.{BadMap, BadScript}
 use Rattle.tfpg_run.specs.declared.end.End.{End}
 use Rattle.tfpg_run.specs.declared.end.End.TheVariants as ends
@@ -47,10 +47,10 @@ end_of_simulate_fault (simulate.BadScript line) = ends.NotAccepted line BadScrip
 end_of_simulate_fault simulate.WriteFault = ends.WriteFault
 end_of_simulate_fault simulate.NoMemory = ends.NoMemory
 
--- the end of a run whose summary was not written
-abbrev pub end_of_generate_fault : GenerateFault → End
-end_of_generate_fault generate.WriteFault = ends.WriteFault
-end_of_generate_fault generate.NoMemory = ends.NoMemory
+-- the end of a run whose text was not written
+abbrev pub end_of_output_fault : OutputFault → End
+end_of_output_fault output.WriteFault = ends.WriteFault
+end_of_output_fault output.NoMemory = ends.NoMemory
 
 -- the end of a run whose work has this result, by the ends that its faults lead to
 abbrev pub end_of_result : {E : Type 0} → (E → End) → Result (Unit {0}) E → End

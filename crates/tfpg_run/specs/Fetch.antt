@@ -11,7 +11,7 @@ use Rattle.tfpg_graph.specs.Faults.{IsFirstFault}
 use Rattle.tfpg_log.specs.Log.{Logbook}
 use Rattle.tfpg_log.specs.LogOfLines.{log_of_lines}
 use Rattle.tfpg_words.specs.declared.usage_cause.UsageCause.{UsageCause}
-use Rattle.tfpg_words.specs.Meaning.{Meaning, Diagnose, Explain, Check, Simulate, Generate}
+use Rattle.tfpg_words.specs.Meaning.{Meaning, Diagnose, Explain, Check, Simulate, Generate, Convert}
 use Rattle.tfpg_run.specs.declared.end.End.{End}
 use Rattle.tfpg_run.specs.declared.fault.FetchFault.{FetchFault}
 use Rattle.tfpg_run.specs.declared.fault.FetchFault.TheVariants.{Failed, TooLong, Graph, NoMemory}
@@ -27,18 +27,26 @@ pub record HasFile (shelf : ShelfState) (name text : List ℕ) : Type 0 where
 abbrev pub IsTooLong : ShelfState → List ℕ → Type 0
 IsTooLong shelf name = (front : List ℕ) × PassesLimit shelf name front
 
--- a file of this name that spells the graph
-pub record GivesGraph (shelf : ShelfState) (name : List ℕ) (graph : Tfpg) : Type 0 where
+-- a file of this name that spells the graph, for any notion of which text spells which graph
+pub record GivesGraphBy (SpellsIt : List ℕ → Tfpg → Type 0) (shelf : ShelfState) (name : List ℕ) (graph : Tfpg) : Type 0 where
   pub text : List ℕ
   pub file : HasFile shelf name text
-  pub spells : Spells text graph
+  pub spells : SpellsIt text graph
   pub valid : IsValid graph
 
--- a file of this name whose text has this fault first
-pub record HasFaultyGraph (shelf : ShelfState) (name : List ℕ) (fault : GraphFault) : Type 0 where
+-- a file of this name that spells the graph as a graph text
+abbrev pub GivesGraph : ShelfState → List ℕ → Tfpg → Type 0
+GivesGraph = GivesGraphBy Spells
+
+-- a file of this name whose text has this fault first, for any notion of a first fault
+pub record HasFaultyGraphBy (IsFirst : List ℕ → GraphFault → Type 0) (shelf : ShelfState) (name : List ℕ) (fault : GraphFault) : Type 0 where
   pub text : List ℕ
   pub file : HasFile shelf name text
-  pub first : IsFirstFault text fault
+  pub first : IsFirst text fault
+
+-- a file of this name whose text has this fault first as a graph text
+abbrev pub HasFaultyGraph : ShelfState → List ℕ → GraphFault → Type 0
+HasFaultyGraph = HasFaultyGraphBy IsFirstFault
 
 -- The file of the one name spells the graph, and the file of the other has this text.
 pub record GivesGraphAndText (shelf : ShelfState) (graph_name text_name : List ℕ) (graph : Tfpg)
@@ -54,12 +62,16 @@ pub record GivesGraphAndLog (shelf : ShelfState) (graph_name log_name : List ℕ
   pub of_lines : log ≡ log_of_lines graph (lines_of text)
 
 -- Why there is no graph of the file of this name: the shelf failed; or it did not, and the file has more than 2^24 bytes,
--- or this is the first fault of its text, or memory ran out.
+-- or this is the first fault of its text, for any notion of one, or memory ran out.
+abbrev pub IsFetchFaultBy : (List ℕ → GraphFault → Type 0) → ShelfState → ShelfState → List ℕ → FetchFault → Type 0
+IsFetchFaultBy IsFirst before now name Failed = Rose before.faults now.faults
+IsFetchFaultBy IsFirst before now name TooLong = IsTooLong before name × (now.faults ≡ before.faults)
+IsFetchFaultBy IsFirst before now name (Graph fault) = HasFaultyGraphBy IsFirst before name fault × (now.faults ≡ before.faults)
+IsFetchFaultBy IsFirst before now name NoMemory = now.faults ≡ before.faults
+
+-- Why there is no graph of the file of this name that is read as a graph text.
 abbrev pub IsFetchFault : ShelfState → ShelfState → List ℕ → FetchFault → Type 0
-IsFetchFault before now name Failed = Rose before.faults now.faults
-IsFetchFault before now name TooLong = IsTooLong before name × (now.faults ≡ before.faults)
-IsFetchFault before now name (Graph fault) = HasFaultyGraph before name fault × (now.faults ≡ before.faults)
-IsFetchFault before now name NoMemory = now.faults ≡ before.faults
+IsFetchFault = IsFetchFaultBy IsFirstFault
 
 -- Why there is no graph and no text of the files of these names, of which the graph file comes first.
 abbrev pub IsFilesFault : ShelfState → ShelfState → List ℕ → List ℕ → FetchFault → Type 0
@@ -93,6 +105,7 @@ AsksOnly (Ok (Explain graph log)) before after = AsksInOrder (graph ∷ log ∷ 
 AsksOnly (Ok (Check graph log)) before after = AsksInOrder (graph ∷ log ∷ []) before after
 AsksOnly (Ok (Simulate draw trace graph script)) before after = AsksInOrder (graph ∷ script ∷ []) before after
 AsksOnly (Ok (Generate draw size)) before after = after ≡ before
+AsksOnly (Ok (Convert json graph)) before after = AsksFor graph before after
 
 -- What is wanted of the shelf is not there, with a cause of which this holds, and input and output are untouched.
 pub record LacksFiles (IsFault : FetchFault → Type 0) (before now : World) (end : End) : Type 0 where
@@ -101,9 +114,13 @@ pub record LacksFiles (IsFault : FetchFault → Type 0) (before now : World) (en
   pub end_is : end ≡ end_of_fetch_fault fault
   pub untouched : streams_of now ≡ streams_of before
 
--- There is no graph of the file of this name, with its cause, and input and output are untouched.
+-- There is no graph of the file of this name, with its cause, for any notion of a first fault, and input and output are untouched.
+abbrev pub LacksGraphBy : (List ℕ → GraphFault → Type 0) → List ℕ → World → World → End → Type 0
+LacksGraphBy IsFirst name before now end = LacksFiles (IsFetchFaultBy IsFirst before.shelf now.shelf name) before now end
+
+-- There is no graph of the file of this name that is read as a graph text.
 abbrev pub LacksGraph : List ℕ → World → World → End → Type 0
-LacksGraph name before now end = LacksFiles (IsFetchFault before.shelf now.shelf name) before now end
+LacksGraph = LacksGraphBy IsFirstFault
 
 -- There is no graph or no text of the files of these names, with its cause, and input and output are untouched.
 abbrev pub LacksGraphOrText : List ℕ → List ℕ → World → World → End → Type 0

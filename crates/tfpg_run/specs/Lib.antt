@@ -14,5 +14,6 @@ pub mod explain
 pub mod check
 pub mod simulate
 pub mod generate
+pub mod convert
 -- What the code and its proofs need besides. No public clause reaches it.
 pub mod inside

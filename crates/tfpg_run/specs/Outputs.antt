@@ -3,6 +3,8 @@ use Rattle.std.specs.Prelude.{◌≡◌, ◌⊎◌, ◌++◌, ℕ, ◌+◌, ◌�
 use Rattle.tfpg_base.specs.Lines.{lines_of, whole_lines}
 use Rattle.tfpg_base.specs.declared.limits.TheConstants.{MAX_BYTES}
 use Rattle.tfpg_base.specs.Outside.{SourceState, SinkState, Rose, Takes, Puts, IsAtEnd}
+use Rattle.tfpg_run.specs.declared.fault.OutputFault.{OutputFault}
+use Rattle.tfpg_run.specs.declared.fault.OutputFault.TheVariants as output
 use Rattle.tfpg_run.specs.declared.fault.StreamFault.{StreamFault}
 use Rattle.tfpg_run.specs.declared.fault.StreamFault.TheVariants.{ReadFault, WriteFault, TooMuchInput, NoMemory}
 use Rattle.tfpg_run.specs.Streams.{Streams, HasLeft, CountsUnchanged}
@@ -21,6 +23,12 @@ pub record BeginsText (IsRight : List ℕ → Type 0) (before now : SinkState) :
   pub right : IsRight (front ++ rest)
   pub writes : Puts before now front
   pub rose : Rose before.faults now.faults
+
+-- How the writing of one text ends, which is to be right. Before the whole text is known, nothing is written.
+abbrev pub TextEnds : (List ℕ → Type 0) → SinkState → SinkState → Result (Unit {0}) OutputFault → Type 0
+TextEnds IsRight before now (Ok done) = WritesText IsRight before now
+TextEnds IsRight before now (Err output.WriteFault) = BeginsText IsRight before now
+TextEnds IsRight before now (Err output.NoMemory) = now ≡ before
 
 -- The whole input was taken, at most 2^32 bytes, what is right for its lines was written, and nothing failed.
 pub record WritesOutput (IsRight : List (List ℕ) → List ℕ → Type 0) (before now : Streams)

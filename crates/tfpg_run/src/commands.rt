@@ -13,6 +13,7 @@ ghost use Rattle.tfpg_run.specs.check.AfterDiagnosis.{FollowsDiagnosis};
 ghost use Rattle.tfpg_run.specs.diagnose.Work.{RunsWithin};
 
 use crate::check::check_by_files;
+use crate::convert::convert_file;
 use crate::diagnose::diagnose_file;
 use crate::end::End;
 use crate::explain::explain_by_files;
@@ -23,6 +24,7 @@ use std::sync::ledger::Ledger;
 use tfpg_base::{Shelf, Sink, Source, Steps, Terms};
 use tfpg_check::laws::lines_have_at_most_one_cause;
 use tfpg_graph::laws::a_text_has_at_most_one_first_fault;
+use tfpg_json::laws::a_text_has_at_most_one_first_fault_as_json;
 use tfpg_report::laws::a_report_line_says_one_thing;
 use tfpg_words::laws::numbers_are_within_their_limits;
 use tfpg_words::{Command, plan};
@@ -32,7 +34,8 @@ use tfpg_words::{Command, plan};
 /// the input, and then writes the verdict on it. To check it reads the same files, judges the report of the input line by line, and
 /// then writes how many rounds it has. To simulate it reads the graph and the script that they name, and writes the log
 /// or the map of what happens. To generate it draws a graph and a script, diagnoses the log, and writes what became of
-/// the truth. Searches count their steps on `work`.
+/// the truth. To convert it reads the graph that they name, and writes it in the other form: a graph text as JSON, or JSON as a
+/// graph text. Searches count their steps on `work`.
 pub fn run<F: Shelf, S: Source, K: Sink, L: Ledger>(
     alloc: Global,
     words: &[String],
@@ -72,6 +75,7 @@ pub fn run<F: Shelf, S: Source, K: Sink, L: Ledger>(
     numbers_are_within_their_limits();
     a_text_has_at_most_one_first_fault();
     lines_have_at_most_one_cause();
+    a_text_has_at_most_one_first_fault_as_json();
     a_report_line_says_one_thing();
     match plan(alloc, words) {
         Ok(planned) => end_of(perform(alloc, &planned.command, shelf, input, out, work)),
@@ -136,6 +140,7 @@ fn perform<F: Shelf, S: Source, K: Sink, L: Ledger>(
             out,
         ),
         Command::Generate { draw, size } => generate_summary(alloc, *draw, *size, out, work),
+        Command::Convert { json, graph } => convert_file(alloc, *json, graph.as_str(), shelf, out),
     }
 }
 

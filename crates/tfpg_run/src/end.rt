@@ -5,12 +5,10 @@ ghost use Rattle.std.specs.Process.{exit_status};
 ghost use Rattle.tfpg_base.specs.Append.{Appends};
 ghost use Rattle.tfpg_base.specs.Words.{line_of};
 ghost use Rattle.tfpg_run.specs.Ends.{check_cause_name, graph_cause_name, line_of_end, status_of, usage_name};
-ghost use Rattle.tfpg_run.specs.EndsOf.{end_of_check_fault, end_of_explain_fault, end_of_fetch_fault, end_of_generate_fault, end_of_simulate_fault, end_of_stream_fault};
+ghost use Rattle.tfpg_run.specs.EndsOf.{end_of_check_fault, end_of_explain_fault, end_of_fetch_fault, end_of_output_fault, end_of_simulate_fault, end_of_stream_fault};
 ghost use Rattle.tfpg_run.specs.inside.Faults.{end_of_plan_fault, end_of_table_fault};
 
-use crate::fault::{
-    CheckFault, ExplainFault, FetchFault, GenerateFault, SimulateFault, StreamFault,
-};
+use crate::fault::{CheckFault, ExplainFault, FetchFault, OutputFault, SimulateFault, StreamFault};
 use itoa::Buffer;
 use std::process::ExitCode;
 use tfpg_base::{NoMemory, append_words};
@@ -179,13 +177,13 @@ impl From<SimulateFault> for End {
     }
 }
 
-impl From<GenerateFault> for End {
-    ghost from_gives = { λ fault e. e ≡ end_of_generate_fault fault };
+impl From<OutputFault> for End {
+    ghost from_gives = { λ fault e. e ≡ end_of_output_fault fault };
 
-    fn from(fault: GenerateFault) -> End {
+    fn from(fault: OutputFault) -> End {
         match fault {
-            GenerateFault::WriteFault => End::WriteFault,
-            GenerateFault::NoMemory => End::NoMemory,
+            OutputFault::WriteFault => End::WriteFault,
+            OutputFault::NoMemory => End::NoMemory,
         }
     }
 }

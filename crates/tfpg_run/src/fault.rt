@@ -1,4 +1,4 @@
-//! What ends the parts of a run early: fetching files, the streams of a diagnosis, and the work of the other commands.
+//! What ends the parts of a run early: fetching files, reading the input, writing the output, and the work of each command.
 
 ghost use Rattle.std.specs.Prelude.{◌≡◌};
 ghost use Rattle.tfpg_run.specs.inside.Faults.{check_fault_of_judge, check_fault_of_lines, explain_fault_of_no_map, fetch_fault_of_refusal, fetch_fault_of_shelf, simulate_fault_of_sim, stream_fault_of_lines};
@@ -7,7 +7,7 @@ ghost use Rattle.tfpg_run.specs.declared.fault.StreamFault.TheVariants as stream
 ghost use Rattle.tfpg_run.specs.declared.fault.ExplainFault.TheVariants as explain;
 ghost use Rattle.tfpg_run.specs.declared.fault.CheckFault.TheVariants as check;
 ghost use Rattle.tfpg_run.specs.declared.fault.SimulateFault.TheVariants as simulate;
-ghost use Rattle.tfpg_run.specs.declared.fault.GenerateFault.TheVariants as generate;
+ghost use Rattle.tfpg_run.specs.declared.fault.OutputFault.TheVariants as output;
 
 use crate::map::NoMap;
 use tfpg_base::{Failed, LineFault, NoMemory, ShelfFault};
@@ -213,27 +213,27 @@ impl From<Failed> for SimulateFault {
     }
 }
 
-/// Why the summary of a generated system was not written.
+/// Why a text was not written.
 #[derive(Clone, Copy, Debug, PartialEq, Eq)]
-pub(crate) enum GenerateFault {
+pub(crate) enum OutputFault {
     /// The output failed.
     WriteFault,
     /// Out of memory.
     NoMemory,
 }
 
-impl From<NoMemory> for GenerateFault {
-    ghost from_gives = { λ _ e. e ≡ generate.NoMemory };
+impl From<NoMemory> for OutputFault {
+    ghost from_gives = { λ _ e. e ≡ output.NoMemory };
 
-    fn from(_e: NoMemory) -> GenerateFault {
-        GenerateFault::NoMemory
+    fn from(_e: NoMemory) -> OutputFault {
+        OutputFault::NoMemory
     }
 }
 
-impl From<Failed> for GenerateFault {
-    ghost from_gives = { λ _ e. e ≡ generate.WriteFault };
+impl From<Failed> for OutputFault {
+    ghost from_gives = { λ _ e. e ≡ output.WriteFault };
 
-    fn from(_e: Failed) -> GenerateFault {
-        GenerateFault::WriteFault
+    fn from(_e: Failed) -> OutputFault {
+        OutputFault::WriteFault
     }
 }

@@ -73,7 +73,11 @@ pub(crate) fn fetch_graph_and_text<F: Shelf>(
 }
 
 /// Fetches the file of this name.
-fn fetch_file<F: Shelf>(alloc: Global, shelf: &mut F, name: &str) -> Result<Vec<u8>, ShelfFault>
+pub(crate) fn fetch_file<F: Shelf>(
+    alloc: Global,
+    shelf: &mut F,
+    name: &str,
+) -> Result<Vec<u8>, ShelfFault>
     ensures file { IfOk result (λ text. HasFile (F.state shelf.old) name.now text.items) }
     ensures no_fault { OnOk result ((F.state shelf.new).faults ≡ (F.state shelf.old).faults) }
     ensures fault { IfErr result (IsFileFault (F.state shelf.old) (F.state shelf.new) name.now) }

@@ -2,15 +2,16 @@
 
 ghost use Rattle.std.specs.Prelude.{◌≤◌, IfOk, IfErr, OnOk, Ok, Err};
 ghost use Rattle.tfpg_base.specs.declared.limits.TheConstants.{MAX_CASE_SIZE};
-ghost use Rattle.tfpg_run.specs.EndsOf.{EndsBy, end_of_generate_fault};
-ghost use Rattle.tfpg_run.specs.generate.Generating.{GenerationEnds, HasSummary};
+ghost use Rattle.tfpg_run.specs.EndsOf.{EndsBy, end_of_output_fault};
+ghost use Rattle.tfpg_run.specs.Outputs.{TextEnds};
+ghost use Rattle.tfpg_run.specs.generate.Generating.{HasSummary};
 ghost use Rattle.tfpg_run.specs.inside.generate.Drawn.{IsDrawn};
 
 mod diagnosis;
 mod summary;
 
 use crate::end::End;
-use crate::fault::GenerateFault;
+use crate::fault::OutputFault;
 use crate::output::write_all;
 use diagnosis::{diagnose_lines, lines_in};
 use std::alloc::Global;
@@ -39,10 +40,10 @@ pub(crate) fn generate_summary<K: Sink, L: Ledger>(
 ) -> Result<(), End>
     requires some { 1 ≤ size }
     requires few { size ≤ MAX_CASE_SIZE }
-    ensures done { OnOk result (EndsBy (GenerationEnds number size (K.state out.old) (K.state out.new))
-        end_of_generate_fault End.Done) }
-    ensures stopped { IfErr result (EndsBy (GenerationEnds number size (K.state out.old) (K.state out.new))
-        end_of_generate_fault) }
+    ensures done { OnOk result (EndsBy (TextEnds (HasSummary number size) (K.state out.old) (K.state out.new))
+        end_of_output_fault End.Done) }
+    ensures stopped { IfErr result (EndsBy (TextEnds (HasSummary number size) (K.state out.old) (K.state out.new))
+        end_of_output_fault) }
 {
     Ok(write_summary(alloc, number, size, out, work)?)
 }
@@ -55,11 +56,11 @@ fn write_summary<K: Sink, L: Ledger>(
     size: u32,
     out: &mut K,
     work: &mut Steps<L>,
-) -> Result<(), GenerateFault>
+) -> Result<(), OutputFault>
     requires some { 1 ≤ size }
     requires few { size ≤ MAX_CASE_SIZE }
-    ensures done { OnOk result (GenerationEnds number size (K.state out.old) (K.state out.new) (Ok tt)) }
-    ensures stopped { IfErr result (λ fault. GenerationEnds number size (K.state out.old) (K.state out.new)
+    ensures done { OnOk result (TextEnds (HasSummary number size) (K.state out.old) (K.state out.new) (Ok tt)) }
+    ensures stopped { IfErr result (λ fault. TextEnds (HasSummary number size) (K.state out.old) (K.state out.new)
         (Err fault)) }
 {
     let text = drawn_summary(alloc, number, size, work)?;

@@ -1,6 +1,7 @@
-//! What the definitions of maps, of reports and of runs come to, as functions that do nothing: each says its laws in its clauses.
+//! What the definitions of maps, of reports, of runs and of conversions come to, as functions that do nothing: each says its laws in its
+//! clauses.
 
-ghost use Rattle.std.specs.Prelude.{◌≡◌, ◌<◌, ◌≤◌, ℕ, List, length, [], All, Contains, Some, Ok, false, slice_get};
+ghost use Rattle.std.specs.Prelude.{◌≡◌, ◌<◌, ◌≤◌, ℕ, List, length, [], All, Contains, Some, Ok, true, false, slice_get};
 ghost use Rattle.tfpg_base.specs.declared.activation.Activation.{Activation};
 ghost use Rattle.tfpg_base.specs.declared.terms.Terms.{Terms};
 ghost use Rattle.tfpg_base.specs.Hypothesis.{Hypothesis, believing};
@@ -18,6 +19,12 @@ ghost use Rattle.tfpg_report.specs.Blocks.{Block, Loss, RoundBlock};
 ghost use Rattle.tfpg_check.specs.Report.{AreBlocks};
 ghost use Rattle.tfpg_sim.specs.declared.simulated.Simulated.{Simulated};
 ghost use Rattle.tfpg_sim.specs.Simulated.{IsSimulationOf};
+ghost use Rattle.tfpg_base.specs.Outside.{file_of};
+ghost use Rattle.tfpg_graph.specs.Text.{canonical_text};
+ghost use Rattle.tfpg_run.specs.declared.end.End.TheVariants.{Done};
+ghost use Rattle.tfpg_run.specs.Fetch.{GivesGraph};
+ghost use Rattle.tfpg_run.specs.World.{World};
+ghost use Rattle.tfpg_run.specs.convert.Converting.{ConvertEnds};
 ghost use Rattle.tfpg_run.specs.diagnose.BlockFindings.{HasFindingInBlock};
 ghost use Rattle.tfpg_report.specs.SetText.{IsHypothesisOf};
 ghost use Rattle.tfpg_run.specs.map.Spelling.{IsActivationOf, SpellsMap, set_line};
@@ -36,6 +43,7 @@ use tfpg_clause::laws::{
     the_front_of_a_tree_is_a_partial_tree,
 };
 use tfpg_graph::laws::a_text_has_at_most_one_first_fault;
+use tfpg_json::laws::{a_text_has_at_most_one_first_fault_as_json, a_written_graph_is_read_back};
 use tfpg_report::laws::a_report_line_says_one_thing;
 use tfpg_sim::laws::a_simulated_log_is_accepted_and_explained;
 
@@ -103,6 +111,20 @@ pub fn what_diagnose_wrote_is_accepted()
         RunEnds (Ok (Check graph log)) later after end → NothingFails later after → IsCompleted end }
 {
     a_text_has_at_most_one_first_fault();
+    a_text_has_at_most_one_first_fault_as_json();
     lines_have_at_most_one_cause();
     a_report_line_says_one_thing();
+}
+
+/// A graph that is converted to JSON and back is the same graph: where the file of a run with `--json` is what another run wrote
+/// without it, it writes the canonical text of the graph that this other run read.
+pub fn a_converted_graph_is_converted_back()
+    ensures { (name json_name written : List ℕ) (before now later end : World) (files : List (List ℕ × List ℕ)) →
+        ConvertEnds false name before now Done →
+        before.output.holds ≡ Some [] → now.output.holds ≡ Some written →
+        later.shelf.files ≡ Some files → file_of files json_name ≡ Some written →
+        ConvertEnds true json_name later end Done → later.output.holds ≡ Some [] →
+        (graph : Tfpg) × GivesGraph before.shelf name graph × (end.output.holds ≡ Some (canonical_text graph)) }
+{
+    a_written_graph_is_read_back();
 }

@@ -2,7 +2,8 @@
 //!
 //! [`run`] is the call that the program makes. It says how it ended by an [`End`], which has an exit code and a line.
 //! [`laws`] says that lines spell at most one map, that the text of a map spells it, that a simulated set is rejected in no
-//! round, that a rejected set stays rejected, and that what `diagnose` wrote is accepted by `check`.
+//! round, that a rejected set stays rejected, that what `diagnose` wrote is accepted by `check`, and that a graph that is converted to
+//! JSON and back is the same graph.
 //!
 //! ```
 //! // The words `diagnose pump.tfpg`, over a shelf that has the graph, and an input that has a log of it.
@@ -12,6 +13,7 @@
 
 mod check;
 mod commands;
+mod convert;
 mod diagnose;
 mod end;
 mod explain;

@@ -5,8 +5,8 @@ use Rattle.std.proofs.lemmas.Bool.{lt-ltb}
 use Rattle.std.proofs.lemmas.List.Sums.{sum_by-cons}
 use Rattle.clap.specs.Walk.{Row, Text}
 use Rattle.tfpg_words.specs.Words.{Form, Parts, Use, Word, is_word_among}
-use Rattle.tfpg_words.specs.Meaning.{NumberOption, both, number_by, number_in, use_of, k_option, doubt_option, budget_option, draw_option, size_option, diagnose_form, diagnose_of, diagnose_on, generate_form, generate_of, generate_on, simulate_form, simulate_of, simulate_on}
-use Rattle.tfpg_words.specs.inside.Given.{diagnose_by, diagnose_given, first_value, generate_by, generate_given, is_used, number_given, simulate_by, simulate_given}
+use Rattle.tfpg_words.specs.Meaning.{NumberOption, both, number_by, number_in, use_of, k_option, doubt_option, budget_option, draw_option, size_option, diagnose_form, diagnose_of, diagnose_on, generate_form, generate_of, generate_on, simulate_form, simulate_of, simulate_on, convert_form, convert_of, convert_with}
+use Rattle.tfpg_words.specs.inside.Given.{diagnose_by, diagnose_given, first_value, generate_by, generate_given, is_used, number_given, simulate_by, simulate_given, convert_given}
 use Rattle.tfpg_words.specs.inside.Rows.{Holds, hyphened}
 
 -- the first value of an option is that of its first use
@@ -79,3 +79,6 @@ pub generate_is : (parts : Option Parts) (rows : List Row) → Given generate_fo
 generate_is parts rows (said, is, h) =
     (λ i. generate_by (both (number_is generate_form rows said h draw_option (codes "draw") refl refl i) (number_is generate_form rows said h size_option (codes "size") refl refl i)) (h.words i))
     ∙ (generate_same said.uses said.positional ∙ ap generate_of (sym is))
+
+pub convert_is : (parts : Option Parts) (rows : List Row) → Given convert_form parts rows → convert_given rows ≡ convert_of parts
+convert_is parts rows (said, is, h) = (λ i. convert_with (used_is convert_form rows said h (codes "json") refl i) (h.words i)) ∙ ap convert_of (sym is)

@@ -5,7 +5,7 @@ use Rattle.std.proofs.lemmas.Bool.{and_parts, leb-true}
 use Rattle.tfpg_base.specs.Words.{number_of}
 use Rattle.tfpg_words.specs.declared.usage_cause.UsageCause.{UsageCause}
 use Rattle.tfpg_words.specs.declared.usage_cause.UsageCause.TheVariants.{OutOfRange, UnknownCommand}
-use Rattle.tfpg_words.specs.Meaning.{Meaning, Diagnose, Explain, Check, Simulate, Generate, NumberOption, within, number_in, number_by, both, use_of, k_option, doubt_option, budget_option, draw_option, size_option, diagnose_form, diagnose_with, diagnose_on, diagnose_of, explain_form, explain_on, explain_of, check_form, check_on, check_of, simulate_form, simulate_with, simulate_on, simulate_of, generate_form, generate_with, generate_on, generate_of, meaning}
+use Rattle.tfpg_words.specs.Meaning.{Meaning, Diagnose, Explain, Check, Simulate, Generate, Convert, NumberOption, within, number_in, number_by, both, use_of, k_option, doubt_option, budget_option, draw_option, size_option, diagnose_form, diagnose_with, diagnose_on, diagnose_of, explain_form, explain_on, explain_of, check_form, check_on, check_of, simulate_form, simulate_with, simulate_on, simulate_of, generate_form, generate_with, generate_on, generate_of, convert_form, convert_with, convert_of, meaning}
 use Rattle.tfpg_words.specs.Words.{Parts, Use, Word, parts_of_words}
 
 -- a number within the limits of an option
@@ -20,6 +20,7 @@ AreInLimits (Explain graph log) = ⊤
 AreInLimits (Check graph log) = ⊤
 AreInLimits (Simulate draw trace graph script) = IsInLimits draw_option draw
 AreInLimits (Generate draw size) = IsInLimits draw_option draw × IsInLimits size_option size
+AreInLimits (Convert json graph) = ⊤
 
 -- ---- one number, and two
 
@@ -143,21 +144,32 @@ generate_within (Some parts) = go parts.positional
         (both_within (IsInLimits draw_option) (IsInLimits size_option) (number_by draw_option parts.uses) (number_by size_option parts.uses) (draw_within parts.uses) (size_within parts.uses))
     go (a ∷ others) = tt
 
+convert_within : (parts : Option Parts) → IfOk (convert_of parts) AreInLimits
+convert_within None = tt
+convert_within (Some parts) = go parts.positional
+  where
+    go : (positional : List Word) → IfOk (convert_with (is_some (use_of (codes "--json") parts.uses)) positional) AreInLimits
+    go [] = tt
+    go (a ∷ []) = tt
+    go (a ∷ b ∷ others) = tt
+
 -- What the words mean is within the limits.
 pub meaning_within : (words : List Word) → IfOk (meaning words) AreInLimits
 meaning_within [] = tt
-meaning_within (command ∷ words) = by (bytes_eq command (codes "diagnose")) (bytes_eq command (codes "explain")) (bytes_eq command (codes "check")) (bytes_eq command (codes "simulate")) (bytes_eq command (codes "generate"))
+meaning_within (command ∷ words) = by (bytes_eq command (codes "diagnose")) (bytes_eq command (codes "explain")) (bytes_eq command (codes "check")) (bytes_eq command (codes "simulate")) (bytes_eq command (codes "generate")) (bytes_eq command (codes "convert"))
   where
-    by : (diagnoses explains checks simulates generates : Bool)
+    by : (diagnoses explains checks simulates generates converts : Bool)
         → IfOk (if diagnoses then diagnose_of (parts_of_words diagnose_form words)
         else (if explains then explain_of (parts_of_words explain_form words)
         else (if checks then check_of (parts_of_words check_form words)
         else (if simulates then simulate_of (parts_of_words simulate_form words)
         else (if generates then generate_of (parts_of_words generate_form words)
-        else Err UnknownCommand))))) AreInLimits
-    by true explains checks simulates generates = diagnose_within (parts_of_words diagnose_form words)
-    by false true checks simulates generates = explain_within (parts_of_words explain_form words)
-    by false false true simulates generates = check_within (parts_of_words check_form words)
-    by false false false true generates = simulate_within (parts_of_words simulate_form words)
-    by false false false false true = generate_within (parts_of_words generate_form words)
-    by false false false false false = tt
+        else (if converts then convert_of (parts_of_words convert_form words)
+        else Err UnknownCommand)))))) AreInLimits
+    by true explains checks simulates generates converts = diagnose_within (parts_of_words diagnose_form words)
+    by false true checks simulates generates converts = explain_within (parts_of_words explain_form words)
+    by false false true simulates generates converts = check_within (parts_of_words check_form words)
+    by false false false true generates converts = simulate_within (parts_of_words simulate_form words)
+    by false false false false true converts = generate_within (parts_of_words generate_form words)
+    by false false false false false true = convert_within (parts_of_words convert_form words)
+    by false false false false false false = tt

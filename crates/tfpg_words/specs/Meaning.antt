@@ -16,6 +16,7 @@ pub data Meaning : Type 0 where
   Check : (graph log : Word) → Meaning
   Simulate : (draw : ℕ) (trace : Bool) (graph script : Word) → Meaning
   Generate : (draw size : ℕ) → Meaning
+  Convert : (json : Bool) (graph : Word) → Meaning
 
 -- The first use of this name.
 abbrev pub use_of : Word → List Use → Option Use
@@ -165,6 +166,19 @@ generate_on uses _ = Err BadWords
 abbrev pub generate_of : Option Parts → Result Meaning UsageCause
 generate_of = by_parts (λ parts. generate_on parts.uses parts.positional)
 
+-- `convert [--json] GRAPH`
+abbrev pub convert_form : Form
+convert_form = record { options = []; flags = codes "--json" ∷ [] }
+
+-- what the positional words after `convert` mean, where the flag is used or not
+abbrev pub convert_with : Bool → List Word → Result Meaning UsageCause
+convert_with json (graph ∷ []) = Ok (Convert json graph)
+convert_with json _ = Err BadWords
+
+-- what the words after `convert` mean, by their parts
+abbrev pub convert_of : Option Parts → Result Meaning UsageCause
+convert_of = by_parts (λ parts. convert_with (is_some (use_of (codes "--json") parts.uses)) parts.positional)
+
 -- What the words after a command mean.
 abbrev pub command_meaning : Word → List Word → Result Meaning UsageCause
 command_meaning command words =
@@ -173,7 +187,8 @@ command_meaning command words =
     else (if bytes_eq command (codes "check") then check_of (parts_of_words check_form words)
     else (if bytes_eq command (codes "simulate") then simulate_of (parts_of_words simulate_form words)
     else (if bytes_eq command (codes "generate") then generate_of (parts_of_words generate_form words)
-    else Err UnknownCommand))))
+    else (if bytes_eq command (codes "convert") then convert_of (parts_of_words convert_form words)
+    else Err UnknownCommand)))))
 
 -- What the words after the program's name mean.
 abbrev pub meaning : List Word → Result Meaning UsageCause

@@ -41,6 +41,11 @@ pub enum Command {
         draw: u64,
         size: u32,
     },
+    /// `convert [--json] GRAPH`: the graph as JSON, or with `--json` the graph text of a graph that is JSON.
+    Convert {
+        json: bool,
+        graph: Text,
+    },
 }
 
 /// What is to be done.

@@ -2,11 +2,11 @@
 
 ghost use Rattle.std.specs.Prelude.{◌≡◌, map};
 ghost use Rattle.std.specs.String.{string_bytes};
-ghost use Rattle.tfpg_words.specs.Meaning.{check_form, check_of, command_meaning, diagnose_form, diagnose_of, explain_form, explain_of, generate_form, generate_of, meaning, simulate_form, simulate_of};
+ghost use Rattle.tfpg_words.specs.Meaning.{check_form, check_of, command_meaning, convert_form, convert_of, diagnose_form, diagnose_of, explain_form, explain_of, generate_form, generate_of, meaning, simulate_form, simulate_of};
 ghost use Rattle.tfpg_words.specs.Plans.{IsPlanOf};
 ghost use Rattle.tfpg_words.specs.Words.{parts_of_words};
 ghost use Rattle.tfpg_words.specs.inside.CommandOf.{IsCommandOf};
-ghost use Rattle.tfpg_words.specs.inside.Given.{check_given, diagnose_given, explain_given, generate_given, simulate_given};
+ghost use Rattle.tfpg_words.specs.inside.Given.{check_given, convert_given, diagnose_given, explain_given, generate_given, simulate_given};
 ghost use Rattle.tfpg_words.specs.inside.Parts.{rows_in};
 
 use crate::command::{Command, Planned};
@@ -97,6 +97,8 @@ fn command_of(alloc: Global, command: &str, words: &[String]) -> Result<Command,
         plan_simulate(alloc, words)
     } else if command == "generate" {
         plan_generate(alloc, words)
+    } else if command == "convert" {
+        plan_convert(alloc, words)
     } else {
         Err(PlanFault::Usage(UsageCause::UnknownCommand))
     }
@@ -230,5 +232,29 @@ fn plan_generate_by(parts: &Parts) -> Result<Command, PlanFault>
     Ok(Command::Generate {
         draw,
         size: size as u32,
+    })
+}
+
+/// `convert [--json] GRAPH`
+fn plan_convert(alloc: Global, words: &[String]) -> Result<Command, PlanFault>
+    ensures { IsCommandOf (convert_of (parts_of_words convert_form (map string_bytes words.now))) result }
+{
+    let form = Form {
+        options: &[],
+        flags: &["json"],
+    };
+    let parts = Parts::of(alloc, &form, words)?;
+    plan_convert_by(alloc, &parts)
+}
+
+fn plan_convert_by(alloc: Global, parts: &Parts) -> Result<Command, PlanFault>
+    ensures { IsCommandOf (convert_given (rows_in parts.now)) result }
+{
+    let Some([graph]) = parts.positional() else {
+        return Err(PlanFault::Usage(UsageCause::BadWords));
+    };
+    Ok(Command::Convert {
+        json: parts.has("json"),
+        graph: Text::of(alloc, graph)?,
     })
 }

@@ -1,9 +1,8 @@
 -- What `generate` does: it draws a graph and a script, simulates the script, diagnoses the log, and writes what became
 -- of the truth.
-use Rattle.std.specs.Prelude.{◌≡◌, ℕ, List, [], ◌∷◌, ◌++◌, length, Contains, false, Result, Ok, Err}
+use Rattle.std.specs.Prelude.{◌≡◌, ℕ, List, [], ◌∷◌, ◌++◌, length, Contains, false}
 use Rattle.tfpg_base.specs.Hypothesis.{believing}
 use Rattle.tfpg_base.specs.Lines.{lines_of}
-use Rattle.tfpg_base.specs.Outside.{SinkState}
 use Rattle.tfpg_evidence.specs.declared.finding.Finding.{Finding}
 use Rattle.tfpg_evidence.specs.declared.round.Round.{Round}
 use Rattle.tfpg_evidence.specs.Findings.{hypothesis_of}
@@ -12,11 +11,9 @@ use Rattle.tfpg_sim.specs.declared.simulated.Simulated.{Simulated}
 use Rattle.tfpg_sim.specs.Generated.{generated_graph, generated_script}
 use Rattle.tfpg_sim.specs.Simulated.{IsSimulationOf}
 use Rattle.tfpg_run.specs.declared.end.End.{End}
-use Rattle.tfpg_run.specs.declared.fault.GenerateFault.{GenerateFault}
-use Rattle.tfpg_run.specs.declared.fault.GenerateFault.TheVariants.{WriteFault, NoMemory}
-use Rattle.tfpg_run.specs.EndsOf.{EndsBy, end_of_generate_fault}
+use Rattle.tfpg_run.specs.EndsOf.{EndsBy, end_of_output_fault}
 use Rattle.tfpg_run.specs.generate.Diagnosed.{AreRoundsOf, generated_terms}
-use Rattle.tfpg_run.specs.Outputs.{WritesText, BeginsText}
+use Rattle.tfpg_run.specs.Outputs.{TextEnds}
 use Rattle.tfpg_run.specs.generate.Summary.{drawing, summary_text}
 use Rattle.tfpg_run.specs.World.{World}
 
@@ -37,14 +34,8 @@ pub record HasSummary (number size : ℕ) (text : List ℕ) : Type 0 where
       (drawing number size (generated_graph number size) (length (lines_of simulated.log)))
       (length (earlier ++ last ∷ [])) last.counts simulated.set truth.status
 
--- How drawing and diagnosing ends. Before the whole text is known, nothing is written.
-abbrev pub GenerationEnds : ℕ → ℕ → SinkState → SinkState → Result (Unit {0}) GenerateFault → Type 0
-GenerationEnds number size before now (Ok done) = WritesText (HasSummary number size) before now
-GenerationEnds number size before now (Err WriteFault) = BeginsText (HasSummary number size) before now
-GenerationEnds number size before now (Err NoMemory) = now ≡ before
-
 -- How `generate` ends, which asks for no file and takes nothing from the input.
 abbrev pub GenerateEnds : ℕ → ℕ → World → World → End → Type 0
 GenerateEnds number size before now end =
-    EndsBy (GenerationEnds number size before.output now.output) end_of_generate_fault end
+    EndsBy (TextEnds (HasSummary number size) before.output now.output) end_of_output_fault end
     × (now.input ≡ before.input) × (now.shelf ≡ before.shelf)

@@ -6,7 +6,7 @@ use Rattle.tfpg_base.specs.Words.{number_of}
 use Rattle.tfpg_words.specs.declared.usage_cause.UsageCause.{UsageCause}
 use Rattle.tfpg_words.specs.declared.usage_cause.UsageCause.TheVariants.{BadWords}
 use Rattle.tfpg_words.specs.Words.{Word}
-use Rattle.tfpg_words.specs.Meaning.{Meaning, NumberOption, both, within, k_option, doubt_option, budget_option, draw_option, size_option, diagnose_with, explain_on, check_on, generate_with, simulate_with}
+use Rattle.tfpg_words.specs.Meaning.{Meaning, NumberOption, both, within, k_option, doubt_option, budget_option, draw_option, size_option, diagnose_with, explain_on, check_on, generate_with, simulate_with, convert_with}
 use Rattle.tfpg_words.specs.inside.Rules.{words_id}
 use Rattle.tfpg_words.specs.inside.Rows.{vals}
 
@@ -60,6 +60,9 @@ generate_given rows =
     (both (number_given draw_option (first_value (codes "draw") rows))
     (number_given size_option (first_value (codes "size") rows)))
     (vals words_id rows)
+
+abbrev pub convert_given : List Row → Result Meaning UsageCause
+convert_given rows = convert_with (is_used (codes "json") rows) (vals words_id rows)
 
 -- no option has two values, and no flag two uses
 abbrev pub once_given : List Text → List Text → List Row → Bool

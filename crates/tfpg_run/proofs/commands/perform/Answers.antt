@@ -1,7 +1,7 @@
 use Rattle.std.proofs.Common.{◌≡◌, ap, rules, refl}
 use Rattle.tfpg_words.specs.Plans.{meaning_of}
 use Rattle.tfpg_run.specs.World.{world}
-use Rattle.tfpg_run.proofs.Stops.{OnOk-with, check_stopped, explain_stopped, simulate_stopped}
+use Rattle.tfpg_run.proofs.Stops.{OnOk-with, check_stopped, explain_stopped, simulate_stopped, convert_stopped}
 use Rattle.tfpg_run.proofs.commands.perform.Goals as goal
 
 -- the input is untouched
@@ -34,3 +34,19 @@ returns-in-Check-clause-stopped g c =
     let now = world (g.F.Shelf.state c.check_by_files.new.shelf) (g.S.Source.state c.check_by_files.new.input) (g.K.Sink.state c.check_by_files.new.out) in
     check_stopped c.check_by_files.result (meaning_of c.args.command.now) c.as_str-in-Check.result.now c.as_str-in-Check-2.result.now before now
     c.in-Check.graph c.in-Check.log (ap meaning_of c.in-Check.is) c.as_str-in-Check.ensures c.as_str-in-Check-2.ensures c.check_by_files.ensures.stopped
+
+-- the same of a graph that is converted
+pub returns-in-Convert-clause-done : goal.returns-in-Convert-clause-done
+returns-in-Convert-clause-done g c =
+    let input = g.S.Source.state c.args.input.now in
+    let done = OnOk-with c.convert_file.result _ (input ≡ input) (c.convert_file.ensures.done input) refl in
+    search (rules, done)
+
+pub returns-in-Convert-clause-stopped : goal.returns-in-Convert-clause-stopped
+returns-in-Convert-clause-stopped g c =
+    let input = g.S.Source.state c.args.input.now in
+    let before = world (g.F.Shelf.state c.args.shelf.now) input (g.K.Sink.state c.args.out.now) in
+    let now = world (g.F.Shelf.state c.convert_file.new.shelf) input (g.K.Sink.state c.convert_file.new.out) in
+    convert_stopped c.convert_file.result (meaning_of c.args.command.now) c.as_str-in-Convert.result.now before now
+    c.in-Convert.json c.in-Convert.graph (ap meaning_of c.in-Convert.is) c.as_str-in-Convert.ensures refl
+    (c.convert_file.ensures.stopped input)

@@ -13,7 +13,7 @@ returns-in-Ok-clause-completes g c meant e can calm =
     let words = meaning (map string_bytes c.args.words.now) in
     let before = world (g.F.Shelf.state c.args.shelf.now) (g.S.Source.state c.args.input.now) (g.K.Sink.state c.args.out.now) in
     let now = world (g.F.Shelf.state c.perform.new.shelf) (g.S.Source.state c.perform.new.input) (g.K.Sink.state c.perform.new.out) in
-    run_completes c.a_text_has_at_most_one_first_fault.ensures.none
+    run_completes (record { text = c.a_text_has_at_most_one_first_fault.ensures.none; json = c.a_text_has_at_most_one_first_fault_as_json.ensures.none })
     (record { no_cause = c.lines_have_at_most_one_cause.ensures.none; one_line = c.a_report_line_says_one_thing.ensures }) before now calm words meant c.end_of.result e can
     (by_work words (meaning_of c.in-Ok.planned.command) before now c.perform.result c.end_of.result
     c.in-Ok.ensures c.end_of.ensures c.perform.ensures.done c.perform.ensures.stopped)

@@ -1,0 +1,2 @@
+-- How `convert` ends.
+pub mod Converting

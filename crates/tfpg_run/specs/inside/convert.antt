@@ -1,0 +1,2 @@
+-- Refusals of a graph that is converted.
+pub mod Refusals
