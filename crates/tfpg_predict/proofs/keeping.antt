@@ -1,0 +1,5 @@
+pub mod KeptItems
+pub mod KeptEventsKeep
+pub mod KeptOrder
+pub mod KeptCount
+pub mod NextEvents

@@ -1,0 +1,61 @@
+-- What is owed with each answer to the question when a node becomes active.
+use Rattle.std.specs.Prelude.{◌≡◌, ℕ, ◌-◌, ◌<◌, ◌≤◌, List, []}
+use Rattle.tfpg_base.specs.declared.activation.Activation.{Activation}
+use Rattle.tfpg_graph.specs.Graph.{Tfpg}
+use Rattle.tfpg_graph.specs.Reach.{IsReach}
+use Rattle.tfpg_log.specs.Log.{Logbook}
+use Rattle.tfpg_evidence.specs.declared.step.Step.{Step}
+use Rattle.tfpg_clause.specs.Case.{Case, case_of}
+use Rattle.tfpg_clause.specs.Trees.{IsRefutation, split_count}
+use Rattle.tfpg_clause.specs.Paths.{with_steps}
+use Rattle.tfpg_search.specs.Live.{IsUnsettled}
+use Rattle.tfpg_search.specs.Searched.{AreSearchSteps}
+use Rattle.tfpg_search.specs.Enough.{IsEnough}
+use Rattle.tfpg_predict.specs.LeastTime.{Question, IsLeastTime, HasNoTime}
+use Rattle.tfpg_predict.specs.Probed.{IsProbed}
+use Rattle.tfpg_predict.specs.declared.outlook.Outlook.{Outlook}
+use Rattle.tfpg_predict.specs.declared.outlook.Outlook.TheVariants.{Earliest, Never, Unsettled}
+
+-- The case is that of the probe with a bound: a probed graph, the probed log, and what the set reaches in it.
+pub record IsProbeCase (asked : Question) (set : List ℕ) (bound : ℕ) (case : Case) : Type 0 where
+  pub probed : IsProbed asked bound case.graph case.log
+  pub reach : IsReach case.graph set case.reach
+
+-- The steps are a refutation for the probe with this bound.
+pub record IsRefutedAt (asked : Question) (set : List ℕ) (bound : ℕ) (steps : List Step) : Type 0 where
+  pub case : Case
+  pub probe : IsProbeCase asked set bound case
+  pub refutation : IsRefutation case (with_steps [] case.log steps)
+
+-- The steps are those of a search for the probe with this bound, which spent its budget: they have as many live splits as the
+-- budget says, and their tree is unsettled. The budget is not one that is always enough.
+pub record IsSpentAt (asked : Question) (set : List ℕ) (bound budget : ℕ) (steps : List Step) : Type 0 where
+  pub case : Case
+  pub probe : IsProbeCase asked set bound case
+  pub live : AreSearchSteps case [] steps
+  pub spent : split_count steps ≡ budget
+  pub unsettled : IsUnsettled case (with_steps [] case.log steps)
+  pub not_enough : IsEnough case.graph case.log budget → ⊥
+
+-- The time is the least one, attained by the trace. The steps are a refutation for the probe with the bound before it; at time 0
+-- there are none.
+pub record IsEarliest (asked : Question) (set : List ℕ) (time : ℕ) (trace : List Activation) (earlier : List Step) : Type 0 where
+  pub least : IsLeastTime asked set time trace
+  pub refuted : 0 < time → IsRefutedAt asked set (time - 1) earlier
+  pub at_zero : time ≡ 0 → earlier ≡ []
+
+-- No trace activates the node, and the steps are a refutation for the probe with the time of the question as its bound.
+pub record IsNever (asked : Question) (set : List ℕ) (steps : List Step) : Type 0 where
+  pub none : HasNoTime asked set
+  pub refuted : IsRefutedAt asked set asked.to steps
+
+-- The search for the probe with this bound, which is not after the time of the question, spent its budget.
+pub record IsUnsettledAt (asked : Question) (set : List ℕ) (budget bound : ℕ) (steps : List Step) : Type 0 where
+  pub within : bound ≤ asked.to
+  pub spent : IsSpentAt asked set bound budget steps
+
+-- The outlook answers the question for a set, where each search has this budget.
+abbrev pub IsOutlook : Question → List ℕ → ℕ → Outlook → Type 0
+IsOutlook asked set budget (Earliest time trace earlier) = IsEarliest asked set time trace earlier
+IsOutlook asked set budget (Never steps) = IsNever asked set steps
+IsOutlook asked set budget (Unsettled bound steps) = IsUnsettledAt asked set budget bound steps
