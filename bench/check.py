@@ -1,89 +1,199 @@
 #!/usr/bin/env python3
-"""Times the judge of reports beside `wc -l` and a reader in Python: megabytes a second, and peak memory. The shortest of three runs.
+"""Times the judge of reports beside `wc -l` and a reader in Python: megabytes a second of processor time, and peak memory. The
+shortest of three runs.
 
-    bench/check.py [--megabytes N]
+    bench/check.py [--megabytes N] [--only WORD].. [--program FILE] [--keep FOLDER]
 
-Each report is that of `diagnose`, for a log that is made long enough for N megabytes (50 if nothing is said):
+Most reports are those of `diagnose`, for a log that is long enough for N megabytes (50 if nothing is said) if there is such a log:
 
 - "many pairs": 1,020 pairs explain the log and none alone, so each round has 1,020 traces.
 - "two faults": 64 failure modes, 512 nodes and 2,048 edges; a round has what the tree of each set grew by, and the traces.
-- "kept searches": 2,081 and 4,096 hypotheses with a budget of 1, most of them open in each round.
+- "generated": the graph of `generate --size 100`, its log, and ticks after it.
+- "hard": a small dense graph of `bench/compare.py` whose report has tens of thousands of splits in few rounds.
+- "kept": 2,081 and 4,096 hypotheses with a budget of 1, most of them open in each round.
+- "few lines": 4,096 hypotheses of which one is ranked and the others are covered, in 65,536 rounds of three lines each.
+- "nested": one round in which one hypothesis has a million splits, each in the first alternative of the one before.
+
+"check" judges the report. "reader" is `check` of the same lines in one round that never ends: all of them are read, and none is judged.
 """
 
 import argparse
+import os
 import random
 import subprocess
 import sys
 import tempfile
-import time
 from pathlib import Path
 
-from diagnose import TFPG, kept_searches, large_graph, large_script, many_pairs
+from compare import HARD, hard_row
+from diagnose import TFPG, TWO_MODES, kept_searches, large_graph, large_script, many_pairs
 
 READER = "import sys; print(sum(len(line.split()) for line in sys.stdin.buffer))"
+RUNS = 3
 
 
 def shortest(words, text):
-    """The output, the seconds of the shortest of three runs, and the peak memory in KB."""
+    """What was said, the processor seconds of the shortest of some runs, and the peak memory in KB, as GNU time reports it."""
     best = None
-    for _ in range(3):
-        began = time.perf_counter()
-        done = subprocess.run(["/usr/bin/time", "-f", "%M", *words], stdin=open(text, "rb"), capture_output=True, check=True)
-        took = time.perf_counter() - began
+    for _ in range(RUNS):
+        with open(text, "rb") as stream:
+            process = subprocess.Popen(
+                ["/usr/bin/time", "-f", "%M", *words], stdin=stream, stdout=subprocess.PIPE, stderr=subprocess.STDOUT, text=True
+            )
+            said = process.stdout.read().split("\n")
+            _, status, usage = os.wait4(process.pid, 0)
+        process.returncode = os.waitstatus_to_exitcode(status)
+        took = usage.ru_utime + usage.ru_stime
         best = took if best is None else min(best, took)
-    return done.stdout.decode().strip(), best, int(done.stderr.split()[-1])
+    return said[0], max(best, 1e-6), int(said[-2])
 
 
-def report_of(top, name, words, graph, log, limit):
-    """The report of a log, of whole rounds up to so many bytes, and the front of the log that it is of."""
-    lines = log.rstrip("\n").split("\n")
-    count = len(lines)
-    while True:
-        front = "\n".join(lines[:count]) + "\n"
-        (top / f"{name}.log").write_text(front)
-        done = subprocess.run([TFPG, "diagnose", *words, graph], input=front.encode(), capture_output=True, check=True)
-        if len(done.stdout) <= limit or count == 1:
-            (top / f"{name}.report").write_bytes(done.stdout)
-            return len(done.stdout)
-        count = max(1, count * limit // len(done.stdout))
+def report_of(program, top, name, words, graph, log, limit):
+    """Writes the report of a log, of whole blocks up to so many bytes or of the first one, and the front of the log that it is of."""
+    whole = top / f"{name}.log"
+    whole.write_text(log)
+    with open(whole, "rb") as stream:
+        process = subprocess.Popen([program, "diagnose", *words, graph], stdin=stream, stdout=subprocess.PIPE)
+        text = process.stdout.read(limit)
+        while b"\ncounts " not in text and (more := process.stdout.read(limit)):
+            text += more
+        process.kill()
+        process.communicate()
+    lines = text.split(b"\n")[:-1]
+    while not lines[-1].startswith((b"counts ", b"refused ", b"report ")):
+        lines.pop()
+    blocks = sum(line.startswith((b"counts ", b"refused ")) for line in lines)
+    (top / f"{name}.report").write_bytes(b"\n".join(lines) + b"\n")
+    whole.write_text("".join(log.splitlines(keepends=True)[:blocks]))
 
 
-def show(name, top, graph, size):
+def in_one_round(report):
+    """The same lines of hypotheses in one round that has no counts."""
+    head, *lines = report.split(b"\n")[:-1]
+    kinds = {b"ranked": 1, b"at": 1, b"open": 2, b"rejected": 3, b"round": 4, b"counts": 4, b"refused": 4}
+    kept = sorted((line for line in lines if kinds.get(line.split(b" ", 1)[0], 0) < 4), key=lambda line: kinds.get(line.split(b" ", 1)[0], 0))
+    return b"\n".join([head, b"round 1 1 0", *kept]) + b"\n"
+
+
+def show(program, name, top, graph):
     """One line: what the report has, and how fast it is read."""
-    report = top / f"{name}.report"
-    _, lines, _ = shortest(["wc", "-l"], report)
-    _, words, _ = shortest([sys.executable, "-c", READER], report)
-    said, seconds, peak = shortest([TFPG, "check", graph, top / f"{name}.log"], report)
-    rate = lambda took: size / took / 1e6
+    report, read = top / f"{name}.report", top / f"{name}.read"
+    text = report.read_bytes()
+    read.write_bytes(in_one_round(text))
+    words = [program, "check", graph, top / f"{name}.log"]
+    rate = lambda file, took: file.stat().st_size / took / 1e6
+    _, counting, _ = shortest(["wc", "-l"], report)
+    _, python, _ = shortest([sys.executable, "-c", READER], report)
+    said, judging, peak = shortest(words, report)
+    ended, reading, read_peak = shortest(words, read)
+    splits = text.count(b"\nsplit ")
     print(
-        f"{name:16} {size / 1e6:6.1f} MB  {said:14} check {rate(seconds):6.1f} MB/s {peak / 1024:6.1f} MB resident   "
-        f"wc {rate(lines):7.0f} MB/s   python {rate(words):6.1f} MB/s"
+        f"{name:12} {report.stat().st_size / 1e6:5.1f} MB, {splits:7} splits, {said:20} check {rate(report, judging):6.1f} MB/s"
+        f"{peak / 1024:7.1f} MB resident   reader {rate(read, reading):6.1f} MB/s {read_peak / 1024:6.1f} MB"
+        f"{'' if ended.endswith('EndsEarly') else '  ' + ended}   wc {rate(report, counting):6.0f} MB/s   python {rate(report, python):5.1f} MB/s",
+        flush=True,
     )
+
+
+class Draws:
+    """The generator of `generate`: PCG32 with this number as state, on the stream 1."""
+
+    def __init__(self, number):
+        self.increment = 3
+        self.state = (number + self.increment) % 2**64
+        self.step()
+
+    def step(self):
+        self.state = (self.state * 6364136223846793005 + self.increment) % 2**64
+
+    def draw(self, below):
+        state = self.state
+        self.step()
+        word, turn = (((state >> 18) ^ state) >> 27) % 2**32, state >> 59
+        return ((word >> turn | word << (32 - turn)) % 2**32) % below
+
+
+def generated_case(number, size):
+    """The graph and the script that `generate` draws."""
+    draws = Draws(number)
+    draw, name = draws.draw, lambda node: f"F{node}" if node < 16 else f"D{node - 16}"
+    nodes, edges = [f"failure F{place} {place + 1}" for place in range(16)], []
+    for node in range(16, 16 + 4 * size):
+        a, b, c, w, g = draw(node), draw(node), draw(8), draw(4), draw(20)
+        nodes.append(f"{'and' if a != b and c == 0 else 'or'} {name(node)} {'hidden' if w == 0 else f'watch {g}'}")
+        for source in [a] if a == b else [a, b]:
+            m, r, u, v = draw(50), draw(50), draw(16), draw(8)
+            edges.append(f"edge {name(source)} {name(node)} {m} {'inf' if u == 0 else m + r} {'M0' if v == 0 else '*'}")
+    x, y = draw(16), draw(16)
+    script = [f"0 start F{x}", *([f"50 start F{y}"] if x != y else [])]
+    script += ["100 mode M1", "140 mode M0", "200 sweep", "300 sweep", "400 stop"]
+    return "\n".join(["tfpg 1", "mode M0", "mode M1", *nodes, *edges, "end"]) + "\n", "\n".join(script) + "\n"
+
+
+def nested(count):
+    """A report of two-modes in which the first failure mode has so many splits, none of whose alternatives is closed."""
+    lines = [f"report 1 k 1 budget {count}", "round 1 1 30", "hyp 0", "cycle 2", "why unreached A 30", "why upto 1", "hyp 1"]
+    lines += ["split ormay A 0 30"] * count
+    lines += ["ranked 2 cost 5 robust 1/1 set F2", "at F2 25", "at A 30", "open 1 set F1", "rejected 0 set -"]
+    return "\n".join([*lines, "counts ranked 1 covered 0 rejected 1 open 1"]) + "\n"
+
+
+def twelve():
+    """A graph of twelve failure modes and nothing else, which has 4,096 sets."""
+    return "\n".join(["tfpg 1", "mode N", *[f"failure F{place} 1" for place in range(12)], "end"]) + "\n"
+
+
+def cases(program, top, limit):
+    """The name, the graph, and how its report is made, of each case in turn."""
+    draws = random.Random(7)
+    texts = {"pairs": many_pairs(), "large": large_graph(draws), "script": large_script(draws, 8_000), "kept": kept_searches()}
+    texts["drawn"], texts["drawn-script"] = generated_case(1, 100)
+    texts |= {"twelve": twelve(), "two-modes": TWO_MODES}
+    for name, text in texts.items():
+        (top / name).write_text(text)
+    ticks = "".join(f"{at} tick\n" for at in range(401, 60_000))
+    simulated = lambda draw, graph, script: subprocess.run(
+        [program, "simulate", "--draw", draw, top / graph, top / script], capture_output=True, check=True
+    ).stdout.decode()
+    of = lambda name, words, graph, log: report_of(program, top, name, words, top / graph, log(), limit)
+    yield "many pairs", "pairs", lambda: of("many pairs", [], "pairs", lambda: "100 alarm A\n110 alarm B\n" + ticks)
+    yield "two faults", "large", lambda: of("two faults", ["--k", "1"], "large", lambda: simulated("5", "large", "script"))
+    yield "generated", "drawn", lambda: of("generated", [], "drawn", lambda: simulated("1", "drawn", "drawn-script") + ticks)
+    for draw in HARD[:2]:
+
+        def hard(draw=draw):
+            row = hard_row(program, top, draw)
+            report_of(program, top, f"hard {draw}", row.words[1:-1], row.words[-1], row.log.read_text(), limit)
+
+        yield f"hard {draw}", f"hard{draw}.tfpg", hard
+    for name, words in (("kept 2081", []), ("kept 4096", ["--doubt", "1"])):
+        yield name, "kept", lambda name=name, words=words: of(name, [*words, "--budget", "1"], "kept", lambda: "100 alarm A\n" + ticks)
+    every = "".join(f"{at} tick\n" for at in range(65_536))
+    yield "few lines", "twelve", lambda: of("few lines", ["--k", "12"], "twelve", lambda: every)
+
+    def nest():
+        (top / "nested.log").write_text("30 alarm A\n")
+        (top / "nested.report").write_text(nested(1_000_000))
+
+    yield "nested", "two-modes", nest
 
 
 def main():
     arguments = argparse.ArgumentParser(description=__doc__, formatter_class=argparse.RawDescriptionHelpFormatter)
     arguments.add_argument("--megabytes", type=int, default=50)
-    limit = arguments.parse_args().megabytes * 1_000_000
-    subprocess.run([TFPG, "generate", "--size", "1"], stdout=subprocess.DEVNULL, check=True)
-    draws = random.Random(7)
+    arguments.add_argument("--only", action="append", metavar="WORD", help="only the cases whose names begin so")
+    arguments.add_argument("--program", type=Path, default=TFPG)
+    arguments.add_argument("--keep", type=Path, help="the folder for graphs, logs and reports, which stay there")
+    words = arguments.parse_args()
+    program = words.program.resolve()
+    subprocess.run([program, "generate", "--size", "1"], stdout=subprocess.DEVNULL, check=True)
     with tempfile.TemporaryDirectory() as folder:
-        top = Path(folder)
-        (top / "pairs").write_text(many_pairs())
-        (top / "large").write_text(large_graph(draws))
-        (top / "script").write_text(large_script(draws, 20_000))
-        (top / "kept").write_text(kept_searches())
-        ticks = "".join(f"{at} tick\n" for at in range(111, 6000))
-        done = subprocess.run([TFPG, "simulate", "--draw", "5", top / "large", top / "script"], capture_output=True, check=True)
-        cases = [
-            ("many pairs", [], "pairs", "100 alarm A\n110 alarm B\n" + ticks),
-            ("two faults", ["--k", "1"], "large", done.stdout.decode()),
-            ("kept 2081", ["--budget", "1"], "kept", "100 alarm A\n" + ticks),
-            ("kept 4096", ["--doubt", "1", "--budget", "1"], "kept", "100 alarm A\n" + ticks),
-        ]
-        for name, words, graph, log in cases:
-            size = report_of(top, name, words, top / graph, log, limit)
-            show(name, top, top / graph, size)
+        top = words.keep or Path(folder)
+        top.mkdir(exist_ok=True)
+        for name, graph, make in cases(program, top, words.megabytes * 1_000_000):
+            if not words.only or any(name.startswith(word) for word in words.only):
+                make()
+                show(program, name, top, top / graph)
     return 0
 
 

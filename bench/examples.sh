@@ -1,6 +1,6 @@
 #!/usr/bin/env bash
-# Compares what the program writes on each example with the report or the verdict beside it, byte for byte, and the program's
-# stored run with the example of the pump. Ends with status 1 where something differs.
+# Compares what the program writes on each example with the report or the verdict beside it, byte for byte, lets it judge each of
+# these reports, and compares its stored run with the example of the pump. Ends with status 1 where something differs.
 set -u
 
 top=$(dirname "$(dirname "$(readlink -f "${BASH_SOURCE[0]}")")")
@@ -13,7 +13,10 @@ differs() {
 
 for report in "$top"/examples/*.report; do
     name=$(basename "$report" .report)
-    "$top/tfpg" diagnose "$top/examples/${name%%-*}.tfpg" < "${report%.report}.log" | cmp -s - "$report" || differs "$name"
+    graph=$top/examples/${name%%-*}.tfpg
+    "$top/tfpg" diagnose "$graph" < "${report%.report}.log" | cmp -s - "$report" || differs "$name"
+    rounds=$(grep -c '^counts ' "$report")
+    "$top/tfpg" check "$graph" "${report%.report}.log" < "$report" | cmp -s - <(echo "accepted $rounds") || differs "$name, judged"
 done
 
 for verdict in "$top"/examples/*.verdict; do
