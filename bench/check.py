@@ -26,7 +26,7 @@ import tempfile
 from pathlib import Path
 
 from compare import HARD, hard_row
-from diagnose import TFPG, TWO_MODES, kept_searches, large_graph, large_script, many_pairs
+from diagnose import TWO_MODES, built_program, kept_searches, large_graph, large_script, many_pairs
 
 READER = "import sys; print(sum(len(line.split()) for line in sys.stdin.buffer))"
 RUNS = 3
@@ -182,11 +182,10 @@ def main():
     arguments = argparse.ArgumentParser(description=__doc__, formatter_class=argparse.RawDescriptionHelpFormatter)
     arguments.add_argument("--megabytes", type=int, default=50)
     arguments.add_argument("--only", action="append", metavar="WORD", help="only the cases whose names begin so")
-    arguments.add_argument("--program", type=Path, default=TFPG)
+    arguments.add_argument("--program", type=Path, metavar="FILE", help="a built program")
     arguments.add_argument("--keep", type=Path, help="the folder for graphs, logs and reports, which stay there")
     words = arguments.parse_args()
-    program = words.program.resolve()
-    subprocess.run([program, "generate", "--size", "1"], stdout=subprocess.DEVNULL, check=True)
+    program = built_program(words.program)
     with tempfile.TemporaryDirectory() as folder:
         top = words.keep or Path(folder)
         top.mkdir(exist_ok=True)

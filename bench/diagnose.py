@@ -37,6 +37,14 @@ end
 """
 
 
+def built_program(named=None):
+    """The program of this file, or else that of this checkout, which `./tfpg` proves and builds where it is not built yet."""
+    if named is None:
+        subprocess.run([TFPG, "generate", "--size", "1"], stdout=subprocess.DEVNULL, check=True)
+        named = TFPG.parent / "crates" / "tfpg" / "out" / "tfpg"
+    return named.resolve()
+
+
 def large_graph(draws, failures=64, nodes=512, edges=2048):
     """A graph of so many nodes and edges, each of which leads to a later node."""
     name = lambda node: f"F{node}" if node < failures else f"D{node}"

@@ -26,7 +26,8 @@ from collections import Counter
 from dataclasses import dataclass
 from pathlib import Path
 
-from slow_judge import LONG, MOST_TIME, NUMBER, REFUSALS, SMALL, Graph, Judge
+from diagnose import built_program
+from slow_judge import LONG, MOST_TIME, NUMBER, REFUSALS, SMALL, Graph, Judge, Log, NotSo, line_said
 
 TOP = Path(__file__).resolve().parent.parent
 WITHIN = (b"hyp", b"split", b"cycle", b"why", b"again", b"ranked", b"at", b"open", b"rejected", b"counts")  # the lines of a round
@@ -48,13 +49,13 @@ def small_graph(draws):
     modes = [f"M{number}" for number in range(draws.choice([1, 1, 2, 2, 3]))]
     failures = [f"F{number}" for number in range(13 if draws.random() < 0.03 else draws.randint(1, 4))]
     others = [f"D{number}" for number in range(draws.randint(1, 5))]
-    version = draws.randint(1, 2)
+    version = draws.choice([1, 2, 2])
     lines = [f"tfpg {version}", *[f"mode {mode}" for mode in modes]]
     nodes = [f"failure {name} {draws.choice([0, 1, 2, 3, 7, 1000])}" for name in failures]
     for name in others:
-        least = draws.randint(0, 2)
+        least = draws.randint(0, 3)
         lags = f"{least} {least + draws.randint(0, 3)}" if version == 2 else draws.choice([0, 0, 1, 4])
-        nodes.append(f"{draws.choice(['or', 'or', 'and'])} {name} {f'watch {lags}' if draws.random() < 0.8 else 'hidden'}")
+        nodes.append(f"{draws.choice(['or', 'and'])} {name} {f'watch {lags}' if draws.random() < 0.8 else 'hidden'}")
     if draws.random() < 0.3:
         draws.shuffle(nodes)
     lines += nodes
@@ -155,7 +156,9 @@ class Forger:
     """Edits of the lines of a report. Each answers what it did, in words."""
 
     def __init__(self, draws, source, lines):
-        self.draws, self.graph, self.lines = draws, Graph(source.graph), lines
+        self.draws, self.graph, self.lines, self.log = draws, Graph(source.graph), lines, Log(Graph(source.graph))
+        for line in log_lines(source.log):
+            self.log.offer(line)
         self.names = [node.name for node in self.graph.nodes]
         self.edits = [
             (self.change_number, 10),
@@ -171,7 +174,9 @@ class Forger:
             (self.turn, 3),
             (self.wrap, 5),
             (self.reuse, 3),
-            (self.retime, 5),
+            (self.retime, 6),
+            (self.other_reason, 6),
+            (self.spend, 6),
             (self.restate, 7),
             (self.cut, 1),
             (self.other_head, 2),
@@ -430,7 +435,62 @@ class Forger:
             if self.draws.random() < 0.5 and NUMBER.fullmatch(time):
                 self.lines[last] = b"%s %d" % (node, max(0, int(time) + self.draws.choice([-2, -1, -1, 1, 1, 2])))
             last += 1
-        return f"the trace of line {index + 1} has other times"
+        times = {line.split(b" ")[1]: line for line in self.lines[index + 1 : last]}
+        node, time = self.draws.choice(self.names), self.draws.choice([b"0", *[line.split(b" ")[-1] for line in times.values()]])
+        if self.draws.random() < 0.4 and times.pop(node, None) is None and NUMBER.fullmatch(time):
+            times[node] = b"at %s %d" % (node, int(time) + self.draws.randint(0, 3))
+        place = {name: number for number, name in enumerate(self.names)}
+        self.lines[index + 1 : last] = sorted(times.values(), key=lambda line: place.get(line.split(b" ")[1], 0))
+        return f"the trace of line {index + 1} is another"
+
+    def other_reason(self):
+        """Another bound of the same kind on the same node, in place of a reason."""
+        index = self.some_line(b"why")
+        words = self.lines[index].split(b" ") if index is not None else []
+        if len(words) < 3 or words[1] == b"pick":
+            return "no reason that states a fact"
+        events = self.log.events
+        name = words[2]
+        if words[1] in (b"from", b"upto"):
+            number = int(words[2]) if NUMBER.fullmatch(words[2]) else 0
+            about = events[number - 1].node if 1 <= number <= len(events) else None
+            name = self.names[about or 0]
+        elif words[1] == b"quiet":
+            name = words[-1]
+        number = self.draws.randint(1, max(1, len(events)))
+        said = [b"top %s" % name, b"upto %d" % number, b"upto %d" % number]
+        if words[1] not in (b"top", b"upto"):
+            horizon = events[number - 1].time if events else 0
+            said = [b"zero %s" % name, b"from %d" % number, b"unreached %s %d" % (name, horizon)] + [b"quiet %d %s" % (number, name)] * 3
+        return self.set_line(index, b"why " + self.draws.choice(said))
+
+    def spend(self):
+        """Splits for some hypothesis in some round, as many as the budget, with or without a line that it is open."""
+        counts, judge = self.some_line(b"counts"), Judge(self.graph, [])
+        try:
+            _, k, doubt, budget = line_said(self.graph, self.lines[0])
+        except (NotSo, ValueError):
+            return "no first line"
+        if counts is None or budget > 4 or judge.begin(k, doubt, budget) is not None:
+            return "no round, or a great budget"
+        hypothesis = self.draws.randrange(len(judge.trees))
+        tree = judge.trees[hypothesis]
+        members = [self.names[node] for node in tree.failures] + [b"!" + self.names[node] for node in tree.doubts]
+        first = max((place for place in range(counts) if self.lines[place].startswith(b"round")), default=0)
+        wanted = [(b"hyp %d" % hypothesis, [self.some_clause() for _ in range(budget)])]
+        if self.draws.random() < 0.6:
+            wanted.append((b"open %d set %s" % (hypothesis, b",".join(members) or b"-"), []))
+        for line, more in wanted:
+            word, place = line.split(b" ")[0], first + 1
+            order = {b"hyp": 0, b"ranked": 1, b"open": 2, b"rejected": 3, b"counts": 4}
+            while place < len(self.lines):
+                other = self.lines[place].split(b" ")
+                later = order.get(other[0], -1) > order[word]
+                if later or (other[0] == word and len(other) > 1 and NUMBER.fullmatch(other[1]) and int(other[1]) >= hypothesis):
+                    break
+                place += 1
+            self.lines[place:place] = [line, *more]
+        return f"hypothesis {hypothesis} has {budget} splits before line {counts + 1}, and {len(wanted) - 1} open lines"
 
     def restate(self):
         """Another status for a hypothesis that has a line, or a line for one that has none."""
@@ -547,13 +607,13 @@ def main():
     arguments.add_argument("--seed", type=int, default=1, help="the first seed of a right report")
     arguments.add_argument("--one", metavar="SEED", help="only this forgery, as SEED.INDEX")
     arguments.add_argument("--keep", type=Path, default=Path("/tmp/forged"), help="where forgeries that differ are kept")
-    arguments.add_argument("--each", type=int, default=150, help="forgeries of each right report")
-    arguments.add_argument("--program", type=Path, default=TOP / "tfpg")
+    arguments.add_argument("--each", type=int, default=40, help="forgeries of each right report")
+    arguments.add_argument("--program", type=Path, metavar="FILE", help="a built program")
     words = arguments.parse_args()
     words.keep.mkdir(parents=True, exist_ok=True)
     sys.set_int_max_str_digits(0)  # a line may have thousands of digits
     with tempfile.TemporaryDirectory(dir="/dev/shm") as folder:
-        program = Program(words.program.resolve(), Path(folder))
+        program = Program(built_program(words.program), Path(folder))
         if words.one:
             seed, index = (int(word) for word in words.one.split("."))
             source = program.source(seed)

@@ -25,7 +25,7 @@ from collections import Counter
 from dataclasses import dataclass
 from pathlib import Path
 
-from diagnose import TFPG, TWO_MODES
+from diagnose import TWO_MODES, built_program
 
 HERE = Path(__file__).resolve().parent
 ONE_CAUSE = """tfpg 1
@@ -140,12 +140,12 @@ def show(refusing, run):
 
 def main():
     arguments = argparse.ArgumentParser(description=__doc__, formatter_class=argparse.RawDescriptionHelpFormatter)
-    arguments.add_argument("--program", type=Path, default=TFPG.parent / "crates/tfpg/out/tfpg", help="the built program, and no script")
+    arguments.add_argument("--program", type=Path, metavar="FILE", help="a built program, and no script")
     arguments.add_argument("--only", action="append", metavar="WORD", help="only the runs whose names begin so")
     words = arguments.parse_args()
     with tempfile.TemporaryDirectory() as folder:
         top = Path(folder)
-        refusing = Refusing(words.program.resolve(), top)
+        refusing = Refusing(built_program(words.program), top)
         chosen = [run for run in runs(refusing, top) if not words.only or any(run.name.startswith(word) for word in words.only)]
         return int(not all([show(refusing, run) for run in chosen]))
 

@@ -2,7 +2,7 @@
 
 It is written from `docs/formats.md` and `docs/model.md` alone, and shares nothing with the program: which lines a report may have, what
 each line of the log brings, clauses and reasons as constraints, trees of steps, what a trace must show, and the tests of a round in
-their order. It goes for few words, and not for speed.
+their order. It is written for few words and not for speed, and it knows no limit on the number of events.
 """
 
 import re
