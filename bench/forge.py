@@ -606,13 +606,13 @@ def main():
     arguments.add_argument("--seconds", type=int, default=60)
     arguments.add_argument("--seed", type=int, default=1, help="the first seed of a right report")
     arguments.add_argument("--one", metavar="SEED", help="only this forgery, as SEED.INDEX")
-    arguments.add_argument("--keep", type=Path, default=Path("/tmp/forged"), help="where forgeries that differ are kept")
+    arguments.add_argument("--keep", type=Path, default=Path(tempfile.gettempdir()) / "forged", help="where forgeries that differ are kept")
     arguments.add_argument("--each", type=int, default=40, help="forgeries of each right report")
     arguments.add_argument("--program", type=Path, metavar="FILE", help="a built program")
     words = arguments.parse_args()
     words.keep.mkdir(parents=True, exist_ok=True)
     sys.set_int_max_str_digits(0)  # a line may have thousands of digits
-    with tempfile.TemporaryDirectory(dir="/dev/shm") as folder:
+    with tempfile.TemporaryDirectory() as folder:
         program = Program(built_program(words.program), Path(folder))
         if words.one:
             seed, index = (int(word) for word in words.one.split("."))
