@@ -96,7 +96,7 @@ def with_silences(draws, graph, log):
         alarmed.update(node if what == "alarm" else [])
         if what == "sweep":
             silent = [monitor for monitor in monitors if monitor not in alarmed and draws.random() < 0.3]
-            lines += [f"{at} silence {monitor}" for monitor in silent]
+            lines += [f"{at} silent {monitor}" for monitor in silent]
         else:
             lines.append(line)
     return ("\n".join(lines) + "\n").encode()
