@@ -1,5 +1,5 @@
 -- A run ends well where nothing stands in its way.
-use Rattle.std.proofs.Common.{◌≡◌, ℕ, ◌+◌, ◌<◌, ◌≤◌, Bool, true, false, List, ◌++◌, length, take, drop, Option, Some, IfSome, Result, Ok, Err, refl, sym, ap, subst, ◌∙◌, inl, inr, ⊎_elim, arith}
+use Rattle.std.proofs.Common.{◌≡◌, ℕ, ◌+◌, ◌<◌, ◌≤◌, Bool, true, false, List, ◌++◌, length, take, drop, Option, Some, IfSome, Result, Ok, Err, refl, sym, ap, subst, subst₂, ◌∙◌, inl, inr, ⊎_elim, arith}
 use Rattle.std.specs.Prelude.{OnOk, IfErr}
 use Rattle.std.proofs.lemmas.List.{length-append, take-append-drop}
 use Rattle.std.proofs.lemmas.Option.{same_Some}
@@ -8,10 +8,12 @@ use Rattle.tfpg_base.specs.declared.limits.TheConstants.{MAX_BYTES, LONGEST_FILE
 use Rattle.tfpg_base.specs.Outside.{SourceState, ShelfState, Rose, Gives, Takes, file_of}
 use Rattle.tfpg_base.specs.Lines.{lines_of}
 use Rattle.tfpg_graph.specs.declared.cause.GraphFault.{GraphFault}
+use Rattle.tfpg_graph.specs.Declares.{declared_by}
 use Rattle.tfpg_graph.specs.Graph.{Tfpg}
 use Rattle.tfpg_graph.specs.Text.{Spells}
 use Rattle.tfpg_graph.specs.Valid.{IsValid}
 use Rattle.tfpg_graph.specs.Faults.{IsFirstFault}
+use Rattle.tfpg_graph.proofs.lemmas.reading.faults.NoFault.{Spells-clean}
 use Rattle.tfpg_json.specs.GraphText.{IsJsonFault, SpellsAsJson}
 use Rattle.tfpg_log.specs.Log.{Logbook}
 use Rattle.tfpg_report.specs.Blocks.{Block}
@@ -76,6 +78,18 @@ module _ (shelf : ShelfState) (files : List (List ℕ × List ℕ)) (known : she
   -- what a file gives is what it has
   pub gives_is : (name text : List ℕ) → Gives shelf name text → file_of files name ≡ Some text
   gives_is name text gives = subst (λ (fs : Option (List (List ℕ × List ℕ))). IfSome fs (λ them. file_of them name ≡ Some text)) known gives
+
+  -- a file has one text
+  only_text : (name text other : List ℕ) → Gives shelf name text → Gives shelf name other → text ≡ other
+  only_text name text other gives also = same_Some text other (sym (gives_is name text gives) ∙ gives_is name other also)
+
+  -- and spells one valid graph
+  only_graph : (name : List ℕ) (graph other : Tfpg) → GivesGraph shelf name graph → GivesGraph shelf name other → graph ≡ other
+  only_graph name graph other gives also =
+      let texts : gives.text ≡ also.text = only_text name gives.text also.text gives.file.gives also.file.gives in
+      sym (Spells-clean gives.text graph gives.spells gives.valid).1
+      ∙ ap (λ (text : List ℕ). declared_by (lines_of text)) texts
+      ∙ (Spells-clean also.text other also.spells also.valid).1
 
   -- a file that is short enough is not too long
   not_too_long : (name text : List ℕ) → Gives shelf name text → length text ≤ LONGEST_FILE → IsTooLong shelf name → ⊥
@@ -224,9 +238,12 @@ module _ (graphs : GraphLaws) (laws : CheckLaws) (before now : World) (calm : No
       inr (without_memory end lacks.fault
       (both_fetched before.shelf can.files can.known graphs graph_name can.graph can.gives.of_graph now.shelf log_name can.log_text can.gives.file lacks.fault calm.shelf lacks.is_fault) lacks.end_is)
   checked end graph_name log_name can (inr checks) =
-      let report = can.report checks.graph checks.other checks.gives in
+      let one_graph : can.graph ≡ checks.graph = only_graph before.shelf can.files can.known graph_name can.graph checks.graph can.gives.of_graph checks.gives.of_graph in
+      let one_text : can.log_text ≡ checks.other = only_text before.shelf can.files can.known log_name can.log_text checks.other can.gives.file.gives checks.gives.file.gives in
+      let report : AreReportLines (matter_of checks.graph checks.other) can.terms can.blocks (lines_of can.short.known) =
+      subst₂ (λ (graph : Tfpg) (text : List ℕ). AreReportLines (matter_of graph text) can.terms can.blocks (lines_of can.short.known)) one_graph one_text can.report in
       subst IsCompleted (sym checks.works.end_is)
-      (judged_report can.short (matter_of checks.graph checks.other) checks.works.works.taken checks.gives.of_graph.valid report.0 report.1 report.2
+      (judged_report can.short (matter_of checks.graph checks.other) checks.works.works.taken checks.gives.of_graph.valid can.terms can.blocks report
       checks.works.works.takes checks.works.result checks.works.works.ends)
 
   -- a script that is simulated

@@ -48,7 +48,7 @@ pub record CanExplain (shelf : ShelfState) (input : SourceState) (graph_name log
   pub map : (other : Tfpg) → GivesGraph shelf graph_name other → HasMap other (lines_of short.known)
 
 -- The contents of the shelf are known, the files of these names give a graph and a text, and the lines of the input are those of a
--- report of each graph and the lines of each text that the files give.
+-- report of the graph and the lines of the text.
 pub record CanCheck (shelf : ShelfState) (input : SourceState) (graph_name log_name : List ℕ) : Type 0 where
   pub files : List (List ℕ × List ℕ)
   pub known : shelf.files ≡ Some files
@@ -56,8 +56,9 @@ pub record CanCheck (shelf : ShelfState) (input : SourceState) (graph_name log_n
   pub log_text : List ℕ
   pub gives : GivesGraphAndText shelf graph_name log_name graph log_text
   pub short : IsShort input
-  pub report : (other : Tfpg) (text : List ℕ) → GivesGraphAndText shelf graph_name log_name other text
-      → (terms : Terms) × (blocks : List Block) × AreReportLines (matter_of other text) terms blocks (lines_of short.known)
+  pub terms : Terms
+  pub blocks : List Block
+  pub report : AreReportLines (matter_of graph log_text) terms blocks (lines_of short.known)
 
 -- The contents of the shelf are known, and the files of these names give a graph and a text, which is a right script.
 pub record CanSimulate (shelf : ShelfState) (graph_name script_name : List ℕ) : Type 0 where

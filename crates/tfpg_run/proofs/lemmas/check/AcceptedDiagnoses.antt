@@ -6,9 +6,6 @@ use Rattle.tfpg_base.specs.declared.terms.Terms.{Terms}
 use Rattle.tfpg_base.specs.Lines.{lines_of}
 use Rattle.tfpg_base.specs.Outside.{Gives, IsAtEnd, Puts, ShelfState, SinkState, SourceState, Takes, file_of}
 use Rattle.tfpg_graph.specs.Graph.{Tfpg}
-use Rattle.tfpg_graph.specs.Text.{Spells}
-use Rattle.tfpg_graph.specs.Valid.{IsValid}
-use Rattle.tfpg_graph.proofs.lemmas.reading.faults.NoFault.{Spells-clean}
 use Rattle.tfpg_check.specs.Report.{IsReport}
 use Rattle.tfpg_words.specs.declared.usage_cause.UsageCause.{UsageCause}
 use Rattle.tfpg_words.specs.Meaning.{Meaning, Check, Diagnose}
@@ -79,10 +76,6 @@ all_written before now held appended written holds is puts =
 is_given : (shelf : ShelfState) (files : List (List ℕ × List ℕ)) (name text : List ℕ) → shelf.files ≡ Some files → file_of files name ≡ Some text → Gives shelf name text
 is_given shelf files name text known is = subst (λ (fs : _). IfSome fs (λ (them : List (List ℕ × List ℕ)). file_of them name ≡ Some text)) (sym known) is
 
--- a text spells at most one valid graph
-one_graph : (text : List ℕ) (graph other : Tfpg) → Spells text graph → IsValid graph → Spells text other → IsValid other → graph ≡ other
-one_graph text graph other is valid also too = sym (Spells-clean text graph is valid).1 ∙ (Spells-clean text other also too).1
-
 -- ---- the check
 
 module _ (terms : Terms) (diagnosed graph log : List ℕ) (before now later : World) (ends : RunEnds (Ok (Diagnose terms diagnosed)) before now Done)
@@ -103,21 +96,9 @@ module _ (terms : Terms) (diagnosed graph log : List ℕ) (before now later : Wo
     valid = wrote.gives.valid;
   }
 
-  -- and no other
-  same_graph : (other : Tfpg) → GivesGraph later.shelf graph other → wrote.graph ≡ other
-  same_graph other gives =
-      let there = gives_is later.shelf follows.files follows.files_are in
-      let own = gives_graph in
-      let texts : own.text ≡ gives.text = same_Some own.text gives.text (sym (there graph own.text own.file.gives) ∙ there graph gives.text gives.file.gives) in
-      one_graph gives.text wrote.graph other (subst (λ (text : List ℕ). Spells text wrote.graph) texts own.spells) own.valid gives.spells gives.valid
-
   -- the log file has the lines that were taken
-  same_lines : (text : List ℕ) → Gives later.shelf log text → lines_of wrote.taken ≡ lines_of text
-  same_lines text gives =
-      let texts : follows.log_text ≡ text =
-      same_Some follows.log_text text (sym follows.log_is ∙ gives_is later.shelf follows.files follows.files_are log text gives) in
-      ap lines_of (sym (all_taken before.input now.input follows.run.input wrote.taken follows.run.input_is wrote.takes wrote.at_end))
-      ∙ sym follows.same_lines ∙ ap lines_of texts
+  same_lines : lines_of wrote.taken ≡ lines_of follows.log_text
+  same_lines = ap lines_of (sym (all_taken before.input now.input follows.run.input wrote.taken follows.run.input_is wrote.takes wrote.at_end)) ∙ sym follows.same_lines
 
   same_bytes : wrote.written ≡ follows.run.written
   same_bytes = all_written before.output now.output follows.run.held follows.run.written wrote.written follows.run.held_is follows.run.written_is wrote.writes
@@ -134,17 +115,13 @@ module _ (terms : Terms) (diagnosed graph log : List ℕ) (before now later : Wo
       file = record { gives = is_given later.shelf follows.files log follows.log_text follows.files_are follows.log_is; small = follows.log_small };
     };
     short = record { known = follows.run.written; left = follows.input_is; few = follows.few };
-    report = λ other text gives. (
-      terms,
-      wrote.right.blocks,
-      record {
-        bytes = follows.run.written;
-        report = subst (λ (bytes : List ℕ). IsReport other terms (lines_of text) wrote.right.blocks bytes) same_bytes
-            (subst₂ (λ (g : Tfpg) (lines : List (List ℕ)). IsReport g terms lines wrote.right.blocks wrote.written) (same_graph other gives.of_graph) (same_lines text gives.file.gives)
-            wrote.right.report);
-        lines_are = inl refl;
-      },
-    );
+    terms = terms;
+    blocks = wrote.right.blocks;
+    report = record {
+      bytes = follows.run.written;
+      report = subst₂ (λ (lines : List (List ℕ)) (bytes : List ℕ). IsReport wrote.graph terms lines wrote.right.blocks bytes) same_lines same_bytes wrote.right.report;
+      lines_are = inl refl;
+    };
   }
 
 -- So it is where a run ended so whose words meant the diagnosis.
