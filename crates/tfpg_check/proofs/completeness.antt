@@ -21,6 +21,7 @@ pub mod NoCause
 -- What the lines of a report name, and that they have no cause.
 pub mod NamedLines
 pub mod ReportsRead
--- No lines have two causes.
+-- No lines have two causes, and none have one that are not judged.
 pub mod OneRoundCause
 pub mod OneCause
+pub mod TooManyInHead

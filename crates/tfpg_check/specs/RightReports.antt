@@ -1,12 +1,15 @@
 -- What holds of the lines of a report: each can be read, and they have no cause; and no lines have more than one.
-use Rattle.std.specs.Prelude.{◌≡◌, ℕ, ◌≤◌, List, ◌∷◌, length, flat_map}
+use Rattle.std.specs.Prelude.{◌≡◌, ℕ, ◌<◌, ◌≤◌, List, ◌∷◌, length, flat_map, Some, slice_get}
 use Rattle.tfpg_base.specs.declared.limits.TheConstants.{MAX_BYTES}
 use Rattle.tfpg_base.specs.Lines.{lines_of}
 use Rattle.tfpg_base.specs.declared.terms.Terms.{Terms}
 use Rattle.tfpg_graph.specs.Valid.{IsValid}
+use Rattle.tfpg_hyp.specs.Hypotheses.{HasHypotheses}
+use Rattle.tfpg_hyp.specs.declared.limits.TheConstants.{MAX_HYPOTHESES}
 use Rattle.tfpg_report.specs.declared.report_line.ReportLine.{ReportLine}
 use Rattle.tfpg_report.specs.Blocks.{Block, block_lines}
 use Rattle.tfpg_report.specs.Reading.{IsHead}
+use Rattle.tfpg_report.specs.ReportLines.{Says}
 use Rattle.tfpg_check.specs.declared.cause.CheckCause.{CheckCause}
 use Rattle.tfpg_check.specs.Causes.{AreRead, AreReportLines, IsCause, Matter}
 
@@ -38,3 +41,10 @@ abbrev pub LinesHaveOneCause : Type 0
 LinesHaveOneCause =
     (matter : Matter) (lines : List (List ℕ)) (at other : ℕ) (why also : CheckCause)
     → IsValid matter.graph → IsCause matter lines at why → IsCause matter lines other also → (at ≡ other) × (why ≡ also)
+
+-- Lines have no cause where the first of them says terms on which there are more than 4,096 hypotheses: they are not judged.
+abbrev pub LinesOfTooManyHaveNoCause : Type 0
+LinesOfTooManyHaveNoCause =
+    (matter : Matter) (lines : List (List ℕ)) (first : List ℕ) (head : ReportLine) (terms : Terms) (count at : ℕ) (why : CheckCause)
+    → IsValid matter.graph → slice_get lines 0 ≡ Some first → Says matter.graph head first → IsHead terms head
+    → HasHypotheses matter.graph terms count → MAX_HYPOTHESES < count → IsCause matter lines at why → ⊥

@@ -4,7 +4,7 @@ ghost use Rattle.std.specs.Prelude.{◌≡◌, ℕ, List, [], ◌∷◌, ◌++�
 ghost use Rattle.tfpg_graph.specs.Graph.{Tfpg};
 ghost use Rattle.tfpg_report.specs.Blocks.{Block};
 ghost use Rattle.tfpg_check.specs.EqualReports.{EqualReportsSayTheSame};
-ghost use Rattle.tfpg_check.specs.RightReports.{LinesHaveOneCause, LinesOfReportsCanBeRead, ReportsHaveNoCause, ShortReportsHaveNoCause};
+ghost use Rattle.tfpg_check.specs.RightReports.{LinesHaveOneCause, LinesOfReportsCanBeRead, LinesOfTooManyHaveNoCause, ReportsHaveNoCause, ShortReportsHaveNoCause};
 ghost use Rattle.tfpg_check.specs.Report.{new_progress, progress_after, progress_of};
 
 use tfpg_clause::laws::{a_partial_tree_has_one_present_leaf, a_refutation_is_finished};
@@ -51,10 +51,11 @@ pub fn a_report_has_no_cause()
 }
 
 /// Lines have at most one cause for which they are not accepted, at one line. Where they are those of at most 2^32 bytes and of a report of a
-/// valid graph and a log, they have none.
+/// valid graph and a log, they have none. Nor have they one where the first line gives too many hypotheses: such lines are not judged.
 pub fn lines_have_at_most_one_cause()
     ensures one { LinesHaveOneCause }
     ensures none { ShortReportsHaveNoCause }
+    ensures too_many { LinesOfTooManyHaveNoCause }
 {
     a_partial_tree_has_one_present_leaf();
     a_refutation_is_finished();

@@ -1,11 +1,11 @@
 -- A run ends well where nothing stands in its way.
-use Rattle.std.proofs.Common.{◌≡◌, ℕ, ◌+◌, ◌<◌, ◌≤◌, Bool, true, false, List, ◌++◌, length, take, drop, Option, Some, IfSome, Result, Ok, Err, refl, sym, ap, subst, subst₂, ◌∙◌, inl, inr, ⊎_elim, arith}
+use Rattle.std.proofs.Common.{◌≡◌, ℕ, ◌+◌, ◌<◌, ◌≤◌, Bool, true, false, List, [], ◌++◌, length, take, drop, Option, Some, IfSome, Result, Ok, Err, refl, sym, ap, subst, ◌∙◌, inl, inr, ⊎_elim, arith, append-nil}
 use Rattle.std.specs.Prelude.{OnOk, IfErr}
 use Rattle.std.proofs.lemmas.List.{length-append, take-append-drop}
 use Rattle.std.proofs.lemmas.Option.{same_Some}
 use Rattle.tfpg_base.specs.declared.terms.Terms.{Terms}
 use Rattle.tfpg_base.specs.declared.limits.TheConstants.{MAX_BYTES, LONGEST_FILE}
-use Rattle.tfpg_base.specs.Outside.{SourceState, ShelfState, Rose, Gives, Takes, file_of}
+use Rattle.tfpg_base.specs.Outside.{SourceState, ShelfState, Rose, Gives, IsAtEnd, Takes, file_of}
 use Rattle.tfpg_base.specs.Lines.{lines_of}
 use Rattle.tfpg_graph.specs.declared.cause.GraphFault.{GraphFault}
 use Rattle.tfpg_graph.specs.Declares.{declared_by}
@@ -17,8 +17,9 @@ use Rattle.tfpg_graph.proofs.lemmas.reading.faults.NoFault.{Spells-clean}
 use Rattle.tfpg_json.specs.GraphText.{IsJsonFault, SpellsAsJson}
 use Rattle.tfpg_log.specs.Log.{Logbook}
 use Rattle.tfpg_report.specs.Blocks.{Block}
+use Rattle.tfpg_check.specs.declared.cause.CheckCause.{CheckCause}
 use Rattle.tfpg_check.specs.Causes.{AreReportLines, IsCause, Matter}
-use Rattle.tfpg_check.specs.RightReports.{ShortReportsHaveNoCause}
+use Rattle.tfpg_check.specs.RightReports.{LinesHaveOneCause, LinesOfTooManyHaveNoCause, ShortReportsHaveNoCause}
 use Rattle.tfpg_check.proofs.FirstLines.{OneLine, few_hypotheses}
 use Rattle.tfpg_sim.specs.Script.{IsScriptFault}
 use Rattle.tfpg_words.specs.declared.usage_cause.UsageCause.{UsageCause}
@@ -37,12 +38,12 @@ use Rattle.tfpg_run.specs.declared.fault.SimulateFault.{SimulateFault}
 use Rattle.tfpg_run.specs.declared.fault.SimulateFault.TheVariants as simulate
 use Rattle.tfpg_run.specs.declared.fault.OutputFault.{OutputFault}
 use Rattle.tfpg_run.specs.declared.fault.OutputFault.TheVariants as output
-use Rattle.tfpg_run.specs.Completeness.{CanCheck, CanConvert, CanDiagnose, CanExplain, CanSimulate, CanBeDone, NothingFails, IsShort, IsCompleted}
+use Rattle.tfpg_run.specs.Completeness.{CanCheck, CanConvert, CanDiagnose, CanExplain, CanJudge, CanRefuse, CanSimulate, CanBeDone, NothingFails, IsShort, IsCompleted, IsRefusedFor}
 use Rattle.tfpg_run.specs.EndsOf.{end_of_fetch_fault, end_of_stream_fault, end_of_check_fault, end_of_explain_fault, end_of_simulate_fault, end_of_output_fault, end_of_result}
-use Rattle.tfpg_run.specs.Fetch.{HasFile, IsTooLong, GivesGraph, GivesGraphBy, HasFaultyGraphBy, IsFetchFaultBy, IsFilesFault}
+use Rattle.tfpg_run.specs.Fetch.{HasFile, IsTooLong, GivesGraph, GivesGraphBy, GivesGraphAndText, HasFaultyGraphBy, IsFetchFaultBy, IsFilesFault, LacksGraphOrText}
 use Rattle.tfpg_run.specs.generate.Generating.{HasSummary}
 use Rattle.tfpg_run.specs.convert.Converting.{ConvertEnds, IsFaultFrom, SpellsFrom, converted_text}
-use Rattle.tfpg_run.specs.check.Checking.{CheckEnds, CheckingEnds, HasTooManyInHead, matter_of}
+use Rattle.tfpg_run.specs.check.Checking.{CheckEnds, CheckingEnds, HasTooManyInHead, IsAccepted, matter_of}
 use Rattle.tfpg_run.specs.explain.Explaining.{ExplainEnds, ExplainingEnds}
 use Rattle.tfpg_run.specs.map.Spelling.{HasMap, BeginsMap, IsMapFault}
 use Rattle.tfpg_run.specs.Outputs.{IsStreamFault, LineByLineEnds, TextEnds}
@@ -67,9 +68,11 @@ no_fault_from : GraphLaws → (json : Bool) → NoFaultBy (SpellsFrom json) (IsF
 no_fault_from laws true = laws.json
 no_fault_from laws false = laws.text
 
--- What no report has, and what bytes say: the laws that a report that is checked needs.
+-- What cause lines have, and what bytes say: the laws that a report that is checked needs.
 pub record CheckLaws : Type 0 where
   pub no_cause : ShortReportsHaveNoCause
+  pub one_cause : LinesHaveOneCause
+  pub too_many : LinesOfTooManyHaveNoCause
   pub one_line : OneLine
 
 -- ---- files that are there
@@ -142,6 +145,13 @@ all_of_input before now known taken rest left takes has =
     let there = subst (λ (l : Option (List ℕ)). IfSome l (λ had. (more : List ℕ) × (now.left ≡ Some more) × (had ≡ taken ++ more))) left takes in
     let same : rest ≡ there.0 = subst (λ (l : Option (List ℕ)). IfSome l (λ more. rest ≡ more)) there.1 has in
     there.2 ∙ ap (λ (more : List ℕ). taken ++ more) (sym same)
+
+-- where it has come to its end, it had what was taken
+pub all_taken : (before now : SourceState) (known taken : List ℕ) → before.left ≡ Some known → Takes before now taken → IsAtEnd now → known ≡ taken
+all_taken before now known taken left takes end =
+    let there = subst (λ (l : Option (List ℕ)). IfSome l (λ had. (rest : List ℕ) × (now.left ≡ Some rest) × (had ≡ taken ++ rest))) left takes in
+    let none : there.0 ≡ [] = subst (λ (l : Option (List ℕ)). IfSome l (λ rest. rest ≡ [])) there.1 end.left in
+    there.2 ∙ ap (λ (rest : List ℕ). taken ++ rest) none ∙ append-nil taken
 
 -- ---- lines that spell a map
 
@@ -233,17 +243,63 @@ module _ (graphs : GraphLaws) (laws : CheckLaws) (before now : World) (calm : No
       absurd (omega (arith, few_taken before.input now.input taken short takes, more))
   judged_report short matter taken valid terms blocks report takes (Err (check.Stream streams.NoMemory)) is = inr refl
 
+  -- lines that have a cause
+  refused_report : (short : IsShort before.input) (matter : Matter) (taken : List ℕ) → IsValid matter.graph → (line : ℕ) (cause : CheckCause) → IsCause matter (lines_of short.known) line cause
+      → Takes before.input now.input taken → (result : Result (Unit {0}) CheckFault)
+      → CheckingEnds matter (streams_of before) (streams_of now) taken result → IsRefusedFor line cause (end_of_result end_of_check_fault result)
+  refused_report short matter taken valid line cause has takes (Ok done) is =
+      let accepted : IsAccepted matter now.input taken is.0.text = is.0.right in
+      let all : short.known ≡ taken = all_taken before.input now.input short.known taken short.left takes accepted.at_end in
+      absurd (laws.no_cause matter accepted.terms accepted.blocks taken line cause valid accepted.report accepted.few (subst (λ (bytes : List ℕ). IsCause matter (lines_of bytes) line cause) all has))
+  refused_report short matter taken valid line cause has takes (Err (check.NotAccepted at why)) is =
+      let all : short.known ≡ taken ++ is.0.rest = all_of_input before.input now.input short.known taken is.0.rest short.left takes is.0.left in
+      let one = laws.one_cause matter (lines_of (taken ++ is.0.rest)) at line why cause valid is.0.is_cause (subst (λ (bytes : List ℕ). IsCause matter (lines_of bytes) line cause) all has) in
+      inl (λ i. ends.NotAccepted (one.0 i) (one.1 i))
+  refused_report short matter taken valid line cause has takes (Err (check.TooMany count)) is =
+      let many : HasTooManyInHead matter now.input taken count = is.0 in
+      let all : short.known ≡ taken ++ many.rest = all_of_input before.input now.input short.known taken many.rest short.left takes many.left in
+      absurd (laws.too_many matter (lines_of (taken ++ many.rest)) many.first many.head many.terms count line cause valid many.at many.says many.is_head many.counted many.too_many
+      (subst (λ (bytes : List ℕ). IsCause matter (lines_of bytes) line cause) all has))
+  refused_report short matter taken valid line cause has takes (Err (check.Stream streams.ReadFault)) is = absurd (calm.input is.0)
+  refused_report short matter taken valid line cause has takes (Err (check.Stream streams.WriteFault)) is = absurd (calm.output is.0.rose)
+  refused_report short matter taken valid line cause has takes (Err (check.Stream streams.TooMuchInput)) is =
+      let more : length taken ≡ MAX_BYTES + 1 = is.0 in
+      absurd (omega (arith, few_taken before.input now.input taken short takes, more))
+  refused_report short matter taken valid line cause has takes (Err (check.Stream streams.NoMemory)) is = inr refl
+
+  module _ (end : End) (graph_name log_name : List ℕ) (can : CanJudge before.shelf before.input graph_name log_name) where
+    -- where the files are there and are not fetched, memory ran out
+    not_fetched : LacksGraphOrText graph_name log_name before now end → end ≡ ends.NoMemory
+    not_fetched lacks =
+        without_memory end lacks.fault
+        (both_fetched before.shelf can.files can.known graphs graph_name can.graph can.gives.of_graph now.shelf log_name can.log_text can.gives.file lacks.fault calm.shelf lacks.is_fault) lacks.end_is
+
+    -- what is fetched is what they give
+    same_matter : (graph : Tfpg) (text : List ℕ) → GivesGraphAndText before.shelf graph_name log_name graph text → matter_of can.graph can.log_text ≡ matter_of graph text
+    same_matter graph text gives =
+        let one_graph : can.graph ≡ graph = only_graph before.shelf can.files can.known graph_name can.graph graph can.gives.of_graph gives.of_graph in
+        let one_text : can.log_text ≡ text = only_text before.shelf can.files can.known log_name can.log_text text can.gives.file.gives gives.file.gives in
+        λ i. matter_of (one_graph i) (one_text i)
+
   checked : (end : End) (graph_name log_name : List ℕ) → CanCheck before.shelf before.input graph_name log_name → CheckEnds graph_name log_name before now end → IsCompleted end
-  checked end graph_name log_name can (inl lacks) =
-      inr (without_memory end lacks.fault
-      (both_fetched before.shelf can.files can.known graphs graph_name can.graph can.gives.of_graph now.shelf log_name can.log_text can.gives.file lacks.fault calm.shelf lacks.is_fault) lacks.end_is)
+  checked end graph_name log_name can (inl lacks) = inr (not_fetched end graph_name log_name can.judges lacks)
   checked end graph_name log_name can (inr checks) =
-      let one_graph : can.graph ≡ checks.graph = only_graph before.shelf can.files can.known graph_name can.graph checks.graph can.gives.of_graph checks.gives.of_graph in
-      let one_text : can.log_text ≡ checks.other = only_text before.shelf can.files can.known log_name can.log_text checks.other can.gives.file.gives checks.gives.file.gives in
-      let report : AreReportLines (matter_of checks.graph checks.other) can.terms can.blocks (lines_of can.short.known) =
-      subst₂ (λ (graph : Tfpg) (text : List ℕ). AreReportLines (matter_of graph text) can.terms can.blocks (lines_of can.short.known)) one_graph one_text can.report in
+      let matter = matter_of checks.graph checks.other in
+      let same = same_matter end graph_name log_name can.judges checks.graph checks.other checks.gives in
       subst IsCompleted (sym checks.works.end_is)
-      (judged_report can.short (matter_of checks.graph checks.other) checks.works.works.taken checks.gives.of_graph.valid can.terms can.blocks report
+      (judged_report can.judges.short matter checks.works.works.taken checks.gives.of_graph.valid can.terms can.blocks
+      (subst (λ (m : Matter). AreReportLines m can.terms can.blocks (lines_of can.judges.short.known)) same can.report)
+      checks.works.works.takes checks.works.result checks.works.works.ends)
+
+  refused : (end : End) (graph_name log_name : List ℕ) (line : ℕ) (cause : CheckCause) → CanRefuse before.shelf before.input graph_name log_name line cause → CheckEnds graph_name log_name before now end
+      → IsRefusedFor line cause end
+  refused end graph_name log_name line cause can (inl lacks) = inr (not_fetched end graph_name log_name can.judges lacks)
+  refused end graph_name log_name line cause can (inr checks) =
+      let matter = matter_of checks.graph checks.other in
+      let same = same_matter end graph_name log_name can.judges checks.graph checks.other checks.gives in
+      subst (IsRefusedFor line cause) (sym checks.works.end_is)
+      (refused_report can.judges.short matter checks.works.works.taken checks.gives.of_graph.valid line cause
+      (subst (λ (m : Matter). IsCause m (lines_of can.judges.short.known) line cause) same can.is_cause)
       checks.works.works.takes checks.works.result checks.works.works.ends)
 
   -- a script that is simulated
@@ -293,6 +349,15 @@ module _ (graphs : GraphLaws) (laws : CheckLaws) (before now : World) (calm : No
     where
       go : RunEnds (Ok meant) before now end → IsCompleted end
       go (inl does) = completed meant end can does
+      go (inr none) = inr none.1
+
+  -- so it is with lines that have a cause
+  pub run_refuses : (words : Result Meaning UsageCause) (graph_name log_name : List ℕ) (line : ℕ) (cause : CheckCause) (end : End) → words ≡ Ok (Check graph_name log_name)
+      → CanRefuse before.shelf before.input graph_name log_name line cause → RunEnds words before now end → IsRefusedFor line cause end
+  run_refuses words graph_name log_name line cause end e can is = go (subst (λ (w : Result Meaning UsageCause). RunEnds w before now end) e is)
+    where
+      go : RunEnds (Ok (Check graph_name log_name)) before now end → IsRefusedFor line cause end
+      go (inl does) = refused end graph_name log_name line cause can does
       go (inr none) = inr none.1
 
 -- how a run ends whose work had this result

@@ -8,12 +8,13 @@ use Rattle.tfpg_log.specs.Log.{Logbook}
 use Rattle.tfpg_hyp.specs.Hypotheses.{HasHypotheses}
 use Rattle.tfpg_hyp.specs.declared.limits.TheConstants.{MAX_HYPOTHESES}
 use Rattle.tfpg_report.specs.Blocks.{Block}
-use Rattle.tfpg_check.specs.Causes.{AreReportLines}
+use Rattle.tfpg_check.specs.declared.cause.CheckCause.{CheckCause}
+use Rattle.tfpg_check.specs.Causes.{AreReportLines, IsCause}
 use Rattle.tfpg_sim.specs.Script.{IsScriptFault}
 use Rattle.tfpg_words.specs.Meaning.{Meaning, Diagnose, Explain, Check, Simulate, Generate, Convert}
 use Rattle.tfpg_base.specs.declared.terms.Terms.{Terms}
 use Rattle.tfpg_run.specs.declared.end.End.{End}
-use Rattle.tfpg_run.specs.declared.end.End.TheVariants.{Done, NoMemory}
+use Rattle.tfpg_run.specs.declared.end.End.TheVariants.{Done, NoMemory, NotAccepted}
 use Rattle.tfpg_run.specs.Fetch.{GivesGraph, GivesGraphBy, GivesGraphAndLog, GivesGraphAndText}
 use Rattle.tfpg_run.specs.check.Checking.{matter_of}
 use Rattle.tfpg_run.specs.convert.Converting.{SpellsFrom}
@@ -47,18 +48,26 @@ pub record CanExplain (shelf : ShelfState) (input : SourceState) (graph_name log
   pub short : IsShort input
   pub map : (other : Tfpg) → GivesGraph shelf graph_name other → HasMap other (lines_of short.known)
 
--- The contents of the shelf are known, the files of these names give a graph and a text, and the lines of the input are those of a
--- report of the graph and the lines of the text.
-pub record CanCheck (shelf : ShelfState) (input : SourceState) (graph_name log_name : List ℕ) : Type 0 where
+-- The contents of the shelf and of the input are known, and the files of these names give a graph and a text.
+pub record CanJudge (shelf : ShelfState) (input : SourceState) (graph_name log_name : List ℕ) : Type 0 where
   pub files : List (List ℕ × List ℕ)
   pub known : shelf.files ≡ Some files
   pub graph : Tfpg
   pub log_text : List ℕ
   pub gives : GivesGraphAndText shelf graph_name log_name graph log_text
   pub short : IsShort input
+
+-- So a report can be judged, and the lines of the input are those of a report of the graph and the lines of the text.
+pub record CanCheck (shelf : ShelfState) (input : SourceState) (graph_name log_name : List ℕ) : Type 0 where
+  pub judges : CanJudge shelf input graph_name log_name
   pub terms : Terms
   pub blocks : List Block
-  pub report : AreReportLines (matter_of graph log_text) terms blocks (lines_of short.known)
+  pub report : AreReportLines (matter_of judges.graph judges.log_text) terms blocks (lines_of judges.short.known)
+
+-- So a report can be judged, and the lines of the input are not accepted, for this cause at this line.
+pub record CanRefuse (shelf : ShelfState) (input : SourceState) (graph_name log_name : List ℕ) (line : ℕ) (cause : CheckCause) : Type 0 where
+  pub judges : CanJudge shelf input graph_name log_name
+  pub is_cause : IsCause (matter_of judges.graph judges.log_text) (lines_of judges.short.known) line cause
 
 -- The contents of the shelf are known, and the files of these names give a graph and a text, which is a right script.
 pub record CanSimulate (shelf : ShelfState) (graph_name script_name : List ℕ) : Type 0 where
@@ -96,3 +105,7 @@ pub record NothingFails (before now : World) : Type 0 where
 -- The run is done, or memory ran out.
 abbrev pub IsCompleted : End → Type 0
 IsCompleted end = (end ≡ Done) ⊎ (end ≡ NoMemory)
+
+-- The lines of the input are not accepted, for this cause at this line, or memory ran out.
+abbrev pub IsRefusedFor : ℕ → CheckCause → End → Type 0
+IsRefusedFor line cause end = (end ≡ NotAccepted line cause) ⊎ (end ≡ NoMemory)

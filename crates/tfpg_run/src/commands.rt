@@ -1,8 +1,9 @@
 //! The top call: from the words and the bytes of the outside to the bytes of a report, or of a verdict.
 
 ghost use Rattle.std.specs.Prelude.{◌≡◌, ℕ, List, map, string_bytes, OnOk, IfErr, Ok};
+ghost use Rattle.tfpg_check.specs.declared.cause.CheckCause.{CheckCause};
 ghost use Rattle.tfpg_words.specs.Meaning.{Meaning, Check, Diagnose, meaning};
-ghost use Rattle.tfpg_run.specs.Completeness.{CanBeDone, IsCompleted, NothingFails};
+ghost use Rattle.tfpg_run.specs.Completeness.{CanBeDone, CanRefuse, IsCompleted, IsRefusedFor, NothingFails};
 ghost use Rattle.tfpg_words.specs.Plans.{meaning_of};
 ghost use Rattle.tfpg_run.specs.inside.Plans.{AreWithinLimits};
 ghost use Rattle.tfpg_run.specs.EndsOf.{end_of_result};
@@ -55,6 +56,14 @@ pub fn run<F: Shelf, S: Source, K: Sink, L: Ledger>(
         NothingFails (world (F.state shelf.old) (S.state input.old) (K.state out.old))
         (world (F.state shelf.new) (S.state input.new) (K.state out.new)) →
         IsCompleted result }
+
+    // Where the lines of a report have a cause for which they are not accepted, a check ends with it and its line, or memory ran out.
+    ensures refuses { (graph log : List ℕ) (line : ℕ) (cause : CheckCause) →
+        meaning (map string_bytes words.now) ≡ Ok (Check graph log) →
+        CanRefuse (F.state shelf.old) (S.state input.old) graph log line cause →
+        NothingFails (world (F.state shelf.old) (S.state input.old) (K.state out.old))
+        (world (F.state shelf.new) (S.state input.new) (K.state out.new)) →
+        IsRefusedFor line cause result }
 
     // A diagnosis that is done kept within the limits of counted calls of its rounds.
     ensures work { (meant : Meaning) → meaning (map string_bytes words.now) ≡ Ok meant → result ≡ End.Done →

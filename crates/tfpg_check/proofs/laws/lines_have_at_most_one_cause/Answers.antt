@@ -1,4 +1,5 @@
 use Rattle.tfpg_check.proofs.completeness.OneCause.{lines_have_one_cause}
+use Rattle.tfpg_check.proofs.completeness.TooManyInHead.{lines_of_too_many_have_no_cause}
 use Rattle.tfpg_check.proofs.readable.ReadReports.{short_reports_have_no_cause}
 use Rattle.tfpg_check.proofs.laws.lines_have_at_most_one_cause.Goals as goal
 
@@ -7,3 +8,6 @@ returns-clause-one c = lines_have_one_cause c.a_partial_tree_has_one_present_lea
 
 pub returns-clause-none : goal.returns-clause-none
 returns-clause-none c = short_reports_have_no_cause c.a_report_line_says_one_thing.ensures c.a_round_is_of_its_graph.ensures c.a_report_is_read_in_its_order.ensures.report
+
+pub returns-clause-too_many : goal.returns-clause-too_many
+returns-clause-too_many c = lines_of_too_many_have_no_cause c.a_report_line_says_one_thing.ensures

@@ -4,7 +4,7 @@ use Rattle.tfpg_words.specs.Meaning.{meaning}
 use Rattle.tfpg_words.specs.Plans.{meaning_of}
 use Rattle.tfpg_run.specs.World.{world}
 use Rattle.tfpg_run.proofs.Stops.{runs_within}
-use Rattle.tfpg_run.proofs.Completing.{by_work, run_completes}
+use Rattle.tfpg_run.proofs.Completing.{by_work, run_completes, run_refuses}
 use Rattle.tfpg_run.proofs.lemmas.check.AcceptedDiagnoses.{can_check_after}
 use Rattle.tfpg_run.proofs.commands.run.Goals as goal
 
@@ -14,7 +14,12 @@ returns-in-Ok-clause-completes g c meant e can calm =
     let before = world (g.F.Shelf.state c.args.shelf.now) (g.S.Source.state c.args.input.now) (g.K.Sink.state c.args.out.now) in
     let now = world (g.F.Shelf.state c.perform.new.shelf) (g.S.Source.state c.perform.new.input) (g.K.Sink.state c.perform.new.out) in
     run_completes (record { text = c.a_text_has_at_most_one_first_fault.ensures.none; json = c.a_text_has_at_most_one_first_fault_as_json.ensures.none })
-    (record { no_cause = c.lines_have_at_most_one_cause.ensures.none; one_line = c.a_report_line_says_one_thing.ensures }) before now calm words meant c.end_of.result e can
+    (record {
+      no_cause = c.lines_have_at_most_one_cause.ensures.none;
+      one_cause = c.lines_have_at_most_one_cause.ensures.one;
+      too_many = c.lines_have_at_most_one_cause.ensures.too_many;
+      one_line = c.a_report_line_says_one_thing.ensures;
+    }) before now calm words meant c.end_of.result e can
     (by_work words (meaning_of c.in-Ok.planned.command) before now c.perform.result c.end_of.result
     c.in-Ok.ensures c.end_of.ensures c.perform.ensures.done c.perform.ensures.stopped)
 
@@ -32,3 +37,18 @@ returns-in-Ok-clause-rechecks g c terms diagnosed e done graph log later follows
     can_check_after words c.end_of.result terms diagnosed graph log before now later e done
     (by_work words (meaning_of c.in-Ok.planned.command) before now c.perform.result c.end_of.result
     c.in-Ok.ensures c.end_of.ensures c.perform.ensures.done c.perform.ensures.stopped) follows
+
+pub returns-in-Ok-clause-refuses : goal.returns-in-Ok-clause-refuses
+returns-in-Ok-clause-refuses g c graph log line cause e can calm =
+    let words = meaning (map string_bytes c.args.words.now) in
+    let before = world (g.F.Shelf.state c.args.shelf.now) (g.S.Source.state c.args.input.now) (g.K.Sink.state c.args.out.now) in
+    let now = world (g.F.Shelf.state c.perform.new.shelf) (g.S.Source.state c.perform.new.input) (g.K.Sink.state c.perform.new.out) in
+    run_refuses (record { text = c.a_text_has_at_most_one_first_fault.ensures.none; json = c.a_text_has_at_most_one_first_fault_as_json.ensures.none })
+    (record {
+      no_cause = c.lines_have_at_most_one_cause.ensures.none;
+      one_cause = c.lines_have_at_most_one_cause.ensures.one;
+      too_many = c.lines_have_at_most_one_cause.ensures.too_many;
+      one_line = c.a_report_line_says_one_thing.ensures;
+    }) before now calm words graph log line cause c.end_of.result e can
+    (by_work words (meaning_of c.in-Ok.planned.command) before now c.perform.result c.end_of.result
+    c.in-Ok.ensures c.end_of.ensures c.perform.ensures.done c.perform.ensures.stopped)

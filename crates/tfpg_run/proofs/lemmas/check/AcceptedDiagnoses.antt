@@ -1,10 +1,10 @@
 -- What a diagnosis has written that is done can be checked, and is accepted.
-use Rattle.std.proofs.Common.{◌≡◌, ℕ, List, [], ◌++◌, Some, IfSome, Result, Ok, Err, inl, inr, refl, sym, ap, subst, subst₂, ◌∙◌, append-nil}
+use Rattle.std.proofs.Common.{◌≡◌, ℕ, List, ◌++◌, Some, IfSome, Result, Ok, Err, inl, inr, refl, sym, ap, subst, subst₂, ◌∙◌}
 use Rattle.std.proofs.lemmas.List.{append_cancel_left}
 use Rattle.std.proofs.lemmas.Option.{same_Some}
 use Rattle.tfpg_base.specs.declared.terms.Terms.{Terms}
 use Rattle.tfpg_base.specs.Lines.{lines_of}
-use Rattle.tfpg_base.specs.Outside.{Gives, IsAtEnd, Puts, ShelfState, SinkState, SourceState, Takes, file_of}
+use Rattle.tfpg_base.specs.Outside.{Gives, IsAtEnd, Puts, ShelfState, SinkState, Takes, file_of}
 use Rattle.tfpg_graph.specs.Graph.{Tfpg}
 use Rattle.tfpg_check.specs.Report.{IsReport}
 use Rattle.tfpg_words.specs.declared.usage_cause.UsageCause.{UsageCause}
@@ -20,7 +20,7 @@ use Rattle.tfpg_run.specs.Run.{RunEnds}
 use Rattle.tfpg_run.specs.World.{World, streams_of}
 use Rattle.tfpg_run.specs.check.AfterDiagnosis.{FollowsDiagnosis}
 use Rattle.tfpg_run.specs.diagnose.RightReport.{IsRightReport}
-use Rattle.tfpg_run.proofs.Completing.{gives_is}
+use Rattle.tfpg_run.proofs.Completing.{all_taken, gives_is}
 use Rattle.tfpg_run.proofs.Stops.{fetch_not_done, stream_not_done}
 
 -- ---- what a diagnosis has done
@@ -58,13 +58,6 @@ wrote_report terms name before now (inl (inr (inr file))) = by file.ends.result 
 wrote_report terms name before now (inr none) = let is : Done ≡ NoMemory = none.1 in absurd cc
 
 -- ---- what is known is what was taken, written and spelled
-
--- where the source has come to its end, all that it had was taken
-all_taken : (before now : SourceState) (input taken : List ℕ) → before.left ≡ Some input → Takes before now taken → IsAtEnd now → input ≡ taken
-all_taken before now input taken left takes end =
-    let there = subst (λ (l : _). IfSome l (λ (had : List ℕ). (rest : List ℕ) × (now.left ≡ Some rest) × (had ≡ taken ++ rest))) left takes in
-    let none : there.0 ≡ [] = subst (λ (l : _). IfSome l (λ (rest : List ℕ). rest ≡ [])) there.1 end.left in
-    there.2 ∙ ap (λ (rest : List ℕ). taken ++ rest) none ∙ append-nil taken
 
 -- what was appended to what was held was written
 all_written : (before now : SinkState) (held appended written : List ℕ) → before.holds ≡ Some held → now.holds ≡ Some (held ++ appended) → Puts before now written → written ≡ appended
@@ -106,15 +99,17 @@ module _ (terms : Terms) (diagnosed graph log : List ℕ) (before now later : Wo
   -- What was written can be checked.
   pub can_check : CanBeDone (Check graph log) later
   can_check = record {
-    files = follows.files;
-    known = follows.files_are;
-    graph = wrote.graph;
-    log_text = follows.log_text;
-    gives = record {
-      of_graph = gives_graph;
-      file = record { gives = is_given later.shelf follows.files log follows.log_text follows.files_are follows.log_is; small = follows.log_small };
+    judges = record {
+      files = follows.files;
+      known = follows.files_are;
+      graph = wrote.graph;
+      log_text = follows.log_text;
+      gives = record {
+        of_graph = gives_graph;
+        file = record { gives = is_given later.shelf follows.files log follows.log_text follows.files_are follows.log_is; small = follows.log_small };
+      };
+      short = record { known = follows.run.written; left = follows.input_is; few = follows.few };
     };
-    short = record { known = follows.run.written; left = follows.input_is; few = follows.few };
     terms = terms;
     blocks = wrote.right.blocks;
     report = record {
