@@ -1,0 +1,2 @@
+-- What the code and its proofs need besides. No public clause reaches it.
+pub mod Vehicles

@@ -1,0 +1,26 @@
+//! Many vehicles on one stream: the fleet of a diagnosis.
+//!
+//! - [`Fleet`] has up to [`MAX_VEHICLES`] vehicles of one graph, each with its own engine. [`Fleet::line`] takes a line of the stream.
+//! - [`FleetTold`] is what a line brings: nothing where it is stray, or what it brings to the engine of its vehicle.
+//! - [`NameList`] has the names of the vehicles. All vehicles together have at most [`MAX_FLEET_HYPOTHESES`] hypotheses.
+//! - [`laws`] says what the definitions come to.
+//!
+//! ```
+//! let mut fleet = Fleet::new(alloc, &graph, &names, terms)?;
+//! match fleet.line(b"north 30 alarm LowFlow", &mut work)? {
+//!     FleetTold::Stray => {} // no vehicle has this name, and nothing has changed
+//!     FleetTold::Of { vehicle, line, told } => {} // what `30 alarm LowFlow` brings to the vehicle north
+//! }
+//! ```
+#![tactic(auto)]
+
+mod belonging;
+mod fleet;
+mod fleet_told;
+pub mod laws;
+mod limits;
+mod vehicle;
+
+pub use fleet::{Fleet, NameList};
+pub use fleet_told::FleetTold;
+pub use limits::{MAX_FLEET_HYPOTHESES, MAX_VEHICLES};
