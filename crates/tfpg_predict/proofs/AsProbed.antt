@@ -1,28 +1,25 @@
 -- What a probed log says of the traces that explain the continued one.
-use Rattle.std.proofs.Common.{◌≡◌, ◌≢◌, ◌↔◌, ℕ, zero, suc, ◌+◌, ◌-◌, ◌<◌, ◌≤◌, Bool, true, false, List, [], ◌∷◌, ◌++◌, length, All, Contains, Option, Some, None, IsTrue, refl, sym, ap, ◌∙◌, subst, arith}
-use Rattle.std.proofs.lemmas.Bool.{and_parts, eqb-true}
+use Rattle.std.proofs.Common.{◌≡◌, ◌≢◌, ℕ, ◌+◌, ◌<◌, ◌≤◌, List, [], ◌∷◌, ◌++◌, length, All, Some, IsTrue, sym, ap, ◌∙◌, subst, arith}
 use Rattle.std.proofs.lemmas.List.{length_push}
-use Rattle.std.proofs.lemmas.List.Elements.{All-contains, All-push, All-weaker}
-use Rattle.std.proofs.lemmas.Option.{cond_some}
+use Rattle.std.proofs.lemmas.List.Elements.{All-push, All-weaker}
 use Rattle.tfpg_base.specs.declared.activation.Activation.{Activation}
 use Rattle.tfpg_base.specs.Trace.{time_of}
 use Rattle.tfpg_base.proofs.TraceTimes.{time_holds}
-use Rattle.tfpg_base.proofs.lists.Elements.{All-from_members}
 use Rattle.tfpg_graph.specs.Graph.{Tfpg, AreFailures, failures, is_monitored}
 use Rattle.tfpg_graph.specs.Probe.{probe_node, with_probe}
 use Rattle.tfpg_graph.specs.Valid.{IsValid}
 use Rattle.tfpg_graph.proofs.NodeAt.{monitored_within}
 use Rattle.tfpg_log.specs.declared.event.Event.{Event}
 use Rattle.tfpg_log.specs.declared.event.Event.TheVariants.{Alarm, Silent, Sweep, Tick, Mode}
-use Rattle.tfpg_log.specs.Log.{Logbook, IsLogOf, IsEventOf, IsOrdered, ignoring, event_at, now_of, silence_at}
-use Rattle.tfpg_log.specs.Rules.{IsTraceOf, IsActive}
+use Rattle.tfpg_log.specs.Log.{Logbook, IsLogOf, IsEventOf, IsOrdered, ignoring, now_of}
+use Rattle.tfpg_log.specs.Rules.{IsTraceOf}
 use Rattle.tfpg_log.specs.Explains.{Explains, Fits}
 use Rattle.tfpg_log.proofs.events.Events.{now-with_event}
 use Rattle.tfpg_log.proofs.events.SilentNodes.{event_own, silent_monitored}
 use Rattle.tfpg_predict.specs.Kept.{kept_events}
-use Rattle.tfpg_predict.specs.LeastTime.{Question, continued, question_of, IsOutcome, IsNotBy}
-use Rattle.tfpg_predict.specs.Probed.{probe_word, probe_lag, probed_log, without_probe, IsProbed, IsProbedOutcome, IsProbeable, ExplainsAsProbed}
-use Rattle.tfpg_predict.specs.inside.Tried.{FitsBy}
+use Rattle.tfpg_predict.specs.LeastTime.{Question, continued, question_of, IsOutcome}
+use Rattle.tfpg_predict.specs.Probed.{probe_word, probe_lag, probed_log, without_probe, IsProbed, IsProbeable, ExplainsAsProbed}
+use Rattle.tfpg_predict.specs.inside.Tried.{FitsBy, IsNotBy}
 use Rattle.tfpg_predict.proofs.explained.ProbeParts.{monitored_before, monitored_probe, failures_same}
 use Rattle.tfpg_predict.proofs.explained.ProbedTraces.{time_without, without_with, time_other, rising_with, time_probe}
 use Rattle.tfpg_predict.proofs.explained.KeptFacts.{IsSaidBy}

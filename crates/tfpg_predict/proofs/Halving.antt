@@ -1,11 +1,11 @@
 -- How a range is halved, and what is known at its end.
-use Rattle.std.proofs.Common.{◌≡◌, ℕ, ◌+◌, ◌-◌, ◌<◌, ◌≤◌, ◌/◌, List, [], Some, inl, inr, ⊎_elim, refl, sym, ap, ◌∙◌, subst, arith}
+use Rattle.std.proofs.Common.{◌≡◌, ℕ, ◌+◌, ◌-◌, ◌<◌, ◌≤◌, ◌/◌, List, [], Some, ⊎_elim, subst, arith}
 use Rattle.std.proofs.lemmas.Bool.{cases_lt}
 use Rattle.tfpg_base.specs.declared.activation.Activation.{Activation}
 use Rattle.tfpg_base.specs.Trace.{time_of}
 use Rattle.tfpg_base.proofs.lists.Sequences.{middle-between}
 use Rattle.tfpg_evidence.specs.declared.step.Step.{Step}
-use Rattle.tfpg_predict.specs.LeastTime.{Question, IsOutcome, IsNotBy}
+use Rattle.tfpg_predict.specs.LeastTime.{Question, IsOutcome}
 use Rattle.tfpg_predict.specs.Outlooks.{IsEarliest, IsNever, IsRefutedAt}
 use Rattle.tfpg_predict.specs.inside.Tried.{FitsBy, IsOutBy, IsHalved}
 use Rattle.tfpg_predict.proofs.AsProbed.{by_its_end}

@@ -1,6 +1,6 @@
 -- What lets a probed graph and a probed log be made.
-use Rattle.std.proofs.Common.{◌≡◌, ℕ, ◌+◌, ◌-◌, ◌<◌, ◌≤◌, cond, List, [], ◌∷◌, ◌++◌, length, get_or, All, Some, None, IsTrue, refl, sym, ap, ◌∙◌, subst, arith, slice_get}
-use Rattle.std.specs.Prelude.{AllPairs, count_by}
+use Rattle.std.proofs.Common.{ℕ, ◌≤◌, cond, List, [], ◌∷◌, ◌++◌, length, All, IsTrue, refl, sym, ap, ◌∙◌, subst, arith}
+use Rattle.std.specs.Prelude.{count_by}
 use Rattle.std.proofs.lemmas.List.{length_push}
 use Rattle.std.proofs.lemmas.List.Elements.{All-push, All-get_or}
 use Rattle.std.proofs.lemmas.List.Quantifiers.{all_pairs_push}
@@ -14,13 +14,12 @@ use Rattle.tfpg_graph.specs.Valid.{IsValid}
 use Rattle.tfpg_log.specs.declared.event.Event.{Event}
 use Rattle.tfpg_log.specs.declared.event.Event.TheVariants.{Alarm}
 use Rattle.tfpg_log.specs.declared.limits.TheConstants.{MAX_MODE_CHANGES}
-use Rattle.tfpg_log.specs.Log.{Logbook, IsOrdered, now_of, time_of_event, is_mode_change, ignoring}
+use Rattle.tfpg_log.specs.Log.{IsOrdered, time_of_event, is_mode_change}
 use Rattle.tfpg_log.specs.EventLines.{AreNextEvents}
-use Rattle.tfpg_log.specs.LogOfLines.{log_of_events}
 use Rattle.tfpg_log.proofs.events.Order.{event_by_now}
 use Rattle.tfpg_predict.specs.Kept.{kept_events}
 use Rattle.tfpg_predict.specs.LeastTime.{Question}
-use Rattle.tfpg_predict.specs.Probed.{IsProbeable, IsProbed, probe_word, probe_lag, probed_log}
+use Rattle.tfpg_predict.specs.Probed.{IsProbeable, IsProbed, probe_lag, probed_log}
 use Rattle.tfpg_predict.specs.inside.ProbeNames.{IsProbeName}
 use Rattle.tfpg_predict.proofs.AsProbed.{of_probed}
 use Rattle.tfpg_predict.proofs.ProbeNames.{is_name-probe}

@@ -1,28 +1,27 @@
 -- What a search of a probed log finds, as what is tried with its bound.
-use Rattle.std.proofs.Common.{◌≡◌, ℕ, ◌≤◌, List, [], ◌++◌, length, take, All, Ok, refl, sym, ap, ◌∙◌, subst, append-nil}
+use Rattle.std.proofs.Common.{◌≡◌, ℕ, ◌≤◌, List, [], ◌++◌, Ok, refl, sym, ap, ◌∙◌, subst, append-nil}
 use Rattle.std.specs.Prelude.{Result}
-use Rattle.tfpg_base.specs.declared.activation.Activation.{Activation}
 use Rattle.tfpg_base.specs.declared.no_memory.NoMemory.{NoMemory}
 use Rattle.tfpg_graph.specs.Graph.{Tfpg}
 use Rattle.tfpg_graph.specs.Reach.{IsReach}
 use Rattle.tfpg_graph.specs.Valid.{IsValid}
 use Rattle.tfpg_log.specs.Explains.{Explains}
-use Rattle.tfpg_log.specs.Log.{Logbook, GoesOn, IsOrdered, first_events}
+use Rattle.tfpg_log.specs.Log.{Logbook, IsOrdered, first_events}
 use Rattle.tfpg_evidence.specs.declared.step.Step.{Step}
 use Rattle.tfpg_clause.specs.Case.{case_of}
 use Rattle.tfpg_clause.specs.Paths.{with_steps}
-use Rattle.tfpg_clause.specs.Trees.{Judged, IsRefutation}
+use Rattle.tfpg_clause.specs.Trees.{IsRefutation}
 use Rattle.tfpg_clause.proofs.traces.NoTrace.{no_trace}
 use Rattle.tfpg_search.specs.declared.found.Found.{Found}
 use Rattle.tfpg_search.specs.declared.found.Found.TheVariants.{Shown, Closed, Spent}
 use Rattle.tfpg_search.specs.Enough.{IsEnough}
 use Rattle.tfpg_search.specs.Represents.{SearchRepresents, RepresentsSome}
 use Rattle.tfpg_search.specs.Searched.{IsSearched, AreSearchSteps, Finds, call_of}
-use Rattle.tfpg_search.specs.SearchState.{SearchState, case_of_search}
+use Rattle.tfpg_search.specs.SearchState.{SearchState}
 use Rattle.tfpg_predict.specs.LeastTime.{Question}
 use Rattle.tfpg_predict.specs.Probed.{IsProbed, IsProbeable}
-use Rattle.tfpg_predict.specs.Outlooks.{IsProbeCase, IsRefutedAt, IsSpentAt}
-use Rattle.tfpg_predict.specs.inside.Tried.{FitsBy, IsOutBy, IsFoundAs}
+use Rattle.tfpg_predict.specs.Outlooks.{IsProbeCase}
+use Rattle.tfpg_predict.specs.inside.Tried.{IsOutBy, IsFoundAs}
 use Rattle.tfpg_predict.proofs.AsProbed.{fits, not_by, of_probed}
 
 -- a new search represents no steps

@@ -1,9 +1,9 @@
 -- How the kept events are found, step by step.
-use Rattle.std.proofs.Common.{◌≡◌, ℕ, zero, suc, ◌+◌, ◌-◌, ◌<◌, ◌≤◌, ◌||◌, Bool, true, false, cond, List, [], ◌∷◌, ◌++◌, length, map, filter, take, drop, get_or, Option, Some, None, slice_get, refl, sym, ap, ◌∙◌, subst, arith, append_assoc, append-nil, inl, inr, ⊎_elim}
-use Rattle.std.specs.Prelude.{is_some, slice_index_or, MatchOption}
+use Rattle.std.proofs.Common.{◌≡◌, ℕ, zero, suc, ◌+◌, ◌-◌, ◌<◌, ◌≤◌, Bool, true, false, cond, List, [], ◌∷◌, ◌++◌, length, map, filter, drop, Option, Some, None, refl, sym, ap, ◌∙◌, subst, arith, append_assoc, append-nil, ⊎_elim}
+use Rattle.std.specs.Prelude.{slice_index_or, MatchOption}
 use Rattle.std.specs.Option.{option_map_or}
 use Rattle.std.specs.List.{range_with_len}
-use Rattle.std.proofs.lemmas.Bool.{false≢true, cases_lt, cases_eq, eq-eqb, ne_eqb, eqb-true}
+use Rattle.std.proofs.lemmas.Bool.{false≢true, cases_lt, eq-eqb}
 use Rattle.std.proofs.lemmas.List.FromFn.{length-map-range_with_len, get_or-map-range_with_len}
 use Rattle.std.proofs.lemmas.List.{map_push, drop_more, drop_all}
 use Rattle.std.proofs.lemmas.Option.{get_or_from_slice_get}
@@ -14,8 +14,8 @@ use Rattle.tfpg_base.proofs.lists.Trials.{IsGreatest, NonePassesUpTo, greatest_t
 use Rattle.tfpg_graph.specs.Graph.{Tfpg}
 use Rattle.tfpg_log.specs.declared.event.Event.{Event}
 use Rattle.tfpg_log.specs.declared.event.Event.TheVariants.{Alarm, Silent, Sweep, Tick, Mode}
-use Rattle.tfpg_log.specs.Log.{Logbook, event_at, is_alarm_of, silence_at}
-use Rattle.tfpg_log.specs.LastAlarm.{IsLastAlarm, IsLastAlarmAt}
+use Rattle.tfpg_log.specs.Log.{Logbook, event_at, is_alarm_of}
+use Rattle.tfpg_log.specs.LastAlarm.{IsLastAlarm}
 use Rattle.tfpg_log.proofs.events.AlarmIndexes.{alarm_is}
 use Rattle.tfpg_log.proofs.events.NodesEvents.{event_within}
 use Rattle.tfpg_predict.specs.Kept.{is_at, last_alarm, last_silence, kept_silences, kept_of, kept_after, kept_events}

@@ -26,11 +26,6 @@ question_of graph log node to = record { graph = graph; log = log; node = node; 
 abbrev pub IsOutcome : Question → List ℕ → List Activation → Type 0
 IsOutcome asked set trace = Explains asked.graph (continued asked.log asked.to) set trace
 
--- No such trace activates the node at this time or before.
-abbrev pub IsNotBy : Question → List ℕ → ℕ → Type 0
-IsNotBy asked set bound =
-    (trace : List Activation) (time : ℕ) → IsOutcome asked set trace → time_of trace asked.node ≡ Some time → time ≤ bound → ⊥
-
 -- The time is attained by the trace, and no trace gives the node an earlier one.
 pub record IsLeastTime (asked : Question) (set : List ℕ) (time : ℕ) (trace : List Activation) : Type 0 where
   pub outcome : IsOutcome asked set trace

@@ -1,11 +1,9 @@
 -- What is owed with each answer to the question when a node becomes active.
 use Rattle.std.specs.Prelude.{◌≡◌, ℕ, ◌-◌, ◌<◌, ◌≤◌, List, []}
 use Rattle.tfpg_base.specs.declared.activation.Activation.{Activation}
-use Rattle.tfpg_graph.specs.Graph.{Tfpg}
 use Rattle.tfpg_graph.specs.Reach.{IsReach}
-use Rattle.tfpg_log.specs.Log.{Logbook}
 use Rattle.tfpg_evidence.specs.declared.step.Step.{Step}
-use Rattle.tfpg_clause.specs.Case.{Case, case_of}
+use Rattle.tfpg_clause.specs.Case.{Case}
 use Rattle.tfpg_clause.specs.Trees.{IsRefutation, split_count}
 use Rattle.tfpg_clause.specs.Paths.{with_steps}
 use Rattle.tfpg_search.specs.Live.{IsUnsettled}

@@ -26,7 +26,6 @@ use tfpg_log::Log;
 ///
 /// It halves the range up to that time, with one search for each bound. After a trace the range ends at the time that the trace
 /// gives the node, so few searches are needed: at most 41.
-#[allow(clippy::too_many_arguments)]
 pub fn forecast<L: Ledger>(
     alloc: Global,
     graph: &Graph,

@@ -1,8 +1,8 @@
 -- A trace explains the probed log exactly where, without the probe, it explains the continued log, gives the node a time by the
 -- bound, and gives the probe that same time.
-use Rattle.std.proofs.Common.{◌≡◌, ◌≢◌, ℕ, ◌+◌, ◌-◌, ◌<◌, ◌≤◌, ◌==◌, ◌&&◌, leb, Bool, true, false, not, List, [], ◌∷◌, ◌++◌, length, All, Contains, Option, Some, IsTrue, slice_get, ⊎_elim, inl, inr, ◌⊎◌, refl, sym, ap, ◌∙◌, subst, arith}
+use Rattle.std.proofs.Common.{◌≡◌, ◌≢◌, ℕ, ◌+◌, ◌-◌, ◌<◌, ◌≤◌, ◌==◌, ◌&&◌, leb, Bool, true, false, not, List, [], ◌∷◌, ◌++◌, length, Contains, Some, IsTrue, slice_get, ⊎_elim, inl, inr, ◌⊎◌, refl, sym, ap, ◌∙◌, subst, arith}
 use Rattle.std.specs.Bool.{then_some}
-use Rattle.std.proofs.lemmas.Bool.{cases_eq, cases_lt, both_ways, false≢true, ne_eqb, not-true}
+use Rattle.std.proofs.lemmas.Bool.{cases_eq, cases_lt, false≢true, ne_eqb}
 use Rattle.std.proofs.lemmas.List.{length_push}
 use Rattle.std.proofs.lemmas.List.Elements.{All-contains, Contains-append_left, Contains-push, Contains-push_cases}
 use Rattle.std.proofs.lemmas.Option.{same_Some}
@@ -11,21 +11,18 @@ use Rattle.tfpg_base.specs.Trace.{time_of}
 use Rattle.tfpg_base.proofs.TraceTimes.{time_there}
 use Rattle.tfpg_base.proofs.lists.Elements.{All-from_members, Contains-at, slice_get-contains}
 use Rattle.tfpg_base.proofs.lists.Passing.{Contains-filter, Contains-filter_only}
-use Rattle.tfpg_graph.specs.declared.kind.Kind.{Kind}
 use Rattle.tfpg_graph.specs.declared.kind.Lag.{Lag}
 use Rattle.tfpg_graph.specs.declared.edge.Edge.{Edge}
 use Rattle.tfpg_graph.specs.Graph.{Tfpg, is_kind_at, is_failure, is_monitored, lag_or_zero, edges_into, failure_at}
-use Rattle.tfpg_graph.specs.Reach.{is_among}
 use Rattle.tfpg_graph.specs.Probe.{probe_node, with_probe}
 use Rattle.tfpg_graph.specs.Valid.{IsValid, IsValidEdge}
 use Rattle.tfpg_graph.proofs.NodeAt.{monitored_within}
 use Rattle.tfpg_graph.proofs.lemmas.reach.Reaches.{Contains-from_among}
 use Rattle.tfpg_log.specs.declared.event.Event.{Event}
 use Rattle.tfpg_log.specs.declared.event.Event.TheVariants.{Alarm, Silent, Sweep, Tick, Mode}
-use Rattle.tfpg_log.specs.declared.interval.Interval.{Interval}
-use Rattle.tfpg_log.specs.Log.{Logbook, IsLogOf, event_at, first_events, now_of, mode_at, mode_after, is_ignored, interval_before, alarm_interval, inactive_until, silence_at}
-use Rattle.tfpg_log.specs.Rules.{IsActive, IsTraceOf, KeepsRulesOf}
-use Rattle.tfpg_log.specs.Explains.{Explains, IsActivatedIn, IsMember, Shows, ShowsAll, ShowsAlarm, ShowsSilence}
+use Rattle.tfpg_log.specs.Log.{Logbook, event_at, first_events, now_of, mode_at, is_ignored, interval_before, alarm_interval, inactive_until, silence_at}
+use Rattle.tfpg_log.specs.Rules.{IsTraceOf, KeepsRulesOf}
+use Rattle.tfpg_log.specs.Explains.{Explains, IsActivatedIn, IsMember, Shows, ShowsAlarm, ShowsSilence}
 use Rattle.tfpg_log.proofs.changes.ModeChanges.{mode_after-append}
 use Rattle.tfpg_log.proofs.events.Events.{now-with_event}
 use Rattle.tfpg_log.proofs.events.AlarmIntervals.{interval_is}

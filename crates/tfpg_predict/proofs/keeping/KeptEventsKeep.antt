@@ -1,5 +1,5 @@
 -- The kept events keep what matters of the log.
-use Rattle.std.proofs.Common.{◌≡◌, ℕ, zero, suc, ◌+◌, ◌<◌, ◌≤◌, ◌||◌, Bool, true, false, cond, List, [], ◌∷◌, length, All, Contains, Option, Some, None, slice_get, refl, sym, ap, ◌∙◌, subst, arith}
+use Rattle.std.proofs.Common.{◌≡◌, ℕ, zero, suc, ◌<◌, Bool, true, false, cond, [], ◌∷◌, length, Contains, Option, Some, None, slice_get, refl, sym, ap, ◌∙◌, subst}
 use Rattle.std.specs.Prelude.{is_some, MatchOption}
 use Rattle.std.specs.Option.{option_map_or}
 use Rattle.std.proofs.lemmas.Bool.{false≢true, or_left, or_right, eq-eqb}
@@ -18,7 +18,7 @@ use Rattle.tfpg_log.proofs.events.NodesEvents.{event_within}
 use Rattle.tfpg_log.proofs.events.SilenceTimes.{IsSilenceAt, silence_event, silences_in_order, not_later}
 use Rattle.tfpg_log.proofs.events.SilentNodes.{silent_within}
 use Rattle.tfpg_clause.proofs.traces.FactsMet.{silence_of}
-use Rattle.tfpg_predict.specs.Kept.{is_at, last_alarm, last_silence, is_kept_alarm, kept_silences, kept_of, kept_events}
+use Rattle.tfpg_predict.specs.Kept.{is_at, last_alarm, last_silence, is_kept_alarm, kept_of, kept_events}
 use Rattle.tfpg_predict.proofs.explained.KeptFacts.{IsBetweenAlarms, IsBeforeSilence, IsSaidBy, KeepsEvents}
 use Rattle.tfpg_predict.proofs.keeping.KeptItems.{at_itself, all_kept, among_kept, silence_kept, kept_silence, modes_kept}
 

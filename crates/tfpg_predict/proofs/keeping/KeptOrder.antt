@@ -1,10 +1,8 @@
 -- The kept events stand in order, and are few.
-use Rattle.std.proofs.Common.{◌≡◌, ℕ, zero, suc, ◌+◌, ◌*◌, ◌<◌, ◌≤◌, ◌==◌, ◌||◌, ◌&&◌, eqb, nat_lt, nat_le, Bool, true, false, cond, List, [], ◌∷◌, ◌++◌, length, map, filter, All, Contains, Option, Some, None, IsTrue, slice_get, inl, inr, ⊎_elim, refl, sym, ap, ◌∙◌, subst, arith, length-append}
+use Rattle.std.proofs.Common.{◌≡◌, ℕ, suc, ◌≤◌, Bool, true, false, cond, List, [], ◌∷◌, length, map, filter, All, Contains, refl, sym, ap, subst, arith}
 use Rattle.std.specs.Prelude.{AllPairs, count_by}
-use Rattle.std.specs.Option.{option_map_or}
 use Rattle.std.specs.List.{range_with_len}
-use Rattle.std.proofs.lemmas.Bool.{cases_eq, cases_lt, eq-eqb, ne_eqb, false≢true, lt-ltb}
-use Rattle.std.proofs.lemmas.List.Elements.{All-nil, All-cons, All-head, All-tail, All-append, All-weaker, All-contains}
+use Rattle.std.proofs.lemmas.List.Elements.{All-nil, All-head, All-tail, All-append, All-contains}
 use Rattle.std.proofs.lemmas.List.Sums.{sum_by-append, sum_by-cons}
 use Rattle.tfpg_base.proofs.lists.Elements.{All-from_members, AllPairs-head, AllPairs-tail, Contains-nil, Contains-one, Contains-cond}
 use Rattle.tfpg_base.proofs.lists.Ordered.{AllPairs-append}
@@ -13,8 +11,7 @@ use Rattle.tfpg_graph.specs.Graph.{Tfpg}
 use Rattle.tfpg_log.specs.declared.event.Event.{Event}
 use Rattle.tfpg_log.specs.declared.event.Event.TheVariants.{Alarm, Silent, Sweep, Tick, Mode}
 use Rattle.tfpg_log.specs.Log.{Logbook, time_of_event, is_mode_change}
-use Rattle.tfpg_predict.specs.Kept.{is_at, last_alarm, last_silence, is_kept_alarm, kept_silences, kept_of, kept_after, kept_events}
-use Rattle.tfpg_log.specs.Log.{alarm_event}
+use Rattle.tfpg_predict.specs.Kept.{is_at, last_silence, is_kept_alarm, kept_of, kept_after, kept_events}
 use Rattle.tfpg_predict.proofs.keeping.KeptItems.{silence_kept}
 
 abbrev Precedes : Event → Event → Type 0

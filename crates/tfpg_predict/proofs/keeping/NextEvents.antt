@@ -1,16 +1,14 @@
 -- Each event of a probed log may come next after those before it.
-use Rattle.std.proofs.Common.{◌≡◌, ℕ, ◌+◌, ◌<◌, ◌≤◌, cond, List, [], ◌∷◌, ◌++◌, length, take, drop, get_or, All, Contains, IsTrue, sym, ap, ◌∙◌, subst, arith, length-append}
+use Rattle.std.proofs.Common.{◌≡◌, ℕ, ◌+◌, ◌<◌, ◌≤◌, cond, List, ◌∷◌, ◌++◌, length, take, drop, get_or, All, sym, ap, ◌∙◌, subst, arith, length-append}
 use Rattle.std.specs.Prelude.{AllPairs, count_by}
 use Rattle.std.proofs.lemmas.List.{drop_more, take-append-drop}
-use Rattle.std.proofs.lemmas.List.Elements.{All-push, All-contains}
-use Rattle.std.proofs.lemmas.List.Quantifiers.{all_pairs_push}
 use Rattle.std.proofs.lemmas.List.Sums.{sum_by-append, sum_by-cons}
-use Rattle.tfpg_base.proofs.lists.Elements.{AllPairs-middle, AllPairs-back, All-middle}
+use Rattle.tfpg_base.proofs.lists.Elements.{AllPairs-middle, All-middle}
 use Rattle.tfpg_base.specs.declared.limits.TheConstants.{MAX_TIME}
 use Rattle.tfpg_graph.specs.Graph.{Tfpg}
 use Rattle.tfpg_log.specs.declared.event.Event.{Event}
 use Rattle.tfpg_log.specs.declared.limits.TheConstants.{MAX_EVENTS, MAX_MODE_CHANGES}
-use Rattle.tfpg_log.specs.Log.{Logbook, IsEventOf, now_of, time_of_event, is_mode_change}
+use Rattle.tfpg_log.specs.Log.{Logbook, IsEventOf, time_of_event, is_mode_change}
 use Rattle.tfpg_log.specs.EventLines.{IsNextEvent, AreNextEvents}
 use Rattle.tfpg_log.specs.LogOfLines.{log_of_events}
 use Rattle.tfpg_log.proofs.events.Order.{last_upto}

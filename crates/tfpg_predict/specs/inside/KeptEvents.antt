@@ -1,5 +1,5 @@
 -- What is kept, by a table of the last silence of each node.
-use Rattle.std.specs.Prelude.{ℕ, List, [], ◌∷◌, length, map, filter, ◌||◌, if◌then◌else◌, Option, None, slice_index_or}
+use Rattle.std.specs.Prelude.{ℕ, List, [], ◌∷◌, length, map, filter, if◌then◌else◌, Option, None, slice_index_or}
 use Rattle.std.specs.List.{range_with_len}
 use Rattle.std.specs.Option.{option_map_or}
 use Rattle.tfpg_log.specs.declared.event.Event.{Event}

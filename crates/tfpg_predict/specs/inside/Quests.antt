@@ -1,5 +1,5 @@
 -- What the code asks.
-use Rattle.std.specs.Prelude.{ℕ, ◌≤◌, List, All, IsTrue}
+use Rattle.std.specs.Prelude.{◌≤◌, All, IsTrue}
 use Rattle.tfpg_graph.specs.Graph.{AreFailures, is_monitored}
 use Rattle.tfpg_log.specs.Log.{ignoring}
 use Rattle.tfpg_predict.specs.LeastTime.{Question, question_of}

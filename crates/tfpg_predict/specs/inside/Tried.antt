@@ -8,10 +8,15 @@ use Rattle.tfpg_search.specs.declared.found.Found.{Found}
 use Rattle.tfpg_search.specs.declared.found.Found.TheVariants.{Shown, Closed}
 use Rattle.tfpg_search.specs.declared.found.Found.TheVariants as found
 use Rattle.tfpg_predict.specs.Probed.{without_probe}
-use Rattle.tfpg_predict.specs.LeastTime.{Question, IsOutcome, IsNotBy}
+use Rattle.tfpg_predict.specs.LeastTime.{Question, IsOutcome}
 use Rattle.tfpg_predict.specs.Outlooks.{IsRefutedAt, IsSpentAt}
 use Rattle.tfpg_predict.specs.declared.trial.Tried.{Tried}
 use Rattle.tfpg_predict.specs.declared.trial.Tried.TheVariants.{Fits, Out, Spent}
+
+-- No trace that explains the continued log activates the node by the bound.
+abbrev pub IsNotBy : Question → List ℕ → ℕ → Type 0
+IsNotBy asked set bound =
+    (trace : List Activation) (time : ℕ) → IsOutcome asked set trace → time_of trace asked.node ≡ Some time → time ≤ bound → ⊥
 
 -- The trace explains the continued log, and activates the node by the bound.
 pub record FitsBy (asked : Question) (set : List ℕ) (bound : ℕ) (trace : List Activation) : Type 0 where

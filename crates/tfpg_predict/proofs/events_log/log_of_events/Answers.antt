@@ -1,9 +1,4 @@
-use Rattle.std.proofs.Common.{◌≡◌, ◌++◌, ◌∷◌, [], List, subst, sym, take, get_or, take-append-drop, ap, ◌∙◌}
-use Rattle.std.proofs.lemmas.List.{drop_more}
-use Rattle.tfpg_log.specs.declared.event.Event.{Event}
 use Rattle.tfpg_log.specs.declared.event.Event.TheVariants.{Alarm}
-use Rattle.tfpg_log.specs.Log.{Logbook}
-use Rattle.tfpg_log.specs.EventLines.{IsNextEvent}
 use Rattle.tfpg_predict.proofs.keeping.NextEvents.{next_at}
 use Rattle.tfpg_predict.proofs.events_log.log_of_events.Goals as goal
 

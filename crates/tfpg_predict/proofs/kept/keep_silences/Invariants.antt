@@ -1,4 +1,4 @@
-use Rattle.std.proofs.Common.{◌≡◌, ◌++◌, take}
+use Rattle.std.proofs.Common.{◌≡◌, ◌++◌}
 use Rattle.tfpg_predict.specs.inside.KeptEvents.{silences_upto}
 use Rattle.tfpg_predict.proofs.kept.keep_silences.Given as goal
 

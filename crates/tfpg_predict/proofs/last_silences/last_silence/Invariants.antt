@@ -1,4 +1,4 @@
-use Rattle.std.proofs.Common.{ℕ, ◌≡◌, ◌≤◌, length}
+use Rattle.std.proofs.Common.{◌≡◌}
 use Rattle.std.specs.Prelude.{is_some}
 use Rattle.tfpg_base.specs.Trials.{greatest}
 use Rattle.tfpg_log.specs.Log.{silence_at}

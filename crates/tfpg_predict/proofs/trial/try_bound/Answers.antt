@@ -1,9 +1,7 @@
-use Rattle.std.proofs.Common.{◌∙◌, List, ap, sym, subst}
-use Rattle.tfpg_base.specs.declared.activation.Activation.{Activation}
+use Rattle.std.proofs.Common.{sym, subst}
 use Rattle.tfpg_log.specs.Log.{Logbook}
-use Rattle.tfpg_predict.specs.Probed.{IsProbed, without_probe}
+use Rattle.tfpg_predict.specs.Probed.{IsProbed}
 use Rattle.tfpg_predict.specs.inside.Quests.{asked_by}
-use Rattle.tfpg_predict.specs.inside.Tried.{FitsBy}
 use Rattle.tfpg_predict.proofs.AsProbed.{probed_ignoring}
 use Rattle.tfpg_predict.proofs.trial.try_bound.Goals as goal
 
