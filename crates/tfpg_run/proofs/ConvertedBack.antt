@@ -1,9 +1,7 @@
 -- A graph that is converted to JSON and back is the same graph.
-use Rattle.std.proofs.Common.{◌≡◌, ℕ, Bool, true, false, List, [], ◌++◌, Option, Some, IfSome, Result, Ok, Err, refl, sym, ap, subst, ◌∙◌, inl, inr}
+use Rattle.std.proofs.Common.{◌≡◌, ℕ, Bool, true, false, List, [], ◌++◌, Option, Some, IfSome, Result, Ok, Err, sym, ap, subst, ◌∙◌, inl, inr}
 use Rattle.std.proofs.lemmas.Option.{same_Some}
-use Rattle.tfpg_base.specs.Outside.{SinkState, ShelfState, Gives, Puts, file_of}
-use Rattle.tfpg_base.specs.Lines.{lines_of}
-use Rattle.tfpg_graph.specs.Declares.{declared_by}
+use Rattle.tfpg_base.specs.Outside.{SinkState, Puts, file_of}
 use Rattle.tfpg_graph.specs.Graph.{Tfpg}
 use Rattle.tfpg_graph.specs.Text.{Spells, canonical_text}
 use Rattle.tfpg_graph.specs.Valid.{IsValid}
