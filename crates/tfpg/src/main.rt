@@ -23,6 +23,7 @@ use std::process::ExitCode;
 use std::sync::ledger::{Blank, Ledger};
 use std::{env, io};
 use tfpg_base::{NoMemory, Shelf, Sink, Source, Steps};
+use tfpg_panel::{Desk, MemoryPanel, Panel};
 use tfpg_run::{End, run};
 use tfpg_words::UsageCause;
 use words::words_after_name;
@@ -63,27 +64,41 @@ fn run_words(rt: &HostRuntime, words: &[String]) -> End {
     let mut shelf = FileShelf::new(rt);
     let mut input = StandardInput::new(rt.stdin());
     let mut output = StandardOutput::new(rt.stdout());
-    run_over(rt.alloc(), words, &mut shelf, &mut input, &mut output)
+    // No word names a panel yet.
+    let panels: Vec<MemoryPanel> = Vec::new(rt.alloc());
+    match Desk::new(panels) {
+        Ok(mut desk) => run_over(
+            rt.alloc(),
+            words,
+            &mut shelf,
+            &mut input,
+            &mut output,
+            &mut desk,
+        ),
+        Err(NoMemory) => End::NoMemory,
+    }
 }
 
-/// Runs on these words, over this shelf, input and output.
-fn run_over<F: Shelf, S: Source, K: Sink>(
+/// Runs on these words, over this shelf, input, output and desk.
+fn run_over<F: Shelf, S: Source, K: Sink, P: Panel>(
     alloc: Global,
     words: &[String],
     shelf: &mut F,
     input: &mut S,
     out: &mut K,
+    desk: &mut Desk<P>,
 ) -> End {
-    run_counted::<F, S, K, Brand>(alloc, words, shelf, input, out, Blank::new(1))
+    run_counted::<F, S, K, P, Brand>(alloc, words, shelf, input, out, desk, Blank::new(1))
 }
 
 /// The same with a new counter of steps, which costs nothing.
-fn run_counted<F: Shelf, S: Source, K: Sink, L: Ledger>(
+fn run_counted<F: Shelf, S: Source, K: Sink, P: Panel, L: Ledger>(
     alloc: Global,
     words: &[String],
     shelf: &mut F,
     input: &mut S,
     out: &mut K,
+    desk: &mut Desk<P>,
     blank: Blank,
 ) -> End
     requires name { blank.name ≡ L.name }
@@ -91,7 +106,7 @@ fn run_counted<F: Shelf, S: Source, K: Sink, L: Ledger>(
     requires some { 0 < blank.parts }
 {
     let mut work = Steps::<L>::new(blank);
-    run(alloc, words, shelf, input, out, &mut work)
+    run(alloc, words, shelf, input, out, desk, &mut work)
 }
 
 /// Writes the line of the end to standard error, where it has one. Where that fails, nothing more can be said.

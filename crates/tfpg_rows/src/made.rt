@@ -6,6 +6,7 @@ use std::alloc::Global;
 use std::marker::Brand;
 use std::sync::ledger::{Blank, Ledger};
 use tfpg_base::{MemoryShelf, MemorySink, MemorySource, NoMemory, Steps};
+use tfpg_panel::{Desk, MemoryPanel};
 use tfpg_run::{End, run};
 
 /// What a run has besides its words: the files by name, the input, how many bytes a call reads or writes at most, and which
@@ -38,12 +39,14 @@ pub(crate) fn make_run(
     let mut shelf = MemoryShelf::new(alloc, outside.files, outside.file_fails);
     let mut input = MemorySource::new(outside.input, room, outside.read_fails);
     let mut out = MemorySink::new(alloc, room, outside.write_fails);
+    let mut desk = Desk::new(Vec::new(alloc))?;
     let end = run_counted::<Brand>(
         alloc,
         words,
         &mut shelf,
         &mut input,
         &mut out,
+        &mut desk,
         Blank::new(1),
     );
     Ok(Made {
@@ -60,6 +63,7 @@ fn run_counted<L: Ledger>(
     shelf: &mut MemoryShelf<'_>,
     input: &mut MemorySource<'_>,
     out: &mut MemorySink<'_>,
+    desk: &mut Desk<MemoryPanel>,
     blank: Blank,
 ) -> End
     requires name { blank.name ≡ L.name }
@@ -67,5 +71,5 @@ fn run_counted<L: Ledger>(
     requires some { 0 < blank.parts }
 {
     let mut work = Steps::<L>::new(blank);
-    run(alloc, words, shelf, input, out, &mut work)
+    run(alloc, words, shelf, input, out, desk, &mut work)
 }

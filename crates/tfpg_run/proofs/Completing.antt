@@ -49,7 +49,8 @@ use Rattle.tfpg_run.specs.map.Spelling.{HasMap, BeginsMap, IsMapFault}
 use Rattle.tfpg_run.specs.Outputs.{IsStreamFault, LineByLineEnds, TextEnds}
 use Rattle.tfpg_run.specs.Run.{CommandEnds, RunEnds}
 use Rattle.tfpg_run.specs.diagnose.Diagnosing.{DiagnoseEnds}
-use Rattle.tfpg_run.specs.diagnose.RightReport.{IsRightReport}
+use Rattle.tfpg_run.specs.diagnose.RightReport.{IsRightReport, BeginsRightReport}
+use Rattle.tfpg_run.specs.diagnose.TellsPanels.{desks}
 use Rattle.tfpg_run.specs.simulate.Simulating.{HasSimulation, SimulateEnds, SimulationEnds}
 use Rattle.tfpg_run.specs.Streams.{HasLeft}
 use Rattle.tfpg_run.specs.World.{World, streams_of}
@@ -191,7 +192,7 @@ module _ (graphs : GraphLaws) (laws : CheckLaws) (before now : World) (calm : No
   diagnosed short end terms name can (inr (inr file)) = go file.ends.result file.ends.works.ends file.ends.end_is
     where
       go : (result : Result (Unit {0}) StreamFault)
-          → LineByLineEnds (IsRightReport file.graph terms) (streams_of before) (streams_of now) file.ends.works.taken file.ends.works.written result
+          → LineByLineEnds (IsRightReport file.graph terms (desks before.desk now.desk)) (BeginsRightReport file.graph terms (desks before.desk now.desk)) (streams_of before) (streams_of now) (file.ends.works.taken, file.ends.works.written) result
           → end ≡ end_of_result end_of_stream_fault result → IsCompleted end
       go (Ok done) is e = inl e
       go (Err fault) is e = inr (e ∙ ap end_of_stream_fault (no_stream_fault short file.ends.works.taken file.ends.works.takes fault is.0))

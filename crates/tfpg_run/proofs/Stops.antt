@@ -1,5 +1,5 @@
 -- How a run on a file ends.
-use Rattle.std.proofs.Common.{◌≡◌, ℕ, ◌<◌, ◌≤◌, List, Result, Ok, Err, refl, sym, subst, subst₂, ◌∙◌, inl, inr, Bool}
+use Rattle.std.proofs.Common.{◌≡◌, ℕ, ◌<◌, ◌≤◌, List, [], Result, Ok, Err, refl, sym, subst, subst₂, ◌∙◌, inl, inr, Bool}
 use Rattle.std.specs.Prelude.{◌↔◌, IsErrAnd, OnOk, IfErr}
 use Rattle.tfpg_base.specs.declared.terms.Terms.{Terms}
 use Rattle.tfpg_base.specs.Terms.{AreReportTerms}
@@ -22,7 +22,7 @@ use Rattle.tfpg_run.proofs.lemmas.diagnose.NextBlocks.{begins_without_memory}
 use Rattle.tfpg_base.proofs.lists.Sequences.{not_above}
 use Rattle.tfpg_run.specs.EndsOf.{end_of_fetch_fault, end_of_stream_fault, end_of_result}
 use Rattle.tfpg_run.specs.declared.fault.FetchFault.TheVariants as fetch
-use Rattle.tfpg_run.specs.Outputs.{WorksLineByLine}
+use Rattle.tfpg_run.specs.Outputs.{WorksToEnd}
 use Rattle.tfpg_run.specs.diagnose.Work.{IsReportWithin, RunsWithin}
 use Rattle.tfpg_words.specs.declared.usage_cause.UsageCause.{UsageCause}
 use Rattle.tfpg_run.specs.Fetch.{GivesGraph, IsFetchFault}
@@ -33,7 +33,8 @@ use Rattle.tfpg_run.specs.check.Checking.{CheckEnds}
 use Rattle.tfpg_run.specs.simulate.Simulating.{HasSimulation, SimulateEnds}
 use Rattle.tfpg_run.specs.convert.Converting.{ConvertEnds}
 use Rattle.tfpg_run.specs.Streams.{Streams}
-use Rattle.tfpg_run.specs.World.{World, streams_of}
+use Rattle.tfpg_run.specs.World.{World, Watched, watched_of}
+use Rattle.tfpg_panel.specs.ToldRounds.{HasTold}
 
 -- what holds besides, where there is a value
 pub OnOk-with : {T E : Type 0} (result : Result T E) (P Q : Type 0) → OnOk result P → Q → OnOk result (P × Q)
@@ -68,16 +69,16 @@ module _ {T : Type 0} (terms : Terms) (name : List ℕ) (before now : World) (re
   ends_by end err ends = IfErr-from (DiagnoseEnds terms name before now) result end err ends
 
   -- there is no graph
-  pub stops_without_graph : (fault : FetchFault) → IsFetchFault before.shelf now.shelf name fault → streams_of now ≡ streams_of before → IsErrAnd result (λ end. end ≡ end_of_fetch_fault fault)
+  pub stops_without_graph : (fault : FetchFault) → IsFetchFault before.shelf now.shelf name fault → watched_of now ≡ watched_of before → IsErrAnd result (λ end. end ≡ end_of_fetch_fault fault)
       → IfErr result (DiagnoseEnds terms name before now)
   stops_without_graph fault is untouched err =
       ends_by (end_of_fetch_fault fault) err (inl (record { fault = fault; is_fault = is; end_is = refl; untouched = untouched }))
 
   module _ (graph : Tfpg) (gives : GivesGraph before.shelf name graph) (no_fault : now.shelf.faults ≡ before.shelf.faults) where
     -- there is no engine
-    pub stops_without_engine : {X : Type 0} (fault : TableFault) → CountsHypotheses {X = X} graph terms (Err fault)
-        → streams_of now ≡ streams_of before → IsErrAnd result (λ end. end ≡ end_of_table_fault fault) → IfErr result (DiagnoseEnds terms name before now)
-    stops_without_engine (TooMany count) exact untouched err =
+    pub stops_without_engine : {X : Type 0} (fault : TableFault) → AreReportTerms terms → HasTold [] [] before.desk before.desk → CountsHypotheses {X = X} graph terms (Err fault)
+        → watched_of now ≡ watched_of before → IsErrAnd result (λ end. end ≡ end_of_table_fault fault) → IfErr result (DiagnoseEnds terms name before now)
+    stops_without_engine (TooMany count) within told exact untouched err =
         let many = (exact count).0 refl in
         ends_by (ends.TooManyHypotheses count) err (inr (inl (record {
           graph = graph;
@@ -89,7 +90,7 @@ module _ {T : Type 0} (terms : Terms) (name : List ℕ) (before now : World) (re
           end_is = refl;
           untouched = untouched;
         })))
-    stops_without_engine NoMemory exact untouched err =
+    stops_without_engine NoMemory within told exact untouched err =
         ends_by ends.NoMemory err (inr (inr (record {
           graph = graph;
           gives = gives;
@@ -97,34 +98,35 @@ module _ {T : Type 0} (terms : Terms) (name : List ℕ) (before now : World) (re
           not_too_many = without_memory graph terms exact;
           ends = record {
             result = Err faults.NoMemory;
-            works = subst (λ (s : Streams). Diagnoses graph terms (streams_of before) s (Err faults.NoMemory)) (sym untouched) (begins_without_memory graph terms (streams_of before));
+            works = subst (λ (s : Watched). Diagnoses graph terms (watched_of before) s (Err faults.NoMemory)) (sym untouched)
+                (begins_without_memory graph terms (watched_of before) (record { within = within; few_hypotheses = without_memory graph terms exact }) told);
             end_is = refl;
           };
         })))
 
     -- the diagnosis was stopped
-    pub stops_diagnosis : ((count : ℕ) → HasHypotheses graph terms count → count ≤ MAX_HYPOTHESES) → (fault : StreamFault) → Diagnoses graph terms (streams_of before) (streams_of now) (Err fault)
+    pub stops_diagnosis : ((count : ℕ) → HasHypotheses graph terms count → count ≤ MAX_HYPOTHESES) → (fault : StreamFault) → Diagnoses graph terms (watched_of before) (watched_of now) (Err fault)
         → IsErrAnd result (λ end. end ≡ end_of_stream_fault fault) → IfErr result (DiagnoseEnds terms name before now)
     stops_diagnosis few fault diagnoses err = ends_by (end_of_stream_fault fault) err
         (inr (inr (record { graph = graph; gives = gives; no_fault = no_fault; not_too_many = few; ends = record { result = Err fault; works = diagnoses; end_is = refl } })))
 
 -- the diagnosis is done
 pub stops_when_done : (terms : Terms) (name : List ℕ) (before now : World) (graph : Tfpg) → GivesGraph before.shelf name graph → now.shelf.faults ≡ before.shelf.faults
-    → ((count : ℕ) → HasHypotheses graph terms count → count ≤ MAX_HYPOTHESES) → Diagnoses graph terms (streams_of before) (streams_of now) (Ok tt) → DiagnoseEnds terms name before now Done
+    → ((count : ℕ) → HasHypotheses graph terms count → count ≤ MAX_HYPOTHESES) → Diagnoses graph terms (watched_of before) (watched_of now) (Ok tt) → DiagnoseEnds terms name before now Done
 stops_when_done terms name before now graph gives no_fault few diagnoses =
     inr (inr (record { graph = graph; gives = gives; no_fault = no_fault; not_too_many = few; ends = record { result = Ok tt; works = diagnoses; end_is = refl } }))
 
 -- what a diagnosis by an engine is, for the graph and the terms that it was made of
-pub diagnosed_for : (g graph : Tfpg) (other terms : Terms) (before now : Streams) (result : Result (Unit {0}) StreamFault) → g ≡ graph → other ≡ terms
+pub diagnosed_for : (g graph : Tfpg) (other terms : Terms) (before now : Watched) (result : Result (Unit {0}) StreamFault) → g ≡ graph → other ≡ terms
     → Diagnoses g other before now result → Diagnoses graph terms before now result
 diagnosed_for g graph other terms before now result e f diagnoses =
     subst (λ (x : Terms). Diagnoses graph x before now result) f (subst (λ (x : Tfpg). Diagnoses x other before now result) e diagnoses)
 
 -- what its calls are within, for the graph and the terms that it was made of
 pub within_for : (g graph : Tfpg) (other terms : Terms) (before now : Streams) (start end : ℕ) → g ≡ graph → other ≡ terms
-    → WorksLineByLine (IsReportWithin g other start end) before now (Ok tt) → WorksLineByLine (IsReportWithin graph terms start end) before now (Ok tt)
+    → WorksToEnd (IsReportWithin g other start end) before now → WorksToEnd (IsReportWithin graph terms start end) before now
 within_for g graph other terms before now start end e f works =
-    subst₂ (λ (x : Tfpg) (y : Terms). WorksLineByLine (IsReportWithin x y start end) before now (Ok tt)) e f works
+    subst₂ (λ (x : Tfpg) (y : Terms). WorksToEnd (IsReportWithin x y start end) before now) e f works
 
 -- ---- work that was stopped is not done
 

@@ -16,7 +16,7 @@ use Rattle.tfpg_run.specs.declared.end.End.{End}
 use Rattle.tfpg_run.specs.declared.fault.FetchFault.{FetchFault}
 use Rattle.tfpg_run.specs.declared.fault.FetchFault.TheVariants.{Failed, TooLong, Graph, NoMemory}
 use Rattle.tfpg_run.specs.EndsOf.{end_of_fetch_fault}
-use Rattle.tfpg_run.specs.World.{World, streams_of}
+use Rattle.tfpg_run.specs.World.{World, watched_of}
 
 -- the file of this name has these bytes, and not too many
 pub record HasFile (shelf : ShelfState) (name text : List ℕ) : Type 0 where
@@ -107,14 +107,14 @@ AsksOnly (Ok (Simulate draw trace graph script)) before after = AsksInOrder (gra
 AsksOnly (Ok (Generate draw size)) before after = after ≡ before
 AsksOnly (Ok (Convert json graph)) before after = AsksFor graph before after
 
--- What is wanted of the shelf is not there, with a cause of which this holds, and input and output are untouched.
+-- What is wanted of the shelf is not there, with a cause of which this holds, and all else is untouched.
 pub record LacksFiles (IsFault : FetchFault → Type 0) (before now : World) (end : End) : Type 0 where
   pub fault : FetchFault
   pub is_fault : IsFault fault
   pub end_is : end ≡ end_of_fetch_fault fault
-  pub untouched : streams_of now ≡ streams_of before
+  pub untouched : watched_of now ≡ watched_of before
 
--- There is no graph of the file of this name, with its cause, for any notion of a first fault, and input and output are untouched.
+-- There is no graph of the file of this name, with its cause, for any notion of a first fault, and all but the shelf is untouched.
 abbrev pub LacksGraphBy : (List ℕ → GraphFault → Type 0) → List ℕ → World → World → End → Type 0
 LacksGraphBy IsFirst name before now end = LacksFiles (IsFetchFaultBy IsFirst before.shelf now.shelf name) before now end
 
@@ -122,7 +122,7 @@ LacksGraphBy IsFirst name before now end = LacksFiles (IsFetchFaultBy IsFirst be
 abbrev pub LacksGraph : List ℕ → World → World → End → Type 0
 LacksGraph = LacksGraphBy IsFirstFault
 
--- There is no graph or no text of the files of these names, with its cause, and input and output are untouched.
+-- There is no graph or no text of the files of these names, with its cause, and all but the shelf is untouched.
 abbrev pub LacksGraphOrText : List ℕ → List ℕ → World → World → End → Type 0
 LacksGraphOrText graph_name text_name before now end =
     LacksFiles (IsFilesFault before.shelf now.shelf graph_name text_name) before now end

@@ -47,11 +47,12 @@ pub record HasOutputOfFirstLines (IsRight : List (List ℕ) → List ℕ → Typ
   pub within : count ≤ length (lines_of (taken ++ rest))
   pub right : IsRight (take count (lines_of (taken ++ rest))) bytes
 
--- The bytes begin what is right for the first lines of the input.
-pub record BeginsOutputOfInput (IsRight : List (List ℕ) → List ℕ → Type 0) (input : SourceState)
+-- The bytes begin what is right for the first lines of the input, where this says of lines, bytes and what is to follow them whether they
+-- begin it.
+pub record BeginsOutputOfInput (Begins : List (List ℕ) → List ℕ → List ℕ → Type 0) (input : SourceState)
     (taken bytes : List ℕ) : Type 0 where
   pub more : List ℕ
-  pub begins : HasOutputOfFirstLines IsRight input taken (bytes ++ more)
+  pub begins : HasOutputOfFirstLines (λ lines written. Begins lines written more) input taken bytes
 
 -- Why the work with the streams stopped, where these bytes were taken: the input failed, and the output did not; or the
 -- output failed, and the input did not; or the input is too long, or memory ran out, and neither failed.
@@ -64,29 +65,38 @@ IsStreamFault before now taken TooMuchInput = (length taken ≡ MAX_BYTES + 1) �
 IsStreamFault before now taken NoMemory = CountsUnchanged before now
 
 -- What was written by then. A failed write alone may cut it.
-abbrev pub IsWrittenBefore : (List (List ℕ) → List ℕ → Type 0) → SourceState → List ℕ → List ℕ → StreamFault → Type 0
+abbrev pub IsWrittenBefore : (List (List ℕ) → List ℕ → Type 0) → (List (List ℕ) → List ℕ → List ℕ → Type 0) → SourceState → List ℕ → List ℕ
+    → StreamFault → Type 0
 -- What is right for the lines that came whole.
-IsWrittenBefore IsRight input taken written ReadFault = IsRight (whole_lines taken) written
+IsWrittenBefore IsRight Begins input taken written ReadFault = IsRight (whole_lines taken) written
 -- What is right for the lines that came whole in the first 2^32 bytes.
-IsWrittenBefore IsRight input taken written TooMuchInput = IsRight (whole_lines (take MAX_BYTES taken)) written
+IsWrittenBefore IsRight Begins input taken written TooMuchInput = IsRight (whole_lines (take MAX_BYTES taken)) written
 -- A beginning, up to any byte, of what is right for the first lines.
-IsWrittenBefore IsRight input taken written WriteFault = BeginsOutputOfInput IsRight input taken written
+IsWrittenBefore IsRight Begins input taken written WriteFault = BeginsOutputOfInput Begins input taken written
 -- Nothing, or what is right for the first lines.
-IsWrittenBefore IsRight input taken written NoMemory =
-    (written ≡ []) ⊎ HasOutputOfFirstLines IsRight input taken written
+IsWrittenBefore IsRight Begins input taken written NoMemory =
+    ((written ≡ []) × BeginsOutputOfInput Begins input taken written) ⊎ HasOutputOfFirstLines IsRight input taken written
+
+-- Bytes were taken from the input and others written line by line, to the end of the input.
+pub record WorksToEnd (IsRight : List (List ℕ) → List ℕ → Type 0) (before now : Streams) : Type 0 where
+  pub taken : List ℕ
+  pub takes : Takes before.input now.input taken
+  pub written : List ℕ
+  pub writes : Puts before.output now.output written
+  pub output : WritesOutput IsRight before now taken written
 
 -- How reading and writing line by line ends, where these bytes were taken, and these were written.
-abbrev pub LineByLineEnds : (List (List ℕ) → List ℕ → Type 0) → Streams → Streams → List ℕ → List ℕ
-    → Result (Unit {0}) StreamFault → Type 0
-LineByLineEnds IsRight before now taken written (Ok done) = WritesOutput IsRight before now taken written
-LineByLineEnds IsRight before now taken written (Err fault) =
-    IsStreamFault before now taken fault × IsWrittenBefore IsRight now.input taken written fault
+abbrev pub LineByLineEnds : (List (List ℕ) → List ℕ → Type 0) → (List (List ℕ) → List ℕ → List ℕ → Type 0) → Streams → Streams
+    → (List ℕ × List ℕ) → Result (Unit {0}) StreamFault → Type 0
+LineByLineEnds IsRight Begins before now (taken, written) (Ok done) = WritesOutput IsRight before now taken written
+LineByLineEnds IsRight Begins before now (taken, written) (Err fault) =
+    IsStreamFault before now taken fault × IsWrittenBefore IsRight Begins now.input taken written fault
 
--- Bytes were taken from the input and others written line by line, with this result.
-pub record WorksLineByLine (IsRight : List (List ℕ) → List ℕ → Type 0) (before now : Streams)
+-- Bytes were taken from the input and others written line by line, with this result: what is right, or what begins it.
+pub record WorksLineByLine (IsRight : List (List ℕ) → List ℕ → Type 0) (Begins : List (List ℕ) → List ℕ → List ℕ → Type 0) (before now : Streams)
     (result : Result (Unit {0}) StreamFault) : Type 0 where
   pub taken : List ℕ
   pub takes : Takes before.input now.input taken
   pub written : List ℕ
   pub writes : Puts before.output now.output written
-  pub ends : LineByLineEnds IsRight before now taken written result
+  pub ends : LineByLineEnds IsRight Begins before now (taken, written) result

@@ -2,6 +2,7 @@
 use Rattle.std.specs.Prelude.{◌≡◌, ◌⊎◌, Result, Ok, Err}
 use Rattle.tfpg_words.specs.declared.usage_cause.UsageCause.{UsageCause}
 use Rattle.tfpg_words.specs.Meaning.{Meaning, Diagnose, Explain, Check, Simulate, Generate, Convert}
+use Rattle.tfpg_panel.specs.Desk.{DeskState}
 use Rattle.tfpg_run.specs.declared.end.End.{End}
 use Rattle.tfpg_run.specs.declared.end.End.TheVariants as ends
 use Rattle.tfpg_run.specs.World.{World}
@@ -11,6 +12,16 @@ use Rattle.tfpg_run.specs.check.Checking.{CheckEnds}
 use Rattle.tfpg_run.specs.simulate.Simulating.{HasSimulation, SimulateEnds}
 use Rattle.tfpg_run.specs.generate.Generating.{GenerateEnds}
 use Rattle.tfpg_run.specs.convert.Converting.{ConvertEnds}
+
+-- No command touches the desk but the one that diagnoses, and words that are refused do not either.
+abbrev pub LeavesDesk : Result Meaning UsageCause → DeskState → DeskState → Type 0
+LeavesDesk (Ok (Diagnose terms graph)) before now = Unit {0}
+LeavesDesk (Ok (Explain graph log)) before now = now ≡ before
+LeavesDesk (Ok (Check graph log)) before now = now ≡ before
+LeavesDesk (Ok (Simulate draw trace graph script)) before now = now ≡ before
+LeavesDesk (Ok (Generate draw size)) before now = now ≡ before
+LeavesDesk (Ok (Convert json graph)) before now = now ≡ before
+LeavesDesk (Err cause) before now = now ≡ before
 
 -- How a run ends whose words mean this: words that are refused have their cause, and nothing was asked for, taken or
 -- written; and else it goes as the command says.

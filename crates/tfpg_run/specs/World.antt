@@ -1,17 +1,37 @@
 -- What a run works on: all of the outside, at one moment.
 use Rattle.tfpg_base.specs.Outside.{SourceState, SinkState, ShelfState}
+use Rattle.tfpg_panel.specs.Desk.{DeskState}
 use Rattle.tfpg_run.specs.Streams.{Streams, streams}
 
--- the states of the shelf, the input and the output
+-- the states of the shelf, the input, the output and the desk
 pub record World : Type 0 where
   pub shelf : ShelfState
   pub input : SourceState
   pub output : SinkState
+  pub desk : DeskState
 
 -- the world with these states
-abbrev pub world : ShelfState → SourceState → SinkState → World
-world shelf input output = record { shelf = shelf; input = input; output = output }
+abbrev pub world : ShelfState → SourceState → SinkState → DeskState → World
+world shelf input output desk = record { shelf = shelf; input = input; output = output; desk = desk }
 
 -- the input and the output of a world
 abbrev pub streams_of : World → Streams
 streams_of at = streams at.input at.output
+
+-- What a diagnosis works on besides the shelf: the input, the output and the desk.
+pub record Watched : Type 0 where
+  pub input : SourceState
+  pub output : SinkState
+  pub desk : DeskState
+
+-- these three
+abbrev pub watched : SourceState → SinkState → DeskState → Watched
+watched input output desk = record { input = input; output = output; desk = desk }
+
+-- the input and the output of them
+abbrev pub streams_in : Watched → Streams
+streams_in at = streams at.input at.output
+
+-- all of a world but its shelf
+abbrev pub watched_of : World → Watched
+watched_of at = watched at.input at.output at.desk

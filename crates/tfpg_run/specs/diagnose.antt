@@ -1,5 +1,5 @@
 -- How `diagnose` ends, and what its report says.
-pub mod ForNow
+pub mod TellsPanels
 pub mod RightReport
 pub mod Diagnosing
 pub mod BlockFindings

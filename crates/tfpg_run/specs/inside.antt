@@ -7,3 +7,4 @@ pub mod explain
 pub mod check
 pub mod generate
 pub mod convert
+pub mod Writing

@@ -5,6 +5,7 @@ ghost use Rattle.tfpg_base.specs.TextLine.{text_line};
 ghost use Rattle.tfpg_base.specs.declared.limits.TheConstants.{LONGEST_FILE};
 ghost use Rattle.tfpg_run.specs.Fetch.{AsksInOrder};
 ghost use Rattle.tfpg_run.specs.Streams.{streams};
+ghost use Rattle.tfpg_panel.specs.Desk.{DeskState};
 ghost use Rattle.tfpg_run.specs.World.{world};
 ghost use Rattle.tfpg_run.specs.check.Checking.{CheckEnds, ChecksReport, matter_of};
 ghost use Rattle.tfpg_run.specs.inside.check.UnderWay.{AcceptsReport, LacksReport};
@@ -31,12 +32,12 @@ pub(crate) fn check_by_files<F: Shelf, S: Source, K: Sink>(
     input: &mut S,
     out: &mut K,
 ) -> Result<(), End>
-    ensures done { OnOk result (CheckEnds graph_name.now log_name.now
-        (world (F.state shelf.old) (S.state input.old) (K.state out.old))
-        (world (F.state shelf.new) (S.state input.new) (K.state out.new)) End.Done) }
-    ensures stopped { IfErr result (CheckEnds graph_name.now log_name.now
-        (world (F.state shelf.old) (S.state input.old) (K.state out.old))
-        (world (F.state shelf.new) (S.state input.new) (K.state out.new))) }
+    ensures done { (desk : DeskState) → OnOk result (CheckEnds graph_name.now log_name.now
+        (world (F.state shelf.old) (S.state input.old) (K.state out.old) desk)
+        (world (F.state shelf.new) (S.state input.new) (K.state out.new) desk) End.Done) }
+    ensures stopped { (desk : DeskState) → IfErr result (CheckEnds graph_name.now log_name.now
+        (world (F.state shelf.old) (S.state input.old) (K.state out.old) desk)
+        (world (F.state shelf.new) (S.state input.new) (K.state out.new) desk)) }
     ensures asks { AsksInOrder (graph_name.now ∷ log_name.now ∷ []) (F.state shelf.old).asked
         (F.state shelf.new).asked }
 {

@@ -8,14 +8,14 @@ ghost use Rattle.tfpg_words.specs.Plans.{meaning_of};
 ghost use Rattle.tfpg_run.specs.inside.Plans.{AreWithinLimits};
 ghost use Rattle.tfpg_run.specs.EndsOf.{end_of_result};
 ghost use Rattle.tfpg_run.specs.Fetch.{AsksOnly};
-ghost use Rattle.tfpg_run.specs.Run.{RunEnds, CommandEnds};
+ghost use Rattle.tfpg_run.specs.Run.{RunEnds, CommandEnds, LeavesDesk};
 ghost use Rattle.tfpg_run.specs.World.{World, world};
 ghost use Rattle.tfpg_run.specs.check.AfterDiagnosis.{FollowsDiagnosis};
 ghost use Rattle.tfpg_run.specs.diagnose.Work.{RunsWithin};
 
 use crate::check::check_by_files;
 use crate::convert::convert_file;
-use crate::diagnose::diagnose_file;
+use crate::diagnose::{Subject, diagnose_file};
 use crate::end::End;
 use crate::explain::explain_by_files;
 use crate::generate::generate_summary;
@@ -26,56 +26,61 @@ use tfpg_base::{Shelf, Sink, Source, Steps, Terms};
 use tfpg_check::laws::lines_have_at_most_one_cause;
 use tfpg_graph::laws::a_text_has_at_most_one_first_fault;
 use tfpg_json::laws::a_text_has_at_most_one_first_fault_as_json;
+use tfpg_panel::{Desk, Panel};
 use tfpg_report::laws::a_report_line_says_one_thing;
 use tfpg_words::laws::numbers_are_within_their_limits;
 use tfpg_words::{Command, plan};
 
-/// Does what the words say. To diagnose it reads the graph that they name, then takes the input line by line, and writes the
-/// block of each line before the next one is taken. To explain it reads the graph and the log that they name, then the map of
+/// Does what the words say. To diagnose it reads the graph that they name, then takes the input line by line, writes the block of
+/// each line before the next one is taken, and tells the desk its round. To explain it reads the graph and the log that they name, then the map of
 /// the input, and then writes the verdict on it. To check it reads the same files, judges the report of the input line by line, and
 /// then writes how many rounds it has. To simulate it reads the graph and the script that they name, and writes the log
 /// or the map of what happens. To generate it draws a graph and a script, diagnoses the log, and writes what became of
 /// the truth. To convert it reads the graph that they name, and writes it in the other form: a graph text as JSON, or JSON as a
 /// graph text. Searches count their steps on `work`.
-pub fn run<F: Shelf, S: Source, K: Sink, L: Ledger>(
+pub fn run<F: Shelf, S: Source, K: Sink, P: Panel, L: Ledger>(
     alloc: Global,
     words: &[String],
     shelf: &mut F,
     input: &mut S,
     out: &mut K,
+    desk: &mut Desk<P>,
     work: &mut Steps<L>,
 ) -> End
     // Each end has its cause, and what was written by then is right.
     ensures ends { RunEnds (meaning (map string_bytes words.now))
-        (world (F.state shelf.old) (S.state input.old) (K.state out.old))
-        (world (F.state shelf.new) (S.state input.new) (K.state out.new)) result }
+        (world (F.state shelf.old) (S.state input.old) (K.state out.old) desk.old)
+        (world (F.state shelf.new) (S.state input.new) (K.state out.new) desk.new) result }
 
     // Where the words are right, the files and the input serve them and nothing fails, it is done, or memory ran out.
     ensures completes { (meant : Meaning) → meaning (map string_bytes words.now) ≡ Ok meant →
-        CanBeDone meant (world (F.state shelf.old) (S.state input.old) (K.state out.old)) →
-        NothingFails (world (F.state shelf.old) (S.state input.old) (K.state out.old))
-        (world (F.state shelf.new) (S.state input.new) (K.state out.new)) →
+        CanBeDone meant (world (F.state shelf.old) (S.state input.old) (K.state out.old) desk.old) →
+        NothingFails (world (F.state shelf.old) (S.state input.old) (K.state out.old) desk.old)
+        (world (F.state shelf.new) (S.state input.new) (K.state out.new) desk.new) →
         IsCompleted result }
 
     // Where the lines of a report have a cause for which they are not accepted, a check ends with it and its line, or memory ran out.
     ensures refuses { (graph log : List ℕ) (line : ℕ) (cause : CheckCause) →
         meaning (map string_bytes words.now) ≡ Ok (Check graph log) →
         CanRefuse (F.state shelf.old) (S.state input.old) graph log line cause →
-        NothingFails (world (F.state shelf.old) (S.state input.old) (K.state out.old))
-        (world (F.state shelf.new) (S.state input.new) (K.state out.new)) →
+        NothingFails (world (F.state shelf.old) (S.state input.old) (K.state out.old) desk.old)
+        (world (F.state shelf.new) (S.state input.new) (K.state out.new) desk.new) →
         IsRefusedFor line cause result }
 
     // A diagnosis that is done kept within the limits of counted calls of its rounds.
     ensures work { (meant : Meaning) → meaning (map string_bytes words.now) ≡ Ok meant → result ≡ End.Done →
-        RunsWithin meant (world (F.state shelf.old) (S.state input.old) (K.state out.old))
-        (world (F.state shelf.new) (S.state input.new) (K.state out.new)) work.old work.new }
+        RunsWithin meant (world (F.state shelf.old) (S.state input.old) (K.state out.old) desk.old)
+        (world (F.state shelf.new) (S.state input.new) (K.state out.new) desk.new) work.old work.new }
+
+    // No command but `diagnose` touches the desk.
+    ensures desk { LeavesDesk (meaning (map string_bytes words.now)) desk.old desk.new }
 
     // What a diagnosis has written that is done can be checked by the same graph and the same lines.
     ensures rechecks { (terms : Terms) (diagnosed : List ℕ) →
         meaning (map string_bytes words.now) ≡ Ok (Diagnose terms diagnosed) → result ≡ End.Done →
         (graph log : List ℕ) (later : World) → FollowsDiagnosis diagnosed graph log
-        (world (F.state shelf.old) (S.state input.old) (K.state out.old))
-        (world (F.state shelf.new) (S.state input.new) (K.state out.new)) later → CanBeDone (Check graph log) later }
+        (world (F.state shelf.old) (S.state input.old) (K.state out.old) desk.old)
+        (world (F.state shelf.new) (S.state input.new) (K.state out.new) desk.new) later → CanBeDone (Check graph log) later }
 
     // No file is asked for but those that the words name.
     ensures asks { AsksOnly (meaning (map string_bytes words.now)) (F.state shelf.old).asked
@@ -87,30 +92,32 @@ pub fn run<F: Shelf, S: Source, K: Sink, L: Ledger>(
     a_text_has_at_most_one_first_fault_as_json();
     a_report_line_says_one_thing();
     match plan(alloc, words) {
-        Ok(planned) => end_of(perform(alloc, &planned.command, shelf, input, out, work)),
+        Ok(planned) => end_of(perform(alloc, &planned.command, shelf, input, out, desk, work)),
         Err(fault) => End::from(fault),
     }
 }
 
 /// Does what a command asks for.
-fn perform<F: Shelf, S: Source, K: Sink, L: Ledger>(
+fn perform<F: Shelf, S: Source, K: Sink, P: Panel, L: Ledger>(
     alloc: Global,
     command: &Command,
     shelf: &mut F,
     input: &mut S,
     out: &mut K,
+    desk: &mut Desk<P>,
     work: &mut Steps<L>,
 ) -> Result<(), End>
     requires { AreWithinLimits (meaning_of command.now) }
     ensures done { OnOk result (CommandEnds (Ok (meaning_of command.now))
-        (world (F.state shelf.old) (S.state input.old) (K.state out.old))
-        (world (F.state shelf.new) (S.state input.new) (K.state out.new)) End.Done) }
+        (world (F.state shelf.old) (S.state input.old) (K.state out.old) desk.old)
+        (world (F.state shelf.new) (S.state input.new) (K.state out.new) desk.new) End.Done) }
     ensures stopped { IfErr result (CommandEnds (Ok (meaning_of command.now))
-        (world (F.state shelf.old) (S.state input.old) (K.state out.old))
-        (world (F.state shelf.new) (S.state input.new) (K.state out.new))) }
+        (world (F.state shelf.old) (S.state input.old) (K.state out.old) desk.old)
+        (world (F.state shelf.new) (S.state input.new) (K.state out.new) desk.new)) }
     ensures work { end_of_result (λ end. end) result ≡ End.Done → RunsWithin (meaning_of command.now)
-        (world (F.state shelf.old) (S.state input.old) (K.state out.old))
-        (world (F.state shelf.new) (S.state input.new) (K.state out.new)) work.old work.new }
+        (world (F.state shelf.old) (S.state input.old) (K.state out.old) desk.old)
+        (world (F.state shelf.new) (S.state input.new) (K.state out.new) desk.new) work.old work.new }
+    ensures desk { LeavesDesk (Ok (meaning_of command.now)) desk.old desk.new }
     ensures asks { AsksOnly (Ok (meaning_of command.now)) (F.state shelf.old).asked
         (F.state shelf.new).asked }
 {
@@ -126,7 +133,11 @@ fn perform<F: Shelf, S: Source, K: Sink, L: Ledger>(
                 doubt: *doubt,
                 budget: *budget,
             };
-            diagnose_file(alloc, terms, graph.as_str(), shelf, input, out, work)
+            let subject = Subject {
+                name: graph.as_str(),
+                terms,
+            };
+            diagnose_file(alloc, &subject, shelf, input, out, desk, work)
         }
         Command::Explain { graph, log } => {
             explain_by_files(alloc, graph.as_str(), log.as_str(), shelf, input, out)

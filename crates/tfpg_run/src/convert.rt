@@ -3,6 +3,7 @@
 ghost use Rattle.std.specs.Prelude.{◌≡◌, IfOk, IfErr, OnOk, Ok, Err};
 ghost use Rattle.tfpg_base.specs.Outside.{SourceState};
 ghost use Rattle.tfpg_graph.specs.Valid.{IsValid};
+ghost use Rattle.tfpg_panel.specs.Desk.{DeskState};
 ghost use Rattle.tfpg_run.specs.Fetch.{AsksFor, GivesGraphBy, IsFetchFaultBy};
 ghost use Rattle.tfpg_run.specs.Outputs.{TextEnds};
 ghost use Rattle.tfpg_run.specs.World.{world};
@@ -27,12 +28,12 @@ pub(crate) fn convert_file<F: Shelf, K: Sink>(
     shelf: &mut F,
     out: &mut K,
 ) -> Result<(), End>
-    ensures done { (input : SourceState) → OnOk result (ConvertEnds json name.now
-        (world (F.state shelf.old) input (K.state out.old))
-        (world (F.state shelf.new) input (K.state out.new)) End.Done) }
-    ensures stopped { (input : SourceState) → IfErr result (ConvertEnds json name.now
-        (world (F.state shelf.old) input (K.state out.old))
-        (world (F.state shelf.new) input (K.state out.new))) }
+    ensures done { (input : SourceState) (desk : DeskState) → OnOk result (ConvertEnds json name.now
+        (world (F.state shelf.old) input (K.state out.old) desk)
+        (world (F.state shelf.new) input (K.state out.new) desk) End.Done) }
+    ensures stopped { (input : SourceState) (desk : DeskState) → IfErr result (ConvertEnds json name.now
+        (world (F.state shelf.old) input (K.state out.old) desk)
+        (world (F.state shelf.new) input (K.state out.new) desk)) }
     ensures asks { AsksFor name.now (F.state shelf.old).asked (F.state shelf.new).asked }
 {
     let graph = fetch_graph_from(alloc, json, shelf, name)?;

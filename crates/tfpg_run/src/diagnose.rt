@@ -10,6 +10,7 @@ ghost use Rattle.tfpg_run.specs.diagnose.Work.{DiagnosesWithin};
 
 mod line_blocks;
 mod report;
+mod telling;
 
 use crate::end::End;
 use crate::fetching::fetch_graph;
@@ -18,30 +19,41 @@ use std::alloc::Global;
 use std::sync::ledger::Ledger;
 use tfpg_base::{Shelf, Sink, Source, Steps, Terms};
 use tfpg_engine::Engine;
+use tfpg_panel::laws::a_desk_is_told_round_by_round;
+use tfpg_panel::{Desk, Panel};
 
-/// Fetches the graph of the file of this name, diagnoses the lines of the input on these terms, and writes the report.
-pub(crate) fn diagnose_file<F: Shelf, S: Source, K: Sink, L: Ledger>(
+/// What is to be diagnosed: the graph of the file of this name, on these terms.
+#[derive(Clone, Copy)]
+pub(crate) struct Subject<'a> {
+    pub(crate) name: &'a str,
+    pub(crate) terms: Terms,
+}
+
+/// Fetches the graph, diagnoses the lines of the input, writes the report, and tells the desk each round whose text is written.
+pub(crate) fn diagnose_file<F: Shelf, S: Source, K: Sink, P: Panel, L: Ledger>(
     alloc: Global,
-    terms: Terms,
-    name: &str,
+    subject: &Subject<'_>,
     shelf: &mut F,
     input: &mut S,
     out: &mut K,
+    desk: &mut Desk<P>,
     work: &mut Steps<L>,
 ) -> Result<(), End>
-    requires { AreReportTerms terms }
-    ensures done { OnOk result (DiagnoseEnds terms name.now
-        (world (F.state shelf.old) (S.state input.old) (K.state out.old))
-        (world (F.state shelf.new) (S.state input.new) (K.state out.new)) End.Done) }
-    ensures stopped { IfErr result (DiagnoseEnds terms name.now
-        (world (F.state shelf.old) (S.state input.old) (K.state out.old))
-        (world (F.state shelf.new) (S.state input.new) (K.state out.new))) }
-    ensures work { end_of_result (λ end. end) result ≡ End.Done → DiagnosesWithin terms name.now
-        (world (F.state shelf.old) (S.state input.old) (K.state out.old))
-        (world (F.state shelf.new) (S.state input.new) (K.state out.new)) work.old work.new }
-    ensures asks { AsksFor name.now (F.state shelf.old).asked (F.state shelf.new).asked }
+    requires { AreReportTerms subject.now.terms }
+    ensures done { OnOk result (DiagnoseEnds subject.now.terms subject.now.name.now
+        (world (F.state shelf.old) (S.state input.old) (K.state out.old) desk.old)
+        (world (F.state shelf.new) (S.state input.new) (K.state out.new) desk.new) End.Done) }
+    ensures stopped { IfErr result (DiagnoseEnds subject.now.terms subject.now.name.now
+        (world (F.state shelf.old) (S.state input.old) (K.state out.old) desk.old)
+        (world (F.state shelf.new) (S.state input.new) (K.state out.new) desk.new)) }
+    ensures work { end_of_result (λ end. end) result ≡ End.Done → DiagnosesWithin subject.now.terms subject.now.name.now
+        (world (F.state shelf.old) (S.state input.old) (K.state out.old) desk.old)
+        (world (F.state shelf.new) (S.state input.new) (K.state out.new) desk.new) work.old work.new }
+    ensures asks { AsksFor subject.now.name.now (F.state shelf.old).asked (F.state shelf.new).asked }
 {
-    let graph = fetch_graph(alloc, shelf, name)?;
-    let mut engine = Engine::new(alloc, graph, terms)?;
-    Ok(write_report(alloc, &mut engine, input, out, work)?)
+    desk.always_keeps_its_panels();
+    a_desk_is_told_round_by_round();
+    let graph = fetch_graph(alloc, shelf, subject.name)?;
+    let mut engine = Engine::new(alloc, graph, subject.terms)?;
+    Ok(write_report(alloc, &mut engine, input, out, desk, work)?)
 }

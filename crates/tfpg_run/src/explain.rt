@@ -4,6 +4,7 @@ ghost use Rattle.std.specs.Prelude.{◌∷◌, [], IfErr, OnOk, Ok, Err};
 ghost use Rattle.tfpg_log.specs.Log.{IsLogOf};
 ghost use Rattle.tfpg_run.specs.Fetch.{AsksInOrder};
 ghost use Rattle.tfpg_run.specs.Streams.{streams};
+ghost use Rattle.tfpg_panel.specs.Desk.{DeskState};
 ghost use Rattle.tfpg_run.specs.World.{world};
 ghost use Rattle.tfpg_run.specs.explain.Explaining.{ExplainEnds, ExplainsMap};
 
@@ -30,12 +31,12 @@ pub(crate) fn explain_by_files<F: Shelf, S: Source, K: Sink>(
     input: &mut S,
     out: &mut K,
 ) -> Result<(), End>
-    ensures done { OnOk result (ExplainEnds graph_name.now log_name.now
-        (world (F.state shelf.old) (S.state input.old) (K.state out.old))
-        (world (F.state shelf.new) (S.state input.new) (K.state out.new)) End.Done) }
-    ensures stopped { IfErr result (ExplainEnds graph_name.now log_name.now
-        (world (F.state shelf.old) (S.state input.old) (K.state out.old))
-        (world (F.state shelf.new) (S.state input.new) (K.state out.new))) }
+    ensures done { (desk : DeskState) → OnOk result (ExplainEnds graph_name.now log_name.now
+        (world (F.state shelf.old) (S.state input.old) (K.state out.old) desk)
+        (world (F.state shelf.new) (S.state input.new) (K.state out.new) desk) End.Done) }
+    ensures stopped { (desk : DeskState) → IfErr result (ExplainEnds graph_name.now log_name.now
+        (world (F.state shelf.old) (S.state input.old) (K.state out.old) desk)
+        (world (F.state shelf.new) (S.state input.new) (K.state out.new) desk)) }
     ensures asks { AsksInOrder (graph_name.now ∷ log_name.now ∷ []) (F.state shelf.old).asked
         (F.state shelf.new).asked }
 {

@@ -2,6 +2,7 @@
 
 ghost use Rattle.std.specs.Prelude.{◌≡◌, ◌++◌, List, ℕ, OnOk, OnErr};
 ghost use Rattle.tfpg_base.specs.Outside.{Rose, Puts};
+ghost use Rattle.tfpg_run.specs.inside.Writing.{Writes};
 
 use tfpg_base::{Failed, Sink};
 
@@ -11,6 +12,7 @@ pub(crate) fn write_all<K: Sink>(out: &mut K, piece: &[u8]) -> Result<(), Failed
     ensures no_fault { OnOk result ((K.state out.new).faults ≡ (K.state out.old).faults) }
     ensures front { OnErr result ((front rest : List ℕ) × (piece.now ≡ front ++ rest) ×
         Puts (K.state out.old) (K.state out.new) front) }
+    ensures writes { Writes piece.now (K.state out.old) (K.state out.new) result }
     ensures failed { OnErr result (Rose (K.state out.old).faults (K.state out.new).faults) }
 {
     let mut rest = piece;

@@ -6,6 +6,7 @@ ghost use Rattle.tfpg_graph.specs.Graph.{AreFailures};
 ghost use Rattle.tfpg_sim.specs.ScriptFaults.{IsSimFault};
 ghost use Rattle.tfpg_run.specs.Fetch.{AsksInOrder};
 ghost use Rattle.tfpg_run.specs.simulate.Simulating.{HasSimulation, SimulateEnds, SimulationEnds, simulated_text};
+ghost use Rattle.tfpg_panel.specs.Desk.{DeskState};
 ghost use Rattle.tfpg_run.specs.World.{world};
 
 use crate::end::End;
@@ -30,14 +31,14 @@ pub(crate) fn simulate_files<F: Shelf, K: Sink>(
     shelf: &mut F,
     out: &mut K,
 ) -> Result<(), End>
-    ensures done { (input : SourceState) → OnOk result (SimulateEnds (HasSimulation draw trace)
+    ensures done { (input : SourceState) (desk : DeskState) → OnOk result (SimulateEnds (HasSimulation draw trace)
         graph_name.now script_name.now
-        (world (F.state shelf.old) input (K.state out.old))
-        (world (F.state shelf.new) input (K.state out.new)) End.Done) }
-    ensures stopped { (input : SourceState) → IfErr result (SimulateEnds (HasSimulation draw trace)
+        (world (F.state shelf.old) input (K.state out.old) desk)
+        (world (F.state shelf.new) input (K.state out.new) desk) End.Done) }
+    ensures stopped { (input : SourceState) (desk : DeskState) → IfErr result (SimulateEnds (HasSimulation draw trace)
         graph_name.now script_name.now
-        (world (F.state shelf.old) input (K.state out.old))
-        (world (F.state shelf.new) input (K.state out.new))) }
+        (world (F.state shelf.old) input (K.state out.old) desk)
+        (world (F.state shelf.new) input (K.state out.new) desk)) }
     ensures asks { AsksInOrder (graph_name.now ∷ script_name.now ∷ []) (F.state shelf.old).asked
         (F.state shelf.new).asked }
 {

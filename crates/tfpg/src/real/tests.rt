@@ -9,6 +9,7 @@ use std::io::{Error, ErrorKind, PipeWriter, Read, Write};
 use std::test::Fail;
 use std::{fs, io};
 use tfpg_base::{Failed, Shelf, ShelfFault, Sink, Source};
+use tfpg_panel::{Desk, MemoryPanel};
 use tfpg_run::End;
 
 /// A file that opens and cannot be read, not even by root: the memory of this process, which has none at the address 0.
@@ -194,7 +195,11 @@ fn run_on<S: Source, K: Sink>(
 ) -> Result<End, AllocError> {
     let words = words_of(rt.alloc(), &["diagnose", "--k", "0", name])?;
     let mut shelf = FileShelf::new(rt);
-    Ok(run_over(rt.alloc(), &words, &mut shelf, input, out))
+    let panels: Vec<MemoryPanel> = Vec::new(rt.alloc());
+    let Ok(mut desk) = Desk::new(panels) else {
+        return Ok(End::NoMemory);
+    };
+    Ok(run_over(rt.alloc(), &words, &mut shelf, input, out, &mut desk))
 }
 
 #[test]

@@ -3,3 +3,6 @@ pub mod LineBlocks
 pub mod NextBlocks
 pub mod NeverRejected
 pub mod StaysRejected
+pub mod ToldBlocks
+pub mod WrittenBlocks
+pub mod LossLines

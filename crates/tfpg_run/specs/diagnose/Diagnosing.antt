@@ -10,16 +10,19 @@ use Rattle.tfpg_run.specs.declared.fault.StreamFault.{StreamFault}
 use Rattle.tfpg_run.specs.EndsOf.{EndsBy, end_of_stream_fault}
 use Rattle.tfpg_run.specs.Fetch.{GivesGraph, LacksGraph}
 use Rattle.tfpg_run.specs.Outputs.{WorksLineByLine}
-use Rattle.tfpg_run.specs.Streams.{Streams}
-use Rattle.tfpg_run.specs.World.{World, streams_of}
-use Rattle.tfpg_run.specs.diagnose.RightReport.{IsRightReport}
+use Rattle.tfpg_run.specs.World.{World, Watched, streams_in, watched_of}
+use Rattle.tfpg_run.specs.diagnose.RightReport.{IsRightReport, BeginsRightReport}
+use Rattle.tfpg_run.specs.diagnose.TellsPanels.{desks}
 
--- A diagnosis of the graph on these terms took bytes from the input and wrote its report, with this result.
-abbrev pub Diagnoses : Tfpg → Terms → Streams → Streams → Result (Unit {0}) StreamFault → Type 0
-Diagnoses graph terms before now result = WorksLineByLine (IsRightReport graph terms) before now result
+-- A diagnosis of the graph on these terms took bytes from the input, wrote its report and told the desk's panels its rounds, with this
+-- result.
+abbrev pub Diagnoses : Tfpg → Terms → Watched → Watched → Result (Unit {0}) StreamFault → Type 0
+Diagnoses graph terms before now result =
+    WorksLineByLine (IsRightReport graph terms (desks before.desk now.desk)) (BeginsRightReport graph terms (desks before.desk now.desk))
+    (streams_in before) (streams_in now) result
 
--- The graph of the file of this name has more than 4,096 hypotheses on these terms, exactly this many, and input and
--- output are untouched.
+-- The graph of the file of this name has more than 4,096 hypotheses on these terms, exactly this many, and all but the
+-- shelf is untouched.
 pub record HasTooManyHypotheses (terms : Terms) (name : List ℕ) (before now : World) (end : End) : Type 0 where
   pub graph : Tfpg
   pub gives : GivesGraph before.shelf name graph
@@ -28,7 +31,7 @@ pub record HasTooManyHypotheses (terms : Terms) (name : List ℕ) (before now : 
   pub counted : HasHypotheses graph terms count
   pub too_many : MAX_HYPOTHESES < count
   pub end_is : end ≡ ends.TooManyHypotheses count
-  pub untouched : streams_of now ≡ streams_of before
+  pub untouched : watched_of now ≡ watched_of before
 
 -- The graph of the file of this name was diagnosed. It has at most 4,096 hypotheses on these terms.
 pub record DiagnosesFile (terms : Terms) (name : List ℕ) (before now : World) (end : End) : Type 0 where
@@ -36,7 +39,7 @@ pub record DiagnosesFile (terms : Terms) (name : List ℕ) (before now : World) 
   pub gives : GivesGraph before.shelf name graph
   pub no_fault : now.shelf.faults ≡ before.shelf.faults
   pub not_too_many : (count : ℕ) → HasHypotheses graph terms count → count ≤ MAX_HYPOTHESES
-  pub ends : EndsBy (Diagnoses graph terms (streams_of before) (streams_of now)) end_of_stream_fault end
+  pub ends : EndsBy (Diagnoses graph terms (watched_of before) (watched_of now)) end_of_stream_fault end
 
 -- There is no graph of the file of that name; or it has too many hypotheses; or it was diagnosed.
 abbrev pub DiagnoseEnds : Terms → List ℕ → World → World → End → Type 0

@@ -1,6 +1,5 @@
 -- What the rounds of a report say, beyond the definition of a round.
-use Rattle.std.specs.Prelude.{◌≡◌, ℕ, List, take, Some, slice_get}
-use Rattle.std.specs.List.{AllByRecursion}
+use Rattle.std.specs.Prelude.{◌≡◌, ◌++◌, ℕ, List, take, flat_map, Some, slice_get}
 use Rattle.tfpg_graph.specs.Graph.{Tfpg}
 use Rattle.tfpg_log.specs.Log.{Logbook}
 use Rattle.tfpg_log.specs.LogOfLines.{log_after}
@@ -10,9 +9,9 @@ use Rattle.tfpg_hyp.specs.Fitting.{SayWhichSetsFit, AreStatusesOfMinimalSets}
 use Rattle.tfpg_search.specs.Enough.{IsEnough}
 use Rattle.tfpg_engine.specs.Earned.{AreEarned}
 use Rattle.tfpg_report.specs.Blocks.{Block, RefusedBlock, RoundBlock}
-use Rattle.tfpg_check.specs.Report.{Progress, IsReport, progress_of}
+use Rattle.tfpg_check.specs.Report.{Progress, IsReport, progress_of, rounds_of}
 use Rattle.tfpg_base.specs.declared.terms.Terms.{Terms}
-use Rattle.tfpg_run.specs.diagnose.ForNow.{LosesNone}
+use Rattle.tfpg_run.specs.diagnose.TellsPanels.{Desks, TellsPanels, rounds_in}
 
 -- What a round says of this log, where it comes after these rounds. Its steps are earned. Its statuses say which sets
 -- fit. Where no set is open, they are those of the minimal sets that fit. With a budget that is enough, no set is open.
@@ -37,9 +36,16 @@ RoundsSay graph terms lines blocks =
     → BlockSays graph terms (progress_of graph (take index lines) (take index blocks)) line block
 
 -- The bytes are what a diagnosis of the graph on these terms writes for these lines: a report of theirs, each of whose
--- rounds says what a round says. No panel is lost.
-pub record IsRightReport (graph : Tfpg) (terms : Terms) (lines : List (List ℕ)) (bytes : List ℕ) : Type 0 where
+-- rounds says what a round says. The panels were told all of its rounds, and those that were lost are those that it says.
+pub record IsRightReport (graph : Tfpg) (terms : Terms) (desk : Desks) (lines : List (List ℕ)) (bytes : List ℕ) : Type 0 where
   pub blocks : List Block
   pub report : IsReport graph terms lines blocks bytes
   pub say : RoundsSay graph terms lines blocks
-  pub no_losses : AllByRecursion LosesNone blocks
+  pub tells : TellsPanels (flat_map rounds_of blocks) blocks desk
+
+-- The bytes, and what is to follow them, are such a report. The panels were told its rounds whose texts lie whole in the bytes.
+pub record BeginsRightReport (graph : Tfpg) (terms : Terms) (desk : Desks) (lines : List (List ℕ)) (bytes more : List ℕ) : Type 0 where
+  pub blocks : List Block
+  pub report : IsReport graph terms lines blocks (bytes ++ more)
+  pub say : RoundsSay graph terms lines blocks
+  pub tells : TellsPanels (rounds_in graph terms bytes blocks) blocks desk

@@ -1,5 +1,5 @@
 -- How many counted calls a diagnosis makes at most: the sum of the limits of its rounds.
-use Rattle.std.specs.Prelude.{◌≡◌, ℕ, ◌+◌, ◌≤◌, List, length, take, sum_by, Some, slice_get, Ok}
+use Rattle.std.specs.Prelude.{◌≡◌, ℕ, ◌+◌, ◌≤◌, List, length, take, sum_by, Some, slice_get}
 use Rattle.tfpg_base.specs.declared.terms.Terms.{Terms}
 use Rattle.tfpg_graph.specs.Graph.{Tfpg}
 use Rattle.tfpg_log.specs.LogOfLines.{log_after}
@@ -8,7 +8,7 @@ use Rattle.tfpg_report.specs.Blocks.{Block, RefusedBlock, RoundBlock}
 use Rattle.tfpg_check.specs.Report.{Progress, IsReport, progress_of}
 use Rattle.tfpg_words.specs.Meaning.{Meaning, Diagnose, Explain, Check, Simulate, Generate, Convert}
 use Rattle.tfpg_run.specs.Fetch.{GivesGraph}
-use Rattle.tfpg_run.specs.Outputs.{WorksLineByLine}
+use Rattle.tfpg_run.specs.Outputs.{WorksToEnd}
 use Rattle.tfpg_run.specs.World.{World, streams_of}
 
 -- The limit for the block of a line, after the rounds and the log so far: that of its round. A refused line costs no call.
@@ -41,7 +41,7 @@ pub record IsReportWithin (graph : Tfpg) (terms : Terms) (start end : ℕ) (line
 pub record DiagnosesWithin (terms : Terms) (name : List ℕ) (before now : World) (start end : ℕ) : Type 0 where
   pub graph : Tfpg
   pub gives : GivesGraph before.shelf name graph
-  pub works : WorksLineByLine (IsReportWithin graph terms start end) (streams_of before) (streams_of now) (Ok tt)
+  pub works : WorksToEnd (IsReportWithin graph terms start end) (streams_of before) (streams_of now)
 
 -- What a run that is done took in counted calls, by what its words mean: a diagnosis keeps within the limits of its rounds. Nothing
 -- is said of the other commands.

@@ -1,13 +1,13 @@
 //! The block of a line of the log.
 
-ghost use Rattle.std.specs.Prelude.{◌≡◌, ◌≤◌, IfOk, length};
+ghost use Rattle.std.specs.Prelude.{◌≡◌, ◌≤◌, None, IfOk, IfSome, length};
 ghost use Rattle.tfpg_base.specs.declared.limits.TheConstants.{LONGEST_LINE};
 ghost use Rattle.tfpg_evidence.specs.RoundOf.{IsRoundOf};
 ghost use Rattle.tfpg_graph.specs.Graph.{Tfpg, sizes_of};
 ghost use Rattle.tfpg_report.specs.Blocks.{refused_text, round_text};
 ghost use Rattle.tfpg_check.specs.Report.{Progress};
 ghost use Rattle.tfpg_base.specs.declared.terms.Terms.{Terms};
-ghost use Rattle.tfpg_run.specs.inside.diagnose.LineBlocks.{EngineReports, HasBlock, IsBlockWithin, IsEngineReady, numbered};
+ghost use Rattle.tfpg_run.specs.inside.diagnose.LineBlocks.{EngineReports, HasBlock, IsBlockWithin, IsEngineReady, IsUntold, numbered};
 
 use std::alloc::Global;
 use std::sync::ledger::Ledger;
@@ -20,19 +20,28 @@ use tfpg_hyp::laws::{
 };
 use tfpg_report::{RefusedLine, refused, render};
 
+/// The block of a line: its text, and its round if it brought one.
+#[derive(Drop)]
+pub(super) struct LineBlock {
+    pub(super) text: Vec<u8>,
+    pub(super) round: Option<Round>,
+}
+
 /// The block of a line of this number and text, for a line that is not too long.
-pub(crate) fn line_block<L: Ledger>(
+pub(super) fn line_block<L: Ledger>(
     alloc: Global,
     engine: &mut Engine,
     number: u64,
     text: &[u8],
     work: &mut Steps<L>,
-) -> Result<Vec<u8>, NoMemory>
+) -> Result<LineBlock, NoMemory>
     requires { IsEngineReady engine.old }
-    ensures { (graph : Tfpg) (terms : Terms) (before : Progress) →
+    ensures of_graph { IfOk result (λ block. IfSome block.round (IsRoundOf (sizes_of engine.new.graph))) }
+    ensures block { (graph : Tfpg) (terms : Terms) (before : Progress) →
         EngineReports graph terms engine.old before
         → length text.now ≤ LONGEST_LINE → IfOk result
-        (λ block. (has : HasBlock graph terms before (numbered number text.now) block.items engine.new)
+        (λ block. (has : HasBlock graph terms before (numbered number text.now) block.text.items engine.new)
+        × IsUntold block.round has.block engine.old engine.new
         × IsBlockWithin graph before text.now has.block work.old work.new) }
 {
     rounds_say_which_sets_fit();
@@ -43,22 +52,26 @@ pub(crate) fn line_block<L: Ledger>(
         Told::Round(round) => {
             // The log is of the graph, and in order.
             engine.log().is_always_ordered();
-            round_block(alloc, engine.graph(), &round)
+            let text = round_block(alloc, engine.graph(), &round)?;
+            Ok(LineBlock {
+                text,
+                round: Some(round),
+            })
         }
     }
 }
 
 /// The block of a refused line.
-pub(crate) fn refused_block(
+pub(super) fn refused_block(
     alloc: Global,
     number: u64,
     cause: RefusedLine,
-) -> Result<Vec<u8>, NoMemory>
-    ensures { IfOk result (λ block. block.items ≡ refused_text number cause) }
+) -> Result<LineBlock, NoMemory>
+    ensures { IfOk result (λ block. (block.text.items ≡ refused_text number cause) × (block.round ≡ None)) }
 {
-    let mut block = Vec::new(alloc);
-    refused(number, cause, &mut block)?;
-    Ok(block)
+    let mut text = Vec::new(alloc);
+    refused(number, cause, &mut text)?;
+    Ok(LineBlock { text, round: None })
 }
 
 /// The block of a round.

@@ -1,4 +1,4 @@
-//! The report of a diagnosis: line by line, each with its block written before the next is taken.
+//! The report of a diagnosis: line by line, each with its block written, and its round told, before the next is taken.
 
 ghost use Rattle.std.specs.Prelude.{◌≡◌, ◌++◌, [], ℕ, List, IfOk, IfErr, OnOk, OnErr, Ok, Err};
 ghost use Rattle.tfpg_base.specs.Outside.{Rose, Puts};
@@ -10,12 +10,14 @@ ghost use Rattle.tfpg_report.specs.Blocks.{head_text};
 ghost use Rattle.tfpg_check.specs.Report.{HasReports};
 ghost use Rattle.tfpg_run.specs.diagnose.Diagnosing.{Diagnoses};
 ghost use Rattle.tfpg_run.specs.diagnose.Work.{IsReportWithin};
-ghost use Rattle.tfpg_run.specs.Outputs.{WorksLineByLine};
-ghost use Rattle.tfpg_run.specs.Streams.{Streams, streams};
+ghost use Rattle.tfpg_run.specs.Outputs.{WorksToEnd};
+ghost use Rattle.tfpg_run.specs.Streams.{streams};
+ghost use Rattle.tfpg_run.specs.World.{Watched, watched};
 ghost use Rattle.tfpg_run.specs.inside.diagnose.LineBlocks.{IsEngineReady};
 ghost use Rattle.tfpg_run.specs.inside.diagnose.UnderWay.{IsDiagnosing, IsDiagnosingWithin, ComesTo, ComesToWithin, diagnosis_at};
 
 use super::line_blocks::{line_block, refused_block};
+use super::telling::write_and_tell;
 use crate::fault::StreamFault;
 use crate::output::write_all;
 use std::alloc::Global;
@@ -23,6 +25,8 @@ use std::sync::ledger::Ledger;
 use tfpg_base::{Line, Lines, NoMemory, Sink, Source, Steps, Terms};
 use tfpg_check::laws::a_report_goes_on_block_by_block;
 use tfpg_engine::Engine;
+use tfpg_panel::laws::{a_desk_is_told_round_by_round, the_losses_of_a_round_rise};
+use tfpg_panel::{Desk, Panel};
 use tfpg_report::{RefusedLine, head};
 
 /// Whether the block of one more line is written, or the input has ended.
@@ -32,12 +36,13 @@ pub(super) enum NextBlock {
     Ended,
 }
 
-/// Diagnoses the lines of the input by a new engine, and writes the report.
-pub(super) fn write_report<S: Source, K: Sink, L: Ledger>(
+/// Diagnoses the lines of the input by a new engine, writes the report, and tells the desk each round whose text is written.
+pub(super) fn write_report<S: Source, K: Sink, P: Panel, L: Ledger>(
     alloc: Global,
     engine: &mut Engine,
     input: &mut S,
     out: &mut K,
+    desk: &mut Desk<P>,
     work: &mut Steps<L>,
 ) -> Result<(), StreamFault>
     requires valid { IsValid engine.old.graph }
@@ -45,17 +50,18 @@ pub(super) fn write_report<S: Source, K: Sink, L: Ledger>(
     requires new { EngineRepresents engine.old [] }
     requires has_reports { HasReports engine.old.graph engine.old.terms }
     ensures diagnoses { Diagnoses engine.old.graph engine.old.terms
-        (streams (S.state input.old) (K.state out.old))
-        (streams (S.state input.new) (K.state out.new)) result }
-    ensures work { OnOk result (WorksLineByLine (IsReportWithin engine.old.graph engine.old.terms work.old work.new)
-        (streams (S.state input.old) (K.state out.old))
-        (streams (S.state input.new) (K.state out.new)) (Ok tt)) }
+        (watched (S.state input.old) (K.state out.old) desk.old)
+        (watched (S.state input.new) (K.state out.new) desk.new) result }
+    ensures work { OnOk result (WorksToEnd (IsReportWithin engine.old.graph engine.old.terms work.old work.new)
+        (streams (S.state input.old) (K.state out.old)) (streams (S.state input.new) (K.state out.new))) }
 {
+    desk.always_keeps_its_panels();
+    a_desk_is_told_round_by_round();
     let mut lines = Lines::new(alloc)?;
     let head = first_line(alloc, engine.terms())?;
     write_all(out, &head)?;
     loop {
-        match write_next_block(alloc, engine, &mut lines, input, out, work)? {
+        match write_next_block(alloc, engine, &mut lines, input, out, desk, work)? {
             NextBlock::Written => {}
             NextBlock::Ended => return Ok(()),
         }
@@ -71,56 +77,46 @@ fn first_line(alloc: Global, terms: Terms) -> Result<Vec<u8>, NoMemory>
     Ok(line)
 }
 
-/// Takes the next line, and writes its block.
-fn write_next_block<S: Source, K: Sink, L: Ledger>(
+/// Takes the next line, writes its block, and tells the desk its round.
+fn write_next_block<S: Source, K: Sink, P: Panel, L: Ledger>(
     alloc: Global,
     engine: &mut Engine,
     lines: &mut Lines,
     input: &mut S,
     out: &mut K,
+    desk: &mut Desk<P>,
     work: &mut Steps<L>,
 ) -> Result<NextBlock, StreamFault>
     requires { IsEngineReady engine.old }
-    ensures comes_to { (graph : Tfpg) (terms : Terms) (before : Streams)
+    ensures comes_to { (graph : Tfpg) (terms : Terms) (before : Watched)
         → IsDiagnosing graph terms before
-        (diagnosis_at (streams (S.state input.old) (K.state out.old)) lines.old engine.old)
+        (diagnosis_at (watched (S.state input.old) (K.state out.old) desk.old) lines.old engine.old)
         → IfOk result (ComesTo graph terms before lines.old.number
-        (diagnosis_at (streams (S.state input.new) (K.state out.new)) lines.new engine.new)) }
-    ensures counts { (graph : Tfpg) (terms : Terms) (before : Streams) (start : ℕ)
+        (diagnosis_at (watched (S.state input.new) (K.state out.new) desk.new) lines.new engine.new)) }
+    ensures counts { (graph : Tfpg) (terms : Terms) (before : Watched) (start : ℕ)
         → IsDiagnosingWithin graph terms before
-        (diagnosis_at (streams (S.state input.old) (K.state out.old)) lines.old engine.old) start work.old
+        (diagnosis_at (watched (S.state input.old) (K.state out.old) desk.old) lines.old engine.old) start work.old
         → IfOk result (ComesToWithin graph terms before
-        (diagnosis_at (streams (S.state input.new) (K.state out.new)) lines.new engine.new) start work.new) }
-    ensures stopped { (graph : Tfpg) (terms : Terms) (before : Streams)
+        (diagnosis_at (watched (S.state input.new) (K.state out.new) desk.new) lines.new engine.new) start work.new) }
+    ensures stopped { (graph : Tfpg) (terms : Terms) (before : Watched)
         → IsDiagnosing graph terms before
-        (diagnosis_at (streams (S.state input.old) (K.state out.old)) lines.old engine.old)
+        (diagnosis_at (watched (S.state input.old) (K.state out.old) desk.old) lines.old engine.old)
         → IfErr result (λ fault. Diagnoses graph terms before
-        (streams (S.state input.new) (K.state out.new)) (Err fault)) }
+        (watched (S.state input.new) (K.state out.new) desk.new) (Err fault)) }
 {
     a_report_goes_on_block_by_block();
+    a_desk_is_told_round_by_round();
+    the_losses_of_a_round_rise();
+    desk.always_keeps_its_panels();
     match lines.next(input)? {
         Line::End => Ok(NextBlock::Ended),
         Line::TooLong => {
             let block = refused_block(alloc, lines.number(), RefusedLine::TooLong)?;
-            write_block(out, &block)
+            write_and_tell(out, desk, engine.graph(), &block)
         }
         Line::Text => {
             let block = line_block(alloc, engine, lines.number(), lines.text(), work)?;
-            write_block(out, &block)
+            write_and_tell(out, desk, engine.graph(), &block)
         }
     }
-}
-
-/// Writes a whole block.
-fn write_block<K: Sink>(out: &mut K, block: &[u8]) -> Result<NextBlock, StreamFault>
-    ensures put { IfOk result (λ next. (next ≡ NextBlock.Written) ×
-        Puts (K.state out.old) (K.state out.new) block.now
-        × ((K.state out.new).faults ≡ (K.state out.old).faults)) }
-    ensures cause { IfErr result (λ fault. fault ≡ StreamFault.WriteFault) }
-    ensures front { OnErr result ((front rest : List ℕ) × (block.now ≡ front ++ rest) ×
-        Puts (K.state out.old) (K.state out.new) front) }
-    ensures failed { OnErr result (Rose (K.state out.old).faults (K.state out.new).faults) }
-{
-    write_all(out, block)?;
-    Ok(NextBlock::Written)
 }

@@ -8,45 +8,55 @@ use Rattle.tfpg_run.proofs.commands.perform.Goals as goal
 pub returns-in-Simulate-clause-done : goal.returns-in-Simulate-clause-done
 returns-in-Simulate-clause-done g c =
     let input = g.S.Source.state c.args.input.now in
-    let done = OnOk-with c.simulate_files.result _ (input ≡ input) (c.simulate_files.ensures.done input) refl in
+    let done = OnOk-with c.simulate_files.result _ (input ≡ input) (c.simulate_files.ensures.done input c.args.desk.now) refl in
     search (rules, done)
 
 -- nor is it where the work was stopped
 pub returns-in-Simulate-clause-stopped : goal.returns-in-Simulate-clause-stopped
 returns-in-Simulate-clause-stopped g c =
     let input = g.S.Source.state c.args.input.now in
-    let before = world (g.F.Shelf.state c.args.shelf.now) input (g.K.Sink.state c.args.out.now) in
-    let now = world (g.F.Shelf.state c.simulate_files.new.shelf) input (g.K.Sink.state c.simulate_files.new.out) in
+    let before = world (g.F.Shelf.state c.args.shelf.now) input (g.K.Sink.state c.args.out.now) c.args.desk.now in
+    let now = world (g.F.Shelf.state c.simulate_files.new.shelf) input (g.K.Sink.state c.simulate_files.new.out) c.args.desk.now in
     simulate_stopped c.simulate_files.result (meaning_of c.args.command.now) c.as_str-in-Simulate.result.now c.as_str-in-Simulate-2.result.now before now
     c.in-Simulate.draw c.in-Simulate.trace c.in-Simulate.graph c.in-Simulate.script (ap meaning_of c.in-Simulate.is) c.as_str-in-Simulate.ensures c.as_str-in-Simulate-2.ensures refl
-    (c.simulate_files.ensures.stopped input)
+    (c.simulate_files.ensures.stopped input c.args.desk.now)
 
 pub returns-in-Explain-clause-stopped : goal.returns-in-Explain-clause-stopped
 returns-in-Explain-clause-stopped g c =
-    let before = world (g.F.Shelf.state c.args.shelf.now) (g.S.Source.state c.args.input.now) (g.K.Sink.state c.args.out.now) in
-    let now = world (g.F.Shelf.state c.explain_by_files.new.shelf) (g.S.Source.state c.explain_by_files.new.input) (g.K.Sink.state c.explain_by_files.new.out) in
+    let before = world (g.F.Shelf.state c.args.shelf.now) (g.S.Source.state c.args.input.now) (g.K.Sink.state c.args.out.now) c.args.desk.now in
+    let now = world (g.F.Shelf.state c.explain_by_files.new.shelf) (g.S.Source.state c.explain_by_files.new.input) (g.K.Sink.state c.explain_by_files.new.out) c.args.desk.now in
     explain_stopped c.explain_by_files.result (meaning_of c.args.command.now) c.as_str-in-Explain.result.now c.as_str-in-Explain-2.result.now before now
-    c.in-Explain.graph c.in-Explain.log (ap meaning_of c.in-Explain.is) c.as_str-in-Explain.ensures c.as_str-in-Explain-2.ensures c.explain_by_files.ensures.stopped
+    c.in-Explain.graph c.in-Explain.log (ap meaning_of c.in-Explain.is) c.as_str-in-Explain.ensures c.as_str-in-Explain-2.ensures (c.explain_by_files.ensures.stopped c.args.desk.now)
 
 pub returns-in-Check-clause-stopped : goal.returns-in-Check-clause-stopped
 returns-in-Check-clause-stopped g c =
-    let before = world (g.F.Shelf.state c.args.shelf.now) (g.S.Source.state c.args.input.now) (g.K.Sink.state c.args.out.now) in
-    let now = world (g.F.Shelf.state c.check_by_files.new.shelf) (g.S.Source.state c.check_by_files.new.input) (g.K.Sink.state c.check_by_files.new.out) in
+    let before = world (g.F.Shelf.state c.args.shelf.now) (g.S.Source.state c.args.input.now) (g.K.Sink.state c.args.out.now) c.args.desk.now in
+    let now = world (g.F.Shelf.state c.check_by_files.new.shelf) (g.S.Source.state c.check_by_files.new.input) (g.K.Sink.state c.check_by_files.new.out) c.args.desk.now in
     check_stopped c.check_by_files.result (meaning_of c.args.command.now) c.as_str-in-Check.result.now c.as_str-in-Check-2.result.now before now
-    c.in-Check.graph c.in-Check.log (ap meaning_of c.in-Check.is) c.as_str-in-Check.ensures c.as_str-in-Check-2.ensures c.check_by_files.ensures.stopped
+    c.in-Check.graph c.in-Check.log (ap meaning_of c.in-Check.is) c.as_str-in-Check.ensures c.as_str-in-Check-2.ensures (c.check_by_files.ensures.stopped c.args.desk.now)
 
 -- the same of a graph that is converted
 pub returns-in-Convert-clause-done : goal.returns-in-Convert-clause-done
 returns-in-Convert-clause-done g c =
     let input = g.S.Source.state c.args.input.now in
-    let done = OnOk-with c.convert_file.result _ (input ≡ input) (c.convert_file.ensures.done input) refl in
+    let done = OnOk-with c.convert_file.result _ (input ≡ input) (c.convert_file.ensures.done input c.args.desk.now) refl in
     search (rules, done)
 
 pub returns-in-Convert-clause-stopped : goal.returns-in-Convert-clause-stopped
 returns-in-Convert-clause-stopped g c =
     let input = g.S.Source.state c.args.input.now in
-    let before = world (g.F.Shelf.state c.args.shelf.now) input (g.K.Sink.state c.args.out.now) in
-    let now = world (g.F.Shelf.state c.convert_file.new.shelf) input (g.K.Sink.state c.convert_file.new.out) in
+    let before = world (g.F.Shelf.state c.args.shelf.now) input (g.K.Sink.state c.args.out.now) c.args.desk.now in
+    let now = world (g.F.Shelf.state c.convert_file.new.shelf) input (g.K.Sink.state c.convert_file.new.out) c.args.desk.now in
     convert_stopped c.convert_file.result (meaning_of c.args.command.now) c.as_str-in-Convert.result.now before now
     c.in-Convert.json c.in-Convert.graph (ap meaning_of c.in-Convert.is) c.as_str-in-Convert.ensures refl
-    (c.convert_file.ensures.stopped input)
+    (c.convert_file.ensures.stopped input c.args.desk.now)
+
+pub returns-in-Explain-clause-done : goal.returns-in-Explain-clause-done
+returns-in-Explain-clause-done g c =
+    let done = c.explain_by_files.ensures.done c.args.desk.now in
+    search (rules, done)
+
+pub returns-in-Check-clause-done : goal.returns-in-Check-clause-done
+returns-in-Check-clause-done g c =
+    let done = c.check_by_files.ensures.done c.args.desk.now in
+    search (rules, done)

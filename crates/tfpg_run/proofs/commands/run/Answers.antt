@@ -11,8 +11,8 @@ use Rattle.tfpg_run.proofs.commands.run.Goals as goal
 pub returns-in-Ok-clause-completes : goal.returns-in-Ok-clause-completes
 returns-in-Ok-clause-completes g c meant e can calm =
     let words = meaning (map string_bytes c.args.words.now) in
-    let before = world (g.F.Shelf.state c.args.shelf.now) (g.S.Source.state c.args.input.now) (g.K.Sink.state c.args.out.now) in
-    let now = world (g.F.Shelf.state c.perform.new.shelf) (g.S.Source.state c.perform.new.input) (g.K.Sink.state c.perform.new.out) in
+    let before = world (g.F.Shelf.state c.args.shelf.now) (g.S.Source.state c.args.input.now) (g.K.Sink.state c.args.out.now) c.args.desk.now in
+    let now = world (g.F.Shelf.state c.perform.new.shelf) (g.S.Source.state c.perform.new.input) (g.K.Sink.state c.perform.new.out) c.perform.new.desk in
     run_completes (record { text = c.a_text_has_at_most_one_first_fault.ensures.none; json = c.a_text_has_at_most_one_first_fault_as_json.ensures.none })
     (record {
       no_cause = c.lines_have_at_most_one_cause.ensures.none;
@@ -25,15 +25,15 @@ returns-in-Ok-clause-completes g c meant e can calm =
 
 pub returns-in-Ok-clause-work : goal.returns-in-Ok-clause-work
 returns-in-Ok-clause-work g c meant e done =
-    let before = world (g.F.Shelf.state c.args.shelf.now) (g.S.Source.state c.args.input.now) (g.K.Sink.state c.args.out.now) in
-    let now = world (g.F.Shelf.state c.perform.new.shelf) (g.S.Source.state c.perform.new.input) (g.K.Sink.state c.perform.new.out) in
+    let before = world (g.F.Shelf.state c.args.shelf.now) (g.S.Source.state c.args.input.now) (g.K.Sink.state c.args.out.now) c.args.desk.now in
+    let now = world (g.F.Shelf.state c.perform.new.shelf) (g.S.Source.state c.perform.new.input) (g.K.Sink.state c.perform.new.out) c.perform.new.desk in
     runs_within meant (meaning_of c.in-Ok.planned.command) before now c.args.work.now c.perform.new.work (sym e ∙ c.in-Ok.ensures) (c.perform.ensures.work (sym c.end_of.ensures ∙ done))
 
 pub returns-in-Ok-clause-rechecks : goal.returns-in-Ok-clause-rechecks
 returns-in-Ok-clause-rechecks g c terms diagnosed e done graph log later follows =
     let words = meaning (map string_bytes c.args.words.now) in
-    let before = world (g.F.Shelf.state c.args.shelf.now) (g.S.Source.state c.args.input.now) (g.K.Sink.state c.args.out.now) in
-    let now = world (g.F.Shelf.state c.perform.new.shelf) (g.S.Source.state c.perform.new.input) (g.K.Sink.state c.perform.new.out) in
+    let before = world (g.F.Shelf.state c.args.shelf.now) (g.S.Source.state c.args.input.now) (g.K.Sink.state c.args.out.now) c.args.desk.now in
+    let now = world (g.F.Shelf.state c.perform.new.shelf) (g.S.Source.state c.perform.new.input) (g.K.Sink.state c.perform.new.out) c.perform.new.desk in
     can_check_after words c.end_of.result terms diagnosed graph log before now later e done
     (by_work words (meaning_of c.in-Ok.planned.command) before now c.perform.result c.end_of.result
     c.in-Ok.ensures c.end_of.ensures c.perform.ensures.done c.perform.ensures.stopped) follows
@@ -41,8 +41,8 @@ returns-in-Ok-clause-rechecks g c terms diagnosed e done graph log later follows
 pub returns-in-Ok-clause-refuses : goal.returns-in-Ok-clause-refuses
 returns-in-Ok-clause-refuses g c graph log line cause e can calm =
     let words = meaning (map string_bytes c.args.words.now) in
-    let before = world (g.F.Shelf.state c.args.shelf.now) (g.S.Source.state c.args.input.now) (g.K.Sink.state c.args.out.now) in
-    let now = world (g.F.Shelf.state c.perform.new.shelf) (g.S.Source.state c.perform.new.input) (g.K.Sink.state c.perform.new.out) in
+    let before = world (g.F.Shelf.state c.args.shelf.now) (g.S.Source.state c.args.input.now) (g.K.Sink.state c.args.out.now) c.args.desk.now in
+    let now = world (g.F.Shelf.state c.perform.new.shelf) (g.S.Source.state c.perform.new.input) (g.K.Sink.state c.perform.new.out) c.perform.new.desk in
     run_refuses (record { text = c.a_text_has_at_most_one_first_fault.ensures.none; json = c.a_text_has_at_most_one_first_fault_as_json.ensures.none })
     (record {
       no_cause = c.lines_have_at_most_one_cause.ensures.none;

@@ -19,7 +19,8 @@ use Rattle.tfpg_run.specs.Outputs.{LineByLineEnds}
 use Rattle.tfpg_run.specs.Run.{RunEnds}
 use Rattle.tfpg_run.specs.World.{World, streams_of}
 use Rattle.tfpg_run.specs.check.AfterDiagnosis.{FollowsDiagnosis}
-use Rattle.tfpg_run.specs.diagnose.RightReport.{IsRightReport}
+use Rattle.tfpg_run.specs.diagnose.RightReport.{IsRightReport, BeginsRightReport}
+use Rattle.tfpg_run.specs.diagnose.TellsPanels.{desks}
 use Rattle.tfpg_run.proofs.Completing.{all_taken, gives_is}
 use Rattle.tfpg_run.proofs.Stops.{fetch_not_done, stream_not_done}
 
@@ -34,7 +35,7 @@ record WroteReport (terms : Terms) (name : List ℕ) (before now : World) : Type
   at_end : IsAtEnd now.input
   written : List ℕ
   writes : Puts before.output now.output written
-  right : IsRightReport graph terms (lines_of taken) written
+  right : IsRightReport graph terms (desks before.desk now.desk) (lines_of taken) written
 
 wrote_report : (terms : Terms) (name : List ℕ) (before now : World) → RunEnds (Ok (Diagnose terms name)) before now Done → WroteReport terms name before now
 wrote_report terms name before now (inl (inl lacks)) = absurd (fetch_not_done lacks.fault (sym lacks.end_is))
@@ -42,7 +43,8 @@ wrote_report terms name before now (inl (inr (inl many))) = let is : Done ≡ To
 wrote_report terms name before now (inl (inr (inr file))) = by file.ends.result file.ends.works.ends file.ends.end_is
   where
     by : (result : Result (Unit {0}) StreamFault)
-        → LineByLineEnds (IsRightReport file.graph terms) (streams_of before) (streams_of now) file.ends.works.taken file.ends.works.written result
+        → LineByLineEnds (IsRightReport file.graph terms (desks before.desk now.desk)) (BeginsRightReport file.graph terms (desks before.desk now.desk)) (streams_of before) (streams_of now)
+        (file.ends.works.taken, file.ends.works.written) result
         → Done ≡ end_of_result end_of_stream_fault result → WroteReport terms name before now
     by (Ok done) writes is = record {
       graph = file.graph;

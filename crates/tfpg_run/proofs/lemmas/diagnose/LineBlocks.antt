@@ -1,7 +1,7 @@
 -- The block of a line, from what the engine gives for it.
-use Rattle.std.proofs.Common.{◌≡◌, ℕ, ◌<◌, ◌≤◌, true, false, List, [], ◌++◌, length, Ok, Err, refl, sym, ap, ap₂, subst, subst₂, ◌∙◌, arith}
+use Rattle.std.proofs.Common.{◌≡◌, ℕ, ◌<◌, ◌≤◌, true, false, List, [], ◌∷◌, ◌++◌, length, Option, Some, None, Ok, Err, refl, sym, ap, ap₂, subst, subst₂, ◌∙◌, arith}
 use Rattle.std.proofs.lemmas.Bool.{le-ltb, lt-ltb}
-use Rattle.std.proofs.lemmas.List.{append-nil}
+use Rattle.std.proofs.lemmas.List.{append-nil, length-append}
 use Rattle.tfpg_base.specs.declared.terms.Terms.{Terms}
 use Rattle.tfpg_graph.specs.Graph.{Tfpg, sizes_of}
 use Rattle.tfpg_graph.specs.Valid.{IsValid}
@@ -27,7 +27,7 @@ use Rattle.tfpg_report.proofs.WrittenLines.{written_alone, written_refusal}
 use Rattle.tfpg_check.specs.Report.{Progress, IsBlockOf, event_of_line, event_of_reply}
 use Rattle.tfpg_check.proofs.Progressing.{progress_with}
 use Rattle.tfpg_run.specs.diagnose.RightReport.{RoundSays}
-use Rattle.tfpg_run.specs.inside.diagnose.LineBlocks.{EngineReports, HasBlock, IsBlockWithin, numbered}
+use Rattle.tfpg_run.specs.inside.diagnose.LineBlocks.{EngineReports, HasBlock, IsBlockWithin, IsUntold, numbered}
 
 -- what a line gives that is not too long
 pub short_line : (graph : Tfpg) (log : Logbook) (line : List ℕ) (reply : Offered) → length line ≤ LONGEST_LINE → reply_to graph log line ≡ reply → event_of_line graph log line ≡ event_of_reply reply
@@ -106,7 +106,6 @@ module _ (graph : Tfpg) (terms : Terms) (before : Progress) (number : ℕ) (line
       record {
         block = block;
         is_block = subst (IsBlockOf graph terms before number block) (sym none) refl;
-        no_losses = tt;
         says = tt;
         text = text ∙ sym (written_refusal graph number TooLong);
         reports = subst (EngineReports graph terms engine) (sym (ap₂ progress_with (append-nil before.rounds) log_same)) reports;
@@ -123,7 +122,6 @@ module _ (graph : Tfpg) (terms : Terms) (before : Progress) (number : ℕ) (line
         record {
           block = block;
           is_block = subst (IsBlockOf graph terms before number block) (sym (short_line graph before.log line (Refused refusal) short refused)) refl;
-          no_losses = tt;
           says = tt;
           text = text ∙ sym (written_refusal graph number (Offer refusal));
           reports = subst (λ (e : EngineState). EngineReports graph terms e (progress_with (before.rounds ++ []) (log_after graph before.log line))) (sym same)
@@ -149,7 +147,6 @@ module _ (graph : Tfpg) (terms : Terms) (before : Progress) (number : ℕ) (line
           block = block;
           is_block = subst (IsBlockOf graph terms before number block) (sym (short_line graph before.log line (Accepted event) short accepted))
               (round, [], refl, is_round, record { numbers = λ k d within. absurd (omega arith); rising = λ i j d lt below. absurd (omega arith) });
-          no_losses = refl;
           says = along (λ (g : Tfpg) (x : Terms) (l : Logbook). RoundSays g x before.rounds l round) old.graph graph old.terms terms new.log (log_after graph before.log line)
               reports.graph_is reports.terms_is (log_is ∙ sym after_is) says;
           text = text ∙ ap (λ (g : Tfpg). round_text g round) (same_graph ∙ reports.graph_is) ∙ sym (written_alone graph round);
@@ -163,12 +160,13 @@ module _ (graph : Tfpg) (terms : Terms) (before : Progress) (number : ℕ) (line
 
     -- the same, with the calls that they took
     pub refused_within : (refusal : Refusal) (refuses : reply_to old.graph old.log line ≡ Refused refusal) (same : new ≡ old) (text : bytes ≡ refused_text number (Offer refusal)) (start end : ℕ) → end ≡ start
-        → (has : HasBlock graph terms before (numbered number line) bytes new) × IsBlockWithin graph before line has.block start end
-    refused_within refusal refuses same text start end none = (block_of_refusal refusal refuses same text, (0, refl, omega (arith, none)))
+        → (has : HasBlock graph terms before (numbered number line) bytes new) × IsUntold None has.block old new × IsBlockWithin graph before line has.block start end
+    refused_within refusal refuses same text start end none =
+        (block_of_refusal refusal refuses same text, (refl, refl, ap (λ (engine : EngineState). engine.log) same), (0, refl, omega (arith, none)))
 
     pub round_within : (round : Round) (gives : GivesRound number line before.rounds round old new) (says : RoundSays old.graph old.terms before.rounds new.log round)
         (same_graph : new.graph ≡ old.graph) (same_terms : new.terms ≡ old.terms) (text : bytes ≡ round_text new.graph round) (start end : ℕ) → IsRoundWithin new.graph new.log before.rounds round start end
-        → (has : HasBlock graph terms before (numbered number line) bytes new) × IsBlockWithin graph before line has.block start end
+        → (has : HasBlock graph terms before (numbered number line) bytes new) × IsUntold (Some round) has.block old new × IsBlockWithin graph before line has.block start end
     round_within round gives says same_graph same_terms text start end within =
         let event = gives.event in
         let accepted : reply_to graph before.log line ≡ Accepted event =
@@ -176,8 +174,20 @@ module _ (graph : Tfpg) (terms : Terms) (before : Progress) (number : ℕ) (line
         let log_is : new.log ≡ with_event before.log event = gives.log ∙ ap (λ (l : Logbook). with_event l event) reports.log_is in
         let after_is : log_after graph before.log line ≡ with_event before.log event = short_log graph before.log line short ∙ ap (log_after_reply before.log) accepted in (
           block_of_round round gives says same_graph same_terms text,
+          (
+            refl,
+            omega (arith, gives.round_is.number, ap (λ (l : Logbook). length l.events) gives.log, length-append old.log.events (event ∷ [])),
+            gives.round_is.number,
+          ),
           (within.0, subst₂ (λ (g : Tfpg) (l : Logbook). IsRoundLimit g l before.rounds round within.0) (same_graph ∙ reports.graph_is) (log_is ∙ sym after_is) within.1, within.2),
         )
+
+-- the same for a round that is none
+pub refused_for : (graph : Tfpg) (terms : Terms) (before : Progress) (number : ℕ) (line bytes : List ℕ) (old new : EngineState) (start end : ℕ) (round : Option Round) → round ≡ None
+    → ((has : HasBlock graph terms before (numbered number line) bytes new) × IsUntold None has.block old new × IsBlockWithin graph before line has.block start end)
+    → (has : HasBlock graph terms before (numbered number line) bytes new) × IsUntold round has.block old new × IsBlockWithin graph before line has.block start end
+refused_for graph terms before number line bytes old new start end round none is =
+    subst (λ (r : Option Round). (has : HasBlock graph terms before (numbered number line) bytes new) × IsUntold r has.block old new × IsBlockWithin graph before line has.block start end) (sym none) is
 
 -- ---- the calls of an event
 

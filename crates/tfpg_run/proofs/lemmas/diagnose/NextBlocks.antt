@@ -1,6 +1,5 @@
 -- A diagnosis, one block after another.
-use Rattle.std.proofs.Common.{◌≡◌, ℕ, ◌+◌, ◌<◌, ◌≤◌, List, [], ◌∷◌, ◌++◌, length, take, Some, Result, Ok, Err, refl, sym, ap, subst, ◌∙◌, arith, inl, inr, ⊎_elim, append_assoc}
-use Rattle.std.specs.List.{AllByRecursion}
+use Rattle.std.proofs.Common.{◌≡◌, ℕ, ◌+◌, ◌<◌, ◌≤◌, List, [], ◌∷◌, ◌++◌, length, take, All, Option, Some, None, Result, Ok, Err, refl, sym, ap, subst, ◌∙◌, arith, inl, inr, ⊎_elim, append_assoc}
 use Rattle.std.specs.Prelude.{flat_map, slice_get}
 use Rattle.std.proofs.lemmas.Bool.{cases_lt}
 use Rattle.std.proofs.lemmas.List.{take-append-le, append-nil, length-append, take_at}
@@ -17,23 +16,26 @@ use Rattle.tfpg_base.specs.declared.limits.TheConstants.{LONGEST_LINE, MAX_BYTES
 use Rattle.tfpg_base.proofs.Taking.{Takes-append, Takes-nothing}
 use Rattle.tfpg_base.proofs.ReadingOn.{GaveLine, Continues-turn, Continues-text, Continues-too_long}
 use Rattle.tfpg_graph.specs.Graph.{Tfpg}
-use Rattle.tfpg_base.proofs.lists.Elements.{AllByRecursion-push}
+use Rattle.std.proofs.lemmas.List.Elements.{All-nil}
 use Rattle.tfpg_base.proofs.lists.Written.{slice_get-push_before, slice_get-push_at}
 use Rattle.tfpg_report.specs.declared.refused_line.RefusedLine.TheVariants.{TooLong}
 use Rattle.tfpg_report.specs.Blocks.{Block, block_text, head_text, refused_text}
-use Rattle.tfpg_check.specs.Report.{Progress, HasReports, IsBlock, AreBlocks, report_text, progress_of, new_progress, progress_after}
+use Rattle.tfpg_check.specs.Report.{Progress, HasReports, IsBlock, AreBlocks, report_text, progress_of, new_progress, progress_after, rounds_of}
 use Rattle.tfpg_engine.specs.EngineState.{EngineState}
+use Rattle.tfpg_evidence.specs.declared.round.Round.{Round}
+use Rattle.tfpg_panel.specs.Desk.{DeskState}
+use Rattle.tfpg_panel.specs.ToldRounds.{HasTold}
 use Rattle.tfpg_run.specs.declared.fault.StreamFault.{StreamFault}
 use Rattle.tfpg_run.specs.declared.fault.StreamFault.TheVariants as faults
 use Rattle.tfpg_run.specs.inside.Faults.{stream_fault_of_lines}
-use Rattle.tfpg_run.specs.diagnose.ForNow.{LosesNone}
-use Rattle.tfpg_run.specs.diagnose.RightReport.{BlockSays, RoundsSay, IsRightReport}
-use Rattle.tfpg_run.specs.Outputs.{HasOutputOfFirstLines, BeginsOutputOfInput, LineByLineEnds, WorksLineByLine}
+use Rattle.tfpg_run.specs.diagnose.TellsPanels.{Desks, TellsPanels, desks, rounds_in}
+use Rattle.tfpg_run.specs.diagnose.RightReport.{BlockSays, RoundsSay, IsRightReport, BeginsRightReport}
+use Rattle.tfpg_run.specs.Outputs.{HasOutputOfFirstLines, BeginsOutputOfInput, LineByLineEnds, WorksToEnd}
 use Rattle.tfpg_run.specs.diagnose.Diagnosing.{Diagnoses}
 use Rattle.tfpg_run.specs.diagnose.Work.{IsBlockLimit, AreBlocksWithin, IsReportWithin}
 use Rattle.std.proofs.lemmas.List.Sums.{sum_by_push}
-use Rattle.tfpg_run.specs.Streams.{Streams}
-use Rattle.tfpg_run.specs.inside.diagnose.LineBlocks.{EngineReports, HasBlock, IsBlockWithin, numbered}
+use Rattle.tfpg_run.specs.World.{Watched, streams_in}
+use Rattle.tfpg_run.specs.inside.diagnose.LineBlocks.{EngineReports, HasBlock, IsBlockWithin, IsUntold, numbered}
 use Rattle.tfpg_run.specs.inside.diagnose.UnderWay.{IsDiagnosing, IsDiagnosingWithin, diagnosis_at}
 use Rattle.tfpg_run.proofs.lemmas.diagnose.LineBlocks.{block_of_long_line}
 use Rattle.tfpg_base.proofs.lists.Cuts.{front_is_within, front_before, front_with}
@@ -114,34 +116,45 @@ few_numbered : (taken : List ℕ) (given : List (List ℕ)) → take (length giv
 few_numbered taken given front few = omega (arith, front_is_within (lines_of taken) given front, few_lines taken, few)
 
 -- the text of the blocks of all lines is right for them
-right_report : (graph : Tfpg) (terms : Terms) (lines given : List (List ℕ)) (blocks : List Block) → lines ≡ given → HasReports graph terms → length given ≤ MAX_LINE_NUMBER
-    → AreBlocks graph terms given blocks → RoundsSay graph terms given blocks → AllByRecursion LosesNone blocks → IsRightReport graph terms lines (report_text graph terms blocks)
-right_report graph terms lines given blocks same has_reports few are say no_losses = record {
+right_report : (graph : Tfpg) (terms : Terms) (desk : Desks) (lines given : List (List ℕ)) (blocks : List Block) → lines ≡ given → HasReports graph terms → length given ≤ MAX_LINE_NUMBER
+    → AreBlocks graph terms given blocks → RoundsSay graph terms given blocks → TellsPanels (flat_map rounds_of blocks) blocks desk → IsRightReport graph terms desk lines (report_text graph terms blocks)
+right_report graph terms desk lines given blocks same has_reports few are say tells = record {
   blocks = blocks;
   report = record { has_reports = has_reports; few_lines = subst (λ (ls : List (List ℕ)). length ls ≤ MAX_LINE_NUMBER) (sym same) few; are_blocks = subst (λ (ls : List (List ℕ)). AreBlocks graph terms ls blocks) (sym same) are; text = refl };
   say = subst (λ (ls : List (List ℕ)). RoundsSay graph terms ls blocks) (sym same) say;
-  no_losses = no_losses;
+  tells = tells;
 }
 
 -- so is that of the first lines of the input
-right_for_first : (graph : Tfpg) (terms : Terms) (input : SourceState) (taken : List ℕ) (given : List (List ℕ)) (blocks : List Block) → take (length given) (lines_of (taken ++ rest_of input)) ≡ given
-    → HasReports graph terms → length given ≤ MAX_LINE_NUMBER → AreBlocks graph terms given blocks → RoundsSay graph terms given blocks → AllByRecursion LosesNone blocks
-    → HasOutputOfFirstLines (IsRightReport graph terms) input taken (report_text graph terms blocks)
-right_for_first graph terms input taken given blocks front has_reports few are say no_losses = record {
+right_for_first : (graph : Tfpg) (terms : Terms) (desk : Desks) (input : SourceState) (taken : List ℕ) (given : List (List ℕ)) (blocks : List Block) → take (length given) (lines_of (taken ++ rest_of input)) ≡ given
+    → HasReports graph terms → length given ≤ MAX_LINE_NUMBER → AreBlocks graph terms given blocks → RoundsSay graph terms given blocks → TellsPanels (flat_map rounds_of blocks) blocks desk
+    → HasOutputOfFirstLines (IsRightReport graph terms desk) input taken (report_text graph terms blocks)
+right_for_first graph terms desk input taken given blocks front has_reports few are say tells = record {
   rest = rest_of input;
   left = rest_is_left input;
   count = length given;
   within = front_is_within (lines_of (taken ++ rest_of input)) given front;
-  right = right_report graph terms (take (length given) (lines_of (taken ++ rest_of input))) given blocks front has_reports few are say no_losses;
+  right = right_report graph terms desk (take (length given) (lines_of (taken ++ rest_of input))) given blocks front has_reports few are say tells;
 }
 
--- a front of it begins what is right
-begins : (graph : Tfpg) (terms : Terms) (input : SourceState) (taken : List ℕ) (given : List (List ℕ)) (blocks : List Block) → take (length given) (lines_of (taken ++ rest_of input)) ≡ given
-    → HasReports graph terms → length given ≤ MAX_LINE_NUMBER → AreBlocks graph terms given blocks → RoundsSay graph terms given blocks → AllByRecursion LosesNone blocks → (written rest : List ℕ) → report_text graph terms blocks ≡ written ++ rest
-    → BeginsOutputOfInput (IsRightReport graph terms) input taken written
-begins graph terms input taken given blocks front has_reports few are say no_losses written rest e = record {
+-- a front of such a text begins what is right, where the panels were told the rounds that lie whole in it
+begins : (graph : Tfpg) (terms : Terms) (desk : Desks) (input : SourceState) (taken : List ℕ) (given : List (List ℕ)) (blocks : List Block) → take (length given) (lines_of (taken ++ rest_of input)) ≡ given
+    → HasReports graph terms → length given ≤ MAX_LINE_NUMBER → AreBlocks graph terms given blocks → RoundsSay graph terms given blocks → (written rest : List ℕ) → report_text graph terms blocks ≡ written ++ rest
+    → TellsPanels (rounds_in graph terms written blocks) blocks desk → BeginsOutputOfInput (BeginsRightReport graph terms desk) input taken written
+begins graph terms desk input taken given blocks front has_reports few are say written rest e tells = record {
   more = rest;
-  begins = subst (HasOutputOfFirstLines (IsRightReport graph terms) input taken) e (right_for_first graph terms input taken given blocks front has_reports few are say no_losses);
+  begins = record {
+    rest = rest_of input;
+    left = rest_is_left input;
+    count = length given;
+    within = front_is_within (lines_of (taken ++ rest_of input)) given front;
+    right = record {
+      blocks = blocks;
+      report = record { has_reports = has_reports; few_lines = subst (λ (ls : List (List ℕ)). length ls ≤ MAX_LINE_NUMBER) (sym front) few; are_blocks = subst (λ (ls : List (List ℕ)). AreBlocks graph terms ls blocks) (sym front) are; text = sym e };
+      say = subst (λ (ls : List (List ℕ)). RoundsSay graph terms ls blocks) (sym front) say;
+      tells = tells;
+    };
+  };
 }
 
 -- ---- the counted calls
@@ -176,14 +189,14 @@ blocks_within-push graph lines blocks last end start middle finish one_each is o
 
 -- ---- ends
 
--- The streams after the next line was asked for: only the input has changed.
-abbrev pub asked : Streams → SourceState → Streams
-asked now input = record { input = input; output = now.output }
+-- What is there after the next line was asked for: only the input has changed.
+abbrev pub asked : Watched → SourceState → Watched
+asked now input = record { input = input; output = now.output; desk = now.desk }
 
 -- a diagnosis ends in this way where so much more was taken and nothing more was written
-ended_with : (graph : Tfpg) (terms : Terms) (before now : Streams) (lines : LinesState) (engine : EngineState) (input : SourceState) (under : IsDiagnosing graph terms before (diagnosis_at now lines engine)) (more : List ℕ)
+ended_with : (graph : Tfpg) (terms : Terms) (before now : Watched) (lines : LinesState) (engine : EngineState) (input : SourceState) (under : IsDiagnosing graph terms before (diagnosis_at now lines engine)) (more : List ℕ)
     → Takes now.input input more → (result : Result (Unit {0}) StreamFault)
-    → LineByLineEnds (IsRightReport graph terms) before (asked now input) (under.reading.taken ++ more) (report_text graph terms under.blocks) result → Diagnoses graph terms before (asked now input) result
+    → LineByLineEnds (IsRightReport graph terms (desks before.desk now.desk)) (BeginsRightReport graph terms (desks before.desk now.desk)) (streams_in before) (streams_in (asked now input)) (under.reading.taken ++ more, report_text graph terms under.blocks) result → Diagnoses graph terms before (asked now input) result
 ended_with graph terms before now lines engine input under more takes result ends = record {
   taken = under.reading.taken ++ more;
   takes = Takes-append before.input now.input input under.reading.taken more under.takes takes;
@@ -193,40 +206,40 @@ ended_with graph terms before now lines engine input under more takes result end
 }
 
 -- a fault of the reader ends the diagnosis
-pub ends_by_fault : (graph : Tfpg) (terms : Terms) (before now : Streams) (lines lines' : LinesState) (engine : EngineState) (input : SourceState) (f : LineFault)
+pub ends_by_fault : (graph : Tfpg) (terms : Terms) (before now : Watched) (lines lines' : LinesState) (engine : EngineState) (input : SourceState) (f : LineFault)
     → (under : IsDiagnosing graph terms before (diagnosis_at now lines engine)) → Continues under.reading under.reading.ended now.input input (Err f) lines'
     → Diagnoses graph terms before (asked now input) (Err (stream_fault_of_lines f))
 ends_by_fault graph terms before now lines lines' engine input fault.ReadFault under continues =
     let turn = Continues-turn under.reading now.input input (Err fault.ReadFault) lines' under.goes_on (λ e. cc) continues in
     ended_with graph terms before now lines engine input under turn.more turn.takes (Err faults.ReadFault) (
       (subst (λ (count : ℕ). Rose count input.faults) under.no_fault.input turn.faults, under.no_fault.output),
-      right_report graph terms (whole_lines (under.reading.taken ++ turn.more)) under.reading.given under.blocks turn.returns.0 under.has_reports (few_numbered under.reading.taken under.reading.given under.front under.few) under.are_blocks under.say under.no_losses,
+      right_report graph terms (desks before.desk now.desk) (whole_lines (under.reading.taken ++ turn.more)) under.reading.given under.blocks turn.returns.0 under.has_reports (few_numbered under.reading.taken under.reading.given under.front under.few) under.are_blocks under.say under.tells,
     )
 ends_by_fault graph terms before now lines lines' engine input fault.TooMuchInput under continues =
     let turn = Continues-turn under.reading now.input input (Err fault.TooMuchInput) lines' under.goes_on (λ e. cc) continues in
     ended_with graph terms before now lines engine input under turn.more turn.takes (Err faults.TooMuchInput) (
       (turn.returns.1, record { input = turn.faults ∙ under.no_fault.input; output = under.no_fault.output }),
-      right_report graph terms (whole_lines (take MAX_BYTES (under.reading.taken ++ turn.more))) under.reading.given under.blocks turn.returns.0 under.has_reports (few_numbered under.reading.taken under.reading.given under.front under.few) under.are_blocks under.say under.no_losses,
+      right_report graph terms (desks before.desk now.desk) (whole_lines (take MAX_BYTES (under.reading.taken ++ turn.more))) under.reading.given under.blocks turn.returns.0 under.has_reports (few_numbered under.reading.taken under.reading.given under.front under.few) under.are_blocks under.say under.tells,
     )
 
 -- the end of the input ends the diagnosis
-pub ends_done : (graph : Tfpg) (terms : Terms) (before now : Streams) (lines lines' : LinesState) (engine : EngineState) (input : SourceState)
+pub ends_done : (graph : Tfpg) (terms : Terms) (before now : Watched) (lines lines' : LinesState) (engine : EngineState) (input : SourceState)
     → (under : IsDiagnosing graph terms before (diagnosis_at now lines engine)) → Continues under.reading under.reading.ended now.input input (Ok line.End) lines'
     → Diagnoses graph terms before (asked now input) (Ok tt)
 ends_done graph terms before now lines lines' engine input under continues =
     let reading = under.reading in
     let end = came_to_end reading now.input input lines lines' under.few under.goes_on under.represents continues in
     ended_with graph terms before now lines engine input under end.more end.takes (Ok tt) (record {
-      right = right_report graph terms (lines_of (reading.taken ++ end.more)) reading.given under.blocks end.all under.has_reports (few_numbered under.reading.taken under.reading.given under.front under.few) under.are_blocks under.say under.no_losses;
+      right = right_report graph terms (desks before.desk now.desk) (lines_of (reading.taken ++ end.more)) reading.given under.blocks end.all under.has_reports (few_numbered under.reading.taken under.reading.given under.front under.few) under.are_blocks under.say under.tells;
       few = end.few;
       at_end = end.end;
       no_fault = record { input = end.no_fault ∙ under.no_fault.input; output = under.no_fault.output };
     })
 
 -- so it does within the limits of all rounds
-pub done_within : (graph : Tfpg) (terms : Terms) (before now : Streams) (lines : LinesState) (engine : EngineState) (input : SourceState) (lines' : LinesState)
+pub done_within : (graph : Tfpg) (terms : Terms) (before now : Watched) (lines : LinesState) (engine : EngineState) (input : SourceState) (lines' : LinesState)
     (under : IsDiagnosing graph terms before (diagnosis_at now lines engine)) (l : Line) → Continues under.reading under.reading.ended now.input input (Ok l) lines' → l ≡ line.End → (start end : ℕ)
-    → AreBlocksWithin graph under.reading.given under.blocks start end → WorksLineByLine (IsReportWithin graph terms start end) before (asked now input) (Ok tt)
+    → AreBlocksWithin graph under.reading.given under.blocks start end → WorksToEnd (IsReportWithin graph terms start end) (streams_in before) (streams_in (asked now input))
 done_within graph terms before now lines engine input lines' under l continues e start finish within =
     let reading = under.reading in
     let end = came_to_end reading now.input input lines lines' under.few under.goes_on under.represents
@@ -236,7 +249,7 @@ done_within graph terms before now lines engine input lines' under l continues e
       takes = Takes-append before.input now.input input reading.taken end.more under.takes end.takes;
       written = report_text graph terms under.blocks;
       writes = under.writes;
-      ends = record {
+      output = record {
         right = record {
           blocks = under.blocks;
           report = record {
@@ -255,7 +268,7 @@ done_within graph terms before now lines engine input lines' under l continues e
 
 -- ---- a line that was read
 
-module _ (graph : Tfpg) (terms : Terms) (before now : Streams) (lines : LinesState) (engine : EngineState) (input : SourceState) (reader : LinesState)
+module _ (graph : Tfpg) (terms : Terms) (before now : Watched) (lines : LinesState) (engine : EngineState) (input : SourceState) (reader : LinesState)
     (under : IsDiagnosing graph terms before (diagnosis_at now lines engine)) (gave : GaveLine under.reading now.input input reader) where
   -- where memory runs out for the block, what was written before is the report of the lines before
   pub gave_without_memory : Diagnoses graph terms before (asked now input) (Err faults.NoMemory)
@@ -269,13 +282,13 @@ module _ (graph : Tfpg) (terms : Terms) (before now : Streams) (lines : LinesSta
         writes = under.writes;
         ends = (
           record { input = gave.no_fault ∙ under.no_fault.input; output = under.no_fault.output },
-          inr (right_for_first graph terms input taken reading.given under.blocks
+          inr (right_for_first graph terms (desks before.desk now.desk) input taken reading.given under.blocks
               (front_before (lines_of (taken ++ rest_of input)) reading.given gave.first (front_of_input (with_bytes reading gave.more) gave.first input gave.next)) under.has_reports (few_numbered under.reading.taken under.reading.given under.front under.few) under.are_blocks under.say
-              under.no_losses),
+              under.tells),
         );
       }
 
-  module _ (number : ℕ) (bytes : List ℕ) (later : EngineState) (output : SinkState)
+  module _ (number : ℕ) (bytes : List ℕ) (later : EngineState) (output : SinkState) (desk : DeskState)
       (number_is : number ≡ reader.number) (block : HasBlock graph terms (progress_of graph under.reading.given under.blocks) (numbered number gave.first) bytes later) where
     pub blocks_are : AreBlocks graph terms (under.reading.given ++ gave.first ∷ []) (under.blocks ++ block.block ∷ [])
     blocks_are =
@@ -286,13 +299,15 @@ module _ (graph : Tfpg) (terms : Terms) (before now : Streams) (lines : LinesSta
     pub rounds_say : RoundsSay graph terms (under.reading.given ++ gave.first ∷ []) (under.blocks ++ block.block ∷ [])
     rounds_say = RoundsSay-push graph terms under.reading.given under.blocks gave.first block.block under.are_blocks.one_each under.say block.says
 
-    pub none_lost : AllByRecursion LosesNone (under.blocks ++ block.block ∷ [])
-    none_lost = AllByRecursion-push LosesNone under.blocks block.block under.no_losses block.no_losses
+    -- the blocks so far, with this one
+    abbrev pub all_blocks : List Block
+    all_blocks = under.blocks ++ block.block ∷ []
 
     -- where the block is written, the diagnosis is under way still
     abbrev pub gave_block : GoesOnByBlocks → Puts now.output output bytes → output.faults ≡ now.output.faults
-        → IsDiagnosing graph terms before (diagnosis_at (record { input = input; output = output }) reader later)
-    gave_block goes_on puts no_fault =
+        → TellsPanels (flat_map rounds_of all_blocks) all_blocks (desks before.desk desk) → All (λ (r : Round). r.number ≤ length later.log.events) (flat_map rounds_of all_blocks)
+        → IsDiagnosing graph terms before (diagnosis_at (record { input = input; output = output; desk = desk }) reader later)
+    gave_block goes_on puts no_fault tells numbered =
         let reading = under.reading in
         let given = reading.given in
         let taken = reading.taken ++ gave.more in
@@ -308,18 +323,20 @@ module _ (graph : Tfpg) (terms : Terms) (before now : Streams) (lines : LinesSta
               (Puts-append before.output now.output output (report_text graph terms under.blocks) bytes under.writes puts);
           has_reports = under.has_reports;
           are_blocks = blocks_are;
-          no_losses = none_lost;
+          tells = tells;
+          numbered = numbered;
           say = rounds_say;
           reports = subst (EngineReports graph terms later) (sym (goes_on graph given under.blocks gave.first block.block)) block.reports;
           no_fault = record { input = gave.no_fault ∙ under.no_fault.input; output = no_fault ∙ under.no_fault.output };
         }
 
     -- so it is within its limits, where the block is within its own
-    pub gave_within : GoesOnByBlocks → Puts now.output output bytes → output.faults ≡ now.output.faults → (start middle finish : ℕ) → AreBlocksWithin graph under.reading.given under.blocks start middle
+    pub gave_within : GoesOnByBlocks → Puts now.output output bytes → output.faults ≡ now.output.faults
+        → TellsPanels (flat_map rounds_of all_blocks) all_blocks (desks before.desk desk) → All (λ (r : Round). r.number ≤ length later.log.events) (flat_map rounds_of all_blocks) → (start middle finish : ℕ) → AreBlocksWithin graph under.reading.given under.blocks start middle
         → IsBlockWithin graph (progress_of graph under.reading.given under.blocks) gave.first block.block middle finish
-        → IsDiagnosingWithin graph terms before (diagnosis_at (record { input = input; output = output }) reader later) start finish
-    gave_within goes_on puts no_fault start middle finish within own = record {
-      under = gave_block goes_on puts no_fault;
+        → IsDiagnosingWithin graph terms before (diagnosis_at (record { input = input; output = output; desk = desk }) reader later) start finish
+    gave_within goes_on puts no_fault tells numbered start middle finish within own = record {
+      under = gave_block goes_on puts no_fault tells numbered;
       within = blocks_within-push graph under.reading.given under.blocks gave.first block.block start middle finish under.are_blocks.one_each within own;
     }
 
@@ -329,8 +346,9 @@ module _ (graph : Tfpg) (terms : Terms) (before now : Streams) (lines : LinesSta
 
     -- where only a front of the block is written, the diagnosis ends with what begins the report
     pub gave_front : (front rest : List ℕ) → bytes ≡ front ++ rest → Puts now.output output front → Rose now.output.faults output.faults
-        → Diagnoses graph terms before (record { input = input; output = output }) (Err faults.WriteFault)
-    gave_front front rest parts puts rose =
+        → TellsPanels (rounds_in graph terms (report_text graph terms under.blocks ++ front) all_blocks) all_blocks (desks before.desk desk)
+        → Diagnoses graph terms before (record { input = input; output = output; desk = desk }) (Err faults.WriteFault)
+    gave_front front rest parts puts rose tells =
         let reading = under.reading in
         let given = reading.given in
         let taken = reading.taken ++ gave.more in
@@ -345,21 +363,21 @@ module _ (graph : Tfpg) (terms : Terms) (before now : Streams) (lines : LinesSta
           writes = Puts-append before.output now.output output (report_text graph terms under.blocks) front under.writes puts;
           ends = (
             (subst (λ (count : ℕ). Rose count output.faults) under.no_fault.output rose, gave.no_fault ∙ under.no_fault.input),
-            begins graph terms input taken (given ++ gave.first ∷ []) (under.blocks ++ block.block ∷ [])
+            begins graph terms (desks before.desk desk) input taken (given ++ gave.first ∷ []) all_blocks
                 (front_with (lines_of (taken ++ rest_of input)) given gave.first (front_of_input (with_bytes reading gave.more) gave.first input gave.next)) under.has_reports
-                (few_numbered taken (given ++ gave.first ∷ []) (front_with (lines_of taken) given gave.first gave.next.front) gave.next.few) blocks_are rounds_say none_lost written rest whole,
+                (few_numbered taken (given ++ gave.first ∷ []) (front_with (lines_of taken) given gave.first gave.next.front) gave.next.few) blocks_are rounds_say written rest whole tells,
           );
         }
 
 -- ---- as the code comes to it
 
 -- A line was read, and these bytes are its block.
-pub record IsLineBlock (graph : Tfpg) (terms : Terms) (before now : Streams) (lines : LinesState) (engine : EngineState) (input : SourceState) (reader : LinesState)
+pub record IsLineBlock (graph : Tfpg) (terms : Terms) (before now : Watched) (lines : LinesState) (engine : EngineState) (input : SourceState) (reader : LinesState)
     (under : IsDiagnosing graph terms before (diagnosis_at now lines engine)) (number : ℕ) (bytes : List ℕ) (later : EngineState) : Type 0 where
   pub gave : GaveLine under.reading now.input input reader
   pub block : HasBlock graph terms (progress_of graph under.reading.given under.blocks) (numbered number gave.first) bytes later
 
-module _ (graph : Tfpg) (terms : Terms) (before now : Streams) (lines : LinesState) (engine : EngineState) (input : SourceState) (reader : LinesState)
+module _ (graph : Tfpg) (terms : Terms) (before now : Watched) (lines : LinesState) (engine : EngineState) (input : SourceState) (reader : LinesState)
     (under : IsDiagnosing graph terms before (diagnosis_at now lines engine)) (l : Line) (continues : Continues under.reading under.reading.ended now.input input (Ok l) reader) where
   -- the input has ended
   pub met_end : l ≡ line.End → Diagnoses graph terms before (asked now input) (Ok tt)
@@ -376,58 +394,33 @@ module _ (graph : Tfpg) (terms : Terms) (before now : Streams) (lines : LinesSta
   met_long e = Continues-too_long under.reading now.input input reader under.goes_on
       (subst (λ (x : Line). Continues under.reading under.reading.ended now.input input (Ok x) reader) e continues)
 
-  -- the block of a text
-  pub block_of_text : (number : ℕ) (text bytes : List ℕ) (later : EngineState) → l ≡ line.Text → text ≡ reader.text
-      → ((before : Progress) → EngineReports graph terms engine before → length text ≤ LONGEST_LINE → HasBlock graph terms before (numbered number text) bytes later)
-      → IsLineBlock graph terms before now lines engine input reader under number bytes later
-  block_of_text number text bytes later e t gives =
+  -- the block of a text, with the calls that it took
+  pub text_within : (number : ℕ) (text bytes : List ℕ) (later : EngineState) (start finish : ℕ) → l ≡ line.Text → text ≡ reader.text
+      → (round : Option Round) → ((before : Progress) → EngineReports graph terms engine before → length text ≤ LONGEST_LINE
+      → (has : HasBlock graph terms before (numbered number text) bytes later) × IsUntold round has.block engine later × IsBlockWithin graph before text has.block start finish)
+      → (gave : GaveLine under.reading now.input input reader) × (has : HasBlock graph terms (progress_of graph under.reading.given under.blocks) (numbered number gave.first) bytes later)
+      × IsUntold round has.block engine later × IsBlockWithin graph (progress_of graph under.reading.given under.blocks) gave.first has.block start finish
+  text_within number text bytes later start finish e t round gives =
       let met = met_text e in
       let text_is : text ≡ met.0.first = t ∙ met.2 in
       let short : length text ≤ LONGEST_LINE = subst (λ (x : List ℕ). length x ≤ LONGEST_LINE) (sym text_is) met.1 in
       let at = progress_of graph under.reading.given under.blocks in
-      record {
-        gave = met.0;
-        block = subst (λ (x : List ℕ). HasBlock graph terms at (numbered number x) bytes later) text_is (gives at under.reports short);
-      }
+      let own = subst (λ (x : List ℕ). (has : HasBlock graph terms at (numbered number x) bytes later) × IsUntold round has.block engine later × IsBlockWithin graph at x has.block start finish) text_is (gives at under.reports short) in
+      (met.0, own.0, own.1, own.2)
 
   -- the block of a line that is too long
-  pub block_of_long : (number : ℕ) (bytes : List ℕ) → l ≡ line.TooLong → bytes ≡ refused_text number TooLong
-      → IsLineBlock graph terms before now lines engine input reader under number bytes engine
-  block_of_long number bytes e text =
-      let met = met_long e in
-      record {
-        gave = met.0;
-        block = block_of_long_line graph terms (progress_of graph under.reading.given under.blocks) number met.0.first bytes engine met.1 under.reports text;
-      }
-
-  -- the same, with the calls that they took
-  pub text_within : (number : ℕ) (text bytes : List ℕ) (later : EngineState) (start finish : ℕ) → l ≡ line.Text → text ≡ reader.text
-      → ((before : Progress) → EngineReports graph terms engine before → length text ≤ LONGEST_LINE
-      → (has : HasBlock graph terms before (numbered number text) bytes later) × IsBlockWithin graph before text has.block start finish)
-      → (gave : GaveLine under.reading now.input input reader) × (has : HasBlock graph terms (progress_of graph under.reading.given under.blocks) (numbered number gave.first) bytes later)
-      × IsBlockWithin graph (progress_of graph under.reading.given under.blocks) gave.first has.block start finish
-  text_within number text bytes later start finish e t gives =
-      let met = met_text e in
-      let text_is : text ≡ met.0.first = t ∙ met.2 in
-      let short : length text ≤ LONGEST_LINE = subst (λ (x : List ℕ). length x ≤ LONGEST_LINE) (sym text_is) met.1 in
-      let at = progress_of graph under.reading.given under.blocks in
-      let own = subst (λ (x : List ℕ). (has : HasBlock graph terms at (numbered number x) bytes later) × IsBlockWithin graph at x has.block start finish) text_is (gives at under.reports short) in
-      (met.0, own.0, own.1)
-
-  pub long_within : (number : ℕ) (bytes : List ℕ) (count : ℕ) → l ≡ line.TooLong → bytes ≡ refused_text number TooLong
+  pub long_within : (number : ℕ) (bytes : List ℕ) (count : ℕ) (round : Option Round) → l ≡ line.TooLong → (bytes ≡ refused_text number TooLong) × (round ≡ None)
       → (gave : GaveLine under.reading now.input input reader) × (has : HasBlock graph terms (progress_of graph under.reading.given under.blocks) (numbered number gave.first) bytes engine)
-      × IsBlockWithin graph (progress_of graph under.reading.given under.blocks) gave.first has.block count count
-  long_within number bytes count e text =
-      let met = met_long e in (
-        met.0,
-        block_of_long_line graph terms (progress_of graph under.reading.given under.blocks) number met.0.first bytes engine met.1 under.reports text,
-        (0, refl, omega arith),
-      )
+      × IsUntold round has.block engine engine × IsBlockWithin graph (progress_of graph under.reading.given under.blocks) gave.first has.block count count
+  long_within number bytes count round e (text, none) =
+      let met = met_long e in
+      let has = block_of_long_line graph terms (progress_of graph under.reading.given under.blocks) number met.0.first bytes engine met.1 under.reports text in
+      (met.0, has, subst (λ (r : Option Round). IsUntold r has.block engine engine) (sym none) (refl, refl, refl), (0, refl, omega arith))
 
 -- ---- the whole course
 
 -- no more lines are read than bytes may be taken, but for a last one
-pub few_given : (graph : Tfpg) (terms : Terms) (before now : Streams) (lines : LinesState) (engine : EngineState) → IsDiagnosing graph terms before (diagnosis_at now lines engine) → lines.number ≤ MAX_BYTES + 1
+pub few_given : (graph : Tfpg) (terms : Terms) (before now : Watched) (lines : LinesState) (engine : EngineState) → IsDiagnosing graph terms before (diagnosis_at now lines engine) → lines.number ≤ MAX_BYTES + 1
 few_given graph terms before now lines engine under =
     let within = front_is_within (lines_of under.reading.taken) under.reading.given under.front in
     omega (arith, within, few_lines under.reading.taken, under.few, under.represents.number)
@@ -437,10 +430,10 @@ pub head_as : (other terms : Terms) (bytes : List ℕ) → other ≡ terms → b
 head_as other terms bytes e is = subst (λ (x : Terms). bytes ≡ head_text x) e is
 
 -- a diagnosis begins
-abbrev pub begins_under_way : (graph : Tfpg) (terms : Terms) (before : Streams) (lines : LinesState) (engine : EngineState) (output : SinkState)
+abbrev pub begins_under_way : (graph : Tfpg) (terms : Terms) (before : Watched) (lines : LinesState) (engine : EngineState) (output : SinkState)
     → HasReports graph terms → LinesRepresent lines new_reading → EngineReports graph terms engine new_progress → Puts before.output output (head_text terms) → output.faults ≡ before.output.faults
-    → IsDiagnosing graph terms before (diagnosis_at (record { input = before.input; output = output }) lines engine)
-begins_under_way graph terms before lines engine output has_reports unread new puts no_fault = record {
+    → HasTold [] [] before.desk before.desk → IsDiagnosing graph terms before (diagnosis_at (record { input = before.input; output = output; desk = before.desk }) lines engine)
+begins_under_way graph terms before lines engine output has_reports unread new puts no_fault told = record {
   reading = new_reading;
   takes = Takes-nothing before.input;
   few = omega arith;
@@ -451,23 +444,28 @@ begins_under_way graph terms before lines engine output has_reports unread new p
   writes = subst (Puts before.output output) (sym (append-nil (head_text terms))) puts;
   has_reports = has_reports;
   are_blocks = AreBlocks-none graph terms;
-  no_losses = tt;
+  tells = told;
+  numbered = All-nil (λ (r : Round). r.number ≤ length engine.log.events);
   say = RoundsSay-none graph terms;
   reports = new;
   no_fault = record { input = refl; output = no_fault };
 }
 
 -- it has made no counted call
-pub begins_within : (graph : Tfpg) (terms : Terms) (before : Streams) (lines : LinesState) (engine : EngineState) (output : SinkState) (count : ℕ)
+pub begins_within : (graph : Tfpg) (terms : Terms) (before : Watched) (lines : LinesState) (engine : EngineState) (output : SinkState) (count : ℕ)
     → HasReports graph terms → LinesRepresent lines new_reading → EngineReports graph terms engine new_progress → Puts before.output output (head_text terms) → output.faults ≡ before.output.faults
-    → IsDiagnosingWithin graph terms before (diagnosis_at (record { input = before.input; output = output }) lines engine) count count
-begins_within graph terms before lines engine output count has_reports unread new puts no_fault = record {
-  under = begins_under_way graph terms before lines engine output has_reports unread new puts no_fault;
+    → HasTold [] [] before.desk before.desk → IsDiagnosingWithin graph terms before (diagnosis_at (record { input = before.input; output = output; desk = before.desk }) lines engine) count count
+begins_within graph terms before lines engine output count has_reports unread new puts no_fault told = record {
+  under = begins_under_way graph terms before lines engine output has_reports unread new puts no_fault told;
   within = blocks_within-none graph count;
 }
 
 -- a diagnosis ends before it has written its first line whole
-module _ (graph : Tfpg) (terms : Terms) (before : Streams) where
+module _ (graph : Tfpg) (terms : Terms) (before : Watched) (has_reports : HasReports graph terms) (told : HasTold [] [] before.desk before.desk) where
+  -- the report of no line is its first line
+  no_line : report_text graph terms [] ≡ head_text terms
+  no_line = append-nil (head_text terms)
+
   -- without memory, when nothing is written
   pub begins_without_memory : Diagnoses graph terms before before (Err faults.NoMemory)
   begins_without_memory = record {
@@ -475,16 +473,19 @@ module _ (graph : Tfpg) (terms : Terms) (before : Streams) where
     takes = Takes-nothing before.input;
     written = [];
     writes = Puts-same_held before.output before.output refl;
-    ends = (record { input = refl; output = refl }, inl refl);
+    ends = (
+      record { input = refl; output = refl },
+      inl (refl, begins graph terms (desks before.desk before.desk) before.input [] [] [] refl has_reports (omega arith) (AreBlocks-none graph terms) (RoundsSay-none graph terms) [] (head_text terms) no_line told),
+    );
   }
 
   -- or since the output failed
-  pub begins_badly : (output : SinkState) (head front rest : List ℕ) → HasReports graph terms → head ≡ head_text terms → head ≡ front ++ rest → Puts before.output output front → Rose before.output.faults output.faults
-      → Diagnoses graph terms before (record { input = before.input; output = output }) (Err faults.WriteFault)
-  begins_badly output head front rest has_reports is parts puts rose = record {
+  pub begins_badly : (output : SinkState) (head front rest : List ℕ) → head ≡ head_text terms → head ≡ front ++ rest → Puts before.output output front → Rose before.output.faults output.faults
+      → Diagnoses graph terms before (record { input = before.input; output = output; desk = before.desk }) (Err faults.WriteFault)
+  begins_badly output head front rest is parts puts rose = record {
     taken = [];
     takes = Takes-nothing before.input;
     written = front;
     writes = puts;
-    ends = ((rose, refl), begins graph terms before.input [] [] [] refl has_reports (omega arith) (AreBlocks-none graph terms) (RoundsSay-none graph terms) tt front rest (append-nil (head_text terms) ∙ sym is ∙ parts));
+    ends = ((rose, refl), begins graph terms (desks before.desk before.desk) before.input [] [] [] refl has_reports (omega arith) (AreBlocks-none graph terms) (RoundsSay-none graph terms) front rest (no_line ∙ sym is ∙ parts) told);
   }

@@ -1,7 +1,7 @@
 use Rattle.std.proofs.Common.{refl, sym, subst, ◌∙◌}
 use Rattle.tfpg_run.specs.declared.fault.StreamFault.TheVariants as faults
 use Rattle.tfpg_graph.specs.Valid.{IsValid}
-use Rattle.tfpg_run.specs.Streams.{streams}
+use Rattle.tfpg_run.specs.World.{watched}
 use Rattle.tfpg_run.specs.diagnose.Diagnosing.{Diagnoses}
 use Rattle.tfpg_run.specs.inside.diagnose.UnderWay.{ComesTo, ComesToWithin, diagnosis_at}
 use Rattle.tfpg_base.proofs.lists.Choices.{Err-from}
@@ -12,30 +12,34 @@ use Rattle.tfpg_run.proofs.diagnose.report.write_report.Goals as goal
 
 pub returns-in_err-lines-clause-diagnoses : goal.returns-in_err-lines-clause-diagnoses
 returns-in_err-lines-clause-diagnoses g c =
-    let before = streams (g.S.Source.state c.args.input.now) (g.K.Sink.state c.args.out.now) in
-    subst (Diagnoses c.args.engine.now.graph c.args.engine.now.terms before before) (sym (Err-from c.from_residual.result faults.NoMemory c.from_residual.ensures.1)) (begins_without_memory c.args.engine.now.graph c.args.engine.now.terms before)
+    let before = watched (g.S.Source.state c.args.input.now) (g.K.Sink.state c.args.out.now) c.args.desk.now in
+    let told = c.a_desk_is_told_round_by_round.ensures.start c.args.desk.now c.always_keeps_its_panels.ensures in
+    subst (Diagnoses c.args.engine.now.graph c.args.engine.now.terms before before) (sym (Err-from c.from_residual.result faults.NoMemory c.from_residual.ensures.1)) (begins_without_memory c.args.engine.now.graph c.args.engine.now.terms before c.requires.has_reports told)
 
 pub returns-in_err-head-clause-diagnoses : goal.returns-in_err-head-clause-diagnoses
 returns-in_err-head-clause-diagnoses g c =
-    let before = streams (g.S.Source.state c.args.input.now) (g.K.Sink.state c.args.out.now) in
-    subst (Diagnoses c.args.engine.now.graph c.args.engine.now.terms before before) (sym (Err-from c.from_residual-in_err-head.result faults.NoMemory c.from_residual-in_err-head.ensures.1)) (begins_without_memory c.args.engine.now.graph c.args.engine.now.terms before)
+    let before = watched (g.S.Source.state c.args.input.now) (g.K.Sink.state c.args.out.now) c.args.desk.now in
+    let told = c.a_desk_is_told_round_by_round.ensures.start c.args.desk.now c.always_keeps_its_panels.ensures in
+    subst (Diagnoses c.args.engine.now.graph c.args.engine.now.terms before before) (sym (Err-from c.from_residual-in_err-head.result faults.NoMemory c.from_residual-in_err-head.ensures.1)) (begins_without_memory c.args.engine.now.graph c.args.engine.now.terms before c.requires.has_reports told)
 
 pub returns-in_err-write_all-clause-diagnoses : goal.returns-in_err-write_all-clause-diagnoses
 returns-in_err-write_all-clause-diagnoses g c =
-    let before = streams (g.S.Source.state c.args.input.now) (g.K.Sink.state c.args.out.now) in
+    let before = watched (g.S.Source.state c.args.input.now) (g.K.Sink.state c.args.out.now) c.args.desk.now in
+    let told = c.a_desk_is_told_round_by_round.ensures.start c.args.desk.now c.always_keeps_its_panels.ensures in
     let output = g.K.Sink.state c.write_all.new.out in
     let front = c.in_err-write_all.ensures.front in
-    subst (Diagnoses c.args.engine.now.graph c.args.engine.now.terms before (streams (g.S.Source.state c.args.input.now) output))
+    subst (Diagnoses c.args.engine.now.graph c.args.engine.now.terms before (watched (g.S.Source.state c.args.input.now) output c.args.desk.now))
     (sym (Err-from c.from_residual-in_err-write_all.result faults.WriteFault c.from_residual-in_err-write_all.ensures.1))
-    (begins_badly c.args.engine.now.graph c.args.engine.now.terms before output c.deref.result.now front.0 front.1 c.requires.has_reports (c.deref.ensures.value ∙ head_as _ _ _ c.terms.ensures c.in_ok-head.ensures) front.2 front.3 c.in_err-write_all.ensures.failed)
+    (begins_badly c.args.engine.now.graph c.args.engine.now.terms before c.requires.has_reports told output c.deref.result.now front.0 front.1 (c.deref.ensures.value ∙ head_as _ _ _ c.terms.ensures c.in_ok-head.ensures) front.2 front.3 c.in_err-write_all.ensures.failed)
 
 pub loop-head-init : goal.loop-head-init
 loop-head-init g c =
-    let before = streams (g.S.Source.state c.args.input.now) (g.K.Sink.state c.args.out.now) in
+    let before = watched (g.S.Source.state c.args.input.now) (g.K.Sink.state c.args.out.now) c.args.desk.now in
+    let told = c.a_desk_is_told_round_by_round.ensures.start c.args.desk.now c.always_keeps_its_panels.ensures in
     let output = g.K.Sink.state c.write_all.new.out in
     begins_within c.args.engine.now.graph c.args.engine.now.terms before c.in_ok-lines.lines c.args.engine.now output c.args.work.now
     c.requires.has_reports c.in_ok-lines.ensures.unread (record { graph_is = refl; terms_is = refl; log_is = c.requires.unread; represents = c.requires.new })
-    (Puts-same (g.K.Sink.state c.args.out.now) output _ _ (c.deref.ensures.value ∙ head_as _ _ _ c.terms.ensures c.in_ok-head.ensures) c.in_ok-write_all.ensures.put) c.in_ok-write_all.ensures.no_fault
+    (Puts-same (g.K.Sink.state c.args.out.now) output _ _ (c.deref.ensures.value ∙ head_as _ _ _ c.terms.ensures c.in_ok-head.ensures) c.in_ok-write_all.ensures.put) c.in_ok-write_all.ensures.no_fault told
 
 -- the engine is ready for the next block
 pub write_next_block-requires : goal.write_next_block-requires

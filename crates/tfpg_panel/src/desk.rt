@@ -1,0 +1,170 @@
+//! The desk, which tells its panels each round.
+
+ghost use Rattle.std.specs.Prelude.{◌≡◌, ◌≤◌, ◌<◌, ◌++◌, ◌∷◌, [], ℕ, map, length, remove, slice_get, Some, option_map, vec_len, vec_capacity, IfOk};
+ghost use Rattle.std.specs.List.{range_with_len};
+ghost use Rattle.tfpg_evidence.specs.RoundOf.{IsRoundOf};
+ghost use Rattle.tfpg_graph.specs.Graph.{sizes_of};
+ghost use Rattle.tfpg_panel.specs.Desk.{IsTold, KeepsPanels, new_desk, told_of};
+ghost use Rattle.tfpg_panel.specs.Panel.{Hears};
+ghost use Rattle.tfpg_panel.specs.inside.Telling.{TellsAt};
+
+use crate::lost_panel::LostPanel;
+use crate::panel::{Panel, PanelFault};
+use std::alloc::Global;
+use std::marker::Model;
+use tfpg_base::{MAX_PANEL_NUMBER, NoMemory};
+use tfpg_evidence::Round;
+use tfpg_graph::Graph;
+
+/// Panels, which are numbered from 1, and those of them that were lost.
+#[derive(Drop)]
+pub struct Desk<P: Panel> {
+    panels: Vec<P>,
+    kept: Vec<u64>,
+    losses: Vec<LostPanel>,
+}
+
+impl<P: Panel> Model for Desk<P> {
+    ghost use Rattle.std.specs.Prelude.{◌≤◌, ◌+◌, map, length, vec_capacity};
+    ghost use Rattle.tfpg_panel.specs.Desk.{DeskState, KeepsPanels};
+
+    ghost Value = { DeskState };
+
+    ghost view = { λ desk. record {
+      panels = map P.state desk.panels.items;
+      kept = desk.kept.items;
+      losses = desk.losses.items;
+    } };
+
+    ghost invariant = { λ desk. KeepsPanels (length desk.panels.items) desk.kept.items ×
+        (length desk.kept.items + length desk.losses.items ≤ vec_capacity desk.losses) };
+}
+
+impl<P: Panel> Desk<P> {
+    /// A desk of these panels. It keeps them all, has lost none, and has made room for the loss of each.
+    pub fn new(panels: Vec<P>) -> Result<Desk<P>, NoMemory>
+        ensures { IfOk result (λ desk. desk ≡ new_desk (map P.state panels.items)) }
+    {
+        let alloc = *panels.allocator();
+        let count = panels.len();
+        // A report could not name more, and no memory holds them.
+        if count as u64 > MAX_PANEL_NUMBER {
+            return Err(NoMemory);
+        }
+        let kept = numbers_to(alloc, count as u64)?;
+        let losses = Vec::with_capacity(alloc, count)?;
+        Ok(Desk {
+            panels,
+            kept,
+            losses,
+        })
+    }
+
+    /// Tells the round of this graph to each kept panel, in the order of their numbers. A panel that is not told it is lost: it stays
+    /// on the desk, and is told nothing more. Takes no memory besides what the panels take.
+    pub fn tell(&mut self, graph: &Graph, round: &Round)
+        requires { IsRoundOf (sizes_of graph.now) round.now }
+        ensures told { IsTold round.entry.now self.old self.new }
+    {
+        self.always_keeps_its_panels();
+        let mut place = 0;
+        while place < self.kept.len() {
+            if self.tell_at(place, graph, round) {
+                place += 1;
+            }
+        }
+    }
+
+    /// Tells the round to the kept panel at this place, and returns whether it was told.
+    fn tell_at(&mut self, place: usize, graph: &Graph, round: &Round) -> bool
+        requires is_round { IsRoundOf (sizes_of graph.now) round.now }
+        requires within { place < length self.old.kept }
+        ensures { TellsAt round.entry.now place self.old self.new result }
+    {
+        let number = self.kept[place];
+        match tell_panel(&mut self.panels[(number - 1) as usize], graph, round) {
+            Ok(()) => true,
+            Err(fault) => {
+                self.lose(place, round.number, fault);
+                false
+            }
+        }
+    }
+
+    /// Puts the kept panel at this place aside, which was not told the round of this number.
+    fn lose(&mut self, place: usize, round: u32, fault: PanelFault)
+        requires within { place < length self.old.kept }
+        ensures same_panels { self.new.panels ≡ self.old.panels }
+        ensures kept { self.new.kept ≡ remove self.old.kept place }
+        ensures losses { (panel : ℕ) → slice_get self.old.kept place ≡ Some panel →
+            self.new.losses ≡ self.old.losses ++ (record { panel = panel; round = round; fault = fault }) ∷ [] }
+    {
+        let panel = self.kept.remove(place);
+        push_in_room(
+            &mut self.losses,
+            LostPanel {
+                panel,
+                round,
+                fault,
+            },
+        );
+    }
+
+    /// All losses so far, in their order. Takes no memory.
+    pub fn losses(&self) -> &[LostPanel]
+        ensures { result.now ≡ self.now.losses }
+    {
+        &self.losses
+    }
+
+    /// The numbers of the kept panels, rising. Takes no memory.
+    pub fn kept(&self) -> &[u64]
+        ensures { result.now ≡ self.now.kept }
+    {
+        &self.kept
+    }
+
+    /// The rounds that the panel of this number was told, where it tells them. A lost panel still does. Takes no memory.
+    pub fn told(&self, panel: u64) -> Option<&[Round]>
+        requires { (1 ≤ panel) × (panel ≤ length self.now.panels) }
+        ensures { option_map (λ rounds. rounds.now) result ≡ told_of self.now panel }
+    {
+        self.panels[(panel - 1) as usize].told()
+    }
+
+    /// The numbers of the kept panels rise, and each is that of a panel: a fact for proofs. Does nothing.
+    pub fn always_keeps_its_panels(&self)
+        ensures { KeepsPanels (length self.now.panels) self.now.kept }
+    {
+        let _opened = &self.kept;
+    }
+}
+
+/// Tells one panel the round.
+fn tell_panel<P: Panel>(panel: &mut P, graph: &Graph, round: &Round) -> Result<(), PanelFault>
+    requires { IsRoundOf (sizes_of graph.now) round.now }
+    ensures { Hears round.entry.now (P.state panel.old) (P.state panel.new) result }
+{
+    panel.tell(graph, round)
+}
+
+/// The numbers from 1 to the count.
+fn numbers_to(alloc: Global, count: u64) -> Result<Vec<u64>, NoMemory>
+    ensures { IfOk result (λ numbers. numbers.items ≡ range_with_len 1 count) }
+{
+    let mut numbers = Vec::with_capacity(alloc, count as usize)?;
+    for number in 0..count {
+        numbers.push(number + 1)?;
+    }
+    Ok(numbers)
+}
+
+/// Pushes a loss where there is room for it. The capacity stays, which `Vec::insert` says and `Vec::push` does not.
+fn push_in_room(losses: &mut Vec<LostPanel>, loss: LostPanel)
+    requires { vec_len losses.old < vec_capacity losses.old }
+    ensures items { losses.new.items ≡ losses.old.items ++ loss ∷ [] }
+    ensures capacity { vec_capacity losses.new ≡ vec_capacity losses.old }
+{
+    let end = losses.len();
+    let _ = losses.insert(end, loss);
+}

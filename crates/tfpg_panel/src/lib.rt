@@ -1,0 +1,26 @@
+//! Panels: who watches a diagnosis is told each of its rounds.
+//!
+//! - [`Panel`] is told rounds one by one, and may fail, by a [`PanelFault`].
+//! - [`Desk`] has panels, which are numbered from 1. It tells each of its kept panels a round. One that fails is put aside as a
+//!   [`LostPanel`], and told nothing more.
+//! - [`laws`] says what telling one round after another comes to.
+//! - [`MemoryPanel`] keeps the rounds that it is told, and fails at chosen calls.
+//!
+//! ```
+//! desk.tell(&graph, &round);
+//! for lost in desk.losses() {
+//!     // lost.panel was lost at the round of the number lost.round
+//! }
+//! ```
+#![tactic(auto)]
+
+mod desk;
+pub mod laws;
+mod lost_panel;
+mod memory_panel;
+mod panel;
+
+pub use desk::Desk;
+pub use lost_panel::LostPanel;
+pub use memory_panel::MemoryPanel;
+pub use panel::{Panel, PanelFault};
