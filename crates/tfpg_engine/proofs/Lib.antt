@@ -1,10 +1,10 @@
 mod InsertedKeys
 mod KeptStaysRight
-mod NewFindingIsRight
+pub mod NewFindingIsRight
 mod FindingsMakeRound
 mod EventBringsRound
 mod Parts
-mod Ignoring
-mod EnoughIgnoring
+pub mod Ignoring
+pub mod EnoughIgnoring
 mod FindingWork
 mod RoundWork

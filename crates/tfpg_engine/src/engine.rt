@@ -3,7 +3,7 @@
 ghost use Rattle.std.specs.Prelude.{◌≡◌, ◌≤◌, ◌<◌, ◌↔◌, ℕ, List, [], true, false, IfOk, OnOk, OnErr, Ok, Err, replicate};
 ghost use Rattle.tfpg_evidence.specs.declared.round.Round.{Round};
 ghost use Rattle.tfpg_base.specs.declared.limits.TheConstants.{MAX_DOUBT};
-ghost use Rattle.tfpg_hyp.specs.Hypotheses.{HasHypotheses};
+ghost use Rattle.tfpg_hyp.specs.Hypotheses.{HasHypotheses, IsTableOf};
 ghost use Rattle.tfpg_hyp.specs.declared.limits.TheConstants.{MAX_HYPOTHESES};
 ghost use Rattle.tfpg_log.specs.Accepted.{reply_to};
 ghost use Rattle.tfpg_log.specs.Log.{IsLogOf};
@@ -182,9 +182,10 @@ impl Engine {
         self.terms.budget
     }
 
-    /// The table of hypotheses.
+    /// The table of hypotheses, which is that of the graph and the terms.
     pub fn table(&self) -> &Table
-        ensures { result.now ≡ self.now.table }
+        ensures table { result.now ≡ self.now.table }
+        ensures of { IsTableOf self.now.graph self.now.terms result.now }
     {
         &self.table
     }
