@@ -1,0 +1,5 @@
+mod Searched
+mod Rounds
+mod Asked
+mod Questioned
+mod Inserted

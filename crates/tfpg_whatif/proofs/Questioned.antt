@@ -1,0 +1,143 @@
+-- What the question of a node rests on: that its events may come next, that their lines are accepted, and its counts.
+use Rattle.std.proofs.Common.{◌≡◌, ℕ, ◌+◌, ◌-◌, ◌<◌, ◌≤◌, false, List, [], ◌∷◌, length, take, sym, ap, subst, ◌∙◌, arith, length-append}
+use Rattle.std.specs.Prelude.{All, IsTrue, count_by, nat_lt}
+use Rattle.std.proofs.lemmas.Bool.Decides.{nat_tests}
+use Rattle.std.proofs.lemmas.List.{take_at}
+use Rattle.tfpg_base.specs.Set.{Rises}
+use Rattle.tfpg_base.specs.Words.{line_of}
+use Rattle.tfpg_base.proofs.lists.Elements.{list_any-count}
+use Rattle.tfpg_graph.specs.Graph.{Tfpg, is_monitored}
+use Rattle.tfpg_graph.specs.Valid.{IsValid}
+use Rattle.tfpg_log.specs.declared.event.Event.{Event}
+use Rattle.tfpg_log.specs.declared.event.Event.TheVariants.{Alarm, Silent}
+use Rattle.tfpg_log.specs.declared.event.Offered.{Offered}
+use Rattle.tfpg_log.specs.declared.event.Offered.TheVariants.{Accepted, Refused}
+use Rattle.tfpg_log.specs.declared.refusal.Refusal.{Refusal}
+use Rattle.tfpg_log.specs.declared.limits.TheConstants.{MAX_EVENTS}
+use Rattle.tfpg_log.specs.Log.{Logbook, IsLogOf, IsEventOf, IsOrdered, now_of, with_event}
+use Rattle.tfpg_log.specs.LogOfLines.{log_after_reply}
+use Rattle.tfpg_log.specs.Accepted.{reply_to}
+use Rattle.tfpg_log.specs.EventLines.{IsNextEvent, event_words, event_line}
+use Rattle.tfpg_hyp.specs.Hypotheses.{Hypotheses}
+use Rattle.tfpg_hyp.specs.declared.limits.TheConstants.{MAX_HYPOTHESES}
+use Rattle.tfpg_whatif.specs.declared.asking.Asking.{Asking}
+use Rattle.tfpg_whatif.specs.declared.outcome.Outcome.{Outcome}
+use Rattle.tfpg_whatif.specs.declared.question.Question.{Question}
+use Rattle.tfpg_whatif.specs.Outcomes.{is_out, is_unknown, HasNoneUnknown}
+use Rattle.tfpg_whatif.specs.Questions.{CanBeAsked, IsQuestion}
+use Rattle.tfpg_whatif.specs.Foresight.{IsKnownIfEnough}
+use Rattle.tfpg_whatif.specs.inside.Asking.{asked_by, asked_of_lent, IsAskedAt, AreAllFound}
+use Rattle.tfpg_whatif.proofs.Asked.{are_outcomes, none_unknown, few_asked}
+use Rattle.tfpg_whatif.proofs.Rounds.{now_in_range}
+
+-- ---- the events
+
+-- a silence of a monitored node at now may come next,
+pub next_silence : (graph : Tfpg) (log lent : Logbook) (time node : ℕ) → lent ≡ log → IsOrdered lent → time ≡ now_of lent → IsTrue (is_monitored graph node) → length log.events < MAX_EVENTS
+    → IsNextEvent graph log (Silent time node)
+next_silence graph log lent time node same ordered at_now monitored room = record {
+  own = monitored;
+  not_back = omega (arith, at_now, ap now_of same);
+  in_range = omega (arith, at_now, now_in_range lent ordered);
+  room = room;
+  mode_room = λ changes. absurd cc;
+}
+
+-- and so may an alarm of it
+pub next_alarm : (graph : Tfpg) (log lent : Logbook) (time node : ℕ) → lent ≡ log → IsOrdered lent → time ≡ now_of lent → IsTrue (is_monitored graph node) → length log.events < MAX_EVENTS
+    → IsNextEvent graph log (Alarm time node)
+next_alarm graph log lent time node same ordered at_now monitored room = record {
+  own = monitored;
+  not_back = omega (arith, at_now, ap now_of same);
+  in_range = omega (arith, at_now, now_in_range lent ordered);
+  room = room;
+  mode_room = λ changes. absurd cc;
+}
+
+-- the line of an event is its text without the line end
+without_end : (graph : Tfpg) (event : Event) (text : List ℕ) (count : ℕ) → text ≡ event_line graph event → count ≡ length text → take (count - 1) text ≡ line_of (event_words graph event)
+without_end graph event text count is counted =
+    ap (take (count - 1)) is
+    ∙ take_at (line_of (event_words graph event)) (10 ∷ []) (count - 1) (omega (arith, counted, ap length is, length-append (line_of (event_words graph event)) (10 ∷ [])))
+
+-- That the line of an event that may come next is accepted is a law of logs.
+abbrev pub LinesAreAccepted : Type 0
+LinesAreAccepted = (graph : Tfpg) (log : Logbook) (event : Event) → IsValid graph → IsNextEvent graph log event → reply_to graph log (line_of (event_words graph event)) ≡ Accepted event
+
+-- So that line is never refused.
+pub never_refused : LinesAreAccepted → (graph lent : Tfpg) (log lent_log copied : Logbook) (event : Event) (text : List ℕ) (count : ℕ) (reply : Offered) (refusal : Refusal) → lent ≡ graph → IsValid lent
+    → IsNextEvent graph log event → lent_log ≡ log → copied ≡ lent_log → text ≡ event_line lent event → count ≡ length text → reply ≡ reply_to lent copied (take (count - 1) text) → reply ≡ Refused refusal → ⊥
+never_refused accepts graph lent log lent_log copied event text count reply refusal same valid next is_log is_copy is_text counted replied refused =
+    let next_lent : IsNextEvent lent copied event = subst (λ (g : Tfpg). IsNextEvent g copied event) (sym same) (subst (λ (l : Logbook). IsNextEvent graph l event) (sym (is_copy ∙ is_log)) next) in
+    let accepted : Refused refusal ≡ Accepted event =
+    sym refused ∙ replied ∙ ap (reply_to lent copied) (without_end lent event text count is_text counted) ∙ accepts lent copied event valid next_lent in
+    cc
+
+-- What is asked can be asked after an accepted line.
+pub asked_after : (asking : Asking) (lent : Tfpg) (old new : Logbook) (reply : Offered) (event : Event) → lent ≡ asking.engine.now.graph → IsLogOf lent new → new ≡ log_after_reply old reply
+    → reply ≡ Accepted event → IsAskedAt asking new
+asked_after asking lent old new reply event same of is accepted =
+    let longer : new ≡ with_event old event = is ∙ ap (log_after_reply old) accepted in
+    record {
+      own = subst (λ (g : Tfpg). All (IsEventOf g) new.events) same of.own;
+      event = omega (arith, ap (λ (log : Logbook). length log.events) longer, length-append old.events (event ∷ []));
+    }
+
+-- ---- the counts
+
+-- As many outcomes as hypotheses are few.
+pub few_outcomes : (asking : Asking) (log : Logbook) (table : Hypotheses) (outcomes read : List Outcome) (count : ℕ) → AreAllFound (asked_by asking log) outcomes → read ≡ outcomes → Rises asking.among.now
+    → All (λ (number : ℕ). number < length asking.engine.now.table.hypotheses) asking.among.now → table ≡ asking.engine.now.table → count ≡ length table.hypotheses → count ≤ MAX_HYPOTHESES
+    → length read < 2147483648
+few_outcomes asking log table outcomes read count all same rising below is_table counted few =
+    omega (arith, ap length same, all.counted, few_asked asking.among.now (length asking.engine.now.table.hypotheses) rising below, ap (λ (t : Hypotheses). length t.hypotheses) is_table, counted, few)
+
+-- nothing that passes is counted 0 times
+counted_none : (outcomes : List Outcome) → HasNoneUnknown outcomes → count_by is_unknown outcomes ≡ 0
+counted_none outcomes none = not_some (count_by is_unknown outcomes) (sym (list_any-count is_unknown outcomes) ∙ none)
+  where
+    not_some : (n : ℕ) → nat_lt 0 n ≡ false → n ≡ 0
+    not_some n is = grind (arith, nat_tests)
+
+module _ (asking : Asking) (lent : Logbook) (time node : ℕ) (is_log : lent ≡ asking.engine.now.log) (at_now : time ≡ now_of lent) (silent alarm read_silent read_alarm : List Outcome) (same_silent : read_silent ≡ silent)
+    (same_alarm : read_alarm ≡ alarm) (silent_found : AreAllFound (asked_by asking (with_event asking.engine.now.log (Silent time node))) silent)
+    (alarm_found : AreAllFound (asked_by asking (with_event asking.engine.now.log (Alarm time node))) alarm) (question : Question)
+    (is : question ≡ record { node = node; silent_out = count_by is_out read_silent; alarm_out = count_by is_out read_alarm; unknown = count_by is_unknown read_silent + count_by is_unknown read_alarm }) where
+  is_node : question.node ≡ node
+  is_node = ap (λ (q : Question). q.node) is
+
+  is_time : time ≡ now_of asking.engine.now.log
+  is_time = at_now ∙ ap now_of is_log
+
+  silent_all : AreAllFound (asked_by asking (with_event asking.engine.now.log (Silent (now_of asking.engine.now.log) question.node))) read_silent
+  silent_all = subst (λ (n : ℕ). AreAllFound (asked_by asking (with_event asking.engine.now.log (Silent (now_of asking.engine.now.log) n))) read_silent) (sym is_node)
+      (subst (λ (t : ℕ). AreAllFound (asked_by asking (with_event asking.engine.now.log (Silent t node))) read_silent) is_time
+      (subst (AreAllFound (asked_by asking (with_event asking.engine.now.log (Silent time node)))) (sym same_silent) silent_found))
+
+  alarm_all : AreAllFound (asked_by asking (with_event asking.engine.now.log (Alarm (now_of asking.engine.now.log) question.node))) read_alarm
+  alarm_all = subst (λ (n : ℕ). AreAllFound (asked_by asking (with_event asking.engine.now.log (Alarm (now_of asking.engine.now.log) n))) read_alarm) (sym is_node)
+      (subst (λ (t : ℕ). AreAllFound (asked_by asking (with_event asking.engine.now.log (Alarm t node))) read_alarm) is_time
+      (subst (AreAllFound (asked_by asking (with_event asking.engine.now.log (Alarm time node)))) (sym same_alarm) alarm_found))
+
+  -- The counts are those of a question.
+  pub is_question : CanBeAsked asking.engine.now.graph asking.engine.now.log node → IsQuestion (asked_of_lent asking) question
+  is_question can = record {
+    can_be_asked = subst (CanBeAsked asking.engine.now.graph asking.engine.now.log) (sym is_node) can;
+    silent = read_silent;
+    silent_are = are_outcomes (asked_by asking (with_event asking.engine.now.log (Silent (now_of asking.engine.now.log) question.node))) read_silent silent_all;
+    alarm = read_alarm;
+    alarm_are = are_outcomes (asked_by asking (with_event asking.engine.now.log (Alarm (now_of asking.engine.now.log) question.node))) read_alarm alarm_all;
+    silent_out = ap (λ (q : Question). q.silent_out) is;
+    alarm_out = ap (λ (q : Question). q.alarm_out) is;
+    unknown = ap (λ (q : Question). q.unknown) is;
+  }
+
+  -- Nothing is unknown where the budget is enough.
+  pub is_known : IsKnownIfEnough (asked_of_lent asking) question
+  is_known silent_enough alarm_enough =
+      omega (
+        arith,
+        ap (λ (q : Question). q.unknown) is,
+        counted_none read_silent (none_unknown (asked_by asking (with_event asking.engine.now.log (Silent (now_of asking.engine.now.log) question.node))) read_silent silent_all silent_enough),
+        counted_none read_alarm (none_unknown (asked_by asking (with_event asking.engine.now.log (Alarm (now_of asking.engine.now.log) question.node))) read_alarm alarm_all alarm_enough),
+      )

@@ -1,0 +1,3 @@
+-- What the code and its proofs need besides. No public clause reaches it.
+pub mod Asking
+pub mod Ordering

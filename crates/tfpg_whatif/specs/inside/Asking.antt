@@ -1,0 +1,64 @@
+-- What the code asks, and what it has found so far.
+use Rattle.std.specs.Prelude.{◌≡◌, ℕ, ◌<◌, ◌≤◌, List, length, All, false, Some, slice_get}
+use Rattle.tfpg_log.specs.Log.{Logbook, IsEventOf}
+use Rattle.tfpg_evidence.specs.declared.step.Step.{Step}
+use Rattle.tfpg_clause.specs.Case.{Case}
+use Rattle.tfpg_search.specs.declared.found.Found.{Found}
+use Rattle.tfpg_search.specs.declared.found.Found.TheVariants.{Shown, Closed, Spent}
+use Rattle.tfpg_search.specs.Enough.{IsEnough}
+use Rattle.tfpg_whatif.specs.declared.outcome.Outcome.{Outcome}
+use Rattle.tfpg_whatif.specs.declared.outcome.Outcome.TheVariants.{Fits, Out, Unknown}
+use Rattle.tfpg_whatif.specs.declared.asking.Asking.{Asking}
+use Rattle.tfpg_whatif.specs.Outcomes.{Asked, asked_of, asked_at, HasEvidence, IsOutcomeOf, Lengthens, is_unknown}
+use Rattle.tfpg_whatif.specs.Laws.{IsWellAsked}
+
+-- what the code asks at the log of the engine
+abbrev pub asked_of_lent : Asking → Asked
+asked_of_lent asking = asked_of asking.engine.now asking.among.now asking.budget
+
+-- what the code asks at a log
+abbrev pub asked_by : Asking → Logbook → Asked
+asked_by asking log = asked_at (asked_of_lent asking) log
+
+-- The numbers are those of hypotheses, and the budget is not 0.
+pub record IsAsking (asking : Asking) : Type 0 where
+  pub among : All (λ number. number < length asking.engine.now.table.hypotheses) asking.among.now
+  pub budget : 1 ≤ asking.budget
+
+-- The events of the log are of the graph, and there is one.
+pub record IsAskedAt (asking : Asking) (log : Logbook) : Type 0 where
+  pub own : All (IsEventOf asking.engine.now.graph) log.events
+  pub event : 1 ≤ length log.events
+
+-- what was found with these steps, as an outcome
+abbrev pub outcome_by : Found → List Step → Outcome
+outcome_by (Shown trace) steps = Fits trace
+outcome_by Closed steps = Out steps
+outcome_by Spent steps = Unknown steps
+
+-- An outcome of a new search for a set of failure modes in a case, which is not unknown if the budget is enough.
+pub record IsShown (case : Case) (set : List ℕ) (budget : ℕ) (outcome : Outcome) : Type 0 where
+  pub evidence : HasEvidence case set budget outcome
+  pub known : IsEnough case.graph case.log budget → is_unknown outcome ≡ false
+
+-- An outcome of the hypothesis of a number, which is not unknown if the budget is enough.
+pub record IsFound (asked : Asked) (number : ℕ) (outcome : Outcome) : Type 0 where
+  pub outcome_of : IsOutcomeOf asked number outcome
+  pub known : IsEnough asked.graph asked.log asked.budget → is_unknown outcome ≡ false
+
+-- These are the outcomes of the first so many that are asked about.
+pub record AreFound (asked : Asked) (outcomes : List Outcome) (count : ℕ) : Type 0 where
+  pub counted : length outcomes ≡ count
+  pub each : (index number : ℕ) (outcome : Outcome) → slice_get asked.among index ≡ Some number
+      → slice_get outcomes index ≡ Some outcome → IsFound asked number outcome
+
+-- These are the outcomes of all that are asked about.
+abbrev pub AreAllFound : Asked → List Outcome → Type 0
+AreAllFound asked outcomes = AreFound asked outcomes (length asked.among)
+
+-- All that is asked about was found after the line, and makes sense there.
+pub record IsAnswer (asked : Asked) (line : List ℕ) (outcomes : List Outcome) : Type 0 where
+  pub lengthened : Logbook
+  pub by : Lengthens asked.graph asked.log line lengthened
+  pub found : AreAllFound (asked_at asked lengthened) outcomes
+  pub well : IsWellAsked (asked_at asked lengthened)

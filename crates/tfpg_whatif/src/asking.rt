@@ -1,0 +1,29 @@
+//! What is asked, lent.
+
+ghost use Rattle.tfpg_log.specs.Log.{IsLogOf};
+ghost use Rattle.tfpg_whatif.specs.Laws.{IsWellAsked};
+ghost use Rattle.tfpg_whatif.specs.inside.Asking.{IsAsking, asked_by};
+
+use tfpg_base::NumberList;
+use tfpg_engine::Engine;
+use tfpg_log::Log;
+
+/// Which hypotheses of an engine are asked about, by their numbers, and with which budget.
+#[derive(Clone, Copy)]
+pub(crate) struct Asking<'a> {
+    pub(crate) engine: &'a Engine,
+    pub(crate) among: &'a NumberList,
+    /// At least 1.
+    pub(crate) budget: u64,
+}
+
+/// What is asked makes sense at a log of the graph. It does nothing.
+pub(crate) fn is_well_asked(asking: &Asking<'_>, log: &Log)
+    requires asking { IsAsking asking.now }
+    requires log { IsLogOf asking.now.engine.now.graph log.now }
+    ensures { IsWellAsked (asked_by asking.now log.now) }
+{
+    let _table = asking.engine.table();
+    asking.engine.graph().is_always_valid();
+    log.is_always_ordered();
+}

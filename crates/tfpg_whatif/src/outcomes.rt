@@ -1,0 +1,100 @@
+//! The outcomes at a log.
+
+ghost use Rattle.std.specs.Prelude.{◌≡◌, ◌≤◌, ◌<◌, length, IfOk};
+ghost use Rattle.tfpg_graph.specs.Graph.{AreFailures};
+ghost use Rattle.tfpg_graph.specs.Reach.{IsReach};
+ghost use Rattle.tfpg_log.specs.Log.{IsLogOf};
+ghost use Rattle.tfpg_clause.specs.Case.{case_of};
+ghost use Rattle.tfpg_whatif.specs.inside.Asking.{IsAsking, IsAskedAt, IsShown, IsFound, AreAllFound, asked_by, outcome_by};
+
+use crate::asking::Asking;
+use crate::outcome::{Outcome, OutcomeList};
+use std::alloc::Global;
+use std::sync::ledger::Ledger;
+use tfpg_base::{NoMemory, Set, Steps};
+use tfpg_evidence::StepList;
+use tfpg_graph::{Graph, NodeSet};
+use tfpg_log::Log;
+use tfpg_search::{Found, Search};
+
+/// The outcomes at the log of the hypotheses that are asked about, in order. The log may be left ignoring some monitors.
+pub(crate) fn outcomes_at<L: Ledger>(
+    alloc: Global,
+    asking: &Asking<'_>,
+    log: &mut Log,
+    work: &mut Steps<L>,
+) -> Result<OutcomeList, NoMemory>
+    requires asking { IsAsking asking.now }
+    requires log { IsAskedAt asking.now log.old }
+    ensures { IfOk result (AreAllFound (asked_by asking.now log.old)) }
+{
+    let mut outcomes = Vec::new(alloc);
+    for number in asking.among.as_slice() {
+        let outcome = outcome_of(alloc, asking, log, *number, work)?;
+        outcomes.push(outcome)?;
+    }
+    Ok(OutcomeList::from_vec(outcomes))
+}
+
+/// The outcome at the log of the hypothesis of this number. The log is left ignoring the monitors that it doubts.
+fn outcome_of<L: Ledger>(
+    alloc: Global,
+    asking: &Asking<'_>,
+    log: &mut Log,
+    number: u32,
+    work: &mut Steps<L>,
+) -> Result<Outcome, NoMemory>
+    requires number { number < length asking.now.engine.now.table.hypotheses }
+    requires budget { 1 ≤ asking.now.budget }
+    requires log { IsAskedAt asking.now log.old }
+    ensures found { IfOk result (IsFound (asked_by asking.now log.old) number) }
+    ensures events { log.new.events ≡ log.old.events }
+{
+    let table = asking.engine.table();
+    log.ignore(table.doubts(number));
+    let set = table.set(number);
+    let reach = *table.reach(number);
+    search(
+        alloc,
+        asking.engine.graph(),
+        log,
+        set,
+        reach,
+        asking.budget,
+        work,
+    )
+}
+
+/// The outcome of a new search, by the log alone, for a set of failure modes that reaches these nodes.
+fn search<L: Ledger>(
+    alloc: Global,
+    graph: &Graph,
+    log: &Log,
+    set: Set,
+    reach: NodeSet,
+    budget: u64,
+    work: &mut Steps<L>,
+) -> Result<Outcome, NoMemory>
+    requires of { IsLogOf graph.now log.now }
+    requires event { 1 ≤ length log.now.events }
+    requires budget { 1 ≤ budget }
+    requires members { AreFailures graph.now set }
+    requires reach { IsReach graph.now set reach }
+    ensures { IfOk result (IsShown (case_of graph.now log.now reach) set budget) }
+{
+    let mut search = Search::new(alloc, graph, set, reach)?;
+    let mut steps = StepList::new(alloc);
+    let found = search.round(graph, log, budget, &mut steps, work)?;
+    Ok(outcome(found, steps))
+}
+
+/// The outcome of a search that found this with these steps.
+fn outcome(found: Found, steps: StepList) -> Outcome
+    ensures { result ≡ outcome_by found steps }
+{
+    match found {
+        Found::Shown(trace) => Outcome::Fits(trace),
+        Found::Closed => Outcome::Out(steps),
+        Found::Spent => Outcome::Unknown(steps),
+    }
+}

@@ -1,0 +1,117 @@
+//! The question of one node.
+
+ghost use Rattle.std.specs.Prelude.{◌≡◌, ◌≤◌, ◌<◌, ◌^◌, ◌+◌, length, count_by, IfOk};
+ghost use Rattle.tfpg_base.specs.Set.{Rises};
+ghost use Rattle.tfpg_log.specs.EventLines.{IsNextEvent};
+ghost use Rattle.tfpg_log.specs.Log.{with_event};
+ghost use Rattle.tfpg_log.specs.declared.limits.TheConstants.{MAX_EVENTS};
+ghost use Rattle.tfpg_whatif.specs.Outcomes.{is_out, is_unknown};
+ghost use Rattle.tfpg_whatif.specs.Questions.{IsQuestion, CanBeAsked};
+ghost use Rattle.tfpg_whatif.specs.Foresight.{IsKnownIfEnough};
+ghost use Rattle.tfpg_whatif.specs.inside.Asking.{IsAsking, AreAllFound, asked_by, asked_of_lent};
+
+use crate::asking::Asking;
+use crate::outcome::{Outcome, OutcomeList};
+use crate::outcomes::outcomes_at;
+use crate::question::Question;
+use std::alloc::Global;
+use std::sync::ledger::Ledger;
+use tfpg_base::{NoMemory, Steps};
+use tfpg_log::laws::the_line_of_an_event_is_accepted;
+use tfpg_log::{Event, Offered, append_event};
+
+/// The question of a node: a silence and an alarm of it at now.
+pub(crate) fn question_of<L: Ledger>(
+    alloc: Global,
+    asking: &Asking<'_>,
+    node: u32,
+    work: &mut Steps<L>,
+) -> Result<Question, NoMemory>
+    requires asking { IsAsking asking.now }
+    requires rising { Rises asking.now.among.now }
+    requires node { CanBeAsked asking.now.engine.now.graph asking.now.engine.now.log node }
+    requires room { length asking.now.engine.now.log.events < MAX_EVENTS }
+    ensures question { IfOk result (IsQuestion (asked_of_lent asking.now)) }
+    ensures node { IfOk result (λ question. question.node ≡ node) }
+    ensures known { IfOk result (IsKnownIfEnough (asked_of_lent asking.now)) }
+{
+    let _few = asking.engine.table().len();
+    let log = asking.engine.log();
+    log.is_always_ordered();
+    let time = log.now();
+    let silent = outcomes_after(alloc, asking, Event::Silent { time, node }, work)?;
+    let alarm = outcomes_after(alloc, asking, Event::Alarm { time, node }, work)?;
+    Ok(question(node, silent.as_slice(), alarm.as_slice()))
+}
+
+/// The outcomes after an event that may come next.
+fn outcomes_after<L: Ledger>(
+    alloc: Global,
+    asking: &Asking<'_>,
+    event: Event,
+    work: &mut Steps<L>,
+) -> Result<OutcomeList, NoMemory>
+    requires asking { IsAsking asking.now }
+    requires next { IsNextEvent asking.now.engine.now.graph asking.now.engine.now.log event }
+    ensures { IfOk result (AreAllFound (asked_by asking.now (with_event asking.now.engine.now.log event))) }
+{
+    let graph = asking.engine.graph();
+    graph.is_always_valid();
+    the_line_of_an_event_is_accepted();
+    let mut text = Vec::new(alloc);
+    append_event(graph, event, &mut text)?;
+    let mut log = asking.engine.log().copy()?;
+    match log.offer(graph, &text[..text.len() - 1])? {
+        Offered::Accepted(_) => outcomes_at(alloc, asking, &mut log, work),
+        Offered::Refused(_) => unreachable!(),
+    }
+}
+
+/// The question of a node with these outcomes.
+fn question(node: u32, silent: &[Outcome], alarm: &[Outcome]) -> Question
+    requires silent_few { length silent.now < 2 ^ 31 }
+    requires alarm_few { length alarm.now < 2 ^ 31 }
+    ensures { result ≡ record {
+      node = node;
+      silent_out = count_by is_out silent.now;
+      alarm_out = count_by is_out alarm.now;
+      unknown = count_by is_unknown silent.now + count_by is_unknown alarm.now;
+    } }
+{
+    Question {
+        node,
+        silent_out: count_out(silent),
+        alarm_out: count_out(alarm),
+        unknown: count_unknown(silent) + count_unknown(alarm),
+    }
+}
+
+/// How many are out.
+fn count_out(outcomes: &[Outcome]) -> u32
+    requires { length outcomes.now < 2 ^ 31 }
+    ensures count { result ≡ count_by is_out outcomes.now }
+    ensures few { result ≤ length outcomes.now }
+{
+    let mut count = 0;
+    for outcome in outcomes {
+        if outcome.is_out() {
+            count += 1;
+        }
+    }
+    count
+}
+
+/// How many are unknown.
+fn count_unknown(outcomes: &[Outcome]) -> u32
+    requires { length outcomes.now < 2 ^ 31 }
+    ensures count { result ≡ count_by is_unknown outcomes.now }
+    ensures few { result ≤ length outcomes.now }
+{
+    let mut count = 0;
+    for outcome in outcomes {
+        if outcome.is_unknown() {
+            count += 1;
+        }
+    }
+    count
+}
