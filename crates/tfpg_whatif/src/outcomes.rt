@@ -51,7 +51,8 @@ fn outcome_of<L: Ledger>(
     ensures events { log.new.events ≡ log.old.events }
 {
     let table = asking.engine.table();
-    log.ignore(table.doubts(number));
+    let doubts = table.doubts(number);
+    log.ignore(doubts);
     let set = table.set(number);
     let reach = *table.reach(number);
     search(
