@@ -16,3 +16,5 @@ pub mod OneVerdict
 pub mod RulesDecided
 pub mod EventsDecided
 pub mod SomeVerdict
+pub mod NodeTimes
+pub mod ShownByNode

@@ -17,6 +17,7 @@
 
 mod ages;
 mod alarms;
+mod all_shown;
 mod due;
 mod gaps;
 mod judge;

@@ -7,19 +7,23 @@ ghost use Rattle.tfpg_trace.specs.inside.Shown.{IsNotShown, IsFirstNotShown};
 
 use crate::Verdict;
 use crate::alarms::shows_alarm;
+use crate::all_shown::shows_all;
 use crate::silences::{first_not_quiet, shows_silence};
 use tfpg_base::Trace;
 use tfpg_graph::Graph;
 use tfpg_log::{Event, Log};
 
-/// What is said of the first event that the trace does not show. Goes through the events, and for each sweep through the
-/// nodes.
+/// What is said of the first event that the trace does not show. Goes through the nodes; where it shows all events that is
+/// all, and else it goes through the events, and for each sweep through the nodes.
 pub(crate) fn first_not_shown(graph: &Graph, log: &Log, trace: &Trace) -> Option<Verdict>
     requires { IsLogOf graph.now log.now }
     ensures { MatchOption result
         (ShowsAll graph.now log.now trace.now)
         (IsFirstNotShown graph.now log.now trace.now) }
 {
+    if shows_all(graph, log, trace) {
+        return None;
+    }
     for index in 0..log.len() {
         let number = index + 1;
         if let Some(fault) = not_shown(graph, log, trace, number, log.event(number)) {

@@ -1,10 +1,11 @@
--- Where a trace does not show an event.
-use Rattle.std.specs.Prelude.{◌≡◌, ℕ, ◌<◌, List, Some, slice_get, ◌⊎◌}
+-- Where a trace does not show an event, and what it shows of one node.
+use Rattle.std.specs.Prelude.{◌≡◌, ℕ, ◌<◌, ◌≤◌, List, Some, slice_get, ◌⊎◌}
 use Rattle.tfpg_base.specs.declared.activation.Activation.{Activation}
 use Rattle.tfpg_graph.specs.Graph.{Tfpg}
 use Rattle.tfpg_log.specs.declared.event.Event.{Event}
 use Rattle.tfpg_log.specs.declared.event.Event.TheVariants.{Alarm}
-use Rattle.tfpg_log.specs.Log.{Logbook, first_events, silence_time, silence_at}
+use Rattle.tfpg_log.specs.Log.{Logbook, event_at, first_events, silence_time, silence_at, quiet_at}
+use Rattle.tfpg_log.specs.Rules.{IsActive}
 use Rattle.tfpg_log.specs.Explains.{ShowsAlarm, ShowsSilence}
 use Rattle.tfpg_trace.specs.FirstFault.{ShowsBefore}
 use Rattle.tfpg_trace.specs.declared.verdict.Verdict.{Verdict}
@@ -42,3 +43,36 @@ pub record IsFirstNotShown (graph : Tfpg) (log : Logbook) (trace : List Activati
   pub at : slice_get log.events index ≡ Some event
   pub before : ShowsBefore graph log trace index
   pub not_shown : IsNotShown graph (first_events log index) trace event said
+
+-- an event is an alarm of the node at this time
+abbrev pub IsAlarmTime : Logbook → ℕ → ℕ → Type 0
+IsAlarmTime log node time = (number : ℕ) × (event_at log number ≡ Some (Alarm time node))
+
+-- an event says that the node is not active up to this instant
+abbrev pub IsQuietUpto : Tfpg → Logbook → ℕ → ℕ → Type 0
+IsQuietUpto graph log node until = (number : ℕ) × (quiet_at graph log number node ≡ Some until)
+
+-- The node has alarms at these two times, and none before the first or after the last.
+pub record AreAlarmTimes (log : Logbook) (node first last : ℕ) : Type 0 where
+  pub first_is : IsAlarmTime log node first
+  pub last_is : IsAlarmTime log node last
+  pub between : (time : ℕ) → IsAlarmTime log node time → (first ≤ time) × (time ≤ last)
+
+-- An event says that the node is not active up to this instant, and none says so of a later one.
+pub record IsQuietLongest (graph : Tfpg) (log : Logbook) (node until : ℕ) : Type 0 where
+  pub is : IsQuietUpto graph log node until
+  pub last : (other : ℕ) → IsQuietUpto graph log node other → other ≤ until
+
+-- the trace shows each alarm of the node
+abbrev pub ShowsAlarmsOf : Tfpg → Logbook → List Activation → ℕ → Type 0
+ShowsAlarmsOf graph log trace node = (time : ℕ) → IsAlarmTime log node time → ShowsAlarm graph log trace node time
+
+-- the trace shows each silence of the node, its own or that of a sweep
+abbrev pub ShowsSilencesOf : Tfpg → Logbook → List Activation → ℕ → Type 0
+ShowsSilencesOf graph log trace node =
+    (until : ℕ) → IsQuietUpto graph log node until → IsActive trace node until → ⊥
+
+-- The trace shows each alarm and each silence of the node.
+pub record ShowsNode (graph : Tfpg) (log : Logbook) (trace : List Activation) (node : ℕ) : Type 0 where
+  pub alarms : ShowsAlarmsOf graph log trace node
+  pub silences : ShowsSilencesOf graph log trace node
