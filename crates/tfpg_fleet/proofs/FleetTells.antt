@@ -12,6 +12,8 @@ use Rattle.tfpg_base.specs.Lines.{is_too_long}
 use Rattle.tfpg_graph.specs.Graph.{Tfpg}
 use Rattle.tfpg_log.specs.Log.{Logbook, with_event}
 use Rattle.tfpg_log.specs.Accepted.{reply_to}
+use Rattle.tfpg_log.specs.declared.refusal.Refusal.{Refusal}
+use Rattle.std.proofs.lemmas.Option.{same_Some}
 use Rattle.tfpg_log.specs.LogOfLines.{log_of_lines, log_after, log_after_reply}
 use Rattle.tfpg_evidence.specs.declared.round.Round.{Round}
 use Rattle.tfpg_engine.specs.declared.told.Told.{Told}
@@ -22,9 +24,9 @@ use Rattle.tfpg_base.proofs.lists.Choices.{same_Err}
 use Rattle.tfpg_engine.specs.EngineState.{CountsCalls, EngineRepresents, EngineState}
 use Rattle.tfpg_fleet.specs.declared.fleet_told.FleetTold.{FleetTold}
 use Rattle.tfpg_fleet.specs.declared.fleet_told.FleetTold.TheVariants.{Stray, Of}
-use Rattle.tfpg_fleet.specs.Belonging.{IsFor, belongs, lines_for, vehicle_line}
+use Rattle.tfpg_fleet.specs.Belonging.{IsFor, VehicleLine, belongs, lines_for, vehicle_line}
 use Rattle.tfpg_hyp.specs.Rounds.{IsRound}
-use Rattle.tfpg_fleet.specs.FleetState.{FleetBrings, FleetCounts, FleetRepresents, FleetState, IsForEnded, IsNew, IsTold, IsToldTo, VehicleRepresents, VehicleState, has_ended, names_of, rounds_after, rounds_with}
+use Rattle.tfpg_fleet.specs.FleetState.{FleetBrings, FleetCounts, FleetRepresents, FleetState, IsForEnded, IsNew, IsTold, IsToldTo, Refuses, RefusesFor, VehicleRepresents, VehicleState, has_ended, names_of, rounds_after, rounds_with}
 use Rattle.tfpg_fleet.proofs.LinesFor.{is_for, lines-other, lines-own, lines-stray, only_for, own_short}
 
 -- how logs of lines grow
@@ -198,10 +200,17 @@ module _ (grows : LogsGrow) (graph : Tfpg) (terms : Terms) (old new : FleetState
 
 -- ---- the clauses of one line
 
+-- answers that are equal have one line, and bring one thing
+pub same_answer : {E : Type 0} (line other : ℕ) (one two : Told) → ◌≡◌ {A = Result (ℕ × Told) E} (Ok (line, one)) (Ok (other, two)) → (line ≡ other) × (one ≡ two)
+same_answer line other one two same =
+    let pair : ◌≡◌ {A = ℕ × Told} (line, one) (other, two) = cc in
+    (ap (λ (p : ℕ × Told). p.0) pair, ap (λ (p : ℕ × Told). p.1) pair)
+
 -- what a line of the stream comes to
 pub record Comes (text : List ℕ) (old new : FleetState) (result : Result FleetTold EventFault) (start end : ℕ) : Type 0 where
   pub brings : FleetBrings text old new result
   pub stray : (result ≡ Ok Stray) ↔ (belongs (names_of old) text ≡ None)
+  pub refused : (number line : ℕ) (refusal : Refusal) → RefusesFor text old number line refusal → result ≡ Ok (Of number line (told.Refused refusal))
   pub others : (number : ℕ) → (IsFor (names_of old) number text → ⊥) → slice_get new.vehicles number ≡ slice_get old.vehicles number
   pub ended : (result ≡ Err Ended) ↔ IsForEnded old text
   pub work : FleetCounts old new result start end
@@ -217,12 +226,27 @@ module _ (vehicles : List VehicleState) (text own : List ℕ) (number : ℕ) (be
   abbrev is_now : FleetState
   is_now = now was text own number before after there own_is
 
+  -- a line of the fleet that is refused is the own line of this vehicle
+  refused_here : (place line : ℕ) (refusal : Refusal) → RefusesFor text was place line refusal → Refuses own before line refusal × (number ≡ place)
+  refused_here place line refusal is =
+      let both : Some (vehicle_line number own) ≡ Some (vehicle_line place is.own) = sym own_is ∙ is.is_for in
+      let one : vehicle_line number own ≡ vehicle_line place is.own = same_Some (vehicle_line number own) (vehicle_line place is.own) both in
+      let place_is : number ≡ place = ap (λ (found : VehicleLine). found.vehicle) one in
+      let own_same : own ≡ is.own = ap (λ (found : VehicleLine). found.text) one in
+      let vehicles_same : Some before ≡ Some is.vehicle = sym there ∙ ap (slice_get vehicles) place_is ∙ is.there in
+      let vehicle_same : before ≡ is.vehicle = same_Some before is.vehicle vehicles_same in (
+        subst (λ (v : VehicleState). Refuses own v line refusal) (sym vehicle_same) (subst (λ text. Refuses text is.vehicle line refusal) (sym own_same) is.refuses),
+        place_is,
+      )
+
   -- the vehicle could not be told its line
   pub fails : (result : Result FleetTold EventFault) (fault : EventFault) → result ≡ Err fault → (fault ≡ Ended → has_ended before ≡ true) → (has_ended before ≡ true → fault ≡ Ended)
-      → (fault ≡ Ended → after ≡ before) → has_ended after ≡ true → Comes text was is_now result start end
-  fails result fault failed ended_was was_ended same ended_now = subst (λ r. Comes text was is_now r start end) (sym failed) (record {
+      → (fault ≡ Ended → after ≡ before) → has_ended after ≡ true → ((line : ℕ) (refusal : Refusal) → Refuses own before line refusal → ⊥)
+      → Comes text was is_now result start end
+  fails result fault failed ended_was was_ended same ended_now never = subst (λ r. Comes text was is_now r start end) (sym failed) (record {
     brings = by fault ended_was same;
     stray = (λ is. absurd cc, λ none. absurd cc);
+    refused = λ place line refusal is. absurd (never line refusal (refused_here place line refusal is).0);
     others = others was text own number before after there own_is;
     ended = (
       λ is. for_ended was text own number before after there own_is (ended_was (same_Err fault Ended is)),
@@ -254,9 +278,10 @@ module _ (vehicles : List VehicleState) (text own : List ℕ) (number : ℕ) (be
       (counted rounds (subst (λ (v : VehicleState). EngineRepresents v.engine rounds) (sym first) represented))
 
   -- the vehicle was told its line
-  pub tells : LogsGrow → (line : ℕ) (told : Told) → IsTold own before after line told
-      → ((rounds : List Round) → EngineRepresents before.engine rounds → CountsCalls after.engine rounds (Ok told) start end) → Comes text was is_now (Ok (Of number line told)) start end
-  tells grows line told is counted = record {
+  pub tells : LogsGrow → (line : ℕ) (answer : Told) → IsTold own before after line answer
+      → ((rounds : List Round) → EngineRepresents before.engine rounds → CountsCalls after.engine rounds (Ok answer) start end)
+      → ((next : ℕ) (refusal : Refusal) → Refuses own before next refusal → (line ≡ next) × (answer ≡ told.Refused refusal)) → Comes text was is_now (Ok (Of number line answer)) start end
+  tells grows line answer is counted refused = record {
     brings = record {
       own = own;
       is_for = own_is;
@@ -267,15 +292,19 @@ module _ (vehicles : List VehicleState) (text own : List ℕ) (number : ℕ) (be
       taken = is;
     };
     stray = (λ same. absurd cc, λ none. absurd cc);
+    refused = λ place next refusal its.
+        let here = refused_here place next refusal its in
+        let same = refused next refusal here.0 in
+        λ i. Ok (Of (here.1 i) (same.0 i) (same.1 i));
     others = others was text own number before after there own_is;
     ended = (
       λ failed. absurd cc,
       λ ended. absurd (false≢true (sym (ended-some before line is.line_is) ∙ ended_before was text own number before after there own_is ended)),
     );
-    work = counts line told counted;
+    work = counts line answer counted;
     names = same_names was text own number before after there own_is named;
     represents = λ graph terms stream rounds represented.
-        represents_told was text own number before after there own_is named graph terms stream rounds represented grows line told is;
+        represents_told was text own number before after there own_is named graph terms stream rounds represented grows line answer is;
   }
 
 -- ---- a new fleet

@@ -4,3 +4,4 @@ pub mod FleetTells
 pub mod SaidTo
 pub mod OneLog
 pub mod Excess
+pub mod RefusedLines

@@ -1,7 +1,10 @@
 -- What contracts see of a fleet, which rounds it represents, and what a line brings.
-use Rattle.std.specs.Prelude.{◌≡◌, ℕ, ◌+◌, List, [], ◌∷◌, ◌++◌, length, map, ◌==◌, if◌then◌else◌, Bool, true, false, Option, Some, None, is_none, slice_get, Result, Ok, Err}
+use Rattle.std.specs.Prelude.{◌≡◌, ℕ, ◌+◌, ◌^◌, ◌<◌, List, [], ◌∷◌, ◌++◌, length, map, ◌==◌, if◌then◌else◌, Bool, true, false, Option, Some, None, is_none, slice_get, Result, Ok, Err}
 use Rattle.tfpg_base.specs.declared.terms.Terms.{Terms}
 use Rattle.tfpg_graph.specs.Graph.{Tfpg}
+use Rattle.tfpg_log.specs.declared.event.Offered.TheVariants.{Refused}
+use Rattle.tfpg_log.specs.declared.refusal.Refusal.{Refusal}
+use Rattle.tfpg_log.specs.Accepted.{reply_to}
 use Rattle.tfpg_log.specs.LogOfLines.{log_of_lines}
 use Rattle.tfpg_evidence.specs.declared.round.Round.{Round}
 use Rattle.tfpg_engine.specs.declared.told.Told.{Told}
@@ -79,6 +82,20 @@ pub record IsForEnded (fleet : FleetState) (text : List ℕ) : Type 0 where
   pub vehicle : VehicleState
   pub there : slice_get fleet.vehicles number ≡ Some vehicle
   pub ended : has_ended vehicle ≡ true
+
+-- The log of a vehicle that has not ended refuses the own line that it has next, for this cause, and there is a number for one line more.
+pub record Refuses (own : List ℕ) (vehicle : VehicleState) (line : ℕ) (refusal : Refusal) : Type 0 where
+  pub next_is : vehicle.next ≡ Some line
+  pub within : line + 1 < 2 ^ 64
+  pub reply : reply_to vehicle.engine.graph vehicle.engine.log own ≡ Refused refusal
+
+-- The line belongs to the vehicle of this number, whose log refuses it for this cause.
+pub record RefusesFor (text : List ℕ) (fleet : FleetState) (number line : ℕ) (refusal : Refusal) : Type 0 where
+  pub own : List ℕ
+  pub is_for : belongs (names_of fleet) text ≡ Some (vehicle_line number own)
+  pub vehicle : VehicleState
+  pub there : slice_get fleet.vehicles number ≡ Some vehicle
+  pub refuses : Refuses own vehicle line refusal
 
 -- What a line of the stream brings. A stray one belongs to no vehicle, and changes nothing. Another one goes to its vehicle. Where
 -- memory ran out the vehicle has ended, and then each later line of it changes nothing.

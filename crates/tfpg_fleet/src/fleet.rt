@@ -7,10 +7,12 @@ ghost use Rattle.tfpg_graph.specs.Graph.{Tfpg};
 ghost use Rattle.tfpg_hyp.specs.Hypotheses.{HasHypotheses};
 ghost use Rattle.tfpg_hyp.specs.declared.limits.TheConstants.{MAX_HYPOTHESES};
 ghost use Rattle.tfpg_log.specs.Log.{IsLogOf};
+ghost use Rattle.tfpg_log.specs.declared.refusal.Refusal.{Refusal};
 ghost use Rattle.tfpg_evidence.specs.declared.round.Round.{Round};
+ghost use Rattle.tfpg_engine.specs.declared.told.Told.TheVariants as told;
 ghost use Rattle.tfpg_fleet.specs.declared.limits.TheConstants.{MAX_FLEET_HYPOTHESES};
 ghost use Rattle.tfpg_fleet.specs.Belonging.{AreVehicleNames, IsFor, belongs};
-ghost use Rattle.tfpg_fleet.specs.FleetState.{FleetBrings, FleetCounts, FleetRepresents, IsForEnded, IsNew, VehicleState, names_of, rounds_after};
+ghost use Rattle.tfpg_fleet.specs.FleetState.{FleetBrings, FleetCounts, FleetRepresents, IsForEnded, IsNew, RefusesFor, VehicleState, names_of, rounds_after};
 ghost use Rattle.tfpg_fleet.specs.TooMany.{IsExcess, IsTooMany};
 
 use crate::belonging::addressee;
@@ -89,6 +91,8 @@ impl Fleet {
     ) -> Result<FleetTold, EventFault>
         ensures brings { FleetBrings text.now self.old self.new result }
         ensures stray { (result ≡ Ok FleetTold.Stray) ↔ (belongs (names_of self.old) text.now ≡ None) }
+        ensures refused { (number line : ℕ) (refusal : Refusal) → RefusesFor text.now self.old number line refusal →
+            result ≡ Ok (FleetTold.Of number line (told.Refused refusal)) }
         ensures others { (number : ℕ) → (IsFor (names_of self.old) number text.now → ⊥) →
             slice_get self.new.vehicles number ≡ slice_get self.old.vehicles number }
         ensures ended { (result ≡ Err EventFault.Ended) ↔ IsForEnded self.old text.now }

@@ -6,8 +6,9 @@ ghost use Rattle.tfpg_evidence.specs.declared.round.Round.{Round};
 ghost use Rattle.tfpg_hyp.specs.Hypotheses.{HasHypotheses};
 ghost use Rattle.tfpg_hyp.specs.declared.limits.TheConstants.{MAX_HYPOTHESES};
 ghost use Rattle.tfpg_log.specs.Log.{IsLogOf};
+ghost use Rattle.tfpg_log.specs.declared.refusal.Refusal.{Refusal};
 ghost use Rattle.tfpg_engine.specs.EngineState.{EngineRepresents, CountsCalls};
-ghost use Rattle.tfpg_fleet.specs.FleetState.{IsNew, IsTold, has_ended};
+ghost use Rattle.tfpg_fleet.specs.FleetState.{IsNew, IsTold, Refuses, has_ended};
 
 use std::alloc::Global;
 use std::marker::Model;
@@ -89,6 +90,8 @@ impl Vehicle {
         ensures told { IfOk result (λ answer. IsTold text.now self.old self.new answer.0 answer.1) }
         ensures work { IfOk result (λ answer. (rounds : List Round) → EngineRepresents self.old.engine rounds →
             CountsCalls self.new.engine rounds (Ok answer.1) work.old work.new) }
+        ensures refused { (line : ℕ) (refusal : Refusal) → Refuses text.now self.old line refusal →
+            result ≡ Ok (line, Told.Refused refusal) }
         ensures ended { (result ≡ Err EventFault.Ended) ↔ (has_ended self.old ≡ true) }
         ensures same { result ≡ Err EventFault.Ended → self.new ≡ self.old }
         ensures ends { OnErr result (has_ended self.new ≡ true) }
