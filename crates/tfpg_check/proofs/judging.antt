@@ -14,6 +14,7 @@ pub mod NewDockets
 pub mod StepsTaken
 pub mod ClosedTrees
 pub mod PartsTaken
+pub mod PartsByNumber
 pub mod PartsSoFar
 pub mod Hearings
 pub mod RoundJudged

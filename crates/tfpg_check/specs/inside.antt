@@ -7,6 +7,7 @@ pub mod LogLines
 pub mod InTurn
 pub mod Parts
 pub mod Hearings
+pub mod LargestParts
 pub mod RankedKeys
 pub mod Named
 pub mod Kept

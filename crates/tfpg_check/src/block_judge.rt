@@ -112,8 +112,8 @@ impl BlockJudge {
 
     /// Judges what the line of the report with this number completes.
     ///
-    /// A refused line costs a pass over the line of the log, and a round what its steps and traces cost, with a look at the ranked
-    /// lines for each ranked, each open and each covered hypothesis.
+    /// The head looks once at each two hypotheses. A refused line costs a pass over the line of the log, and a round what its steps
+    /// and traces cost, and a pass over the hypotheses with a look at the largest proper parts of each.
     pub(crate) fn judge(&mut self, at: u64, fed: &Fed) -> Result<(), JudgeFault>
         requires { IsFedOf self.old.graph self.old.docket fed.now }
         ensures judged { IsFedJudged at fed.entry.now self.old self.new result }

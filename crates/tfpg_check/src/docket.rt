@@ -20,6 +20,7 @@ ghost use Rattle.tfpg_check.specs.inside.Kept.{AreNewCheckers, AreFlagsBefore, P
 use crate::cause::CheckCause;
 use crate::round::counts::are_right_counts;
 use crate::round::hearing::{Hearing, closed_flags, named_flags, part_indexes, ranked_flags};
+use crate::round::largest_parts::LargestParts;
 use crate::round::parts::judge_parts;
 use crate::round::ranked::judge_ranked;
 use crate::round::rejected::judge_rejected;
@@ -30,34 +31,40 @@ use std::alloc::Global;
 use std::marker::Model;
 use tfpg_base::{NoMemory, Terms};
 use tfpg_graph::Graph;
+use tfpg_hyp::laws::subsets_stand_before_their_supersets;
 use tfpg_hyp::{Table, TableFault};
 use tfpg_kernel::Checker;
 use tfpg_log::Log;
 use tfpg_report::ReadRound;
 
-/// The hypotheses of a report, with what is kept of each between two rounds: the checker of its steps so far.
+/// The hypotheses of a report, with what is kept of each between two rounds: its largest proper parts, and the checker of its
+/// steps so far.
 #[derive(Drop)]
 pub(crate) struct KeptDocket {
     alloc: Global,
     terms: Terms,
     table: Table,
+    largest_parts: LargestParts,
     checkers: Vec<Checker>,
 }
 
 impl Model for KeptDocket {
     ghost use Rattle.std.specs.Prelude.{◌≡◌, length};
     ghost use Rattle.tfpg_check.specs.DocketState.{DocketState};
+    ghost use Rattle.tfpg_check.specs.inside.LargestParts.{ListsLargestParts};
 
     ghost Value = { DocketState };
 
     ghost view = { λ docket. record { terms = docket.terms; table = docket.table; checkers = docket.checkers.items } };
 
-    ghost invariant = { λ docket. length docket.checkers.items ≡ length docket.table.hypotheses };
+    ghost invariant = { λ docket.
+        (length docket.checkers.items ≡ length docket.table.hypotheses)
+        × ListsLargestParts docket.table.hypotheses docket.largest_parts };
 }
 
 impl KeptDocket {
     /// The docket of a graph before its first round, for all hypotheses on these terms. Where there are more than
-    /// [`MAX_HYPOTHESES`](tfpg_hyp::MAX_HYPOTHESES) of them, the fault says how many.
+    /// [`MAX_HYPOTHESES`](tfpg_hyp::MAX_HYPOTHESES) of them, the fault says how many. Looks once at each two hypotheses.
     pub(crate) fn new(alloc: Global, graph: &Graph, terms: Terms) -> Result<KeptDocket, TableFault>
         requires doubt { terms.doubt ≤ MAX_DOUBT }
         ensures keeps { IfOk result (λ kept. (docket : Docket) (log : Logbook) → docket.graph ≡ graph.now →
@@ -70,11 +77,13 @@ impl KeptDocket {
         ensures few { OnOk result ((count : ℕ) → HasHypotheses graph.now terms count → count ≤ MAX_HYPOTHESES) }
     {
         let table = Table::new(alloc, graph, terms.k, terms.doubt)?;
+        let largest_parts = LargestParts::new(alloc, &table)?;
         let checkers = new_checkers(alloc, &table)?;
         Ok(KeptDocket {
             alloc,
             terms,
             table,
+            largest_parts,
             checkers,
         })
     }
@@ -82,8 +91,7 @@ impl KeptDocket {
     /// Judges a round of the report, for this line of the log, by the log with the event of that line. Where no test fails its
     /// steps are kept. Else the docket is of no more use.
     ///
-    /// It costs what the steps and traces cost, and for each ranked, each open and each covered hypothesis a look at the ranked
-    /// lines.
+    /// It costs what the steps and traces cost, and a pass over the hypotheses with a look at the largest proper parts of each.
     pub(crate) fn judge_round(
         &mut self,
         graph: &Graph,
@@ -138,9 +146,11 @@ impl KeptDocket {
             MatchResult result (λ _. PassesRest docket read.entry.now) (IsFaultOf (RestFails docket read.entry.now)) }
         ensures log { log.new ≡ log.old }
     {
+        subsets_stand_before_their_supersets();
         let count = self.table.len();
         let closed = closed_flags(self.alloc, &self.checkers)?;
         let ranked = ranked_flags(self.alloc, count, read.ranked.as_slice())?;
+        let part_ranked = self.largest_parts.flagged(self.alloc, &ranked)?;
         let unsettled = named_flags(self.alloc, count, read.unsettled.as_slice())?;
         let parts = part_indexes(self.alloc, count, read.parts.as_slice())?;
         let hearing = Hearing {
@@ -151,6 +161,7 @@ impl KeptDocket {
             was_closed,
             closed: &closed,
             ranked: &ranked,
+            part_ranked: &part_ranked,
             unsettled: &unsettled,
             parts: &parts,
         };

@@ -67,9 +67,10 @@ impl Judge {
     /// fault says which line of the report is the first that is wrong, and why; or that there are too many hypotheses on the terms of
     /// the first line. Each later call returns the same fault.
     ///
-    /// It costs a pass over the line. The last line of a round costs what its steps and traces cost besides, with a look at the
-    /// ranked lines for each ranked, each open and each covered hypothesis; the block of a refused line a pass over the line of the
-    /// log.
+    /// It costs a pass over the line. What a block costs besides comes with its last line: that of the head looks once at each two
+    /// hypotheses, for what is a proper part of what; a round costs what its steps and traces cost, and a pass over the hypotheses,
+    /// with a look at their largest proper parts, of which a hypothesis has at most `k`; and the block of a refused line a pass over
+    /// the line of the log.
     pub fn take(&mut self, number: u64, line: &[u8]) -> Result<(), JudgeFault>
         requires few { number < 2 ^ 64 - 1 }
         requires next { self.old.fault ≡ None → number ≡ self.old.lines + 1 }

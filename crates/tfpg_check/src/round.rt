@@ -2,9 +2,9 @@
 
 pub(crate) mod counts;
 pub(crate) mod hearing;
+pub(crate) mod largest_parts;
 pub(crate) mod parts;
 pub(crate) mod ranked;
-mod ranked_parts;
 pub(crate) mod rejected;
 pub(crate) mod statuses;
 mod steps;

@@ -1,11 +1,10 @@
 -- What is looked up is what the docket and the round say.
 use Rattle.std.proofs.Common.{◌≡◌, ◌↔◌, ◌<◌, ◌≤◌, ℕ, List, Bool, true, false, cond, Option, Some, [], length, slice_get, eqb, inl, inr, refl, sym, ap, subst, arith, ◌∙◌}
-use Rattle.std.specs.Option.{IsSomeAnd}
 use Rattle.std.proofs.lemmas.Bool.Decides.{nat_tests}
 use Rattle.std.specs.Prelude.{◌==◌, option_map, option_and_then, unwrap_or}
 use Rattle.std.proofs.lemmas.Option.{slice_get_within}
 use Rattle.tfpg_base.specs.Hypothesis.{Hypothesis}
-use Rattle.tfpg_base.proofs.lists.Elements.{Contains-at, slice_get-contains, slice_get-same_length, slice_get-there}
+use Rattle.tfpg_base.proofs.lists.Elements.{slice_get-same_length, slice_get-there}
 use Rattle.tfpg_base.proofs.lists.FirstFound.{find-position}
 use Rattle.tfpg_graph.specs.Graph.{Tfpg}
 use Rattle.tfpg_graph.proofs.lemmas.reach.Reaches.{reach_is_one}
@@ -21,8 +20,8 @@ use Rattle.tfpg_report.specs.declared.read_round.Part.{Part}
 use Rattle.tfpg_report.specs.declared.read_round.RankedLine.{RankedLine}
 use Rattle.tfpg_report.specs.declared.read_round.NamedSet.{NamedSet}
 use Rattle.tfpg_check.specs.declared.round.hearing.Hearing.{Hearing}
-use Rattle.tfpg_check.specs.Judging.{Docket, IsNumberOf, HasRankedPartIn, MayBeRanked, MayBeOpen, HasStatus, EachHasStatus, steps_read, key_read}
-use Rattle.tfpg_check.specs.inside.Hearings.{IsHearing, HasRankedPartAmong}
+use Rattle.tfpg_check.specs.Judging.{Docket, IsNumberOf, MayBeRanked, MayBeOpen, HasStatus, EachHasStatus, steps_read, key_read}
+use Rattle.tfpg_check.specs.inside.Hearings.{IsHearing}
 use Rattle.tfpg_check.specs.inside.Named.{IsLeftOpen, HasStatusHeard, steps_heard}
 use Rattle.tfpg_check.specs.inside.Parts.{IsNextAfter}
 use Rattle.tfpg_check.specs.inside.RankedKeys.{SaysRight, IsLastOf}
@@ -47,18 +46,6 @@ module _ (docket : Docket) (hearing : Hearing) (is : IsHearing docket hearing) w
   within : (number : ℕ) (hypothesis : Hypothesis) → IsNumberOf docket number hypothesis → number < length docket.hypotheses
   within number hypothesis at = slice_get_within docket.hypotheses number hypothesis at
 
-  -- A proper part is ranked.
-  pub ranked_part_exactly : (hypothesis : Hypothesis) → HasRankedPartAmong hearing.table.now.hypotheses hearing.read.now.ranked hypothesis ↔ HasRankedPartIn docket hearing.read.now hypothesis
-  ranked_part_exactly hypothesis = (
-    λ has. record { other = has.1; ranked = Contains-at hearing.read.now.ranked has.0 has.1 has.2; part = has.3.0; listed = listed_in has.1.number has.3.0 has.3.1; proper = has.3.2 },
-    λ has. (
-      has.ranked.0,
-      has.other,
-      slice_get-contains hearing.read.now.ranked has.other has.ranked,
-      (has.part, listed_from has.other.number has.part has.listed, has.proper),
-    ),
-  )
-
   -- The steps of a hypothesis.
   pub steps_are : (number : ℕ) → number < length docket.hypotheses → steps_heard hearing number ≡ steps_read hearing.read.now number
   steps_are number within =
@@ -76,7 +63,7 @@ module _ (docket : Docket) (hearing : Hearing) (is : IsHearing docket hearing) w
           listed = at;
           not_closed = λ closed. left.not_closed ((is.closed named.number).1 closed);
           not_ranked = λ ranked. left.not_ranked ((is.ranked named.number (within _ _ at)).1 ranked);
-          no_part = λ has. left.no_part ((ranked_part_exactly _).1 has);
+          no_part = λ has. left.no_part ((is.part_ranked named.number _ at).1 has);
           spent = ap split_count (sym (steps_are named.number (within _ _ at))) ∙ left.spent ∙ sym is.budget;
         }),
     λ may. record {
@@ -84,26 +71,26 @@ module _ (docket : Docket) (hearing : Hearing) (is : IsHearing docket hearing) w
       listed = listed_from named.number _ may.listed;
       not_closed = λ closed. may.not_closed ((is.closed named.number).0 closed);
       not_ranked = λ ranked. may.not_ranked ((is.ranked named.number (within _ _ may.listed)).0 ranked);
-      no_part = λ has. may.no_part ((ranked_part_exactly _).0 has);
+      no_part = λ up. may.no_part ((is.part_ranked named.number _ may.listed).0 up);
       spent = ap split_count (steps_are named.number (within _ _ may.listed)) ∙ may.spent ∙ is.budget;
     },
   )
 
   -- A hypothesis has a status.
-  pub status_exactly : (number : ℕ) (hypothesis : Hypothesis) → IsNumberOf docket number hypothesis → HasStatusHeard hearing number hypothesis ↔ HasStatus docket hearing.read.now number hypothesis
+  pub status_exactly : (number : ℕ) (hypothesis : Hypothesis) → IsNumberOf docket number hypothesis → HasStatusHeard hearing number ↔ HasStatus docket hearing.read.now number hypothesis
   status_exactly number hypothesis at = (to, from)
     where
-      to : HasStatusHeard hearing number hypothesis → HasStatus docket hearing.read.now number hypothesis
+      to : HasStatusHeard hearing number → HasStatus docket hearing.read.now number hypothesis
       to (inl closed) = inl ((is.closed number).0 closed)
       to (inr (inl ranked)) = inr (inl ((is.ranked number (within number hypothesis at)).0 ranked))
       to (inr (inr (inl left))) = inr (inr (inl ((is.unsettled number (within number hypothesis at)).0 left)))
-      to (inr (inr (inr covered))) = inr (inr (inr (sym (steps_are number (within number hypothesis at)) ∙ covered.0, (ranked_part_exactly hypothesis).0 covered.1)))
+      to (inr (inr (inr covered))) = inr (inr (inr (sym (steps_are number (within number hypothesis at)) ∙ covered.0, (is.part_ranked number hypothesis at).0 covered.1)))
 
-      from : HasStatus docket hearing.read.now number hypothesis → HasStatusHeard hearing number hypothesis
+      from : HasStatus docket hearing.read.now number hypothesis → HasStatusHeard hearing number
       from (inl closed) = inl ((is.closed number).1 closed)
       from (inr (inl ranked)) = inr (inl ((is.ranked number (within number hypothesis at)).1 ranked))
       from (inr (inr (inl left))) = inr (inr (inl ((is.unsettled number (within number hypothesis at)).1 left)))
-      from (inr (inr (inr covered))) = inr (inr (inr (steps_are number (within number hypothesis at) ∙ covered.0, (ranked_part_exactly hypothesis).1 covered.1)))
+      from (inr (inr (inr covered))) = inr (inr (inr (steps_are number (within number hypothesis at) ∙ covered.0, (is.part_ranked number hypothesis at).1 covered.1)))
 
   -- A ranked line says what is right.
   pub ranked_exactly : (before : List RankedLine) (last : Option RankingKey) (r : RankedLine) → IsLastOf before last
@@ -119,7 +106,7 @@ module _ (docket : Docket) (hearing : Hearing) (is : IsHearing docket hearing) w
           reach_is = is.table.reached.exact r.number _ says.robust.0 says.listed says.robust.1;
           robust = robust;
           in_order = (after.exact (key_read r) (is_fraction docket.graph docket.log says.robust.0 r robust)).1 says.after;
-          no_part = λ has. says.no_part ((ranked_part_exactly _).1 has);
+          no_part = λ has. says.no_part ((is.part_ranked r.number _ at).1 has);
         }),
     λ may. (let at = listed_from r.number (hypothesis_with r.set r.doubts) may.listed in
         let reach = slice_get-same_length hearing.table.now.reaches hearing.table.now.hypotheses r.number _ (sym is.table.reached.complete) at in
@@ -130,7 +117,7 @@ module _ (docket : Docket) (hearing : Hearing) (is : IsHearing docket hearing) w
           cost = may.cost ∙ ap (λ (g : Tfpg). cost_of g (hypothesis_with r.set r.doubts)) is.graph;
           robust = (reach.0, reach.1, sym (λ i. robustness_of (is.graph i) docket.log (same i) r.doubts) ∙ may.robust);
           after = (after.exact (key_read r) (is_fraction docket.graph docket.log may.reach r may.robust)).0 may.in_order;
-          no_part = λ has. may.no_part ((ranked_part_exactly _).0 has);
+          no_part = λ up. may.no_part ((is.part_ranked r.number _ may.listed).0 up);
         }),
   )
 
@@ -150,19 +137,13 @@ module _ (docket : Docket) (hearing : Hearing) (is : IsHearing docket hearing) w
       )
 
   -- each hypothesis has a status where it is found so by its number
-  pub statuses_hold : (end : ℕ) → length hearing.table.now.hypotheses ≤ end
-      → ((number : ℕ) → number < end → IsSomeAnd (slice_get hearing.table.now.hypotheses number) (HasStatusHeard hearing number)) → EachHasStatus docket hearing.read.now
+  pub statuses_hold : (end : ℕ) → length hearing.table.now.hypotheses ≤ end → ((number : ℕ) → number < end → HasStatusHeard hearing number) → EachHasStatus docket hearing.read.now
   statuses_hold end all each number hypothesis at =
-      let own = listed_from number hypothesis at in
-      (status_exactly number hypothesis at).0
-      (subst (λ (found : Option Hypothesis). IsSomeAnd found (HasStatusHeard hearing number)) own
-      (each number (omega (arith, all, slice_get_within hearing.table.now.hypotheses number hypothesis own))))
+      (status_exactly number hypothesis at).0 (each number (omega (arith, all, slice_get_within hearing.table.now.hypotheses number hypothesis (listed_from number hypothesis at))))
 
   -- and not where one is found to have none
-  pub statuses_fail : (number : ℕ) → number < length hearing.table.now.hypotheses
-      → (IsSomeAnd (slice_get hearing.table.now.hypotheses number) (HasStatusHeard hearing number) → ⊥) → EachHasStatus docket hearing.read.now → ⊥
+  pub statuses_fail : (number : ℕ) → number < length hearing.table.now.hypotheses → (HasStatusHeard hearing number → ⊥) → EachHasStatus docket hearing.read.now → ⊥
   statuses_fail number within fails each =
       let there = slice_get-there hearing.table.now.hypotheses number within in
       let at = listed_in number there.0 there.1 in
-      fails
-      (subst (λ (found : Option Hypothesis). IsSomeAnd found (HasStatusHeard hearing number)) (sym there.1) ((status_exactly number there.0 at).1 (each number there.0 at)))
+      fails ((status_exactly number there.0 at).1 (each number there.0 at))

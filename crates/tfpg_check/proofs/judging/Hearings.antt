@@ -1,23 +1,27 @@
 -- What is looked up in a round whose steps are taken is right.
-use Rattle.std.proofs.Common.{◌≡◌, ◌↔◌, ◌<◌, ℕ, List, Bool, false, Some, None, length, map, get_or, slice_get, eqb, inl, inr, sym, ap, subst, arith, ◌∙◌}
+use Rattle.std.proofs.Common.{◌≡◌, ◌↔◌, ◌<◌, ℕ, List, Bool, false, Some, None, length, map, get_or, slice_get, eqb, inl, inr, refl, sym, ap, subst, arith, ◌∙◌}
 use Rattle.std.specs.List.{Contains, list_any}
 use Rattle.std.specs.Prelude.{IsTrue, option_map}
 use Rattle.std.proofs.lemmas.Bool.{eqb-true, eq-eqb, false≢true}
 use Rattle.std.proofs.lemmas.List.{get_or_past, length-map}
-use Rattle.std.proofs.lemmas.Option.{get_or_from_slice_get, slice_get_cases, slice_get-map}
-use Rattle.tfpg_base.specs.Hypothesis.{Hypothesis}
+use Rattle.std.proofs.lemmas.Option.{get_or_from_slice_get, same_Some, slice_get_cases, slice_get-map, slice_get_within}
+use Rattle.tfpg_base.specs.Hypothesis.{Hypothesis, IsProperPart}
 use Rattle.tfpg_base.specs.declared.terms.Terms.{Terms}
 use Rattle.tfpg_base.proofs.lists.Elements.{list_any-found, list_any-passes}
+use Rattle.tfpg_graph.specs.Graph.{Tfpg}
+use Rattle.tfpg_log.specs.Log.{Logbook}
 use Rattle.tfpg_clause.specs.Trees.{Judged}
 use Rattle.tfpg_kernel.specs.CheckerState.{CheckerState}
+use Rattle.tfpg_hyp.specs.Table.{IsTable}
 use Rattle.tfpg_hyp.specs.Hypotheses.{Hypotheses, IsTableOf}
 use Rattle.tfpg_report.specs.declared.read_round.RankedLine.{RankedLine}
 use Rattle.tfpg_report.specs.declared.read_round.NamedSet.{NamedSet}
 use Rattle.tfpg_check.specs.declared.round.hearing.Hearing.{Hearing}
-use Rattle.tfpg_check.specs.Judging.{Docket, IsNumberOf, AreClosed}
+use Rattle.tfpg_check.specs.Judging.{Docket, IsNumberOf, AreClosed, IsRankedLine, HasRankedPartIn}
 use Rattle.tfpg_check.specs.DocketState.{DocketState, KeepsDocket}
 use Rattle.tfpg_check.specs.inside.AfterRound.{after_round}
 use Rattle.tfpg_check.specs.inside.Hearings.{IsHearing, flag_at, part_index}
+use Rattle.tfpg_check.specs.inside.LargestParts.{ArePartsBefore, HasFlaggedPart, SayFlaggedParts}
 use Rattle.tfpg_check.specs.inside.Kept.{AreFlagsBefore}
 use Rattle.tfpg_check.proofs.judging.ClosedTrees.{closed_exactly}
 
@@ -68,12 +72,72 @@ module _ {X : Type 0} (number_of : X → ℕ) (lines : List X) (number : ℕ) wh
       → IsTrue (flag_at flags number) ↔ ((x : X) × Contains lines x × (number_of x ≡ number))
   flag_exactly flags is = (λ up. named_exactly.0 (sym is ∙ up), λ found. is ∙ named_exactly.1 found)
 
+-- ---- ranked parts
+
+-- that a proper part has the lesser number in each table
+abbrev pub OrdersParts : Type 0
+OrdersParts = (graph : Tfpg) (terms : Terms) (hypotheses : List Hypothesis) → IsTable graph terms hypotheses → (number other : ℕ) (part whole : Hypothesis)
+    → slice_get hypotheses number ≡ Some part → slice_get hypotheses other ≡ Some whole → IsProperPart part whole → number < other
+
+-- What was found by the flags of ranked lines is what is looked up.
+pub said_of_ranked : OrdersParts → (docket : Docket) (earlier : Logbook) (state : DocketState) → KeepsDocket docket earlier state → (table : Hypotheses) → state.table ≡ table → (flags said : List Bool)
+    → (ArePartsBefore table.hypotheses → SayFlaggedParts table.hypotheses flags (length table.hypotheses) said) → (ranked part_ranked : List Bool) → flags ≡ ranked → part_ranked ≡ said
+    → SayFlaggedParts table.hypotheses ranked (length table.hypotheses) part_ranked
+said_of_ranked orders docket earlier state keeps table same flags said found ranked part_ranked same_ranked same_said =
+    subst (λ (fs : List Bool). SayFlaggedParts table.hypotheses fs (length table.hypotheses) part_ranked) same_ranked
+    (subst (SayFlaggedParts table.hypotheses flags (length table.hypotheses)) (sym same_said)
+    (found (λ part whole is. orders docket.graph docket.terms table.hypotheses
+    (subst (λ (t : Hypotheses). IsTable docket.graph docket.terms t.hypotheses) same keeps.table.hypotheses) part whole is.less is.more is.less_at is.more_at is.proper)))
+
+module _ (docket : Docket) (hearing : Hearing) (rows : docket.hypotheses ≡ hearing.table.now.hypotheses)
+    (ranked : (number : ℕ) → number < length docket.hypotheses → IsTrue (flag_at hearing.ranked.now number) ↔ IsRankedLine hearing.read.now number)
+    (said : SayFlaggedParts hearing.table.now.hypotheses hearing.ranked.now (length hearing.table.now.hypotheses) hearing.part_ranked.now) (number : ℕ) (hypothesis : Hypothesis)
+    (at : IsNumberOf docket number hypothesis) where
+  here : (other : ℕ) (h : Hypothesis) → slice_get hearing.table.now.hypotheses other ≡ Some h → IsNumberOf docket other h
+  here other h own = ap (λ (hs : List Hypothesis). slice_get hs other) rows ∙ own
+
+  there : (other : ℕ) (h : Hypothesis) → IsNumberOf docket other h → slice_get hearing.table.now.hypotheses other ≡ Some h
+  there other h own = ap (λ (hs : List Hypothesis). slice_get hs other) (sym rows) ∙ own
+
+  exact : IsTrue (flag_at hearing.part_ranked.now number) ↔ HasFlaggedPart hearing.table.now.hypotheses hearing.ranked.now number
+  exact = said number (slice_get_within hearing.table.now.hypotheses number hypothesis (there number hypothesis at))
+
+  has_from : HasFlaggedPart hearing.table.now.hypotheses hearing.ranked.now number → HasRankedPartIn docket hearing.read.now hypothesis
+  has_from has =
+      let listed = here has.0 has.1.less has.1.less_at in
+      let line = (ranked has.0 (slice_get_within docket.hypotheses has.0 has.1.less listed)).0 has.2 in
+      record {
+        other = line.0;
+        ranked = line.1;
+        part = has.1.less;
+        listed = subst (λ (n : ℕ). IsNumberOf docket n has.1.less) (sym line.2) listed;
+        proper = subst (IsProperPart has.1.less) (same_Some has.1.more hypothesis (sym has.1.more_at ∙ there number hypothesis at)) has.1.proper;
+      }
+
+  has_to : HasRankedPartIn docket hearing.read.now hypothesis → HasFlaggedPart hearing.table.now.hypotheses hearing.ranked.now number
+  has_to has = (
+    has.other.number,
+    record {
+      less = has.part;
+      less_at = there has.other.number has.part has.listed;
+      more = hypothesis;
+      more_at = there number hypothesis at;
+      proper = has.proper;
+    },
+    (ranked has.other.number (slice_get_within docket.hypotheses has.other.number has.part has.listed)).1 (has.other, has.ranked, refl),
+  )
+
+  -- The flag of a hypothesis is up exactly where a proper part of it is ranked.
+  part_ranked_exactly : IsTrue (flag_at hearing.part_ranked.now number) ↔ HasRankedPartIn docket hearing.read.now hypothesis
+  part_ranked_exactly = (λ up. has_from (exact.0 up), λ has. exact.1 (has_to has))
+
 -- ---- all that is looked up
 
 -- what the code found of each number of the table
 pub record AreFlags (hearing : Hearing) (checkers : List CheckerState) (count : ℕ) : Type 0 where
   pub closed : hearing.closed.now ≡ map (λ (checker : CheckerState). checker.closed) checkers
   pub ranked : (number : ℕ) → number < count → flag_at hearing.ranked.now number ≡ list_any (λ (r : RankedLine). eqb r.number number) hearing.read.now.ranked
+  pub part_ranked : SayFlaggedParts hearing.table.now.hypotheses hearing.ranked.now (length hearing.table.now.hypotheses) hearing.part_ranked.now
   pub unsettled : (number : ℕ) → number < count → flag_at hearing.unsettled.now number ≡ list_any (λ (named : NamedSet). eqb named.number number) hearing.read.now.unsettled
   pub parts : (number : ℕ) → number < count → get_or hearing.parts.now number None ≡ part_index hearing.read.now.parts number
 
@@ -83,6 +147,8 @@ pub hearing_is : (docket : Docket) (hearing : Hearing) (state : DocketState) (co
 hearing_is docket hearing state count same_graph keeps same_table same_budget counted before flags =
     let rows : docket.hypotheses ≡ hearing.table.now.hypotheses = sym keeps.hypotheses ∙ ap (λ (t : Hypotheses). t.hypotheses) same_table in
     let few : count ≡ length docket.hypotheses = counted ∙ ap length (sym rows) in
+    let ranked : (number : ℕ) → number < length docket.hypotheses → IsTrue (flag_at hearing.ranked.now number) ↔ IsRankedLine hearing.read.now number =
+    λ number within. flag_exactly (λ (r : RankedLine). r.number) hearing.read.now.ranked number hearing.ranked.now (flags.ranked number (omega (arith, within, few))) in
     record {
       graph = same_graph;
       budget = ap (λ (t : Terms). t.budget) (sym keeps.terms) ∙ same_budget;
@@ -90,7 +156,8 @@ hearing_is docket hearing state count same_graph keeps same_table same_budget co
       hypotheses = rows;
       was_closed = before;
       closed = closed_flags_are docket (after_round docket hearing.read.now).steps state keeps hearing.closed.now flags.closed;
-      ranked = λ number within. flag_exactly (λ (r : RankedLine). r.number) hearing.read.now.ranked number hearing.ranked.now (flags.ranked number (omega (arith, within, few)));
+      ranked = ranked;
+      part_ranked = part_ranked_exactly docket hearing rows ranked flags.part_ranked;
       unsettled = λ number within. flag_exactly (λ (named : NamedSet). named.number) hearing.read.now.unsettled number hearing.unsettled.now (flags.unsettled number (omega (arith, within, few)));
       parts = λ number within. flags.parts number (omega (arith, within, few));
     }

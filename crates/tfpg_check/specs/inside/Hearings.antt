@@ -1,11 +1,10 @@
 -- What the tests of a round are judged by, once its steps are taken.
 use Rattle.std.specs.Prelude.{◌≡◌, ◌↔◌, ℕ, ◌<◌, List, length, get_or, Bool, false, not, ◌&&◌, ◌==◌, if◌then◌else◌, IsTrue, Option, Some, None, position, slice_get}
-use Rattle.tfpg_base.specs.Hypothesis.{Hypothesis, IsProperPart}
+use Rattle.tfpg_base.specs.Hypothesis.{Hypothesis}
 use Rattle.tfpg_hyp.specs.Hypotheses.{IsTableOf}
 use Rattle.tfpg_report.specs.declared.read_round.Part.{Part}
-use Rattle.tfpg_report.specs.declared.read_round.RankedLine.{RankedLine}
 use Rattle.tfpg_check.specs.declared.round.hearing.Hearing.{Hearing}
-use Rattle.tfpg_check.specs.Judging.{Docket, WasClosed, IsClosed, IsRankedLine, IsOpenLine}
+use Rattle.tfpg_check.specs.Judging.{Docket, WasClosed, IsClosed, IsRankedLine, IsOpenLine, HasRankedPartIn}
 
 -- the flag of a number, which is down past the end
 abbrev pub flag_at : List Bool → ℕ → Bool
@@ -30,20 +29,12 @@ pub record IsHearing (docket : Docket) (hearing : Hearing) : Type 0 where
   pub closed : (number : ℕ) → IsTrue (flag_at hearing.closed.now number) ↔ IsClosed docket hearing.read.now number
   pub ranked : (number : ℕ) → number < length docket.hypotheses
       → IsTrue (flag_at hearing.ranked.now number) ↔ IsRankedLine hearing.read.now number
+  pub part_ranked : (number : ℕ) (hypothesis : Hypothesis) → slice_get docket.hypotheses number ≡ Some hypothesis
+      → IsTrue (flag_at hearing.part_ranked.now number) ↔ HasRankedPartIn docket hearing.read.now hypothesis
   pub unsettled : (number : ℕ) → number < length docket.hypotheses
       → IsTrue (flag_at hearing.unsettled.now number) ↔ IsOpenLine hearing.read.now number
   pub parts : (number : ℕ) → number < length docket.hypotheses
       → get_or hearing.parts.now number None ≡ part_index hearing.read.now.parts number
-
--- A ranked line is of a proper part of the hypothesis.
-abbrev pub IsRankedPart : List Hypothesis → Hypothesis → RankedLine → Type 0
-IsRankedPart hypotheses hypothesis r =
-    (part : Hypothesis) × (slice_get hypotheses r.number ≡ Some part) × IsProperPart part hypothesis
-
--- Some ranked line is of a proper part of the hypothesis.
-abbrev pub HasRankedPartAmong : List Hypothesis → List RankedLine → Hypothesis → Type 0
-HasRankedPartAmong hypotheses ranked hypothesis =
-    (index : ℕ) × (r : RankedLine) × (slice_get ranked index ≡ Some r) × IsRankedPart hypotheses hypothesis r
 
 -- whether the tree of the hypothesis of a number was closed in this round
 abbrev pub is_newly_closed : Hearing → ℕ → Bool

@@ -8,7 +8,7 @@ use Rattle.tfpg_report.specs.declared.read_round.Part.{Part}
 use Rattle.tfpg_report.specs.declared.read_round.NamedSet.{NamedSet}
 use Rattle.tfpg_report.specs.declared.read_round.ReadRound.{ReadRound}
 use Rattle.tfpg_check.specs.declared.round.hearing.Hearing.{Hearing}
-use Rattle.tfpg_check.specs.inside.Hearings.{flag_at, HasRankedPartAmong}
+use Rattle.tfpg_check.specs.inside.Hearings.{flag_at}
 
 -- the steps of the part of a number, as it is looked up
 abbrev pub steps_heard : Hearing → ℕ → List Step
@@ -22,7 +22,7 @@ pub record IsLeftOpen (hearing : Hearing) (next : ℕ) (named : NamedSet) : Type
   pub listed : slice_get hearing.table.now.hypotheses named.number ≡ Some (hypothesis_with named.set named.doubts)
   pub not_closed : IsTrue (flag_at hearing.closed.now named.number) → ⊥
   pub not_ranked : IsTrue (flag_at hearing.ranked.now named.number) → ⊥
-  pub no_part : HasRankedPartAmong hearing.table.now.hypotheses hearing.read.now.ranked (hypothesis_with named.set named.doubts) → ⊥
+  pub no_part : IsTrue (flag_at hearing.part_ranked.now named.number) → ⊥
   pub spent : split_count (steps_heard hearing named.number) ≡ hearing.budget
 
 -- the line at an index, and else that of the counts
@@ -31,17 +31,15 @@ line_at read index =
     unwrap_or (option_map (λ (named : NamedSet). named.first_line) (slice_get read.rejected index)) read.counts_line
 
 -- It has no steps in this round, and a proper part of it is ranked, by what is looked up.
-abbrev pub IsCoveredHeard : Hearing → ℕ → Hypothesis → Type 0
-IsCoveredHeard hearing number hypothesis =
-    (steps_heard hearing number ≡ [])
-    × HasRankedPartAmong hearing.table.now.hypotheses hearing.read.now.ranked hypothesis
+abbrev pub IsCoveredHeard : Hearing → ℕ → Type 0
+IsCoveredHeard hearing number = (steps_heard hearing number ≡ []) × IsTrue (flag_at hearing.part_ranked.now number)
 
--- The hypothesis of a number of the table has a status, by what is looked up.
-abbrev pub HasStatusHeard : Hearing → ℕ → Hypothesis → Type 0
-HasStatusHeard hearing number hypothesis =
+-- The hypothesis of a number has a status, by what is looked up.
+abbrev pub HasStatusHeard : Hearing → ℕ → Type 0
+HasStatusHeard hearing number =
     IsTrue (flag_at hearing.closed.now number)
     ⊎ (IsTrue (flag_at hearing.ranked.now number)
-    ⊎ (IsTrue (flag_at hearing.unsettled.now number) ⊎ IsCoveredHeard hearing number hypothesis))
+    ⊎ (IsTrue (flag_at hearing.unsettled.now number) ⊎ IsCoveredHeard hearing number))
 
 -- There is a line, and it names the hypothesis of this number.
 abbrev pub Names : List Hypothesis → ℕ → Option NamedSet → Type 0

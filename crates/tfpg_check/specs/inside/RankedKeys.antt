@@ -7,7 +7,7 @@ use Rattle.tfpg_report.specs.ReportLines.{hypothesis_with}
 use Rattle.tfpg_report.specs.declared.read_round.RankedLine.{RankedLine}
 use Rattle.tfpg_check.specs.declared.round.hearing.Hearing.{Hearing}
 use Rattle.tfpg_check.specs.Judging.{key_read}
-use Rattle.tfpg_check.specs.inside.Hearings.{flag_at, HasRankedPartAmong}
+use Rattle.tfpg_check.specs.inside.Hearings.{flag_at}
 
 -- The robustness of the last key, if there is one, is a fraction.
 abbrev pub IsFractionOf : Option RankingKey → Type 0
@@ -38,4 +38,4 @@ pub record SaysRight (hearing : Hearing) (log : Logbook) (last : Option RankingK
   pub cost : r.cost ≡ cost_of hearing.graph.now (hypothesis_with r.set r.doubts)
   pub robust : HasRobustness hearing log r
   pub after : ComesAfter last (key_read r)
-  pub no_part : HasRankedPartAmong hearing.table.now.hypotheses hearing.read.now.ranked (hypothesis_with r.set r.doubts) → ⊥
+  pub no_part : IsTrue (flag_at hearing.part_ranked.now r.number) → ⊥

@@ -28,6 +28,8 @@ pub(crate) struct Hearing<'a> {
     pub(crate) closed: &'a [bool],
     /// Which are named by ranked lines.
     pub(crate) ranked: &'a [bool],
+    /// Of which a proper part is named by a ranked line.
+    pub(crate) part_ranked: &'a [bool],
     /// Which are named by open lines.
     pub(crate) unsettled: &'a [bool],
     /// Which part each has.
@@ -66,6 +68,13 @@ impl<'a> Hearing<'a> {
         flag(self.ranked, number)
     }
 
+    /// Whether a ranked line names a proper part of the hypothesis of this number.
+    pub(crate) fn has_ranked_part(&self, number: u32) -> bool
+        ensures { result ≡ flag_at self.now.part_ranked.now number }
+    {
+        flag(self.part_ranked, number)
+    }
+
     /// Whether an open line names the hypothesis of this number.
     pub(crate) fn is_unsettled(&self, number: u32) -> bool
         ensures { result ≡ flag_at self.now.unsettled.now number }
@@ -93,7 +102,7 @@ fn are_equal(one: Doubts, other: Doubts) -> bool
 }
 
 /// The flag of a number. Past the end all are down.
-fn flag(flags: &[bool], number: u32) -> bool
+pub(crate) fn flag(flags: &[bool], number: u32) -> bool
     ensures { result ≡ flag_at flags.now number }
 {
     match flags.get(number as usize) {

@@ -16,7 +16,6 @@ ghost use Rattle.tfpg_check.specs.inside.RankedKeys.{IsLastOf, IsFractionOf, Com
 
 use crate::cause::CheckCause;
 use crate::round::hearing::Hearing;
-use crate::round::ranked_parts::has_ranked_part;
 use crate::round_fault::FailedTest;
 use tfpg_base::Doubts;
 use tfpg_graph::Graph;
@@ -93,12 +92,7 @@ fn may_be_ranked(hearing: &Hearing<'_>, log: &Log, last: Option<RankingKey>, r: 
         && cost(hearing.graph, r.set, r.doubts) == r.cost
         && has_robustness(hearing, log, r)
         && comes_after(last, key_of(r))
-        && !has_ranked_part(
-            hearing.table,
-            hearing.read.ranked.as_slice(),
-            r.set,
-            r.doubts,
-        )
+        && !hearing.has_ranked_part(r.number)
 }
 
 /// Whether the robustness is that of the hypothesis of this number, by its reach. Goes once over the nodes.

@@ -1,12 +1,11 @@
 //! That each hypothesis has a status.
 
-ghost use Rattle.std.specs.Prelude.{◌≡◌, ◌↔◌, ◌<◌, ℕ, [], length, IsTrue, IsSomeAnd, Some, slice_get};
+ghost use Rattle.std.specs.Prelude.{◌≡◌, ◌↔◌, [], IsTrue};
 ghost use Rattle.tfpg_check.specs.Judging.{Docket, EachHasStatus};
 ghost use Rattle.tfpg_check.specs.inside.Hearings.{IsHearing};
 ghost use Rattle.tfpg_check.specs.inside.Named.{HasStatusHeard, IsCoveredHeard, steps_heard};
 
 use crate::round::hearing::Hearing;
-use crate::round::ranked_parts::has_ranked_part;
 
 /// Whether each hypothesis has a status. Goes once through them.
 pub(crate) fn each_has_status(hearing: &Hearing<'_>) -> bool
@@ -24,9 +23,7 @@ pub(crate) fn each_has_status(hearing: &Hearing<'_>) -> bool
 /// Whether the hypothesis of this number has a status: its tree is closed, it is ranked, it is open, or it has no steps in this
 /// round and a proper part of it is ranked.
 fn has_status(hearing: &Hearing<'_>, number: u32) -> bool
-    requires { number < length hearing.now.table.now.hypotheses }
-    ensures { IsTrue result ↔
-        IsSomeAnd (slice_get hearing.now.table.now.hypotheses number) (HasStatusHeard hearing.now number) }
+    ensures { IsTrue result ↔ HasStatusHeard hearing.now number }
 {
     hearing.is_closed(number)
         || hearing.is_ranked(number)
@@ -36,17 +33,9 @@ fn has_status(hearing: &Hearing<'_>, number: u32) -> bool
 
 /// Whether the hypothesis of this number has no steps in this round, and a proper part of it is ranked.
 fn is_covered(hearing: &Hearing<'_>, number: u32) -> bool
-    requires { number < length hearing.now.table.now.hypotheses }
-    ensures { IsTrue result ↔
-        IsSomeAnd (slice_get hearing.now.table.now.hypotheses number) (IsCoveredHeard hearing.now number) }
+    ensures { IsTrue result ↔ IsCoveredHeard hearing.now number }
 {
-    has_no_steps(hearing, number)
-        && has_ranked_part(
-            hearing.table,
-            hearing.read.ranked.as_slice(),
-            hearing.table.set(number),
-            hearing.table.doubts(number),
-        )
+    has_no_steps(hearing, number) && hearing.has_ranked_part(number)
 }
 
 /// Whether the hypothesis of this number has no steps in this round.

@@ -13,7 +13,6 @@ ghost use Rattle.tfpg_check.specs.inside.Named.{IsLeftOpen, steps_heard};
 
 use crate::cause::CheckCause;
 use crate::round::hearing::Hearing;
-use crate::round::ranked_parts::has_ranked_part;
 use crate::round_fault::FailedTest;
 use tfpg_evidence::Step;
 use tfpg_report::NamedSet;
@@ -60,12 +59,7 @@ fn may_be_open(hearing: &Hearing<'_>, next: u64, named: &NamedSet) -> bool
         && hearing.is_listed(named.number, named.set, named.doubts)
         && !hearing.is_closed(named.number)
         && !hearing.is_ranked(named.number)
-        && !has_ranked_part(
-            hearing.table,
-            hearing.read.ranked.as_slice(),
-            named.set,
-            named.doubts,
-        )
+        && !hearing.has_ranked_part(named.number)
         && split_count(hearing, named.number) == hearing.budget
 }
 

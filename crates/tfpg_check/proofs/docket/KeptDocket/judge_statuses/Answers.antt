@@ -6,11 +6,12 @@ use Rattle.tfpg_report.specs.declared.read_round.Part.{Part}
 use Rattle.tfpg_report.specs.declared.read_round.RankedLine.{RankedLine}
 use Rattle.tfpg_report.specs.declared.read_round.NamedSet.{NamedSet}
 use Rattle.tfpg_check.specs.DocketState.{DocketState}
+use Rattle.tfpg_check.specs.inside.AfterRound.{after_round}
 use Rattle.tfpg_check.specs.inside.Hearings.{flag_at, part_index}
 use Rattle.tfpg_check.specs.inside.InTurn.{IsFaultOf}
 use Rattle.tfpg_check.specs.inside.Kept.{RestFails}
 use Rattle.tfpg_check.specs.declared.round_fault.RoundFault.{RoundFault}
-use Rattle.tfpg_check.proofs.judging.Hearings.{hearing_is}
+use Rattle.tfpg_check.proofs.judging.Hearings.{hearing_is, said_of_ranked}
 use Rattle.tfpg_check.proofs.docket.KeptDocket.judge_statuses.Goals as goal
 
 pub returns-in_err-judge_hearing-clause-rest : goal.returns-in_err-judge_hearing-clause-rest
@@ -22,12 +23,15 @@ returns-in_err-judge_hearing-clause-rest c = λ docket same_graph same_log keeps
     (hearing_is docket _ c.args.self.now c.len-count.result same_graph keeps (sym (ap (λ (s : DocketState). s.table) c.self.view_is)) (sym (ap (λ (s : DocketState). s.terms.budget) c.self.view_is))
     c.len-count.ensures.count flags
     (record {
-      closed = c.deref-2.ensures.value ∙ c.in_ok-closed.ensures ∙ ap (map (λ (checker : CheckerState). checker.closed)) (c.deref.ensures.value ∙ ap (λ (s : DocketState). s.checkers) c.self.view_is);
-      ranked = λ number within. ap (λ (flags : List Bool). flag_at flags number) c.deref-3.ensures.value ∙ c.in_ok-ranked.ensures number within
+      closed = c.deref-3.ensures.value ∙ c.in_ok-closed.ensures ∙ ap (map (λ (checker : CheckerState). checker.closed)) (c.deref.ensures.value ∙ ap (λ (s : DocketState). s.checkers) c.self.view_is);
+      ranked = λ number within. ap (λ (flags : List Bool). flag_at flags number) c.deref-4.ensures.value ∙ c.in_ok-ranked.ensures number within
           ∙ ap (list_any (λ (r : RankedLine). eqb r.number number)) c.as_slice.ensures;
-      unsettled = λ number within. ap (λ (flags : List Bool). flag_at flags number) c.deref-4.ensures.value ∙ c.in_ok-unsettled.ensures number within
+      part_ranked = said_of_ranked c.subsets_stand_before_their_supersets.ensures.before (after_round docket c.args.read.now) docket.log c.args.self.now keeps c.self.inside.table
+          (sym (ap (λ (s : DocketState). s.table) c.self.view_is)) c.deref-2.result.now c.in_ok-part_ranked.part_ranked.items
+          (c.in_ok-part_ranked.ensures c.self.inside.table.hypotheses c.self.invariant.1) c.deref-4.result.now c.deref-5.result.now (c.deref-2.ensures.value ∙ sym c.deref-4.ensures.value) c.deref-5.ensures.value;
+      unsettled = λ number within. ap (λ (flags : List Bool). flag_at flags number) c.deref-6.ensures.value ∙ c.in_ok-unsettled.ensures number within
           ∙ ap (list_any (λ (named : NamedSet). eqb named.number number)) c.as_slice-2.ensures;
-      parts = λ number within. ap (λ (indexes : List (Option ℕ)). get_or indexes number None) c.deref-5.ensures.value ∙ c.in_ok-parts.ensures number within
+      parts = λ number within. ap (λ (indexes : List (Option ℕ)). get_or indexes number None) c.deref-7.ensures.value ∙ c.in_ok-parts.ensures number within
           ∙ ap (λ (parts : List Part). part_index parts number) c.as_slice-3.ensures;
     })) same_log))
 
@@ -37,11 +41,14 @@ returns-clause-rest c = λ docket same_graph same_log keeps flags.
     (hearing_is docket _ c.args.self.now c.len-count.result same_graph keeps (sym (ap (λ (s : DocketState). s.table) c.self.view_is)) (sym (ap (λ (s : DocketState). s.terms.budget) c.self.view_is))
     c.len-count.ensures.count flags
     (record {
-      closed = c.deref-2.ensures.value ∙ c.in_ok-closed.ensures ∙ ap (map (λ (checker : CheckerState). checker.closed)) (c.deref.ensures.value ∙ ap (λ (s : DocketState). s.checkers) c.self.view_is);
-      ranked = λ number within. ap (λ (flags : List Bool). flag_at flags number) c.deref-3.ensures.value ∙ c.in_ok-ranked.ensures number within
+      closed = c.deref-3.ensures.value ∙ c.in_ok-closed.ensures ∙ ap (map (λ (checker : CheckerState). checker.closed)) (c.deref.ensures.value ∙ ap (λ (s : DocketState). s.checkers) c.self.view_is);
+      ranked = λ number within. ap (λ (flags : List Bool). flag_at flags number) c.deref-4.ensures.value ∙ c.in_ok-ranked.ensures number within
           ∙ ap (list_any (λ (r : RankedLine). eqb r.number number)) c.as_slice.ensures;
-      unsettled = λ number within. ap (λ (flags : List Bool). flag_at flags number) c.deref-4.ensures.value ∙ c.in_ok-unsettled.ensures number within
+      part_ranked = said_of_ranked c.subsets_stand_before_their_supersets.ensures.before (after_round docket c.args.read.now) docket.log c.args.self.now keeps c.self.inside.table
+          (sym (ap (λ (s : DocketState). s.table) c.self.view_is)) c.deref-2.result.now c.in_ok-part_ranked.part_ranked.items
+          (c.in_ok-part_ranked.ensures c.self.inside.table.hypotheses c.self.invariant.1) c.deref-4.result.now c.deref-5.result.now (c.deref-2.ensures.value ∙ sym c.deref-4.ensures.value) c.deref-5.ensures.value;
+      unsettled = λ number within. ap (λ (flags : List Bool). flag_at flags number) c.deref-6.ensures.value ∙ c.in_ok-unsettled.ensures number within
           ∙ ap (list_any (λ (named : NamedSet). eqb named.number number)) c.as_slice-2.ensures;
-      parts = λ number within. ap (λ (indexes : List (Option ℕ)). get_or indexes number None) c.deref-5.ensures.value ∙ c.in_ok-parts.ensures number within
+      parts = λ number within. ap (λ (indexes : List (Option ℕ)). get_or indexes number None) c.deref-7.ensures.value ∙ c.in_ok-parts.ensures number within
           ∙ ap (λ (parts : List Part). part_index parts number) c.as_slice-3.ensures;
     })) same_log

@@ -1,8 +1,7 @@
 -- Each hypothesis so far has a status.
-use Rattle.std.proofs.Common.{◌<◌, ℕ, slice_get}
-use Rattle.std.specs.Option.{IsSomeAnd}
+use Rattle.std.proofs.Common.{◌<◌, ℕ}
 use Rattle.tfpg_check.specs.inside.Named.{HasStatusHeard}
 use Rattle.tfpg_check.proofs.round.statuses.each_has_status.Given as goal
 
 abbrev pub invariant-loop-number : goal.invariant-loop-number
-invariant-loop-number l = (other : ℕ) → other < l.number → IsSomeAnd (slice_get l.hearing.table.now.hypotheses other) (HasStatusHeard l.hearing other)
+invariant-loop-number l = (other : ℕ) → other < l.number → HasStatusHeard l.hearing other

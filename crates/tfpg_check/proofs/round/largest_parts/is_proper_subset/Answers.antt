@@ -1,7 +1,7 @@
 use Rattle.std.proofs.Common.{arith}
 use Rattle.std.proofs.lemmas.Bool.{ltb-true}
 use Rattle.tfpg_check.proofs.judging.SetTests.{proper_exactly}
-use Rattle.tfpg_check.proofs.round.ranked_parts.is_proper_subset.Goals as goal
+use Rattle.tfpg_check.proofs.round.largest_parts.is_proper_subset.Goals as goal
 
 pub returns-then-count-limit : goal.returns-then-count-limit
 returns-then-count-limit c =

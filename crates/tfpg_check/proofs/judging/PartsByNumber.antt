@@ -1,0 +1,206 @@
+-- Proper parts of hypotheses by their numbers, and of which hypotheses the flag of a proper part is up.
+use Rattle.std.proofs.Common.{◌≡◌, ◌↔◌, ◌<◌, ◌≤◌, ◌+◌, ◌||◌, ◌∷◌, ◌++◌, ◌⊎◌, ℕ, List, Bool, Some, [], length, false, slice_get, inl, inr, sym, ap, subst, ⊎_elim, arith, ◌∙◌, length-append}
+use Rattle.std.specs.List.{Contains, list_any}
+use Rattle.std.specs.Prelude.{IsTrue, option_map}
+use Rattle.std.proofs.lemmas.Bool.{or_cases, or_left, or_right}
+use Rattle.std.proofs.lemmas.List.Elements.{All-contains, All-push, All-nil, All-weaker, Contains-append_left, Contains-append_right}
+use Rattle.std.proofs.lemmas.Option.{same_Some}
+use Rattle.tfpg_base.specs.Hypothesis.{Hypothesis, IsProperPart}
+use Rattle.tfpg_base.specs.Set.{IsSubset, IsProperSubset}
+use Rattle.tfpg_base.proofs.lists.Elements.{Contains-at, Contains-head, list_any-found, list_any-passes, slice_get-there}
+use Rattle.tfpg_base.proofs.lists.Written.{each_get_or-push, slice_get-append_some, slice_get-push_cases}
+use Rattle.tfpg_check.specs.inside.Hearings.{flag_at}
+use Rattle.tfpg_check.specs.inside.LargestParts.{IsPartAmong, IsPartOfOne, AreLargestFrom, AreLargestBelow, ListsLargestParts, ArePartsBefore, HasFlaggedPart, SayFlaggedParts}
+use Rattle.tfpg_check.proofs.judging.SetTests.{part_by_doubts, part_by_set}
+
+-- ---- whether one is a proper part
+
+module _ (hypotheses : List Hypothesis) (number : ℕ) (hypothesis : Hypothesis) (at : slice_get hypotheses number ≡ Some hypothesis) where
+  set_is : (set : List ℕ) → option_map (λ (h : Hypothesis). h.set) (slice_get hypotheses number) ≡ Some set → hypothesis.set ≡ set
+  set_is set is = same_Some hypothesis.set set (ap (option_map (λ (h : Hypothesis). h.set)) (sym at) ∙ is)
+
+  doubts_are : (doubts : List ℕ) → option_map (λ (h : Hypothesis). h.doubts) (slice_get hypotheses number) ≡ Some doubts → hypothesis.doubts ≡ doubts
+  doubts_are doubts are = same_Some hypothesis.doubts doubts (ap (option_map (λ (h : Hypothesis). h.doubts)) (sym at) ∙ are)
+
+module _ (hypotheses : List Hypothesis) (part whole : ℕ) (set of : List ℕ) (in_part : part < length hypotheses) (in_whole : whole < length hypotheses)
+    (set_read : option_map (λ (h : Hypothesis). h.set) (slice_get hypotheses part) ≡ Some set)
+    (of_read : option_map (λ (h : Hypothesis). h.set) (slice_get hypotheses whole) ≡ Some of) where
+  less : (h : Hypothesis) × (slice_get hypotheses part ≡ Some h)
+  less = slice_get-there hypotheses part in_part
+
+  more : (h : Hypothesis) × (slice_get hypotheses whole ≡ Some h)
+  more = slice_get-there hypotheses whole in_whole
+
+  among : (test : Bool) → IsTrue test ↔ IsProperPart less.0 more.0 → IsTrue test ↔ IsPartAmong hypotheses part whole
+  among test exact = (
+    λ up. record { less = less.0; less_at = less.1; more = more.0; more_at = more.1; proper = exact.0 up },
+    λ is. exact.1
+        (subst (λ (h : Hypothesis). IsProperPart h more.0) (same_Some is.less less.0 (sym is.less_at ∙ less.1))
+        (subst (λ (h : Hypothesis). IsProperPart is.less h) (same_Some is.more more.0 (sym is.more_at ∙ more.1)) is.proper)),
+  )
+
+  same_set : less.0.set ≡ set
+  same_set = set_is hypotheses part less.0 less.1 set set_read
+
+  same_of : more.0.set ≡ of
+  same_of = set_is hypotheses whole more.0 more.1 of of_read
+
+  differ : (set ≡ of → ⊥) → less.0.set ≡ more.0.set → ⊥
+  differ not same = not (sym same_set ∙ same ∙ same_of)
+
+  module _ (doubts others : List ℕ) (doubts_read : option_map (λ (h : Hypothesis). h.doubts) (slice_get hypotheses part) ≡ Some doubts)
+      (others_read : option_map (λ (h : Hypothesis). h.doubts) (slice_get hypotheses whole) ≡ Some others) (test : Bool) where
+    same_doubts : less.0.doubts ≡ doubts
+    same_doubts = doubts_are hypotheses part less.0 less.1 doubts doubts_read
+
+    same_others : more.0.doubts ≡ others
+    same_others = doubts_are hypotheses whole more.0 more.1 others others_read
+
+    -- on the same failure modes by the doubts,
+    pub among_by_doubts : set ≡ of → IsTrue test ↔ IsProperSubset doubts others → IsTrue test ↔ IsPartAmong hypotheses part whole
+    among_by_doubts same exact =
+        among test
+        (part_by_doubts test less.0 more.0 (same_set ∙ same ∙ sym same_of)
+        (subst (λ (ds : List ℕ). IsTrue test ↔ IsProperSubset ds more.0.doubts) (sym same_doubts)
+        (subst (λ (ds : List ℕ). IsTrue test ↔ IsProperSubset doubts ds) (sym same_others) exact)))
+
+    -- and on fewer by the doubts too,
+    pub among_by_sets : (set ≡ of → ⊥) → IsProperSubset set of → IsTrue test ↔ IsSubset doubts others → IsTrue test ↔ IsPartAmong hypotheses part whole
+    among_by_sets not fewer exact =
+        let sets : IsProperSubset less.0.set more.0.set =
+        subst (λ (s : List ℕ). IsProperSubset s more.0.set) (sym same_set) (subst (λ (s : List ℕ). IsProperSubset set s) (sym same_of) fewer) in
+        let subset : IsTrue test ↔ IsSubset less.0.doubts more.0.doubts =
+        subst (λ (ds : List ℕ). IsTrue test ↔ IsSubset ds more.0.doubts) (sym same_doubts) (subst (λ (ds : List ℕ). IsTrue test ↔ IsSubset doubts ds) (sym same_others) exact) in
+        among test (part_by_set test less.0 more.0 (differ not) (λ up. (sets, subset.0 up), λ both. subset.1 both.1))
+
+  -- and on others it is none.
+  pub not_among : (test : Bool) → (IsTrue test → ⊥) → (set ≡ of → ⊥) → (IsProperSubset set of → ⊥) → IsTrue test ↔ IsPartAmong hypotheses part whole
+  not_among test down not none =
+      among test
+      (part_by_set test less.0 more.0 (differ not) (
+        λ up. absurd (down up),
+        λ both. absurd
+            (none (subst (λ (s : List ℕ). IsProperSubset s of) same_set (subst (λ (s : List ℕ). IsProperSubset less.0.set s) same_of both.0))),
+      ))
+
+-- ---- the largest ones
+
+module _ (hypotheses : List Hypothesis) (whole : ℕ) where
+  pub largest_none : AreLargestFrom hypotheses whole whole []
+  largest_none = record {
+    before = All-nil (λ part. part < whole);
+    proper = All-nil (λ part. IsPartAmong hypotheses part whole);
+    largest = λ part from below is. absurd (omega (arith, from, below));
+  }
+
+module _ (hypotheses : List Hypothesis) (whole number : ℕ) (parts : List ℕ) (are : AreLargestFrom hypotheses whole (number + 1) parts) where
+  -- One that is no proper part, or one of another one, is passed over;
+  pub largest_over : (IsPartAmong hypotheses number whole → IsPartOfOne hypotheses number parts) → AreLargestFrom hypotheses whole number parts
+  largest_over passed = record {
+    before = are.before;
+    proper = are.proper;
+    largest = λ part from below is. ⊎_elim
+        (λ same. inr (subst (λ (n : ℕ). IsPartOfOne hypotheses n parts) same (passed (subst (λ (n : ℕ). IsPartAmong hypotheses n whole) (sym same) is))))
+        (λ later. are.largest part (omega (arith, later)) below is)
+        (first_or_later part from);
+  }
+    where
+      first_or_later : (part : ℕ) → number ≤ part → (number ≡ part) ⊎ (number < part)
+      first_or_later part from = grind arith
+
+  -- else it is one of the largest.
+  pub largest_more : (more : List ℕ) → number < whole → IsPartAmong hypotheses number whole → more ≡ parts ++ number ∷ [] → AreLargestFrom hypotheses whole number more
+  largest_more more below is same =
+      subst (AreLargestFrom hypotheses whole number) (sym same)
+      (record {
+        before = All-push (λ part. part < whole) parts number are.before below;
+        proper = All-push (λ part. IsPartAmong hypotheses part whole) parts number are.proper is;
+        largest = λ part from under part_is. ⊎_elim
+            (λ here. inl (subst (Contains (parts ++ number ∷ [])) here (Contains-append_right parts (number ∷ []) number (Contains-head number []))))
+            (λ later. ⊎_elim
+            (λ has. inl (Contains-append_left parts (number ∷ []) part has))
+            (λ within. inr (within.0, within.1, slice_get-append_some parts (number ∷ []) within.0 within.1 within.2, within.3))
+            (are.largest part (omega (arith, later)) under part_is))
+            (first_or_later part from);
+      })
+    where
+      first_or_later : (part : ℕ) → number ≤ part → (number ≡ part) ⊎ (number < part)
+      first_or_later part from = grind arith
+
+-- those of one hypothesis more
+pub rows_more : (hypotheses : List Hypothesis) (count : ℕ) (rows longer : List (List ℕ)) (parts : List ℕ) → AreLargestBelow hypotheses count rows → AreLargestFrom hypotheses count 0 parts
+    → longer ≡ rows ++ parts ∷ [] → AreLargestBelow hypotheses (count + 1) longer
+rows_more hypotheses count rows longer parts are next same = record {
+  one_each = ap length same ∙ length-append rows (parts ∷ []) ∙ ap (λ (n : ℕ). n + 1) are.one_each;
+  exact = λ whole row at. ⊎_elim
+      (λ old. are.exact whole row old)
+      (λ last. subst (AreLargestFrom hypotheses whole 0) last.1 (subst (λ (n : ℕ). AreLargestFrom hypotheses n 0 parts) (sym (last.0 ∙ are.one_each)) next))
+      (slice_get-push_cases rows parts whole row (ap (λ (rs : List (List ℕ)). slice_get rs whole) (sym same) ∙ at));
+}
+
+-- ---- of which hypotheses the flag of a proper part is up
+
+module _ (hypotheses : List Hypothesis) (before : ArePartsBefore hypotheses) where
+  -- a proper part of a proper part is a proper part, since the hypotheses stand in the table in order
+  deeper : (least middle greatest : ℕ) → IsPartAmong hypotheses least middle → IsPartAmong hypotheses middle greatest → IsPartAmong hypotheses least greatest
+  deeper least middle greatest first second = record {
+    less = first.less;
+    less_at = first.less_at;
+    more = second.more;
+    more_at = second.more_at;
+    proper = record {
+      set = All-weaker (Contains second.less.set) (Contains second.more.set) (λ key has. All-contains (Contains second.more.set) second.less.set key second.proper.set has) first.less.set
+          (subst (λ (h : Hypothesis). IsSubset first.less.set h.set) same first.proper.set);
+      doubts = All-weaker (Contains second.less.doubts) (Contains second.more.doubts) (λ key has. All-contains (Contains second.more.doubts) second.less.doubts key second.proper.doubts has) first.less.doubts
+          (subst (λ (h : Hypothesis). IsSubset first.less.doubts h.doubts) same first.proper.doubts);
+      proper = λ equal. omega (arith, before least middle first, before middle least (back equal));
+    };
+  }
+    where
+      same : first.more ≡ second.less
+      same = same_Some first.more second.less (sym first.more_at ∙ second.less_at)
+
+      back : first.less ≡ second.more → IsPartAmong hypotheses middle least
+      back equal = record {
+        less = second.less;
+        less_at = second.less_at;
+        more = first.less;
+        more_at = first.less_at;
+        proper = subst (IsProperPart second.less) (sym equal) second.proper;
+      }
+
+  module _ (rows : List (List ℕ)) (lists : ListsLargestParts hypotheses rows) (flags said : List Bool) (whole : ℕ) (row : List ℕ) (at : slice_get rows whole ≡ Some row)
+      (each : SayFlaggedParts hypotheses flags whole said) where
+    abbrev pub is_up_at : ℕ → Bool
+    is_up_at number = flag_at flags number || flag_at said number
+
+    are : AreLargestFrom hypotheses whole 0 row
+    are = lists.exact whole row at
+
+    by_part : (part : ℕ) → Contains row part → (IsTrue (flag_at flags part)) ⊎ (IsTrue (flag_at said part)) → HasFlaggedPart hypotheses flags whole
+    by_part part has up =
+        let is = All-contains (λ (n : ℕ). IsPartAmong hypotheses n whole) row part are.proper has in
+        ⊎_elim
+        (λ own. (part, is, own))
+        (λ within. (let found = (each part (All-contains (λ (n : ℕ). n < whole) row part are.before has)).0 within in
+        (found.0, deeper found.0 part whole found.1 is, found.2)))
+        up
+
+    flagged_by : IsTrue (list_any is_up_at row) → HasFlaggedPart hypotheses flags whole
+    flagged_by any = let found = list_any-found is_up_at row any in
+        by_part found.0 found.1 (or_cases (flag_at flags found.0) (flag_at said found.0) found.2)
+
+    flagged_from : HasFlaggedPart hypotheses flags whole → IsTrue (list_any is_up_at row)
+    flagged_from has = ⊎_elim
+        (λ own. list_any-passes is_up_at row has.0 own (or_left (flag_at flags has.0) (flag_at said has.0) has.2))
+        (λ within. (let between = Contains-at row within.0 within.1 within.2 in
+        list_any-passes is_up_at row within.1 between
+        (or_right (flag_at flags within.1) (flag_at said within.1)
+        ((each within.1 (All-contains (λ (n : ℕ). n < whole) row within.1 are.before between)).1 (has.0, within.3, has.2)))))
+        (are.largest has.0 (omega arith) (before has.0 whole has.1) has.1)
+
+    -- the flag of one hypothesis more
+    pub flagged_more : (more : List Bool) (is_up : Bool) → length said ≡ whole → is_up ≡ list_any is_up_at row → more ≡ said ++ is_up ∷ [] → SayFlaggedParts hypotheses flags (whole + 1) more
+    flagged_more more is_up count is same =
+        each_get_or-push false (λ number flag. IsTrue flag ↔ HasFlaggedPart hypotheses flags number) said more is_up whole same count each
+        (λ up. flagged_by (sym is ∙ up), λ has. is ∙ flagged_from has)
