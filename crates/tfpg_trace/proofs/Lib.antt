@@ -18,3 +18,4 @@ pub mod EventsDecided
 pub mod SomeVerdict
 pub mod NodeTimes
 pub mod ShownByNode
+pub mod TimesFilled

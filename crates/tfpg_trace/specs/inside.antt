@@ -5,3 +5,4 @@ pub mod Gaps
 pub mod RuleFaults
 pub mod Shown
 pub mod Strays
+pub mod TimesByNode

@@ -4,7 +4,7 @@ ghost use Rattle.std.specs.Prelude.{◌+◌, ◌<◌, ◌≤◌, ◌↔◌, leng
 ghost use Rattle.tfpg_log.specs.Log.{now_of};
 ghost use Rattle.tfpg_log.specs.Rules.{HasAge};
 
-use tfpg_base::Trace;
+use crate::trace_table::TraceTable;
 use tfpg_graph::Graph;
 use tfpg_log::Log;
 
@@ -13,7 +13,7 @@ use tfpg_log::Log;
 pub(crate) fn has_age(
     graph: &Graph,
     log: &Log,
-    trace: &Trace,
+    trace: &TraceTable<'_>,
     edge: u32,
     instant: u64,
     age: u64,

@@ -3,12 +3,12 @@
 ghost use Rattle.std.specs.Prelude.{◌<◌, ◌↔◌, length, IsTrue};
 ghost use Rattle.tfpg_log.specs.Explains.{IsActivatedIn, ShowsAlarm};
 
-use tfpg_base::Trace;
+use crate::trace_table::TraceTable;
 use tfpg_graph::Graph;
 use tfpg_log::{Interval, Log};
 
 /// Whether the node is monitored and became active at one of the instants that its alarm at this time leaves.
-pub(crate) fn shows_alarm(graph: &Graph, log: &Log, trace: &Trace, node: u32, time: u64) -> bool
+pub(crate) fn shows_alarm(graph: &Graph, log: &Log, trace: &TraceTable<'_>, node: u32, time: u64) -> bool
     requires { node < length graph.now.nodes }
     ensures { IsTrue result ↔ ShowsAlarm graph.now log.now trace.now node time }
 {
@@ -22,7 +22,7 @@ pub(crate) fn shows_alarm(graph: &Graph, log: &Log, trace: &Trace, node: u32, ti
 }
 
 /// Whether the node became active at one of the instants.
-fn is_activated_in(trace: &Trace, node: u32, interval: Interval) -> bool
+fn is_activated_in(trace: &TraceTable<'_>, node: u32, interval: Interval) -> bool
     ensures { IsTrue result ↔ IsActivatedIn trace.now node interval }
 {
     match trace.at(node) {

@@ -8,13 +8,13 @@ ghost use Rattle.tfpg_trace.specs.inside.Shown.{IsAlarmTime, IsQuietUpto, AreAla
 
 use crate::alarms::shows_alarm;
 use crate::silences::is_active;
-use tfpg_base::Trace;
+use crate::trace_table::TraceTable;
 use tfpg_graph::Graph;
 use tfpg_log::Log;
 
 /// Whether the trace shows each event of the log. Goes through the nodes, with a few look-ups in the trace at each, and not
 /// through the events.
-pub(crate) fn shows_all(graph: &Graph, log: &Log, trace: &Trace) -> bool
+pub(crate) fn shows_all(graph: &Graph, log: &Log, trace: &TraceTable<'_>) -> bool
     requires { IsLogOf graph.now log.now }
     ensures { IsTrue result ↔ ShowsAll graph.now log.now trace.now }
 {
@@ -27,7 +27,7 @@ pub(crate) fn shows_all(graph: &Graph, log: &Log, trace: &Trace) -> bool
 }
 
 /// Whether the trace shows each alarm and each silence of the node.
-fn shows_node(graph: &Graph, log: &Log, trace: &Trace, node: u32) -> bool
+fn shows_node(graph: &Graph, log: &Log, trace: &TraceTable<'_>, node: u32) -> bool
     requires { node < length graph.now.nodes }
     ensures { IsTrue result ↔ ShowsNode graph.now log.now trace.now node }
 {
@@ -35,7 +35,7 @@ fn shows_node(graph: &Graph, log: &Log, trace: &Trace, node: u32) -> bool
 }
 
 /// Whether the trace shows each alarm of the node: its first and its last.
-fn shows_alarms(graph: &Graph, log: &Log, trace: &Trace, node: u32) -> bool
+fn shows_alarms(graph: &Graph, log: &Log, trace: &TraceTable<'_>, node: u32) -> bool
     requires { node < length graph.now.nodes }
     ensures { IsTrue result ↔ ShowsAlarmsOf graph.now log.now trace.now node }
 {
@@ -61,7 +61,7 @@ fn alarm_times(log: &Log, node: u32) -> Option<(u64, u64)>
 }
 
 /// Whether the trace shows each silence of the node, its own or that of a sweep: the last.
-fn shows_silences(graph: &Graph, log: &Log, trace: &Trace, node: u32) -> bool
+fn shows_silences(graph: &Graph, log: &Log, trace: &TraceTable<'_>, node: u32) -> bool
     ensures { IsTrue result ↔ ShowsSilencesOf graph.now log.now trace.now node }
 {
     match quiet_longest(graph, log, node) {

@@ -8,7 +8,8 @@ ghost use Rattle.tfpg_log.specs.Spans.{span_at};
 ghost use Rattle.tfpg_trace.specs.inside.Due.{Begins, IsDueBy, SomeDue, AllDue, MustBeActive};
 ghost use Rattle.tfpg_trace.specs.inside.Gaps.{IsGapOf, HasGaps, StartsSpan, after_gap};
 
-use tfpg_base::{Trace, earlier};
+use crate::trace_table::TraceTable;
+use tfpg_base::earlier;
 use tfpg_graph::{Graph, Kind};
 use tfpg_log::Span;
 
@@ -23,7 +24,7 @@ pub(crate) struct SpanStart<'a> {
 
 /// The first instant of the span at which the node must be active, where there is one: it must be so from then on to the
 /// end of the span. Goes through the edges into the node.
-pub(crate) fn due_in_span(graph: &Graph, trace: &Trace, start: &SpanStart<'_>) -> Option<u64>
+pub(crate) fn due_in_span(graph: &Graph, trace: &TraceTable<'_>, start: &SpanStart<'_>) -> Option<u64>
     requires { HasGaps graph.now start.now.node start.now.gaps.now }
     ensures { (log : Logbook) (number : ℕ) →
         StartsSpan graph.now log start.now.node number start.now.span start.now.gaps.now →
@@ -38,7 +39,7 @@ pub(crate) fn due_in_span(graph: &Graph, trace: &Trace, start: &SpanStart<'_>) -
 }
 
 /// The first instant of the span at which some edge into the node is due: the least of those of its edges.
-fn due_by_some(graph: &Graph, trace: &Trace, start: &SpanStart<'_>) -> Option<u64>
+fn due_by_some(graph: &Graph, trace: &TraceTable<'_>, start: &SpanStart<'_>) -> Option<u64>
     requires { HasGaps graph.now start.now.node start.now.gaps.now }
     ensures { (log : Logbook) (number : ℕ) →
         StartsSpan graph.now log start.now.node number start.now.span start.now.gaps.now →
@@ -57,7 +58,7 @@ fn due_by_some(graph: &Graph, trace: &Trace, start: &SpanStart<'_>) -> Option<u6
 
 /// The first instant of the span at which all edges into the node are due: the greatest of those of its edges, and that
 /// of the span where it has none.
-fn due_by_all(graph: &Graph, trace: &Trace, start: &SpanStart<'_>) -> Option<u64>
+fn due_by_all(graph: &Graph, trace: &TraceTable<'_>, start: &SpanStart<'_>) -> Option<u64>
     requires { HasGaps graph.now start.now.node start.now.gaps.now }
     ensures { (log : Logbook) (number : ℕ) →
         StartsSpan graph.now log start.now.node number start.now.span start.now.gaps.now →
@@ -74,7 +75,7 @@ fn due_by_all(graph: &Graph, trace: &Trace, start: &SpanStart<'_>) -> Option<u64
 
 /// The first instant of the span at which the edge is due: its greatest delay after the later of two, the instant after
 /// its gap and the time of its source.
-fn due_by_edge(graph: &Graph, trace: &Trace, edge: u32, span: Span, gap: Option<u64>) -> Option<u64>
+fn due_by_edge(graph: &Graph, trace: &TraceTable<'_>, edge: u32, span: Span, gap: Option<u64>) -> Option<u64>
     requires { edge < length graph.now.edges }
     ensures { (log : Logbook) (number : ℕ) → span_at log number (now_of log) ≡ Some span →
         IsGapOf graph.now log edge number gap →

@@ -9,6 +9,7 @@ use crate::Verdict;
 use crate::rules::broken_rule;
 use crate::shows::first_not_shown;
 use crate::strays::{first_late, first_stranger};
+use crate::trace_table::TraceTable;
 use tfpg_base::{Set, Trace};
 use tfpg_graph::Graph;
 use tfpg_log::Log;
@@ -25,12 +26,14 @@ pub fn explains(graph: &Graph, log: &Log, set: Set, trace: &Trace) -> Verdict
     ensures verdict { IsVerdict graph.now log.now set trace.now result }
     ensures yes { Explains graph.now log.now set trace.now → result ≡ Verdict.Yes }
 {
+    graph.is_always_valid();
+    let table = TraceTable::of(trace);
     // Apart, so that the clause `yes` follows from what is said alone.
-    first_fault(graph, log, set, trace)
+    first_fault(graph, log, set, &table)
 }
 
 /// The first fault of the trace, or that it has none.
-fn first_fault(graph: &Graph, log: &Log, set: Set, trace: &Trace) -> Verdict
+fn first_fault(graph: &Graph, log: &Log, set: Set, trace: &TraceTable<'_>) -> Verdict
     requires of { IsLogOf graph.now log.now }
     requires nodes { All (λ activation. activation.node < length graph.now.nodes) trace.now }
     ensures { IsVerdict graph.now log.now set trace.now result }

@@ -28,6 +28,7 @@ mod rules;
 mod shows;
 mod silences;
 mod strays;
+mod trace_table;
 mod verdict;
 
 pub use judge::explains;

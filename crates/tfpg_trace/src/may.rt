@@ -6,13 +6,13 @@ ghost use Rattle.tfpg_log.specs.Log.{now_of};
 ghost use Rattle.tfpg_log.specs.Rules.{HasAge, KeepsMay, SomeArrives, AllArrive};
 
 use crate::ages::has_age;
-use tfpg_base::Trace;
+use crate::trace_table::TraceTable;
 use tfpg_graph::{Graph, Kind};
 use tfpg_log::Log;
 
 /// Whether the node keeps the may rule where it becomes active. Goes through the edges into it, and for each through the
 /// spans of its window.
-pub(crate) fn keeps_may(graph: &Graph, log: &Log, trace: &Trace, node: u32, time: u64) -> bool
+pub(crate) fn keeps_may(graph: &Graph, log: &Log, trace: &TraceTable<'_>, node: u32, time: u64) -> bool
     requires node { node < length graph.now.nodes }
     requires at { time_of trace.now node ≡ Some time }
     requires by_now { time ≤ now_of log.now }
@@ -26,7 +26,7 @@ pub(crate) fn keeps_may(graph: &Graph, log: &Log, trace: &Trace, node: u32, time
 }
 
 /// Whether some edge into the node has carried the failure for its least delay.
-fn some_arrives(graph: &Graph, log: &Log, trace: &Trace, node: u32, time: u64) -> bool
+fn some_arrives(graph: &Graph, log: &Log, trace: &TraceTable<'_>, node: u32, time: u64) -> bool
     requires node { node < length graph.now.nodes }
     requires by_now { time ≤ now_of log.now }
     ensures { IsTrue result ↔ SomeArrives graph.now log.now trace.now node time }
@@ -41,7 +41,7 @@ fn some_arrives(graph: &Graph, log: &Log, trace: &Trace, node: u32, time: u64) -
 }
 
 /// Whether each edge into the node has carried the failure for its least delay.
-fn all_arrive(graph: &Graph, log: &Log, trace: &Trace, node: u32, time: u64) -> bool
+fn all_arrive(graph: &Graph, log: &Log, trace: &TraceTable<'_>, node: u32, time: u64) -> bool
     requires node { node < length graph.now.nodes }
     requires by_now { time ≤ now_of log.now }
     ensures { IsTrue result ↔ AllArrive graph.now log.now trace.now node time }
@@ -56,7 +56,7 @@ fn all_arrive(graph: &Graph, log: &Log, trace: &Trace, node: u32, time: u64) -> 
 }
 
 /// Whether the edge has carried the failure for its least delay.
-fn has_carried(graph: &Graph, log: &Log, trace: &Trace, edge: u32, time: u64) -> bool
+fn has_carried(graph: &Graph, log: &Log, trace: &TraceTable<'_>, edge: u32, time: u64) -> bool
     requires edge { edge < length graph.now.edges }
     requires by_now { time ≤ now_of log.now }
     ensures { IsTrue result ↔ IsSomeAnd (slice_get graph.now.edges edge)

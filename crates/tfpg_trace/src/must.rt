@@ -11,14 +11,14 @@ ghost use Rattle.tfpg_trace.specs.inside.FirstFaultIn.{IsFirstFaultIn};
 use crate::due::{SpanStart, due_in_span};
 use crate::gaps::pass_span;
 use crate::silences::is_active;
-use tfpg_base::Trace;
+use crate::trace_table::TraceTable;
 use tfpg_graph::{Graph, MAX_INCOMING};
 use tfpg_log::Log;
 
 /// The first instant up to now, in milliseconds, at which the node breaks the must rule, where there is one. Takes no
 /// memory. Goes once through the spans up to the node's own time, or up to now where it has none, and in each through the
 /// edges into the node, with one look-up in the trace for each.
-pub(crate) fn first_must_fault(graph: &Graph, log: &Log, trace: &Trace, node: u32) -> Option<u64>
+pub(crate) fn first_must_fault(graph: &Graph, log: &Log, trace: &TraceTable<'_>, node: u32) -> Option<u64>
     requires { node < length graph.now.nodes }
     ensures { IsFirstMustFault graph.now log.now trace.now node result }
 {
@@ -35,7 +35,7 @@ pub(crate) fn first_must_fault(graph: &Graph, log: &Log, trace: &Trace, node: u3
 }
 
 /// An instant after which the node is active up to now: its own time, or now where it has no time by then.
-fn last_to_try(log: &Log, trace: &Trace, node: u32) -> u64
+fn last_to_try(log: &Log, trace: &TraceTable<'_>, node: u32) -> u64
     ensures by_now { result ≤ now_of log.now }
     ensures rest { (instant : ℕ) → result < instant → instant ≤ now_of log.now →
         IsActive trace.now node instant }
@@ -52,7 +52,7 @@ fn last_to_try(log: &Log, trace: &Trace, node: u32) -> u64
 fn fault_at(
     graph: &Graph,
     log: &Log,
-    trace: &Trace,
+    trace: &TraceTable<'_>,
     node: u32,
     number: u32,
     gaps: &mut [Option<u64>],
@@ -71,7 +71,7 @@ fn fault_at(
 }
 
 /// The first instant of the span at which the node breaks the must rule, where there is one.
-fn fault_in_span(graph: &Graph, trace: &Trace, start: &SpanStart<'_>) -> Option<u64>
+fn fault_in_span(graph: &Graph, trace: &TraceTable<'_>, start: &SpanStart<'_>) -> Option<u64>
     requires { HasGaps graph.now start.now.node start.now.gaps.now }
     ensures { (log : Logbook) (number : ℕ) →
         StartsSpan graph.now log start.now.node number start.now.span start.now.gaps.now →

@@ -9,13 +9,13 @@ ghost use Rattle.tfpg_trace.specs.inside.RuleFaults.{IsBroken, IsFirstNodeBroken
 use crate::Verdict;
 use crate::may::keeps_may;
 use crate::must::first_must_fault;
-use tfpg_base::Trace;
+use crate::trace_table::TraceTable;
 use tfpg_graph::Graph;
 use tfpg_log::Log;
 
 /// What is said of the first node that breaks a rule. Goes through the nodes: at each, for the may rule, through the edges
 /// into it and one window of each, and for the must rule through the spans, and in each through these edges.
-pub(crate) fn broken_rule(graph: &Graph, log: &Log, trace: &Trace) -> Option<Verdict>
+pub(crate) fn broken_rule(graph: &Graph, log: &Log, trace: &TraceTable<'_>) -> Option<Verdict>
     ensures { MatchOption result
         (KeepRulesBefore graph.now log.now trace.now (length graph.now.nodes))
         (IsFirstNodeBroken graph.now log.now trace.now) }
@@ -29,7 +29,7 @@ pub(crate) fn broken_rule(graph: &Graph, log: &Log, trace: &Trace) -> Option<Ver
 }
 
 /// What is said of the node, where it breaks a rule: the may rule, or else the must rule alone.
-fn broken_at(graph: &Graph, log: &Log, trace: &Trace, node: u32) -> Option<Verdict>
+fn broken_at(graph: &Graph, log: &Log, trace: &TraceTable<'_>, node: u32) -> Option<Verdict>
     requires { node < length graph.now.nodes }
     ensures { MatchOption result
         (KeepsRulesOf graph.now log.now trace.now node)
@@ -43,7 +43,7 @@ fn broken_at(graph: &Graph, log: &Log, trace: &Trace, node: u32) -> Option<Verdi
 }
 
 /// The time of the node, where it breaks the may rule at it.
-fn may_fault(graph: &Graph, log: &Log, trace: &Trace, node: u32) -> Option<u64>
+fn may_fault(graph: &Graph, log: &Log, trace: &TraceTable<'_>, node: u32) -> Option<u64>
     requires { node < length graph.now.nodes }
     ensures { MatchOption result
         ((instant : ℕ) → instant ≤ now_of log.now → KeepsMay graph.now log.now trace.now node instant)

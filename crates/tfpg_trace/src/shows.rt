@@ -9,13 +9,13 @@ use crate::Verdict;
 use crate::alarms::shows_alarm;
 use crate::all_shown::shows_all;
 use crate::silences::{first_not_quiet, shows_silence};
-use tfpg_base::Trace;
+use crate::trace_table::TraceTable;
 use tfpg_graph::Graph;
 use tfpg_log::{Event, Log};
 
 /// What is said of the first event that the trace does not show. Goes through the nodes; where it shows all events that is
 /// all, and else it goes through the events, and for each sweep through the nodes.
-pub(crate) fn first_not_shown(graph: &Graph, log: &Log, trace: &Trace) -> Option<Verdict>
+pub(crate) fn first_not_shown(graph: &Graph, log: &Log, trace: &TraceTable<'_>) -> Option<Verdict>
     requires { IsLogOf graph.now log.now }
     ensures { MatchOption result
         (ShowsAll graph.now log.now trace.now)
@@ -34,7 +34,7 @@ pub(crate) fn first_not_shown(graph: &Graph, log: &Log, trace: &Trace) -> Option
 }
 
 /// What is said of the event of this number, where the trace does not show it.
-fn not_shown(graph: &Graph, log: &Log, trace: &Trace, number: u32, event: Event) -> Option<Verdict>
+fn not_shown(graph: &Graph, log: &Log, trace: &TraceTable<'_>, number: u32, event: Event) -> Option<Verdict>
     requires low { 1 ≤ number }
     requires high { number ≤ length log.now.events }
     requires at { event_at log.now number ≡ Some event }

@@ -7,7 +7,7 @@ ghost use Rattle.tfpg_trace.specs.FirstFault.{NoneBefore};
 ghost use Rattle.tfpg_trace.specs.inside.Strays.{IsFirstNode};
 ghost use Rattle.tfpg_trace.specs.inside.Shown.{IsNotQuiet};
 
-use tfpg_base::Trace;
+use crate::trace_table::TraceTable;
 use tfpg_graph::Graph;
 use tfpg_log::Log;
 
@@ -16,7 +16,7 @@ use tfpg_log::Log;
 pub(crate) fn first_not_quiet(
     graph: &Graph,
     log: &Log,
-    trace: &Trace,
+    trace: &TraceTable<'_>,
     number: u32,
 ) -> Option<(u32, u64)>
     ensures { MatchOption result
@@ -33,7 +33,7 @@ pub(crate) fn first_not_quiet(
 }
 
 /// The time of the event of this number, where it is a silence of the node that the trace does not show.
-fn not_quiet_time(graph: &Graph, log: &Log, trace: &Trace, number: u32, node: u32) -> Option<u64>
+fn not_quiet_time(graph: &Graph, log: &Log, trace: &TraceTable<'_>, number: u32, node: u32) -> Option<u64>
     ensures { MatchOption result
         ((time : ℕ) → IsNotQuiet graph.now log.now trace.now number node time → ⊥)
         (IsNotQuiet graph.now log.now trace.now number node) }
@@ -47,7 +47,7 @@ fn not_quiet_time(graph: &Graph, log: &Log, trace: &Trace, number: u32, node: u3
 }
 
 /// Whether the trace shows a silence of the node at this time.
-pub(crate) fn shows_silence(graph: &Graph, log: &Log, trace: &Trace, node: u32, time: u64) -> bool
+pub(crate) fn shows_silence(graph: &Graph, log: &Log, trace: &TraceTable<'_>, node: u32, time: u64) -> bool
     ensures { IsTrue result ↔ ShowsSilence graph.now log.now trace.now node time }
 {
     match log.inactive_until(graph, node, time) {
@@ -57,7 +57,7 @@ pub(crate) fn shows_silence(graph: &Graph, log: &Log, trace: &Trace, node: u32, 
 }
 
 /// Whether the node is active at the instant.
-pub(crate) fn is_active(trace: &Trace, node: u32, instant: u64) -> bool
+pub(crate) fn is_active(trace: &TraceTable<'_>, node: u32, instant: u64) -> bool
     ensures { IsTrue result ↔ IsActive trace.now node instant }
 {
     match trace.at(node) {

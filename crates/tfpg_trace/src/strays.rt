@@ -5,12 +5,13 @@ ghost use Rattle.std.specs.Prelude.{◌<◌, ℕ, ◌↔◌, length, IsTrue, Mat
 ghost use Rattle.tfpg_trace.specs.FirstFault.{NoneBefore, IsLate, IsStranger};
 ghost use Rattle.tfpg_trace.specs.inside.Strays.{IsOutside, IsFirstNode};
 
-use tfpg_base::{Set, Trace};
+use crate::trace_table::TraceTable;
+use tfpg_base::Set;
 use tfpg_graph::Graph;
 use tfpg_log::Log;
 
 /// The first node that the trace makes active after now, and when. Goes through the nodes.
-pub(crate) fn first_late(graph: &Graph, log: &Log, trace: &Trace) -> Option<(u32, u64)>
+pub(crate) fn first_late(graph: &Graph, log: &Log, trace: &TraceTable<'_>) -> Option<(u32, u64)>
     ensures { MatchOption result
         (NoneBefore (IsLate log.now trace.now) (length graph.now.nodes))
         (λ found. IsFirstNode (IsLate log.now trace.now) (length graph.now.nodes) found.0 found.1) }
@@ -24,7 +25,7 @@ pub(crate) fn first_late(graph: &Graph, log: &Log, trace: &Trace) -> Option<(u32
 }
 
 /// The first failure mode that becomes active in the trace and is no member of the set, and when. Goes through the nodes.
-pub(crate) fn first_stranger(graph: &Graph, set: Set, trace: &Trace) -> Option<(u32, u64)>
+pub(crate) fn first_stranger(graph: &Graph, set: Set, trace: &TraceTable<'_>) -> Option<(u32, u64)>
     ensures { MatchOption result
         (NoneBefore (IsStranger graph.now set trace.now) (length graph.now.nodes))
         (λ found. IsFirstNode (IsStranger graph.now set trace.now) (length graph.now.nodes) found.0 found.1) }
@@ -38,7 +39,7 @@ pub(crate) fn first_stranger(graph: &Graph, set: Set, trace: &Trace) -> Option<(
 }
 
 /// The time of the node, where it is after now.
-fn late_time(log: &Log, trace: &Trace, node: u32) -> Option<u64>
+fn late_time(log: &Log, trace: &TraceTable<'_>, node: u32) -> Option<u64>
     ensures { MatchOption result
         ((time : ℕ) → IsLate log.now trace.now node time → ⊥)
         (IsLate log.now trace.now node) }
@@ -48,7 +49,7 @@ fn late_time(log: &Log, trace: &Trace, node: u32) -> Option<u64>
 }
 
 /// The time of the node, where it is a failure mode and no member of the set.
-fn stranger_time(graph: &Graph, set: Set, trace: &Trace, node: u32) -> Option<u64>
+fn stranger_time(graph: &Graph, set: Set, trace: &TraceTable<'_>, node: u32) -> Option<u64>
     requires { node < length graph.now.nodes }
     ensures { MatchOption result
         ((time : ℕ) → IsStranger graph.now set trace.now node time → ⊥)
