@@ -8,7 +8,13 @@ use tfpg_graph::Graph;
 use tfpg_log::{Interval, Log};
 
 /// Whether the node is monitored and became active at one of the instants that its alarm at this time leaves.
-pub(crate) fn shows_alarm(graph: &Graph, log: &Log, trace: &TraceTable<'_>, node: u32, time: u64) -> bool
+pub(crate) fn shows_alarm(
+    graph: &Graph,
+    log: &Log,
+    trace: &TraceTable<'_>,
+    node: u32,
+    time: u64,
+) -> bool
     requires { node < length graph.now.nodes }
     ensures { IsTrue result ↔ ShowsAlarm graph.now log.now trace.now node time }
 {

@@ -24,7 +24,11 @@ pub(crate) struct SpanStart<'a> {
 
 /// The first instant of the span at which the node must be active, where there is one: it must be so from then on to the
 /// end of the span. Goes through the edges into the node.
-pub(crate) fn due_in_span(graph: &Graph, trace: &TraceTable<'_>, start: &SpanStart<'_>) -> Option<u64>
+pub(crate) fn due_in_span(
+    graph: &Graph,
+    trace: &TraceTable<'_>,
+    start: &SpanStart<'_>,
+) -> Option<u64>
     requires { HasGaps graph.now start.now.node start.now.gaps.now }
     ensures { (log : Logbook) (number : ℕ) →
         StartsSpan graph.now log start.now.node number start.now.span start.now.gaps.now →
@@ -75,7 +79,13 @@ fn due_by_all(graph: &Graph, trace: &TraceTable<'_>, start: &SpanStart<'_>) -> O
 
 /// The first instant of the span at which the edge is due: its greatest delay after the later of two, the instant after
 /// its gap and the time of its source.
-fn due_by_edge(graph: &Graph, trace: &TraceTable<'_>, edge: u32, span: Span, gap: Option<u64>) -> Option<u64>
+fn due_by_edge(
+    graph: &Graph,
+    trace: &TraceTable<'_>,
+    edge: u32,
+    span: Span,
+    gap: Option<u64>,
+) -> Option<u64>
     requires { edge < length graph.now.edges }
     ensures { (log : Logbook) (number : ℕ) → span_at log number (now_of log) ≡ Some span →
         IsGapOf graph.now log edge number gap →

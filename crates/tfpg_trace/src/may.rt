@@ -12,7 +12,13 @@ use tfpg_log::Log;
 
 /// Whether the node keeps the may rule where it becomes active. Goes through the edges into it, and for each through the
 /// spans of its window.
-pub(crate) fn keeps_may(graph: &Graph, log: &Log, trace: &TraceTable<'_>, node: u32, time: u64) -> bool
+pub(crate) fn keeps_may(
+    graph: &Graph,
+    log: &Log,
+    trace: &TraceTable<'_>,
+    node: u32,
+    time: u64,
+) -> bool
     requires node { node < length graph.now.nodes }
     requires at { time_of trace.now node ≡ Some time }
     requires by_now { time ≤ now_of log.now }

@@ -34,7 +34,13 @@ pub(crate) fn first_not_shown(graph: &Graph, log: &Log, trace: &TraceTable<'_>) 
 }
 
 /// What is said of the event of this number, where the trace does not show it.
-fn not_shown(graph: &Graph, log: &Log, trace: &TraceTable<'_>, number: u32, event: Event) -> Option<Verdict>
+fn not_shown(
+    graph: &Graph,
+    log: &Log,
+    trace: &TraceTable<'_>,
+    number: u32,
+    event: Event,
+) -> Option<Verdict>
     requires low { 1 ≤ number }
     requires high { number ≤ length log.now.events }
     requires at { event_at log.now number ≡ Some event }

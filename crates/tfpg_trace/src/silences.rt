@@ -33,7 +33,13 @@ pub(crate) fn first_not_quiet(
 }
 
 /// The time of the event of this number, where it is a silence of the node that the trace does not show.
-fn not_quiet_time(graph: &Graph, log: &Log, trace: &TraceTable<'_>, number: u32, node: u32) -> Option<u64>
+fn not_quiet_time(
+    graph: &Graph,
+    log: &Log,
+    trace: &TraceTable<'_>,
+    number: u32,
+    node: u32,
+) -> Option<u64>
     ensures { MatchOption result
         ((time : ℕ) → IsNotQuiet graph.now log.now trace.now number node time → ⊥)
         (IsNotQuiet graph.now log.now trace.now number node) }
@@ -47,7 +53,13 @@ fn not_quiet_time(graph: &Graph, log: &Log, trace: &TraceTable<'_>, number: u32,
 }
 
 /// Whether the trace shows a silence of the node at this time.
-pub(crate) fn shows_silence(graph: &Graph, log: &Log, trace: &TraceTable<'_>, node: u32, time: u64) -> bool
+pub(crate) fn shows_silence(
+    graph: &Graph,
+    log: &Log,
+    trace: &TraceTable<'_>,
+    node: u32,
+    time: u64,
+) -> bool
     ensures { IsTrue result ↔ ShowsSilence graph.now log.now trace.now node time }
 {
     match log.inactive_until(graph, node, time) {

@@ -1,6 +1,7 @@
 -- When a node must be active, and from which instant of a span on.
 use Rattle.std.specs.Prelude.{◌≡◌, ℕ, ◌<◌, ◌≤◌, ◌⊎◌, List, All, Contains, IsTrue, Option, Some, None, slice_get}
 use Rattle.tfpg_base.specs.declared.activation.Activation.{Activation}
+use Rattle.tfpg_base.specs.Trace.{time_of}
 use Rattle.tfpg_graph.specs.declared.edge.Edge.{Edge}
 use Rattle.tfpg_graph.specs.Graph.{Tfpg, is_kind_at, is_or, is_and, edges_into}
 use Rattle.tfpg_log.specs.Log.{Logbook}
@@ -37,3 +38,18 @@ abbrev pub MustBeActive : Tfpg → Logbook → List Activation → ℕ → ℕ �
 MustBeActive graph log trace node instant =
     (IsTrue (is_kind_at is_or graph node) × SomeDue graph log trace node instant)
     ⊎ (IsTrue (is_kind_at is_and graph node) × AllDue graph log trace node instant)
+
+-- The edge can become due at some instant: its greatest delay is finite, and its source becomes active.
+pub record CanBeDue (trace : List Activation) (edge : Edge) : Type 0 where
+  pub delay : ℕ
+  pub finite : edge.tmax ≡ Some delay
+  pub start : ℕ
+  pub source : time_of trace edge.source ≡ Some start
+
+-- some edge into the node can become due
+abbrev pub SomeCanBeDue : Tfpg → List Activation → ℕ → Type 0
+SomeCanBeDue graph trace node = (edge : Edge) × Contains (edges_into graph node) edge × CanBeDue trace edge
+
+-- each edge into the node can become due
+abbrev pub AllCanBeDue : Tfpg → List Activation → ℕ → Type 0
+AllCanBeDue graph trace node = All (CanBeDue trace) (edges_into graph node)

@@ -3,6 +3,7 @@ use Rattle.tfpg_graph.specs.Graph.{incoming}
 use Rattle.tfpg_graph.specs.declared.limits.TheConstants.{MAX_INCOMING}
 use Rattle.tfpg_trace.proofs.GapsOver.{no_gaps}
 use Rattle.tfpg_trace.proofs.FirstMustFaults.{one_span_more, first_of_all, none_at_all}
+use Rattle.tfpg_trace.proofs.MustFaults.{keeps_unless}
 use Rattle.tfpg_trace.proofs.must.first_must_fault.Goals as goal
 
 pub loop-number-init : goal.loop-number-init
@@ -31,3 +32,7 @@ returns-in_default c =
     none_at_all c.args.log.now c.args.graph.now c.args.trace.now c.args.node c.last_to_try.result c.in_ok-last.last (c.loop-number.number + 1)
     c.last_to_try.ensures.by_now c.in_ok-last.ensures c.last_to_try.ensures.rest (omega arith)
     (one_span_more c.args.log.now c.args.graph.now c.args.trace.now c.args.node c.loop-number.number c.loop-number.invariant.keeps c.in_default.ensures.fault)
+
+pub returns-then-not-can_be_due : goal.returns-then-not-can_be_due
+returns-then-not-can_be_due c instant within =
+    keeps_unless c.args.graph.now c.args.log.now c.args.trace.now c.args.node instant (c.can_be_due.ensures c.if-not-can_be_due.true c.args.log.now instant)
