@@ -1,11 +1,12 @@
 -- A trace shows each event exactly where it shows each alarm and each silence of each node; of a node's alarms the first and
 -- the last are enough, and of its silences the last.
-use Rattle.std.proofs.Common.{◌≡◌, ℕ, zero, suc, ◌+◌, ◌-◌, ◌<◌, ◌≤◌, ◌&&◌, List, length, Option, Some, None, IsTrue, refl, sym, ap, ◌∙◌, subst, inl, inr, arith, slice_get}
-use Rattle.std.specs.Prelude.{is_none, IsNone, not, option_and_then}
+use Rattle.std.proofs.Common.{◌≡◌, ℕ, zero, suc, ◌+◌, ◌-◌, ◌<◌, List, length, Some, None, IsTrue, refl, sym, ap, ◌∙◌, subst, inl, inr, arith, slice_get}
+use Rattle.std.specs.Prelude.{is_none, not, option_and_then}
 use Rattle.std.specs.Bool.{then_some}
-use Rattle.std.proofs.lemmas.Bool.{and_from, eq-eqb, cond-true}
+use Rattle.std.proofs.lemmas.Bool.{cases_lt, and_from, eq-eqb, cond-true}
 use Rattle.std.proofs.lemmas.Option.{option_and_then_some}
 use Rattle.tfpg_base.specs.declared.activation.Activation.{Activation}
+use Rattle.tfpg_base.specs.Trace.{time_of}
 use Rattle.tfpg_base.proofs.lists.Elements.{All-at}
 use Rattle.tfpg_base.proofs.lists.Sequences.{below_or_last}
 use Rattle.tfpg_graph.specs.Graph.{Tfpg, lag_or_zero, is_monitored}
@@ -14,7 +15,6 @@ use Rattle.tfpg_log.specs.declared.event.Event.{Event}
 use Rattle.tfpg_log.specs.declared.event.Event.TheVariants.{Alarm, Silent, Sweep, Tick, Mode}
 use Rattle.tfpg_log.specs.declared.interval.Interval.{Interval}
 use Rattle.tfpg_log.specs.Log.{Logbook, IsLogOf, IsEventOf, event_at, first_events, time_of_event, alarm_of, alarm_interval, interval_before, inactive_until, is_silence_of, silence_time, silence_at}
-use Rattle.tfpg_log.specs.Rules.{IsActive}
 use Rattle.tfpg_log.specs.Explains.{IsActivatedIn, ShowsAlarm, ShowsSilence, Shows, ShowsAll}
 use Rattle.tfpg_log.proofs.events.AlarmIntervals.{interval_is}
 use Rattle.tfpg_log.proofs.events.SilenceTimes.{quiet_by}
@@ -48,11 +48,19 @@ module _ (graph : Tfpg) (log : Logbook) (trace : List Activation) where
 
     -- ---- silences
 
-    -- Where the last silence is shown, so are those before.
-    pub silences_shown : (until : ℕ) → IsQuietLongest graph log node until → (IsActive trace node until → ⊥) → ShowsSilencesOf graph log trace node
-    silences_shown until longest quiet other is active =
+    -- Where the last silence is shown, so are those before: where the node becomes active after it.
+    pub silences_shown : (start until : ℕ) → Some start ≡ time_of trace node → IsQuietLongest graph log node until → until < start → ShowsSilencesOf graph log trace node
+    silences_shown start until at longest later other is active =
         let upto = longest.last other is in
-        quiet (active.0, active.1, omega (arith, upto, active.2))
+        let same : start ≡ active.0 = cc (at, active.1) in
+        absurd (omega (arith, upto, later, same, active.2))
+
+    -- Where all are shown, it becomes active after the last.
+    pub active_after : (start until : ℕ) → Some start ≡ time_of trace node → IsQuietLongest graph log node until → ShowsSilencesOf graph log trace node → until < start
+    active_after start until at longest shows = elim (cases_lt until start) [
+      | inl lt ↦ lt
+      | inr ge ↦ absurd (shows until longest.is (start, sym at, ge))
+    ]
 
   -- ---- all events
 

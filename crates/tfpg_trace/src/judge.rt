@@ -17,9 +17,11 @@ use tfpg_log::Log;
 /// Whether the trace explains the log from the set, and if not, its first fault. Faults come in this order: times after
 /// now; failure modes outside the set; rules that are broken, node by node; events that are not shown, in their order.
 ///
-/// The set may be any: a member that is no position of a failure mode names no node. Takes no memory. Goes through the
-/// nodes, at each through the spans, and in each span through the edges into the node; then through the events, and at
-/// each sweep through the nodes.
+/// The set may be any: a member that is no position of a failure mode names no node. Takes no memory, and 8 KB of the stack.
+/// Goes through the trace, and through the nodes with the edges into each. Besides, at a node that becomes active it goes
+/// through one window of each of these edges, and at a node whose edges can become due through the spans up to its time, or
+/// up to now where it has none, and in each through these edges. Only where some event is not shown does it go through the
+/// events, and then at each sweep through the nodes.
 pub fn explains(graph: &Graph, log: &Log, set: Set, trace: &Trace) -> Verdict
     requires of { IsLogOf graph.now log.now }
     requires nodes { All (λ activation. activation.node < length graph.now.nodes) trace.now }

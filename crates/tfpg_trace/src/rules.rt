@@ -13,8 +13,9 @@ use crate::trace_table::TraceTable;
 use tfpg_graph::Graph;
 use tfpg_log::Log;
 
-/// What is said of the first node that breaks a rule. Goes through the nodes: at each, for the may rule, through the edges
-/// into it and one window of each, and for the must rule through the spans, and in each through these edges.
+/// What is said of the first node that breaks a rule. Goes through the nodes, and at each through the edges into it. For the
+/// may rule of a node that becomes active it goes through one window of each, and for the must rule of a node whose edges can
+/// become due through the spans, and in each through these edges.
 pub(crate) fn broken_rule(graph: &Graph, log: &Log, trace: &TraceTable<'_>) -> Option<Verdict>
     ensures { MatchOption result
         (KeepRulesBefore graph.now log.now trace.now (length graph.now.nodes))

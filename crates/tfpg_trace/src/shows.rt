@@ -13,8 +13,8 @@ use crate::trace_table::TraceTable;
 use tfpg_graph::Graph;
 use tfpg_log::{Event, Log};
 
-/// What is said of the first event that the trace does not show. Goes through the nodes; where it shows all events that is
-/// all, and else it goes through the events, and for each sweep through the nodes.
+/// What is said of the first event that the trace does not show. Goes through the nodes. Only where some event is not shown
+/// does it go through the events, and for each sweep through the nodes.
 pub(crate) fn first_not_shown(graph: &Graph, log: &Log, trace: &TraceTable<'_>) -> Option<Verdict>
     requires { IsLogOf graph.now log.now }
     ensures { MatchOption result

@@ -1,11 +1,12 @@
-use Rattle.std.proofs.lemmas.Bool.{not-true, not_from_false, false_from_ne_true, iff_false}
-use Rattle.tfpg_trace.proofs.ShownByNode.{silences_shown}
+use Rattle.std.proofs.lemmas.Bool.{ltb-true, lt-ltb}
+use Rattle.tfpg_trace.proofs.ShownByNode.{silences_shown, active_after}
 use Rattle.tfpg_trace.proofs.all_shown.shows_silences.Goals as goal
 
-pub returns-in-Some : goal.returns-in-Some
-returns-in-Some c = (
-  λ quiet. silences_shown c.args.graph.now c.args.log.now c.args.trace.now c.args.node c.in-Some.until c.in-Some.ensures
-      (iff_false c.is_active.ensures (not-true c.is_active.result quiet)),
-  λ shows. not_from_false c.is_active.result
-      (false_from_ne_true c.is_active.result (λ is. shows c.in-Some.until c.in-Some.ensures.is (c.is_active.ensures.0 is))),
+pub returns-in-Some-quiet_longest : goal.returns-in-Some-quiet_longest
+returns-in-Some-quiet_longest c = (
+  λ later. silences_shown c.args.graph.now c.args.log.now c.args.trace.now c.args.node c.in-Some.start c.in-Some-quiet_longest.until c.in-Some.ensures
+      c.in-Some-quiet_longest.ensures (ltb-true c.in-Some-quiet_longest.until c.in-Some.start later),
+  λ shows. lt-ltb c.in-Some-quiet_longest.until c.in-Some.start
+      (active_after c.args.graph.now c.args.log.now c.args.trace.now c.args.node c.in-Some.start c.in-Some-quiet_longest.until c.in-Some.ensures
+      c.in-Some-quiet_longest.ensures shows),
 )

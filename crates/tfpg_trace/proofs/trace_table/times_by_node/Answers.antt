@@ -1,4 +1,4 @@
-use Rattle.std.proofs.Common.{ℕ, Option, Some, None, get_or, set, slice_index_or, ◌≡◌, ◌<◌, ◌∙◌, length, slice_get, arith}
+use Rattle.std.proofs.Common.{ℕ, Option, Some, None, get_or, ◌≡◌, ◌<◌, ◌∙◌, slice_get, arith}
 use Rattle.std.proofs.lemmas.List.{length-replicate, length-set}
 use Rattle.std.proofs.lemmas.Option.{slice_get-get_or}
 use Rattle.tfpg_base.specs.declared.activation.Activation.{Activation}
