@@ -25,7 +25,11 @@ use Rattle.tfpg_engine.specs.EngineState.{CountsCalls, EngineRepresents, EngineS
 use Rattle.tfpg_fleet.specs.declared.fleet_told.FleetTold.{FleetTold}
 use Rattle.tfpg_fleet.specs.declared.fleet_told.FleetTold.TheVariants.{Stray, Of}
 use Rattle.tfpg_fleet.specs.Belonging.{IsFor, VehicleLine, belongs, lines_for, vehicle_line}
-use Rattle.tfpg_hyp.specs.Rounds.{IsRound}
+use Rattle.tfpg_hyp.specs.Rounds.{IsRound, HasNoneOpen}
+use Rattle.tfpg_search.specs.Enough.{IsEnough}
+use Rattle.tfpg_engine.specs.Earned.{AreEarned}
+use Rattle.tfpg_log.specs.declared.event.Offered.TheVariants as offered
+use Rattle.tfpg_fleet.specs.Alone.{IsRoundOfLines}
 use Rattle.tfpg_fleet.specs.FleetState.{FleetBrings, FleetCounts, FleetRepresents, FleetState, IsForEnded, IsNew, IsTold, IsToldTo, Refuses, RefusesFor, VehicleRepresents, VehicleState, has_ended, names_of, rounds_after, rounds_with}
 use Rattle.tfpg_fleet.proofs.LinesFor.{is_for, lines-other, lines-own, lines-stray, only_for, own_short}
 
@@ -169,34 +173,54 @@ represents_stray old text none graph terms stream rounds represented = record {
 
 -- ---- what a vehicle was told, by its own lines
 
-module _ (grows : LogsGrow) (graph : Tfpg) (terms : Terms) (old new : FleetState) (stream : List (List ℕ)) (rounds : ℕ → List Round) (text : List ℕ) (number line : ℕ) (round : Round)
-    (represented : FleetRepresents graph terms old stream rounds) (is : IsToldTo text old new number line (told.Round round)) where
+-- what an engine says of a round that it brings
+abbrev RoundSays : List Round → ℕ → Round → Tfpg → Terms → Logbook → Type 0
+RoundSays rounds line round graph terms log =
+    IsRound graph terms rounds log line round × AreEarned graph log terms rounds round × (IsEnough graph log terms.budget → HasNoneOpen round)
+
+module _ (grows : LogsGrow) (graph : Tfpg) (terms : Terms) (old new : FleetState) (stream : List (List ℕ)) (rounds : ℕ → List Round) (text : List ℕ) (number line : ℕ) where
   abbrev lines : List (List ℕ)
   lines = lines_for (names_of old) number stream
 
-  own_before : VehicleRepresents graph terms is.before lines (rounds number)
-  own_before = represented.each number is.before is.there (ended-some is.before line is.taken.line_is)
+  module _ (answer : Told) (represented : FleetRepresents graph terms old stream rounds) (is : IsToldTo text old new number line answer) where
+    own_before : VehicleRepresents graph terms is.before lines (rounds number)
+    own_before = represented.each number is.before is.there (ended-some is.before line is.taken.line_is)
 
-  own_lines : lines_for (names_of old) number (stream ++ text ∷ []) ≡ lines ++ is.own ∷ []
-  own_lines = lines-own (names_of old) text number is.own is.is_for stream number (eq-eqb number number refl)
+    own_lines : lines_for (names_of old) number (stream ++ text ∷ []) ≡ lines ++ is.own ∷ []
+    own_lines = lines-own (names_of old) text number is.own is.is_for stream number (eq-eqb number number refl)
 
-  own_after : VehicleRepresents graph terms is.after (lines ++ is.own ∷ []) (rounds number ++ round ∷ [])
-  own_after = told_represents grows graph terms is.own (own_short (names_of old) text number is.own is.is_for) lines (rounds number) is.before is.after line own_before (told.Round round) is.taken
+    own_after : VehicleRepresents graph terms is.after (lines ++ is.own ∷ []) (rounds_with (rounds number) answer)
+    own_after = told_represents grows graph terms is.own (own_short (names_of old) text number is.own is.is_for) lines (rounds number) is.before is.after line own_before answer is.taken
+
+    -- its line is numbered among its own
+    own_number : line ≡ length (lines_for (names_of old) number (stream ++ text ∷ []))
+    own_number =
+        let same : Some line ≡ Some (length lines + 1) = sym is.taken.line_is ∙ own_before.next_is in
+        let number_is : line ≡ length lines + 1 = cc in
+        omega (arith, number_is, length-append lines (is.own ∷ []), ap length own_lines)
 
   -- its round is one of its own lines
-  pub own_round : IsRound graph terms (rounds number) (log_of_lines graph (lines_for (names_of old) number (stream ++ text ∷ []))) line round
-  own_round =
-      let brings = is.taken.brings (rounds number) own_before.represents in
-      subst (λ (l : Logbook). IsRound graph terms (rounds number) l line round) (own_after.log_is ∙ ap (log_of_lines graph) (sym own_lines))
-      (subst (λ (t : Terms). IsRound graph t (rounds number) is.after.engine.log line round) own_before.terms_is
-      (subst (λ (g : Tfpg). IsRound g is.before.engine.terms (rounds number) is.after.engine.log line round) own_before.graph_is brings.round_is))
+  pub own_round : (round : Round) → FleetRepresents graph terms old stream rounds → IsToldTo text old new number line (told.Round round)
+      → IsRoundOfLines graph terms (lines_for (names_of old) number (stream ++ text ∷ [])) (rounds number) line round
+  own_round round represented is =
+      let before = own_before (told.Round round) represented is in
+      let brings = is.taken.brings (rounds number) before.represents in
+      let log_is = (own_after (told.Round round) represented is).log_is ∙ ap (log_of_lines graph) (sym (own_lines (told.Round round) represented is)) in
+      let says =
+      subst (RoundSays (rounds number) line round graph terms) log_is
+      (subst (λ (t : Terms). RoundSays (rounds number) line round graph t is.after.engine.log) before.terms_is
+      (subst (λ (g : Tfpg). RoundSays (rounds number) line round g is.before.engine.terms is.after.engine.log) before.graph_is (brings.round_is, brings.earned, brings.none_open))) in
+      record { number = own_number (told.Round round) represented is; is = says.0; earned = says.1; none_open = says.2 }
 
-  -- and is numbered among them
-  pub own_number : line ≡ length (lines_for (names_of old) number (stream ++ text ∷ []))
-  own_number =
-      let same : Some line ≡ Some (length lines + 1) = sym is.taken.line_is ∙ own_before.next_is in
-      let number_is : line ≡ length lines + 1 = cc in
-      omega (arith, number_is, length-append lines (is.own ∷ []), ap length own_lines)
+  -- and its refusal is that of their log
+  pub own_refusal : (refusal : Refusal) → FleetRepresents graph terms old stream rounds → (is : IsToldTo text old new number line (told.Refused refusal))
+      → (line ≡ length (lines_for (names_of old) number (stream ++ text ∷ []))) × (reply_to graph (log_of_lines graph lines) is.own ≡ offered.Refused refusal)
+  own_refusal refusal represented is =
+      let before = own_before (told.Refused refusal) represented is in
+      let brings = is.taken.brings (rounds number) before.represents in (
+        own_number (told.Refused refusal) represented is,
+        (λ i. reply_to (sym before.graph_is i) (sym before.log_is i) is.own) ∙ brings.0,
+      )
 
 -- ---- the clauses of one line
 

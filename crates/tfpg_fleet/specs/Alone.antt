@@ -4,6 +4,8 @@ use Rattle.tfpg_base.specs.declared.terms.Terms.{Terms}
 use Rattle.tfpg_graph.specs.Graph.{Tfpg}
 use Rattle.tfpg_log.specs.LogOfLines.{log_of_lines}
 use Rattle.tfpg_hyp.specs.Rounds.{IsRound, HasNoneOpen}
+use Rattle.tfpg_search.specs.Enough.{IsEnough}
+use Rattle.tfpg_engine.specs.Earned.{AreEarned}
 use Rattle.tfpg_evidence.specs.declared.finding.Finding.{Finding}
 use Rattle.tfpg_evidence.specs.declared.round.Round.{Round}
 use Rattle.tfpg_evidence.specs.Findings.{hypothesis_of}
@@ -22,6 +24,15 @@ pub record RoundsFindTheSame (round other : Round) : Type 0 where
   pub as_many : length round.findings ≡ length other.findings
   pub each : (number : ℕ) (finding found : Finding) → slice_get round.findings number ≡ Some finding
       → slice_get other.findings number ≡ Some found → FindTheSame finding found
+
+-- The last of these lines has this number and brought this round, in a diagnosis of these lines alone that had brought these rounds
+-- before: it is a round of their log, its steps are earned, and with a budget that is enough no hypothesis of it is open.
+pub record IsRoundOfLines (graph : Tfpg) (terms : Terms) (lines : List (List ℕ)) (rounds : List Round) (line : ℕ)
+    (round : Round) : Type 0 where
+  pub number : line ≡ length lines
+  pub is : IsRound graph terms rounds (log_of_lines graph lines) line round
+  pub earned : AreEarned graph (log_of_lines graph lines) terms rounds round
+  pub none_open : IsEnough graph (log_of_lines graph lines) terms.budget → HasNoneOpen round
 
 -- The round is one of a diagnosis of these lines on these terms, and has no open hypothesis.
 pub record IsSettledRound (graph : Tfpg) (terms : Terms) (lines : List (List ℕ)) (round : Round) : Type 0 where

@@ -4,11 +4,13 @@ ghost use Rattle.std.specs.Prelude.{◌≡◌, ◌↔◌, ◌++◌, ◌∷◌, [
 ghost use Rattle.tfpg_base.specs.declared.terms.Terms.{Terms};
 ghost use Rattle.tfpg_graph.specs.Graph.{Tfpg};
 ghost use Rattle.tfpg_graph.specs.Valid.{IsValid};
+ghost use Rattle.tfpg_log.specs.declared.event.Offered.TheVariants as offered;
+ghost use Rattle.tfpg_log.specs.declared.refusal.Refusal.{Refusal};
+ghost use Rattle.tfpg_log.specs.Accepted.{reply_to};
 ghost use Rattle.tfpg_log.specs.LogOfLines.{log_of_lines};
 ghost use Rattle.tfpg_evidence.specs.declared.round.Round.{Round};
-ghost use Rattle.tfpg_hyp.specs.Rounds.{IsRound};
 ghost use Rattle.tfpg_engine.specs.declared.told.Told.TheVariants as told;
-ghost use Rattle.tfpg_fleet.specs.Alone.{IsSettledRound, RoundsFindTheSame};
+ghost use Rattle.tfpg_fleet.specs.Alone.{IsRoundOfLines, IsSettledRound, RoundsFindTheSame};
 ghost use Rattle.tfpg_fleet.specs.Belonging.{AreVehicleNames, SaysTo, VehicleLine, belongs, lines_for};
 ghost use Rattle.tfpg_fleet.specs.FleetState.{FleetRepresents, FleetState, IsToldTo, names_of};
 
@@ -30,17 +32,18 @@ pub fn a_stray_line_is_no_matter()
 {}
 
 /// Each round of a vehicle is a round of its own lines alone, whatever lines of others stand between, and its line is numbered among
-/// them.
-pub fn a_round_of_a_vehicle_is_of_its_own_lines()
+/// them. A line that it refuses is refused by the log of its own lines.
+pub fn a_vehicle_goes_by_its_own_lines()
     ensures round { (graph : Tfpg) (terms : Terms) (old new : FleetState) (stream : List (List ℕ)) (rounds : ℕ → List Round)
         (text : List ℕ) (number line : ℕ) (round : Round) →
         FleetRepresents graph terms old stream rounds → IsToldTo text old new number line (told.Round round) →
-        IsRound graph terms (rounds number)
-        (log_of_lines graph (lines_for (names_of old) number (stream ++ text ∷ []))) line round }
-    ensures line { (graph : Tfpg) (terms : Terms) (old new : FleetState) (stream : List (List ℕ)) (rounds : ℕ → List Round)
-        (text : List ℕ) (number line : ℕ) (round : Round) →
-        FleetRepresents graph terms old stream rounds → IsToldTo text old new number line (told.Round round) →
-        line ≡ length (lines_for (names_of old) number (stream ++ text ∷ [])) }
+        IsRoundOfLines graph terms (lines_for (names_of old) number (stream ++ text ∷ [])) (rounds number) line round }
+    ensures refusal { (graph : Tfpg) (terms : Terms) (old new : FleetState) (stream : List (List ℕ)) (rounds : ℕ → List Round)
+        (text : List ℕ) (number line : ℕ) (refusal : Refusal) →
+        FleetRepresents graph terms old stream rounds →
+        (is : IsToldTo text old new number line (told.Refused refusal)) →
+        (line ≡ length (lines_for (names_of old) number (stream ++ text ∷ [])))
+        × (reply_to graph (log_of_lines graph (lines_for (names_of old) number stream)) is.own ≡ offered.Refused refusal) }
 {
     a_log_of_lines_is_of_its_graph();
 }
