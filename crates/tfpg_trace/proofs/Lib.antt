@@ -19,4 +19,4 @@ pub mod SomeVerdict
 pub mod NodeTimes
 pub mod ShownByNode
 pub mod TimesFilled
-pub mod NeverDue
+pub mod NotDueBefore

@@ -19,7 +19,7 @@ mod ages;
 mod alarms;
 mod all_shown;
 mod due;
-mod due_ever;
+mod due_first;
 mod gaps;
 mod judge;
 pub mod laws;

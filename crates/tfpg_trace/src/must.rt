@@ -9,7 +9,7 @@ ghost use Rattle.tfpg_trace.specs.inside.Gaps.{AreGaps, HasGaps, StartsSpan};
 ghost use Rattle.tfpg_trace.specs.inside.FirstFaultIn.{IsFirstFaultIn};
 
 use crate::due::{SpanStart, due_in_span};
-use crate::due_ever::can_be_due;
+use crate::due_first::can_be_late;
 use crate::gaps::pass_span;
 use crate::silences::is_active;
 use crate::trace_table::TraceTable;
@@ -17,7 +17,7 @@ use tfpg_graph::{Graph, MAX_INCOMING};
 use tfpg_log::Log;
 
 /// The first instant up to now, in milliseconds, at which the node breaks the must rule, where there is one. Takes no
-/// memory. Goes through the edges into the node. Only where enough of them can become due it then goes once through the spans
+/// memory. Goes through the edges into the node. Only where enough of them can become due before it is active does it go once through the spans
 /// up to the node's own time, or up to now where it has none, and in each through these edges.
 pub(crate) fn first_must_fault(
     graph: &Graph,
@@ -28,7 +28,7 @@ pub(crate) fn first_must_fault(
     requires { node < length graph.now.nodes }
     ensures { IsFirstMustFault graph.now log.now trace.now node result }
 {
-    if !can_be_due(graph, trace, node) {
+    if !can_be_late(graph, trace, node) {
         return None;
     }
     // A valid graph has few edges into a node: there are gaps enough for them.

@@ -1,5 +1,5 @@
 -- When a node must be active, and from which instant of a span on.
-use Rattle.std.specs.Prelude.{◌≡◌, ℕ, ◌<◌, ◌≤◌, ◌⊎◌, List, All, Contains, IsTrue, Option, Some, None, slice_get}
+use Rattle.std.specs.Prelude.{◌≡◌, ℕ, ◌+◌, ◌<◌, ◌≤◌, IfSome, ◌⊎◌, List, All, Contains, IsTrue, Option, Some, None, slice_get}
 use Rattle.tfpg_base.specs.declared.activation.Activation.{Activation}
 use Rattle.tfpg_base.specs.Trace.{time_of}
 use Rattle.tfpg_graph.specs.declared.edge.Edge.{Edge}
@@ -39,17 +39,19 @@ MustBeActive graph log trace node instant =
     (IsTrue (is_kind_at is_or graph node) × SomeDue graph log trace node instant)
     ⊎ (IsTrue (is_kind_at is_and graph node) × AllDue graph log trace node instant)
 
--- The edge can become due at some instant: its greatest delay is finite, and its source becomes active.
-pub record CanBeDue (trace : List Activation) (edge : Edge) : Type 0 where
+-- The edge can become due before a time, where there is one: its greatest delay is finite, and passes before then from where
+-- its source becomes active.
+pub record CanBeDue (trace : List Activation) (until : Option ℕ) (edge : Edge) : Type 0 where
   pub delay : ℕ
   pub finite : edge.tmax ≡ Some delay
   pub start : ℕ
   pub source : time_of trace edge.source ≡ Some start
+  pub before : IfSome until (λ time. start + delay < time)
 
--- some edge into the node can become due
-abbrev pub SomeCanBeDue : Tfpg → List Activation → ℕ → Type 0
-SomeCanBeDue graph trace node = (edge : Edge) × Contains (edges_into graph node) edge × CanBeDue trace edge
+-- some edge into the node can become due before the time
+abbrev pub SomeCanBeDue : Tfpg → List Activation → ℕ → Option ℕ → Type 0
+SomeCanBeDue graph trace node until = (edge : Edge) × Contains (edges_into graph node) edge × CanBeDue trace until edge
 
--- each edge into the node can become due
-abbrev pub AllCanBeDue : Tfpg → List Activation → ℕ → Type 0
-AllCanBeDue graph trace node = All (CanBeDue trace) (edges_into graph node)
+-- each edge into the node can become due before the time
+abbrev pub AllCanBeDue : Tfpg → List Activation → ℕ → Option ℕ → Type 0
+AllCanBeDue graph trace node until = All (CanBeDue trace until) (edges_into graph node)

@@ -3,7 +3,6 @@ use Rattle.tfpg_graph.specs.Graph.{incoming}
 use Rattle.tfpg_graph.specs.declared.limits.TheConstants.{MAX_INCOMING}
 use Rattle.tfpg_trace.proofs.GapsOver.{no_gaps}
 use Rattle.tfpg_trace.proofs.FirstMustFaults.{one_span_more, first_of_all, none_at_all}
-use Rattle.tfpg_trace.proofs.MustFaults.{keeps_unless}
 use Rattle.tfpg_trace.proofs.must.first_must_fault.Goals as goal
 
 pub loop-number-init : goal.loop-number-init
@@ -33,6 +32,5 @@ returns-in_default c =
     c.last_to_try.ensures.by_now c.in_ok-last.ensures c.last_to_try.ensures.rest (omega arith)
     (one_span_more c.args.log.now c.args.graph.now c.args.trace.now c.args.node c.loop-number.number c.loop-number.invariant.keeps c.in_default.ensures.fault)
 
-pub returns-then-not-can_be_due : goal.returns-then-not-can_be_due
-returns-then-not-can_be_due c instant within =
-    keeps_unless c.args.graph.now c.args.log.now c.args.trace.now c.args.node instant (c.can_be_due.ensures c.if-not-can_be_due.true c.args.log.now instant)
+pub returns-then-not-can_be_late : goal.returns-then-not-can_be_late
+returns-then-not-can_be_late c instant within = c.can_be_late.ensures c.if-not-can_be_late.true c.args.log.now instant

@@ -1,8 +1,8 @@
 use Rattle.std.proofs.Common.{take, All, slice_get}
 use Rattle.std.specs.Prelude.{IsSomeAnd}
 use Rattle.tfpg_trace.specs.inside.Due.{CanBeDue}
-use Rattle.tfpg_trace.proofs.due_ever.some_can_be_due.Given as goal
+use Rattle.tfpg_trace.proofs.due_first.all_can_be_due.Given as goal
 
 abbrev pub invariant-loop-number : goal.invariant-loop-number
 invariant-loop-number l =
-    All (λ number. IsSomeAnd (slice_get l.graph.edges number) (CanBeDue l.trace) → ⊥) (take l.number-index l.incoming)
+    All (λ number. IsSomeAnd (slice_get l.graph.edges number) (CanBeDue l.trace l.until)) (take l.number-index l.incoming)
