@@ -51,7 +51,7 @@ Given form parts rows = (said : Parts) × (parts ≡ Some said) × Holds form ro
 diagnose_same : (uses : List Use) (words : List Word)
     → diagnose_by (both (both (number_by k_option uses) (number_by doubt_option uses)) (number_by budget_option uses)) words ≡ diagnose_on uses words
 diagnose_same uses [] = refl
-diagnose_same uses (graph ∷ panels) = refl
+diagnose_same uses (graph ∷ words) = refl
 
 simulate_same : (uses : List Use) (words : List Word) → simulate_by (is_some (use_of (codes "--trace") uses)) (number_by draw_option uses) words ≡ simulate_on uses words
 simulate_same uses [] = refl

@@ -3,3 +3,4 @@ pub mod Taken
 pub mod Once
 pub mod Commands
 pub mod WithinLimits
+pub mod PanelsRead

@@ -5,7 +5,10 @@ use Rattle.std.proofs.lemmas.Bool.{and_parts, leb-true}
 use Rattle.tfpg_base.specs.Words.{number_of}
 use Rattle.tfpg_words.specs.declared.usage_cause.UsageCause.{UsageCause}
 use Rattle.tfpg_words.specs.declared.usage_cause.UsageCause.TheVariants.{OutOfRange, UnknownCommand}
-use Rattle.tfpg_words.specs.Meaning.{Meaning, Diagnose, Explain, Check, Simulate, Generate, Convert, NumberOption, within, number_in, number_by, both, use_of, k_option, doubt_option, budget_option, draw_option, size_option, diagnose_form, diagnose_with, diagnose_on, diagnose_of, explain_form, explain_on, explain_of, check_form, check_on, check_of, simulate_form, simulate_with, simulate_on, simulate_of, generate_form, generate_with, generate_on, generate_of, convert_form, convert_with, convert_of, meaning}
+use Rattle.tfpg_words.specs.Meaning.{Meaning, Diagnose, Explain, Check, Simulate, Generate, Convert, NumberOption, within, number_in, number_by, both, use_of, k_option, doubt_option, budget_option, draw_option, size_option, diagnose_form, diagnose_to, diagnose_with, diagnose_on, diagnose_of, explain_form, explain_on, explain_of, check_form, check_on, check_of, simulate_form, simulate_with, simulate_on, simulate_of, generate_form, generate_with, generate_on, generate_of, convert_form, convert_with, convert_of, meaning}
+use Rattle.tfpg_base.specs.declared.terms.Terms.{Terms}
+use Rattle.tfpg_words.specs.declared.panel_word.PanelWord.{PanelWord}
+use Rattle.tfpg_words.specs.PanelWords.{panels_named}
 use Rattle.tfpg_words.specs.Words.{Parts, Use, Word, parts_of_words}
 
 -- a number within the limits of an option
@@ -15,7 +18,7 @@ pub record IsInLimits (option : NumberOption) (number : ℕ) : Type 0 where
 
 -- so is each number of the meaning
 abbrev pub AreInLimits : Meaning → Type 0
-AreInLimits (Diagnose terms graph) = (IsInLimits k_option terms.k × IsInLimits doubt_option terms.doubt) × IsInLimits budget_option terms.budget
+AreInLimits (Diagnose terms graph panels) = (IsInLimits k_option terms.k × IsInLimits doubt_option terms.doubt) × IsInLimits budget_option terms.budget
 AreInLimits (Explain graph log) = ⊤
 AreInLimits (Check graph log) = ⊤
 AreInLimits (Simulate draw trace graph script) = IsInLimits draw_option draw
@@ -78,19 +81,23 @@ diagnose_within (Some parts) = go parts.positional
     members_within uses =
         both_within (IsInLimits k_option) (IsInLimits doubt_option) (number_by k_option uses) (number_by doubt_option uses) (k_within uses) (doubt_within uses)
 
-    by : (graph : Word) (panels : List Word) (numbers : Result ((ℕ × ℕ) × ℕ) UsageCause)
+    to : (terms : Terms) (graph : Word) (panels : Option (List PanelWord))
+        → (IsInLimits k_option terms.k × IsInLimits doubt_option terms.doubt) × IsInLimits budget_option terms.budget
+        → IfOk (diagnose_to terms graph panels) AreInLimits
+    to terms graph None are = tt
+    to terms graph (Some panels) are = are
+
+    by : (graph : Word) (words : List Word) (numbers : Result ((ℕ × ℕ) × ℕ) UsageCause)
         → IfOk numbers (λ three. (IsInLimits k_option three.0.0 × IsInLimits doubt_option three.0.1) × IsInLimits budget_option three.1)
-        → IfOk (diagnose_with graph panels numbers) AreInLimits
-    by graph [] (Ok ((k, doubt), budget)) are = are
-    by graph (panel ∷ panels) (Ok ((k, doubt), budget)) are = tt
-    by graph [] (Err cause) are = tt
-    by graph (panel ∷ panels) (Err cause) are = tt
+        → IfOk (diagnose_with graph words numbers) AreInLimits
+    by graph words (Ok ((k, doubt), budget)) are = to (record { k = k; doubt = doubt; budget = budget }) graph (panels_named words) are
+    by graph words (Err cause) are = tt
 
     go : (positional : List Word) → IfOk (diagnose_on parts.uses positional) AreInLimits
     go [] = tt
-    go (graph ∷ panels) =
+    go (graph ∷ words) =
         let members = both (number_by k_option parts.uses) (number_by doubt_option parts.uses) in
-        by graph panels (both members (number_by budget_option parts.uses))
+        by graph words (both members (number_by budget_option parts.uses))
         (both_within (λ two. IsInLimits k_option two.0 × IsInLimits doubt_option two.1) (IsInLimits budget_option) members (number_by budget_option parts.uses)
         (members_within parts.uses) (budget_within parts.uses))
 

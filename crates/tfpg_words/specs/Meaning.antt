@@ -7,11 +7,13 @@ use Rattle.tfpg_base.specs.declared.limits.TheConstants.{MAX_K, MAX_DOUBT, MAX_B
 use Rattle.tfpg_words.specs.declared.limits.TheConstants.{MAX_DRAW, DEFAULT_K, DEFAULT_DOUBT, DEFAULT_BUDGET, DEFAULT_DRAW, DEFAULT_SIZE}
 use Rattle.tfpg_words.specs.declared.usage_cause.UsageCause.{UsageCause}
 use Rattle.tfpg_words.specs.declared.usage_cause.UsageCause.TheVariants.{NoCommand, UnknownCommand, BadWords, BadNumber, OutOfRange, BadPanel}
+use Rattle.tfpg_words.specs.declared.panel_word.PanelWord.{PanelWord}
 use Rattle.tfpg_words.specs.Words.{Form, Parts, Use, Word, parts_of_words}
+use Rattle.tfpg_words.specs.PanelWords.{panels_named}
 
 -- What a command asks for.
 pub data Meaning : Type 0 where
-  Diagnose : (terms : Terms) (graph : Word) → Meaning
+  Diagnose : (terms : Terms) (graph : Word) (panels : List PanelWord) → Meaning
   Explain : (graph log : Word) → Meaning
   Check : (graph log : Word) → Meaning
   Simulate : (draw : ℕ) (trace : Bool) (graph script : Word) → Meaning
@@ -81,22 +83,26 @@ abbrev pub by_parts : (Parts → Result Meaning UsageCause) → Option Parts →
 by_parts means None = Err BadWords
 by_parts means (Some parts) = means parts
 
--- `diagnose [--k N] [--doubt N] [--budget N] GRAPH [PANEL]..`. For now no word is a panel.
+-- `diagnose [--k N] [--doubt N] [--budget N] GRAPH [PANEL]..`
 abbrev pub diagnose_form : Form
 diagnose_form = record { options = k_option.name ∷ doubt_option.name ∷ budget_option.name ∷ []; flags = [] }
 
+-- a diagnosis of this graph on these terms, where each word names a panel
+abbrev pub diagnose_to : Terms → Word → Option (List PanelWord) → Result Meaning UsageCause
+diagnose_to terms graph None = Err BadPanel
+diagnose_to terms graph (Some panels) = Ok (Diagnose terms graph panels)
+
 -- what the positional words after `diagnose` mean with these numbers
 abbrev pub diagnose_with : Word → List Word → Result ((ℕ × ℕ) × ℕ) UsageCause → Result Meaning UsageCause
-diagnose_with graph panels (Err cause) = Err cause
-diagnose_with graph [] (Ok ((k, doubt), budget)) =
-    Ok (Diagnose (record { k = k; doubt = doubt; budget = budget }) graph)
-diagnose_with graph (panel ∷ panels) (Ok numbers) = Err BadPanel
+diagnose_with graph words (Err cause) = Err cause
+diagnose_with graph words (Ok ((k, doubt), budget)) =
+    diagnose_to (record { k = k; doubt = doubt; budget = budget }) graph (panels_named words)
 
 -- what the uses and the positional words after `diagnose` mean
 abbrev pub diagnose_on : List Use → List Word → Result Meaning UsageCause
 diagnose_on uses [] = Err BadWords
-diagnose_on uses (graph ∷ panels) =
-    diagnose_with graph panels
+diagnose_on uses (graph ∷ words) =
+    diagnose_with graph words
     (both (both (number_by k_option uses) (number_by doubt_option uses)) (number_by budget_option uses))
 
 -- what the words after `diagnose` mean, by their parts

@@ -10,7 +10,8 @@ use Rattle.tfpg_words.specs.Meaning.{Meaning, Diagnose, Explain, Check, Simulate
 
 -- what a command asks for
 abbrev pub meaning_of : Command → Meaning
-meaning_of (command.Diagnose k doubt budget graph) = Diagnose (record { k = k; doubt = doubt; budget = budget }) graph
+meaning_of (command.Diagnose k doubt budget graph panels) =
+    Diagnose (record { k = k; doubt = doubt; budget = budget }) graph panels
 meaning_of (command.Explain graph log) = Explain graph log
 meaning_of (command.Check graph log) = Check graph log
 meaning_of (command.Simulate draw trace graph script) = Simulate draw trace graph script

@@ -5,3 +5,4 @@ pub mod Rows
 pub mod Given
 pub mod Numbers
 pub mod CommandOf
+pub mod PanelsOf

@@ -1,13 +1,15 @@
 //! What the words ask for.
 
+use crate::panel_word::PanelWordList;
 use tfpg_base::Text;
 
 /// A command with its values.
 #[derive(Drop)]
 pub enum Command {
-    /// `diagnose [--k N] [--doubt N] [--budget N] GRAPH`: reports on a log, for the hypotheses of at most `k` members, each
-    /// a failure mode or a monitor that it doubts. At most `doubt` of them are monitors, and a hypothesis has at most
-    /// `budget` splits in a round. `k` is at most [`MAX_K`](tfpg_base::MAX_K), [`DEFAULT_K`](crate::DEFAULT_K) by default;
+    /// `diagnose [--k N] [--doubt N] [--budget N] GRAPH [PANEL]..`: reports on a log, for the hypotheses of at most `k` members,
+    /// each a failure mode or a monitor that it doubts, and tells each panel every round. A panel is `top:FILE`, `count:FILE` or
+    /// `json:FILE`. At most `doubt` of the members are monitors, and a hypothesis has at most `budget` splits in a round. `k`
+    /// is at most [`MAX_K`](tfpg_base::MAX_K), [`DEFAULT_K`](crate::DEFAULT_K) by default;
     /// `doubt` is at most [`MAX_DOUBT`](tfpg_base::MAX_DOUBT), [`DEFAULT_DOUBT`](crate::DEFAULT_DOUBT) by default; `budget`
     /// is 1 to [`MAX_BUDGET`](tfpg_base::MAX_BUDGET), [`DEFAULT_BUDGET`](crate::DEFAULT_BUDGET) by default.
     Diagnose {
@@ -15,6 +17,7 @@ pub enum Command {
         doubt: u32,
         budget: u64,
         graph: Text,
+        panels: PanelWordList,
     },
     /// `explain GRAPH LOG`: whether a map explains the log.
     Explain {

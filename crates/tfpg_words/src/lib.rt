@@ -1,13 +1,14 @@
 //! The words of the command line: which command they ask for, and with which values.
 //!
 //! [`plan`] reads the words after the program's name. It returns a [`Command`], in a [`Planned`]. A [`PlanFault`] says why
-//! there is none: the first [`UsageCause`] that holds of the words, or out of memory. [`DEFAULT_K`] and the other constants
+//! there is none: the first [`UsageCause`] that holds of the words, or out of memory. A [`PanelWord`] is a panel that the words name:
+//! what it writes, a [`PanelKind`], and the file to which it does. [`DEFAULT_K`] and the other constants
 //! are the defaults and the limits of the options. [`laws`] says between which limits the numbers of a command are.
 //!
 //! ```
 //! // The words `diagnose --k 1 engine.tfpg`.
 //! match plan(alloc, &words)?.command {
-//!     Command::Diagnose { k, doubt, budget, graph } => {} // k is 1, doubt is 0, budget is 1000
+//!     Command::Diagnose { k, doubt, budget, graph, panels } => {} // k is 1, doubt is 0, budget is 1000, no panels
 //!     _ => {}
 //! }
 //! ```
@@ -18,6 +19,8 @@ mod form;
 pub mod laws;
 mod limits;
 mod number;
+mod panel_word;
+mod panels;
 mod parts;
 mod plan_fault;
 mod planning;
@@ -25,6 +28,7 @@ mod usage_cause;
 
 pub use command::{Command, Planned};
 pub use limits::{DEFAULT_BUDGET, DEFAULT_DOUBT, DEFAULT_DRAW, DEFAULT_K, DEFAULT_SIZE, MAX_DRAW};
+pub use panel_word::{PanelKind, PanelWord, PanelWordList};
 pub use plan_fault::PlanFault;
 pub use planning::plan;
 pub use usage_cause::UsageCause;

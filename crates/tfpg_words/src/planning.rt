@@ -2,7 +2,8 @@
 
 ghost use Rattle.std.specs.Prelude.{◌≡◌, map};
 ghost use Rattle.std.specs.String.{string_bytes};
-ghost use Rattle.tfpg_words.specs.Meaning.{check_form, check_of, command_meaning, convert_form, convert_of, diagnose_form, diagnose_of, explain_form, explain_of, generate_form, generate_of, meaning, simulate_form, simulate_of};
+ghost use Rattle.tfpg_words.specs.Meaning.{check_form, check_of, command_meaning, convert_form, convert_of, diagnose_form, diagnose_of, diagnose_to, explain_form, explain_of, generate_form, generate_of, meaning, simulate_form, simulate_of};
+ghost use Rattle.tfpg_words.specs.PanelWords.{panels_named};
 ghost use Rattle.tfpg_words.specs.Plans.{IsPlanOf};
 ghost use Rattle.tfpg_words.specs.Words.{parts_of_words};
 ghost use Rattle.tfpg_words.specs.inside.CommandOf.{IsCommandOf};
@@ -15,11 +16,12 @@ use crate::limits::{
     DEFAULT_BUDGET, DEFAULT_DOUBT, DEFAULT_DRAW, DEFAULT_K, DEFAULT_SIZE, MAX_DRAW,
 };
 use crate::number::{NumberOption, both};
+use crate::panels::panels_of;
 use crate::parts::Parts;
 use crate::plan_fault::PlanFault;
 use crate::usage_cause::UsageCause;
 use std::alloc::Global;
-use tfpg_base::{MAX_BUDGET, MAX_CASE_SIZE, MAX_DOUBT, MAX_K, Text};
+use tfpg_base::{MAX_BUDGET, MAX_CASE_SIZE, MAX_DOUBT, MAX_K, Terms, Text};
 
 const K: NumberOption = NumberOption {
     name: "k",
@@ -119,19 +121,35 @@ fn plan_diagnose(alloc: Global, words: &[String]) -> Result<Command, PlanFault>
 fn plan_diagnose_by(alloc: Global, parts: &Parts) -> Result<Command, PlanFault>
     ensures { IsCommandOf (diagnose_given (rows_in parts.now)) result }
 {
-    let Some([graph, panels @ ..]) = parts.positional() else {
+    let Some([graph, words @ ..]) = parts.positional() else {
         return Err(PlanFault::Usage(UsageCause::BadWords));
     };
     let members = both(K.number_in(parts), DOUBT.number_in(parts));
     let ((k, doubt), budget) = both(members, BUDGET.number_in(parts))?;
-    if !panels.is_empty() {
-        return Err(PlanFault::Usage(UsageCause::BadPanel));
-    }
-    Ok(Command::Diagnose {
+    let terms = Terms {
         k: k as u32,
         doubt: doubt as u32,
         budget,
+    };
+    diagnose_to(alloc, terms, graph, words)
+}
+
+/// The diagnosis of this graph on these terms, with the panels that the words name.
+fn diagnose_to(
+    alloc: Global,
+    terms: Terms,
+    graph: &str,
+    words: &[&str],
+) -> Result<Command, PlanFault>
+    ensures { IsCommandOf (diagnose_to terms graph.now (panels_named (map (λ word. word.now) words.now))) result }
+{
+    let panels = panels_of(alloc, words)?;
+    Ok(Command::Diagnose {
+        k: terms.k,
+        doubt: terms.doubt,
+        budget: terms.budget,
         graph: Text::of(alloc, graph)?,
+        panels,
     })
 }
 

@@ -13,6 +13,6 @@ pub enum UsageCause {
     BadNumber,
     /// A number is below the least or above the greatest that its option takes.
     OutOfRange,
-    /// A word in the place of a panel is no panel. For now no word is one.
+    /// A word in the place of a panel is none.
     BadPanel,
 }

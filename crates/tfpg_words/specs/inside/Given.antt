@@ -24,7 +24,7 @@ number_given option (Some value) = within option.least option.limit (number_of v
 
 abbrev pub diagnose_by : Result ((ℕ × ℕ) × ℕ) UsageCause → List Word → Result Meaning UsageCause
 diagnose_by numbers [] = Err BadWords
-diagnose_by numbers (graph ∷ panels) = diagnose_with graph panels numbers
+diagnose_by numbers (graph ∷ words) = diagnose_with graph words numbers
 
 abbrev pub diagnose_given : List Row → Result Meaning UsageCause
 diagnose_given rows =
