@@ -124,6 +124,13 @@ impl<P: Panel> Desk<P> {
         &self.kept
     }
 
+    /// How many panels there are, with the lost ones. Takes no memory.
+    pub fn panel_count(&self) -> u64
+        ensures { result ≡ length self.now.panels }
+    {
+        self.panels.len() as u64
+    }
+
     /// The rounds that the panel of this number was told, where it tells them. A lost panel still does. Takes no memory.
     pub fn told(&self, panel: u64) -> Option<&[Round]>
         requires { (1 ≤ panel) × (panel ≤ length self.now.panels) }

@@ -5,6 +5,9 @@ pub mod Putting
 pub mod InputLines
 pub mod Stops
 pub mod Completing
+pub mod WithinLimits
 pub mod ConvertedBack
+-- Lemmas on the lines of file panels.
+pub mod BestFinding
 -- The lemmas of each room, in a folder named like that of the source.
 pub mod lemmas

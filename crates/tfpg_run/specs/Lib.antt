@@ -7,6 +7,8 @@ pub mod Ends
 pub mod EndsOf
 pub mod Run
 pub mod Completeness
+-- What they say of the lines of file panels.
+pub mod PanelLines
 -- What they say of maps, and of each command, in folders named like those of the source.
 pub mod map
 pub mod diagnose

@@ -2,6 +2,7 @@
 
 ghost use Rattle.std.specs.Prelude.{◌≡◌, ℕ, List, map, string_bytes, OnOk, IfErr, Ok};
 ghost use Rattle.tfpg_check.specs.declared.cause.CheckCause.{CheckCause};
+ghost use Rattle.tfpg_words.specs.declared.panel_word.PanelWord.{PanelWord};
 ghost use Rattle.tfpg_words.specs.Meaning.{Meaning, Check, Diagnose, meaning};
 ghost use Rattle.tfpg_run.specs.Completeness.{CanBeDone, CanRefuse, IsCompleted, IsRefusedFor, NothingFails};
 ghost use Rattle.tfpg_words.specs.Plans.{meaning_of};
@@ -76,8 +77,8 @@ pub fn run<F: Shelf, S: Source, K: Sink, P: Panel, L: Ledger>(
     ensures desk { LeavesDesk (meaning (map string_bytes words.now)) desk.old desk.new }
 
     // What a diagnosis has written that is done can be checked by the same graph and the same lines.
-    ensures rechecks { (terms : Terms) (diagnosed : List ℕ) →
-        meaning (map string_bytes words.now) ≡ Ok (Diagnose terms diagnosed) → result ≡ End.Done →
+    ensures rechecks { (terms : Terms) (panels : List PanelWord) (diagnosed : List ℕ) →
+        meaning (map string_bytes words.now) ≡ Ok (Diagnose terms diagnosed panels) → result ≡ End.Done →
         (graph log : List ℕ) (later : World) → FollowsDiagnosis diagnosed graph log
         (world (F.state shelf.old) (S.state input.old) (K.state out.old) desk.old)
         (world (F.state shelf.new) (S.state input.new) (K.state out.new) desk.new) later → CanBeDone (Check graph log) later }
@@ -127,6 +128,7 @@ fn perform<F: Shelf, S: Source, K: Sink, P: Panel, L: Ledger>(
             doubt,
             budget,
             graph,
+            ..
         } => {
             let terms = Terms {
                 k: *k,

@@ -3,11 +3,11 @@
 //! [`run`] is the call that the program makes. It says how it ended by an [`End`], which has an exit code and a line.
 //! [`laws`] says that lines spell at most one map, that the text of a map spells it, that a simulated set is rejected in no
 //! round, that a rejected set stays rejected, that what `diagnose` wrote is accepted by `check`, and that a graph that is converted to
-//! JSON and back is the same graph.
+//! JSON and back is the same graph. [`panel_line`] appends the line that a file panel writes for a round.
 //!
 //! ```
 //! // The words `diagnose pump.tfpg`, over a shelf that has the graph, and an input that has a log of it.
-//! let end = run(alloc, &words, &mut shelf, &mut input, &mut out, &mut work);
+//! let end = run(alloc, &words, &mut shelf, &mut input, &mut out, &mut desk, &mut work);
 //! ```
 #![tactic(auto)]
 
@@ -24,8 +24,10 @@ pub mod laws;
 mod limits;
 mod map;
 mod output;
+mod panel_lines;
 mod simulate;
 
 pub use commands::run;
 pub use end::End;
 pub use limits::{GENERATED_BUDGET, GENERATED_K};
+pub use panel_lines::panel_line;

@@ -6,7 +6,7 @@ use Rattle.tfpg_words.specs.Meaning.{Meaning, Diagnose, Explain, Check, Simulate
 
 -- The numbers of the command are within their limits.
 abbrev pub AreWithinLimits : Meaning → Type 0
-AreWithinLimits (Diagnose terms graph) = AreReportTerms terms
+AreWithinLimits (Diagnose terms graph panels) = AreReportTerms terms
 AreWithinLimits (Explain graph log) = Unit {0}
 AreWithinLimits (Check graph log) = Unit {0}
 AreWithinLimits (Simulate draw trace graph script) = Unit {0}
