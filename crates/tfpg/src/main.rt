@@ -1,31 +1,32 @@
 //! The program: a diagnoser for timed failure propagation graphs.
 //!
-//! `main` calls [`tfpg_run::run`] on the words of the command line, over the files of the system, standard input and standard
-//! output. It writes the line of the end to standard error, and exits with its code.
+//! `main` makes the panels that the words of the command line name, and calls [`tfpg_run::run`] on these words, over the files of the
+//! system, standard input and standard output. It writes the line of the end to standard error, and exits with its code.
 //!
 //! ```text
 //! ./tfpg diagnose examples/pump.tfpg < examples/pump.log
 //! ```
 #![tactic(auto)]
 
-ghost use Rattle.std.specs.Prelude.{◌≡◌, ◌<◌};
+ghost use Rattle.std.specs.Prelude.{◌≡◌, ◌<◌, map, IfOk};
 
 mod real;
 #[cfg(test)]
 mod tests;
 mod words;
 
-use real::{FileShelf, StandardInput, StandardOutput};
+use real::{FilePanel, FileShelf, StandardInput, StandardOutput};
 use std::alloc::Global;
 use std::io::{ErrorKind, Write};
 use std::marker::Brand;
 use std::process::ExitCode;
+use std::rt::Files;
 use std::sync::ledger::{Blank, Ledger};
 use std::{env, io};
 use tfpg_base::{NoMemory, Shelf, Sink, Source, Steps};
-use tfpg_panel::{Desk, MemoryPanel, Panel};
+use tfpg_panel::{Desk, Panel};
 use tfpg_run::{End, run};
-use tfpg_words::UsageCause;
+use tfpg_words::{Command, PanelWord, PlanFault, UsageCause, plan};
 use words::words_after_name;
 
 /// Runs on the words of the command line, says how that ended, and exits with its status.
@@ -61,22 +62,76 @@ fn end_without_words(error: &io::Error) -> End {
 
 /// Runs on these words, over the files of the system, standard input and standard output.
 fn run_words(rt: &HostRuntime, words: &[String]) -> End {
-    let mut shelf = FileShelf::new(rt);
     let mut input = StandardInput::new(rt.stdin());
     let mut output = StandardOutput::new(rt.stdout());
-    // No word names a panel yet.
-    let panels: Vec<MemoryPanel> = Vec::new(rt.alloc());
-    match Desk::new(panels) {
-        Ok(mut desk) => run_over(
-            rt.alloc(),
-            words,
-            &mut shelf,
-            &mut input,
-            &mut output,
-            &mut desk,
-        ),
+    run_on_files(rt, rt.alloc(), words, &mut input, &mut output)
+}
+
+/// Runs on these words, over these files, with the panels that the words name. Words that are refused name none, and the run says why
+/// they are.
+fn run_on_files<R: Files, S: Source, K: Sink>(
+    files: &R,
+    alloc: Global,
+    words: &[String],
+    input: &mut S,
+    out: &mut K,
+) -> End {
+    match plan(alloc, words) {
+        Ok(planned) => {
+            let named = panels_in(&planned.command);
+            run_with_panels(files, alloc, words, named, input, out)
+        }
+        Err(PlanFault::Usage(_)) => run_with_panels(files, alloc, words, &[], input, out),
+        Err(PlanFault::NoMemory) => End::NoMemory,
+    }
+}
+
+/// The panels that a command names.
+fn panels_in(command: &Command) -> &[PanelWord] {
+    match command {
+        Command::Diagnose { panels, .. } => panels.as_slice(),
+        _ => &[],
+    }
+}
+
+/// Runs on these words, over these files, with these panels.
+fn run_with_panels<R: Files, S: Source, K: Sink>(
+    files: &R,
+    alloc: Global,
+    words: &[String],
+    named: &[PanelWord],
+    input: &mut S,
+    out: &mut K,
+) -> End {
+    let mut shelf = FileShelf::new(files);
+    match desk_of(files, alloc, named) {
+        Ok(mut desk) => run_over(alloc, words, &mut shelf, input, out, &mut desk),
         Err(NoMemory) => End::NoMemory,
     }
+}
+
+/// A desk of the panels that the words name, over these files.
+fn desk_of<'a, R: Files>(
+    files: &'a R,
+    alloc: Global,
+    named: &'a [PanelWord],
+) -> Result<Desk<FilePanel<'a, R>>, NoMemory> {
+    Desk::new(panels_of(files, alloc, named)?)
+}
+
+/// The panels that the words name, over these files.
+fn panels_of<'a, R: Files>(
+    files: &'a R,
+    alloc: Global,
+    named: &'a [PanelWord],
+) -> Result<Vec<FilePanel<'a, R>>, NoMemory>
+    ensures { IfOk result (λ panels. map (λ panel. panel.word.now) panels.items ≡ named.now) }
+{
+    let mut panels = Vec::new(alloc);
+    for word in named {
+        panels.push(FilePanel::new(files, alloc, word))?;
+    }
+    Ok(panels)
 }
 
 /// Runs on these words, over this shelf, input, output and desk.

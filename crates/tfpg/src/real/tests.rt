@@ -2,14 +2,13 @@ ghost use Rattle.std.specs.Prelude.{◌≡◌, IfOk};
 
 use super::steady::{SteadyRead, SteadyWrite};
 use super::*;
-use crate::run_over;
+use crate::run_on_files;
 use std::alloc::{AllocError, Global};
 use std::fs::File;
 use std::io::{Error, ErrorKind, PipeWriter, Read, Write};
 use std::test::Fail;
 use std::{fs, io};
 use tfpg_base::{Failed, Shelf, ShelfFault, Sink, Source};
-use tfpg_panel::{Desk, MemoryPanel};
 use tfpg_run::End;
 
 /// A file that opens and cannot be read, not even by root: the memory of this process, which has none at the address 0.
@@ -194,12 +193,7 @@ fn run_on<S: Source, K: Sink>(
     out: &mut K,
 ) -> Result<End, AllocError> {
     let words = words_of(rt.alloc(), &["diagnose", "--k", "0", name])?;
-    let mut shelf = FileShelf::new(rt);
-    let panels: Vec<MemoryPanel> = Vec::new(rt.alloc());
-    let Ok(mut desk) = Desk::new(panels) else {
-        return Ok(End::NoMemory);
-    };
-    Ok(run_over(rt.alloc(), &words, &mut shelf, input, out, &mut desk))
+    Ok(run_on_files(rt, rt.alloc(), &words, input, out))
 }
 
 #[test]
@@ -232,4 +226,56 @@ fn an_unreadable_file_is_a_read_fault(rt: HostRuntime) -> Result<(), Fail> {
     // Reading it fails as an input too.
     assert_eq!(rt; input.take(&mut [0; 3]), Err(Failed));
     Ok(())
+}
+
+/// A graph of two failure modes, of which both explain an alarm of `A` at 30.
+const TWO_CAUSES: &str = "tfpg 1\nmode N\nfailure F1 3\nfailure F2 5\nor A watch 0\nor B hidden\nand C watch 0\n\
+    edge F1 A 10 20 *\nedge F2 A 5 5 *\nedge F1 B 0 inf *\nedge A C 0 10 *\nedge B C 0 10 *\nend\n";
+
+/// What panels of each kind write, in the files of these names.
+const PANEL_FILES: [(&str, &str); 3] = [
+    ("top.file_panel", "round 1 best F1 cost 3\nround 2 best F1 cost 3\n"),
+    (
+        "count.file_panel",
+        "round 1 ranked 2 covered 0 rejected 1 open 0\nround 2 ranked 2 covered 0 rejected 1 open 0\n",
+    ),
+    (
+        "json.file_panel",
+        "{\"counts\":{\"covered\":0,\"open\":0,\"ranked\":2,\"rejected\":1},\"line\":1,\"now\":30,\"open\":[],\
+        \"ranked\":[{\"alarmed\":1,\"cost\":3,\"monitored\":2,\"set\":[\"F1\"]},\
+        {\"alarmed\":1,\"cost\":5,\"monitored\":1,\"set\":[\"F2\"]}],\"rejected\":[[]],\"round\":1}\n\
+        {\"counts\":{\"covered\":0,\"open\":0,\"ranked\":2,\"rejected\":1},\"line\":3,\"now\":31,\"open\":[],\
+        \"ranked\":[{\"alarmed\":1,\"cost\":3,\"monitored\":2,\"set\":[\"F1\"]},\
+        {\"alarmed\":1,\"cost\":5,\"monitored\":1,\"set\":[\"F2\"]}],\"rejected\":[],\"round\":2}\n",
+    ),
+];
+
+/// The words of a diagnosis with a panel for each of these files, and one whose file cannot be made.
+const PANEL_WORDS: [&str; 8] = [
+    "diagnose",
+    "--k",
+    "1",
+    "graph.file_panel",
+    "top:top.file_panel",
+    "count:count.file_panel",
+    "top:no_such_folder/top.file_panel",
+    "json:json.file_panel",
+];
+
+#[test]
+fn panels_write_a_line_for_each_round(rt: HostRuntime) -> Result<(), Fail> {
+    fs::write(&rt, "graph.file_panel", TWO_CAUSES)?;
+    fs::write(&rt, "top.file_panel", "what an earlier run wrote\n")?;
+    let words = words_of(rt.alloc(), &PANEL_WORDS)?;
+    let mut input = StandardInput::new(b"30 alarm A\n29 tick\n31 tick\n".as_slice());
+    let mut room = [b'-'; 4096];
+    let mut output = StandardOutput::new(room.as_mut_slice());
+    let end = run_on_files(&rt, rt.alloc(), &words, &mut input, &mut output);
+    assert_eq!(rt; end, End::Done);
+    for (name, text) in &PANEL_FILES {
+        let written = fs::read(&rt, *name)?;
+        assert_eq!(rt; written.as_slice(), text.as_bytes(), "{name}");
+        fs::remove_file(&rt, *name)?;
+    }
+    Ok(fs::remove_file(&rt, "graph.file_panel")?)
 }

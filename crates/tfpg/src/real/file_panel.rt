@@ -1,0 +1,76 @@
+//! Files as panels.
+
+ghost use Rattle.std.specs.Prelude.{◌≡◌};
+
+use std::alloc::Global;
+use std::fs;
+use std::io;
+use std::io::Write;
+use std::rt::Files;
+use tfpg_base::FaultCount;
+use tfpg_evidence::Round;
+use tfpg_graph::Graph;
+use tfpg_panel::{Panel, PanelFault};
+use tfpg_run::panel_line;
+use tfpg_words::PanelWord;
+
+/// A panel that writes a line for each round to a file. The file is made anew at the first round.
+#[derive(Drop)]
+pub(crate) struct FilePanel<'a, R: Files> {
+    files: &'a R,
+    alloc: Global,
+    word: &'a PanelWord,
+    file: Option<R::File>,
+    faults: FaultCount,
+}
+
+impl<'a, R: Files> FilePanel<'a, R> {
+    /// The panel that the words name, over these files. It was told nothing and has not failed, and its file is not touched yet.
+    pub(crate) fn new(files: &'a R, alloc: Global, word: &'a PanelWord) -> FilePanel<'a, R>
+        ensures word { result.word.now ≡ word.now }
+        ensures no_fault { result.faults.count ≡ 0 }
+    {
+        FilePanel {
+            files,
+            alloc,
+            word,
+            file: None,
+            faults: FaultCount::new(),
+        }
+    }
+
+    /// Writes the line to the file, which it makes first where it has not yet.
+    fn write(&mut self, line: &[u8]) -> io::Result<()>
+        ensures { self.new.faults ≡ self.old.faults }
+    {
+        if let Some(file) = &mut self.file {
+            return file.write_all(line);
+        }
+        let mut file = fs::create(self.files, self.word.file.as_str())?;
+        file.write_all(line)?;
+        self.file = Some(file);
+        Ok(())
+    }
+}
+
+impl<'a, R: Files> Panel for FilePanel<'a, R> {
+    ghost use Rattle.std.specs.Prelude.{None};
+
+    ghost state = { λ panel. record { told = None; faults = panel.faults.count } };
+
+    fn tell(&mut self, graph: &Graph, round: &Round) -> Result<(), PanelFault> {
+        let mut line = Vec::new(self.alloc);
+        panel_line(self.word.kind, graph, round, &mut line)?;
+        match self.write(&line) {
+            Ok(()) => Ok(()),
+            Err(_) => {
+                self.faults.raise();
+                Err(PanelFault::Lost)
+            }
+        }
+    }
+
+    fn told(&self) -> Option<&[Round]> {
+        None
+    }
+}
