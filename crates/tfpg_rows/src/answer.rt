@@ -6,7 +6,7 @@ use itoa::Buffer;
 use std::alloc::Global;
 use tfpg_base::NoMemory;
 
-/// Appends the lines for a run: what of it is shown, each line after a bar, and how it ended.
+/// Appends the lines for a run: what of it is shown, each line after a bar, how it ended, and what its panels were told.
 pub(crate) fn append_made(
     alloc: Global,
     made: &Made,
@@ -14,7 +14,9 @@ pub(crate) fn append_made(
     into: &mut Vec<u8>,
 ) -> Result<(), NoMemory> {
     append_shown(view, &view.shown(alloc, &made.written)?, into)?;
-    append_end(alloc, made, into)
+    append_end(alloc, made, into)?;
+    into.extend_from_slice(&made.panels)?;
+    Ok(())
 }
 
 /// Appends the lines after a bar, or the last ones after the number of those that are left out.
@@ -98,7 +100,7 @@ pub(crate) fn append_failed(
 }
 
 /// Appends a number.
-fn append_number(number: u64, into: &mut Vec<u8>) -> Result<(), NoMemory> {
+pub(crate) fn append_number(number: u64, into: &mut Vec<u8>) -> Result<(), NoMemory> {
     let mut digits = Buffer::new();
     into.extend_from_slice(digits.format(number).as_bytes())?;
     Ok(())

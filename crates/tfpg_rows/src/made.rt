@@ -2,6 +2,7 @@
 
 ghost use Rattle.std.specs.Prelude.{◌≡◌, ◌<◌};
 
+use crate::panels::{PanelFaults, append_panels, desk_of};
 use std::alloc::Global;
 use std::marker::Brand;
 use std::sync::ledger::{Blank, Ledger};
@@ -9,8 +10,8 @@ use tfpg_base::{MemoryShelf, MemorySink, MemorySource, NoMemory, Steps};
 use tfpg_panel::{Desk, MemoryPanel};
 use tfpg_run::{End, run};
 
-/// What a run has besides its words: the files by name, the input, how many bytes a call reads or writes at most, and which
-/// calls fail.
+/// What a run has besides its words: the files by name, the input, how many bytes a call reads or writes at most, which calls fail, and
+/// the panels of the desk.
 #[derive(Clone, Copy)]
 pub(crate) struct Outside<'a> {
     pub(crate) files: &'a [(&'a str, &'a [u8])],
@@ -19,14 +20,16 @@ pub(crate) struct Outside<'a> {
     pub(crate) file_fails: &'a [u64],
     pub(crate) read_fails: &'a [u64],
     pub(crate) write_fails: &'a [u64],
+    pub(crate) panels: &'a [PanelFaults],
 }
 
-/// How a run ended, what it wrote, and how many files it asked for.
+/// How a run ended, what it wrote, how many files it asked for, and the lines of its panels.
 #[derive(Drop)]
 pub(crate) struct Made {
     pub(crate) end: End,
     pub(crate) written: Vec<u8>,
     pub(crate) asked: usize,
+    pub(crate) panels: Vec<u8>,
 }
 
 /// Makes the run on these words.
@@ -39,7 +42,7 @@ pub(crate) fn make_run(
     let mut shelf = MemoryShelf::new(alloc, outside.files, outside.file_fails);
     let mut input = MemorySource::new(outside.input, room, outside.read_fails);
     let mut out = MemorySink::new(alloc, room, outside.write_fails);
-    let mut desk = Desk::new(Vec::new(alloc))?;
+    let mut desk = desk_of(alloc, outside.panels)?;
     let end = run_counted::<Brand>(
         alloc,
         words,
@@ -49,10 +52,13 @@ pub(crate) fn make_run(
         &mut desk,
         Blank::new(1),
     );
+    let mut panels = Vec::new(alloc);
+    append_panels(&desk, &mut panels)?;
     Ok(Made {
         end,
         written: Vec::from_slice(alloc, out.bytes())?,
         asked: shelf.asked().len(),
+        panels,
     })
 }
 

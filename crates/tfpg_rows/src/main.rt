@@ -8,6 +8,7 @@
 mod answer;
 mod bytes;
 mod made;
+mod panels;
 mod reader;
 mod row;
 mod runs;

@@ -1,6 +1,7 @@
 //! The lines that describe the rows, one after the other, and the answer to them.
 
 use crate::bytes::{append_spelled, number_of, numbers_of, text_of, texts_of, words_of};
+use crate::panels::PanelFaults;
 use crate::row::{Change, InTurn, NamedFile, Row};
 use crate::runs::append_runs;
 use std::alloc::Global;
@@ -153,6 +154,8 @@ impl RowReader {
             self.row.view.cut(self.alloc, others)
         } else if keyword == b"fails".as_slice() {
             self.set_fails(others)
+        } else if keyword == b"panel".as_slice() {
+            self.add_panel(others)
         } else if keyword == b"each".as_slice() {
             self.set_in_turn(others);
             Ok(())
@@ -202,6 +205,21 @@ impl RowReader {
                 self.row.file_fails = calls;
             }
         }
+        Ok(())
+    }
+
+    /// Adds a panel to the desk: one that is told all, or that fails or runs out of memory at the calls of these numbers.
+    fn add_panel(&mut self, words: &[&[u8]]) -> Result<(), NoMemory> {
+        let mut faults = PanelFaults::none(self.alloc);
+        if let Some((name, calls)) = words.split_first() {
+            let calls = numbers_of(self.alloc, calls)?;
+            if *name == b"lost".as_slice() {
+                faults.failing = calls;
+            } else {
+                faults.starving = calls;
+            }
+        }
+        self.row.panels.push(faults)?;
         Ok(())
     }
 

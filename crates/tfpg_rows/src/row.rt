@@ -1,5 +1,6 @@
 //! Files, and what the runs of a row have in common.
 
+use crate::panels::PanelFaults;
 use crate::view::View;
 use std::alloc::Global;
 use tfpg_base::NoMemory;
@@ -68,6 +69,8 @@ pub(crate) struct Row {
     pub(crate) read_fails: Vec<u64>,
     /// The calls at which the output fails.
     pub(crate) write_fails: Vec<u64>,
+    /// The panels of the desk.
+    pub(crate) panels: Vec<PanelFaults>,
     /// What a run is made again with.
     pub(crate) in_turn: Option<InTurn>,
     /// Which part of what was written is shown.
@@ -75,7 +78,7 @@ pub(crate) struct Row {
 }
 
 impl Row {
-    /// No input, no fault, and all that is written is shown.
+    /// No input, no fault, no panel, and all that is written is shown.
     pub(crate) fn new(alloc: Global) -> Row {
         Row {
             input: Vec::new(alloc),
@@ -84,6 +87,7 @@ impl Row {
             file_fails: Vec::new(alloc),
             read_fails: Vec::new(alloc),
             write_fails: Vec::new(alloc),
+            panels: Vec::new(alloc),
             in_turn: None,
             view: View::new(alloc),
         }

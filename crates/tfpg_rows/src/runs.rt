@@ -34,6 +34,7 @@ fn outside_of<'a>(row: &'a Row, files: &'a [(&'a str, &'a [u8])], input: &'a [u8
         file_fails: &row.file_fails,
         read_fails: &row.read_fails,
         write_fails: &row.write_fails,
+        panels: &row.panels,
     }
 }
 
@@ -77,7 +78,11 @@ fn append_difference(
     row: &Row,
     into: &mut Vec<u8>,
 ) -> Result<(), NoMemory> {
-    if made.end != again.end || made.written != again.written || made.asked != again.asked {
+    let is_same = made.end == again.end
+        && made.written == again.written
+        && made.asked == again.asked
+        && made.panels == again.panels;
+    if !is_same {
         into.extend_from_slice(b"other in pieces of one byte:\n")?;
         append_made(alloc, again, &row.view, into)?;
     }
