@@ -1,5 +1,5 @@
 -- A round that adds nothing to what the last one has shown.
-use Rattle.std.proofs.Common.{◌≡◌, ◌<◌, ℕ, ◌++◌, [], List, Bool, false, Option, Some, None, length, map, get_or, eqb, refl, sym, ap, subst, arith, ◌∙◌, append-nil}
+use Rattle.std.proofs.Common.{◌≡◌, ◌<◌, ℕ, [], List, Bool, false, Option, Some, None, length, map, get_or, eqb, refl, sym, ap, subst, arith, ◌∙◌, append-nil}
 use Rattle.std.specs.List.{list_any}
 use Rattle.std.specs.Prelude.{IsTrue, IfSome, count_by}
 use Rattle.std.proofs.lemmas.List.{get_or_past}
