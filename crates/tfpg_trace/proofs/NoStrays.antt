@@ -1,5 +1,5 @@
 -- That a trace has no node that is late, and no stranger, by its activations.
-use Rattle.std.proofs.Common.{◌≡◌, ◌<◌, ℕ, true, List, length, nat_le, sym, subst, arith, ◌∙◌}
+use Rattle.std.proofs.Common.{◌≡◌, ◌<◌, ℕ, true, List, length, nat_le, sym, subst, arith}
 use Rattle.std.specs.Prelude.{All}
 use Rattle.std.specs.List.{list_all}
 use Rattle.std.proofs.lemmas.Bool.Decides.{nat_tests}

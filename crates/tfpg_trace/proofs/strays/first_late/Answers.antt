@@ -1,6 +1,4 @@
-use Rattle.std.proofs.Common.{◌∙◌, sym, ap, subst}
-use Rattle.std.specs.List.{list_all}
-use Rattle.tfpg_base.specs.declared.activation.Activation.{Activation}
+use Rattle.std.proofs.Common.{◌∙◌, sym}
 use Rattle.tfpg_trace.proofs.NoStrays.{none_late}
 use Rattle.tfpg_trace.proofs.strays.first_late.Goals as goal
 
