@@ -5,8 +5,8 @@ use Rattle.tfpg_check.proofs.judging.NewlyClosed.{passing_below, below_few}
 use Rattle.tfpg_check.proofs.judging.RejectedLines.{rejected_pass, rejected_differ, rejected_left}
 use Rattle.tfpg_check.proofs.judging.RejectedSoFar.{rejected_more, rejected_same}
 use Rattle.tfpg_check.proofs.judging.TestsInTurn.{not_where_false}
-use Rattle.tfpg_check.proofs.round.rejected.judge_rejected.Goals as goal
-use Rattle.tfpg_check.proofs.round.rejected.judge_rejected.Goals.{then-is_newly_closed+else-not-names, else-is_newly_closed}
+use Rattle.tfpg_check.proofs.round.rejected.judge_each_rejected.Goals as goal
+use Rattle.tfpg_check.proofs.round.rejected.judge_each_rejected.Goals.{then-is_newly_closed+else-not-names, else-is_newly_closed}
 
 pub returns-then-not-names : goal.returns-then-not-names
 returns-then-not-names c = λ docket is.
