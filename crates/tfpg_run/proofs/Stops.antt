@@ -9,7 +9,7 @@ use Rattle.tfpg_hyp.specs.Hypotheses.{HasHypotheses}
 use Rattle.tfpg_hyp.specs.declared.limits.TheConstants.{MAX_HYPOTHESES}
 use Rattle.tfpg_hyp.specs.declared.table.TableFault.{TableFault}
 use Rattle.tfpg_hyp.specs.declared.table.TableFault.TheVariants.{TooMany, NoMemory}
-use Rattle.tfpg_words.specs.Meaning.{Meaning, Explain, Check, Simulate, Convert}
+use Rattle.tfpg_words.specs.Meaning.{Meaning, Explain, Check, Simulate, Convert, Ask}
 use Rattle.tfpg_run.specs.declared.end.End.{End}
 use Rattle.tfpg_run.specs.declared.end.End.TheVariants as ends
 use Rattle.tfpg_run.specs.declared.end.End.TheVariants.{Done}
@@ -32,6 +32,7 @@ use Rattle.tfpg_run.specs.explain.Explaining.{ExplainEnds}
 use Rattle.tfpg_run.specs.check.Checking.{CheckEnds}
 use Rattle.tfpg_run.specs.simulate.Simulating.{HasSimulation, SimulateEnds}
 use Rattle.tfpg_run.specs.convert.Converting.{ConvertEnds}
+use Rattle.tfpg_run.specs.ask.Asking.{AskEnds}
 use Rattle.tfpg_run.specs.Streams.{Streams}
 use Rattle.tfpg_run.specs.World.{World, Watched, watched_of}
 use Rattle.tfpg_panel.specs.ToldRounds.{HasTold}
@@ -177,6 +178,15 @@ module _ {T : Type 0} (result : Result T End) (meant : Meaning) (first second : 
       (IfErr-with result (SimulateEnds (HasSimulation draw trace) graph script before now) (now.input ≡ before.input)
       (subst (λ (name : List ℕ). IfErr result (SimulateEnds (HasSimulation draw trace) name script before now)) one
       (subst (λ (name : List ℕ). IfErr result (SimulateEnds (HasSimulation draw trace) first name before now)) other is)) same)
+
+  -- questions were not written
+  pub ask_stopped : (terms : Terms) (graph log : List ℕ) → meant ≡ Ask terms graph log → first ≡ graph → second ≡ log → now.input ≡ before.input
+      → IfErr result (AskEnds terms first second before now) → IfErr result (CommandEnds (Ok meant) before now)
+  ask_stopped terms graph log means one other same is =
+      subst (λ (m : Meaning). IfErr result (CommandEnds (Ok m) before now)) (sym means)
+      (IfErr-with result (AskEnds terms graph log before now) (now.input ≡ before.input)
+      (subst (λ (name : List ℕ). IfErr result (AskEnds terms name log before now)) one
+      (subst (λ (name : List ℕ). IfErr result (AskEnds terms first name before now)) other is)) same)
 
 -- a graph was not converted, as the words name its file
 pub convert_stopped : {T : Type 0} (result : Result T End) (meant : Meaning) (name : List ℕ) (before now : World) (json : Bool) (graph : List ℕ) → meant ≡ Convert json graph → name ≡ graph → now.input ≡ before.input

@@ -6,5 +6,6 @@ pub mod diagnose
 pub mod explain
 pub mod check
 pub mod generate
+pub mod ask
 pub mod convert
 pub mod Writing

@@ -11,6 +11,7 @@
 //! ```
 #![tactic(auto)]
 
+mod ask;
 mod check;
 mod commands;
 mod convert;

@@ -2,4 +2,5 @@ pub mod walk
 pub mod Taken
 pub mod Once
 pub mod Commands
+pub mod AskRefused
 pub mod WithinLimits
