@@ -3,4 +3,5 @@ pub mod map
 pub mod diagnose
 pub mod explain
 pub mod check
+pub mod diagnosis
 pub mod generate
