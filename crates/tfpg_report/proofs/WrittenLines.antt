@@ -51,6 +51,10 @@ module _ (graph : Tfpg) where
       ap (λ (rest : List ℕ). text_line (codes "cycle" ∷ decimal (length reasons) ∷ []) ++ rest) (flat_map-map written line.Why reasons)
   step Again = append-nil (step_text graph Again)
 
+  -- the text of steps
+  pub texts_of_steps : (all : List Step) → lines_text graph (flat_map step_lines all) ≡ flat_map (step_text graph) all
+  texts_of_steps all = flat_map-flat_map written step_lines all ∙ flat_map-all (λ is. lines_text graph (step_lines is)) (step_text graph) step all
+
   -- the text of a hypothesis with its steps
   steps : (finding : Finding) → lines_text graph (lines_of_finding finding) ≡ steps_text graph finding
   steps finding = by (eqb (length finding.steps) 0)
@@ -63,7 +67,7 @@ module _ (graph : Tfpg) where
       by true = refl
       by false =
           ap (λ (rest : List ℕ). text_line (codes "hyp" ∷ decimal finding.number ∷ []) ++ rest)
-          (flat_map-flat_map written step_lines finding.steps ∙ flat_map-all (λ is. lines_text graph (step_lines is)) (step_text graph) step finding.steps)
+          (texts_of_steps finding.steps)
 
   -- the text of a ranked hypothesis
   ranked : (finding : Finding) (s : Status) → lines_text graph (lines_if_ranked finding s) ≡ ranked_text graph finding s

@@ -4,9 +4,10 @@
 //! - [`refused`] appends the block of a line that was refused.
 //! - [`render`] appends the block of a round.
 //! - [`lost`] appends the line of a lost panel. A panel is a listener to rounds.
-//! - [`append_set`], [`append_set_line`], [`append_activations`] and [`append_counts`] append the text of a set, a line that
-//!   ends with one, the lines of a trace and the counts of a round, for other texts that have them. The text of a set names its
-//!   failure modes, and then the monitors that are not believed, each with a `!` before the name of its node.
+//! - [`append_set`], [`append_set_line`], [`append_activations`], [`append_steps`] and [`append_counts`] append the text of a set,
+//!   a line that ends with one, the lines of a trace, the lines of steps and the counts of a round, for other texts that have them.
+//!   The text of a set names its failure modes, and then the monitors that are not believed, each with a `!` before the name of its
+//!   node.
 //! - [`RefusedLine`] is why a line has a block of its own in place of a round.
 //! - [`read_report_line`] reads one line of a report, whoever wrote it: a [`ReportLine`], or a [`LineRefusal`]. [`read_set`]
 //!   reads the text of a set, for other texts that have one: [`Members`].
@@ -59,3 +60,4 @@ pub use report_line::ReportLine;
 pub use round_block::{append_counts, render};
 pub use set_line::{append_set, append_set_line};
 pub use stand::Stand;
+pub use steps_block::append_steps;

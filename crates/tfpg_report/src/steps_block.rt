@@ -4,6 +4,8 @@ ghost use Rattle.std.specs.Prelude.{◌≡◌, All, flat_map};
 ghost use Rattle.tfpg_base.specs.Append.{Appends};
 ghost use Rattle.tfpg_evidence.specs.RoundOf.{IsFindingOf, IsStepOf};
 ghost use Rattle.tfpg_graph.specs.Graph.{sizes_of};
+ghost use Rattle.tfpg_report.specs.ReadRounds.{step_lines};
+ghost use Rattle.tfpg_report.specs.ReportLines.{lines_text};
 ghost use Rattle.tfpg_report.specs.inside.Texts.{step_text, steps_text};
 
 use crate::step_lines::append_step;
@@ -27,11 +29,19 @@ pub(crate) fn append_finding_steps(
     }
     let mut digits = Buffer::new();
     append_line(into, &[b"hyp", digits.format(finding.number).as_bytes()])?;
-    append_steps(graph, steps, into)
+    append_each_step(graph, steps, into)
 }
 
-/// Appends the lines of the steps.
-fn append_steps(graph: &Graph, steps: &[Step], into: &mut Vec<u8>) -> Result<(), NoMemory>
+/// Appends the lines of steps of the graph, as they stand in a report. It costs the length of the text.
+pub fn append_steps(graph: &Graph, steps: &[Step], into: &mut Vec<u8>) -> Result<(), NoMemory>
+    requires { All (IsStepOf (sizes_of graph.now)) steps.now }
+    ensures { Appends result into.old.items into.new.items (lines_text graph.now (flat_map step_lines steps.now)) }
+{
+    append_each_step(graph, steps, into)
+}
+
+/// Appends the texts of the steps.
+fn append_each_step(graph: &Graph, steps: &[Step], into: &mut Vec<u8>) -> Result<(), NoMemory>
     requires { All (IsStepOf (sizes_of graph.now)) steps.now }
     ensures { Appends result into.old.items into.new.items (flat_map (step_text graph.now) steps.now) }
 {

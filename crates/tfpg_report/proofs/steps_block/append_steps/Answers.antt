@@ -1,5 +1,9 @@
-use Rattle.tfpg_base.proofs.Appended.{Appends-err_after}
+use Rattle.std.proofs.Common.{subst, sym}
+use Rattle.tfpg_base.specs.Append.{Appends}
+use Rattle.tfpg_report.proofs.WrittenLines.{texts_of_steps}
 use Rattle.tfpg_report.proofs.steps_block.append_steps.Goals as goal
 
-pub returns-in_err-append_step : goal.returns-in_err-append_step
-returns-in_err-append_step c = Appends-err_after _ _ _ _ _ _ c.from_residual.ensures.0 c.loop-step.invariant c.in_err-append_step.ensures
+-- the lines of the steps have the steps' texts
+pub returns : goal.returns
+returns c =
+    subst (Appends _ c.args.into.now.items _) (sym (texts_of_steps c.args.graph.now c.args.steps.now)) c.append_each_step.ensures
