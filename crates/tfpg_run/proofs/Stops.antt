@@ -1,5 +1,5 @@
 -- How a run on a file ends.
-use Rattle.std.proofs.Common.{◌≡◌, ℕ, ◌<◌, ◌≤◌, List, [], Result, Ok, Err, refl, sym, subst, subst₂, ◌∙◌, inl, inr, Bool}
+use Rattle.std.proofs.Common.{◌≡◌, ℕ, ◌<◌, ◌≤◌, List, [], Result, Ok, Err, refl, sym, ap, subst, subst₂, ◌∙◌, inl, inr, Bool}
 use Rattle.std.specs.Prelude.{◌↔◌, IsErrAnd, OnOk, IfErr}
 use Rattle.tfpg_base.specs.declared.terms.Terms.{Terms}
 use Rattle.tfpg_base.specs.Terms.{AreReportTerms}
@@ -48,8 +48,17 @@ IfErr-with (Ok value) P Q is also = tt
 IfErr-with (Err fault) P Q is also = (is, also)
 
 -- what the result of `Engine::new` says of the number of hypotheses
-abbrev CountsHypotheses : {X : Type 0} → Tfpg → Terms → Result X TableFault → Type 0
+abbrev pub CountsHypotheses : {X : Type 0} → Tfpg → Terms → Result X TableFault → Type 0
 CountsHypotheses graph terms result = (count : ℕ) → (result ≡ Err (TooMany count)) ↔ ((MAX_HYPOTHESES < count) × HasHypotheses graph terms count)
+
+-- what is made of the engine says the same of their number
+pub counted_when_made : {X Y : Type 0} (graph : Tfpg) (terms : Terms) (engine : X) (made : Y) → CountsHypotheses graph terms (Ok engine) → CountsHypotheses graph terms (Ok made)
+counted_when_made graph terms engine made exact count = (λ is. cc, λ many. let is = (exact count).1 many in cc)
+
+-- and so does the same fault
+pub counted_when_not : {X Y : Type 0} (graph : Tfpg) (terms : Terms) (fault : TableFault) → CountsHypotheses {X = X} graph terms (Err fault) → CountsHypotheses {X = Y} graph terms (Err fault)
+counted_when_not graph terms fault exact count =
+    (λ is. (exact count).0 (let same : fault ≡ TooMany count = cc in ap Err same), λ many. let is = (exact count).1 many in let same : fault ≡ TooMany count = cc in ap Err same)
 
 -- where there is an engine, they are not too many
 pub not_too_many : {X : Type 0} (graph : Tfpg) (terms : Terms) (engine : X) → CountsHypotheses graph terms (Ok engine) → (count : ℕ) → HasHypotheses graph terms count → count ≤ MAX_HYPOTHESES
@@ -61,7 +70,7 @@ has_reports graph terms engine g other exact e f within =
     subst₂ HasReports (sym e) (sym f) (record { within = within; few_hypotheses = not_too_many graph terms engine exact })
 
 -- nor where memory ran out
-without_memory : {X : Type 0} (graph : Tfpg) (terms : Terms) → CountsHypotheses {X = X} graph terms (Err NoMemory) → (count : ℕ) → HasHypotheses graph terms count → count ≤ MAX_HYPOTHESES
+pub without_memory : {X : Type 0} (graph : Tfpg) (terms : Terms) → CountsHypotheses {X = X} graph terms (Err NoMemory) → (count : ℕ) → HasHypotheses graph terms count → count ≤ MAX_HYPOTHESES
 without_memory graph terms exact count counted = not_above count MAX_HYPOTHESES (λ many. let is = (exact count).1 (many, counted) in cc)
 
 module _ {T : Type 0} (terms : Terms) (name : List ℕ) (before now : World) (result : Result T End) where

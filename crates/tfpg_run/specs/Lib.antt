@@ -7,12 +7,13 @@ pub mod Ends
 pub mod EndsOf
 pub mod Run
 pub mod Completeness
--- What they say of maps, and of each command, in folders named like those of the source.
+-- What they say of maps, of a diagnosis in memory, and of each command, in folders named like those of the source.
 pub mod map
 pub mod diagnose
 pub mod explain
 pub mod check
 pub mod simulate
+pub mod diagnosis
 pub mod generate
 pub mod convert
 pub mod ask

@@ -16,6 +16,7 @@ mod check;
 mod commands;
 mod convert;
 mod diagnose;
+mod diagnosis;
 mod end;
 mod explain;
 mod fault;

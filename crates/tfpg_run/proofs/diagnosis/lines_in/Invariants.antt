@@ -1,5 +1,5 @@
 use Rattle.std.proofs.Common.{◌≡◌}
-use Rattle.tfpg_run.proofs.generate.diagnosis.lines_in.Given as goal
+use Rattle.tfpg_run.proofs.diagnosis.lines_in.Given as goal
 
 -- the lines so far are kept
 abbrev pub invariant-loop-line : goal.invariant-loop-line
