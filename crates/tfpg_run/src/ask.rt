@@ -8,10 +8,10 @@ ghost use Rattle.tfpg_run.specs.Fetch.{AsksInOrder};
 ghost use Rattle.tfpg_run.specs.World.{world};
 ghost use Rattle.tfpg_run.specs.ask.Asking.{AskEnds, QuestionsEnd};
 ghost use Rattle.tfpg_run.specs.ask.Questions.{HasQuestions};
-ghost use Rattle.tfpg_run.specs.inside.ask.Asked.{CanBeAskedOf, IsTableFault, SaysQuestionsOf};
+ghost use Rattle.tfpg_run.specs.inside.ask.Asked.{CanBeAskedOf, IsNewDiagnosis, IsTableFault, SaysQuestionsOf};
 
-mod answer;
 mod among;
+mod answer;
 
 use crate::diagnosis::Diagnosis;
 use crate::end::End;
@@ -82,10 +82,26 @@ fn questions_text<L: Ledger>(
     ensures text { IfOk result (λ text. HasQuestions terms graph log.now text.items) }
     ensures fault { IfErr result (IsTableFault graph terms) }
 {
-    the_table_is_one();
     let mut diagnosis = Diagnosis::new(alloc, graph, terms)?;
+    text_of_lines(alloc, &mut diagnosis, log, work)
+}
+
+/// Lets a diagnosis that has taken no line take those of the log, and returns the text of the questions after them.
+fn text_of_lines<L: Ledger>(
+    alloc: Global,
+    diagnosis: &mut Diagnosis,
+    log: &[u8],
+    work: &mut Steps<L>,
+) -> Result<Vec<u8>, TableFault>
+    requires { IsNewDiagnosis diagnosis.old }
+    ensures text { IfOk result (λ text. HasQuestions diagnosis.old.engine.terms diagnosis.old.engine.graph
+        log.now text.items) }
+    ensures fault { IfErr result (λ fault. fault ≡ TableFault.NoMemory) }
+{
+    the_table_is_one();
     diagnosis.take_text(alloc, log, work)?;
-    Ok(text_after(alloc, &diagnosis, work)?)
+    let _table = diagnosis.engine.table();
+    Ok(text_after(alloc, diagnosis, work)?)
 }
 
 /// The text of the questions after a diagnosis.

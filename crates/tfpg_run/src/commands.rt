@@ -174,15 +174,7 @@ fn perform<F: Shelf, S: Source, K: Sink, P: Panel, L: Ledger>(
                 doubt: *doubt,
                 budget: *budget,
             };
-            ask_by_files(
-                alloc,
-                terms,
-                graph.as_str(),
-                log.as_str(),
-                shelf,
-                out,
-                work,
-            )
+            ask_by_files(alloc, terms, graph.as_str(), log.as_str(), shelf, out, work)
         }
     }
 }

@@ -1,6 +1,8 @@
 -- The numbers of the hypotheses that a round leaves.
-use Rattle.std.proofs.Common.{◌≡◌, ℕ, suc, ◌+◌, ◌<◌, ◌≤◌, Bool, true, false, cond, List, [], ◌∷◌, ◌++◌, length, take, All, Option, Some, None, sym, ap, subst, ◌∙◌, arith}
+use Rattle.std.proofs.Common.{◌≡◌, ℕ, suc, ◌+◌, ◌<◌, ◌≤◌, Bool, true, false, cond, List, [], ◌∷◌, ◌++◌, length, get_or, take, append-nil, All, Option, Some, None, sym, ap, subst, ◌∙◌, arith}
 use Rattle.std.specs.Prelude.{IfSome, slice_get}
+use Rattle.std.proofs.lemmas.List.{length-take}
+use Rattle.std.proofs.lemmas.Option.{slice_get-get_or}
 use Rattle.std.proofs.lemmas.List.Elements.{All-nil, All-cons, All-weaker}
 use Rattle.tfpg_base.specs.Choice.{numbers_from}
 use Rattle.tfpg_base.specs.Set.{Rises}
@@ -42,8 +44,25 @@ module _ {X : Type 0} (p : X → Bool) where
       → numbers ++ cond (p x) (index ∷ []) [] ≡ numbers_from 0 p (take (index + 1) xs)
   numbers_next xs index x numbers at counted are =
       ap (λ (ns : List ℕ). ns ++ cond (p x) (index ∷ []) []) are
-      ∙ ap (λ (n : ℕ). numbers_from 0 p (take index xs) ++ cond (p x) (n ∷ []) []) (sym counted)
-      ∙ sym (numbers_from-push 0 (take index xs) x) ∙ sym (ap (numbers_from 0 p) (take-next xs index x at))
+      ∙ ap (λ (n : ℕ). numbers_from 0 p (take index xs) ++ cond (p x) (n ∷ []) []) (let same : index ≡ 0 + length (take index xs) = omega (arith, counted) in same)
+      ∙ sym (numbers_from-push p 0 (take index xs) x) ∙ sym (ap (numbers_from 0 p) (take-next xs index x at))
+
+-- ---- the loop over findings
+
+module _ (findings : List Finding) (index : ℕ) (finding : Finding) (numbers now : List ℕ) (left : Bool) (within : index < length findings) (at : finding ≡ get_or findings index finding)
+    (are : numbers ≡ numbers_from 0 (λ (f : Finding). is_ranked_or_open f.status) (take index findings)) (test : left ≡ is_ranked_or_open (get_or findings index finding).status) where
+  next : numbers ++ cond left (index ∷ []) [] ≡ numbers_from 0 (λ (f : Finding). is_ranked_or_open f.status) (take (index + 1) findings)
+  next =
+      ap (λ b. numbers ++ cond b (index ∷ []) []) (test ∙ ap (λ (f : Finding). is_ranked_or_open f.status) (sym at))
+      ∙ numbers_next (λ (f : Finding). is_ranked_or_open f.status) findings index finding numbers (slice_get-get_or findings index finding within ∙ ap Some (sym at)) (omega (arith, within, length-take index findings)) are
+
+  -- the finding is ranked or open
+  pub numbers_pushed : left ≡ true → now ≡ numbers ++ index ∷ [] → now ≡ numbers_from 0 (λ (f : Finding). is_ranked_or_open f.status) (take (index + 1) findings)
+  numbers_pushed is pushed = pushed ∙ sym (ap (λ b. numbers ++ cond b (index ∷ []) []) is) ∙ next
+
+  -- it is neither
+  pub numbers_kept : left ≡ false → now ≡ numbers → now ≡ numbers_from 0 (λ (f : Finding). is_ranked_or_open f.status) (take (index + 1) findings)
+  numbers_kept is same = same ∙ sym (append-nil numbers) ∙ sym (ap (λ b. numbers ++ cond b (index ∷ []) []) is) ∙ next
 
 -- ---- what a round leaves
 

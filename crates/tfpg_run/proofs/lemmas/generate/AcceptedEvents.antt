@@ -26,8 +26,12 @@ module _ (graph : Tfpg) where
       let there = slice_get-there lines count (omega (arith, within)) in
       let more = accepted count there.0 there.1 in
       let log = log_of_lines graph (take count lines) in
-      omega (arith, ap (λ (l : Logbook). length l.events) (ap (log_of_lines graph) (take-item lines count there.0 there.1) ∙ one_more_event (take count lines) there.0 more),
-      length_push log.events more.0, first_events lines accepted count (omega (arith, within)))
+      omega (
+        arith,
+        ap (λ (l : Logbook). length l.events) (ap (log_of_lines graph) (take-item lines count there.0 there.1) ∙ one_more_event (take count lines) there.0 more),
+        length_push log.events more.0,
+        first_events lines accepted count (omega (arith, within)),
+      )
 
   pub accepted_events : (lines : List (List ℕ)) → AreAccepted graph lines → length (log_of_lines graph lines).events ≡ length lines
   accepted_events lines accepted =

@@ -1,5 +1,6 @@
 -- What a diagnosis must have for its questions, and what they say of it.
-use Rattle.std.specs.Prelude.{◌≡◌, ℕ, ◌<◌, ◌≤◌, List, ◌++◌, length, IfSome}
+use Rattle.std.specs.Prelude.{◌≡◌, ℕ, ◌<◌, ◌≤◌, List, [], ◌++◌, length, IfSome}
+use Rattle.tfpg_base.specs.Terms.{AreReportTerms}
 use Rattle.tfpg_base.specs.declared.terms.Terms.{Terms}
 use Rattle.tfpg_graph.specs.Graph.{Tfpg}
 use Rattle.tfpg_hyp.specs.Hypotheses.{HasHypotheses}
@@ -10,6 +11,7 @@ use Rattle.tfpg_whatif.specs.Outcomes.{Asked, asked_of}
 use Rattle.tfpg_run.specs.declared.diagnosis.Diagnosis.{Diagnosis}
 use Rattle.tfpg_run.specs.declared.fault.QuestionsFault.{QuestionsFault}
 use Rattle.tfpg_run.specs.declared.fault.QuestionsFault.TheVariants.{TooMany, NoMemory}
+use Rattle.tfpg_run.specs.inside.diagnosis.Diagnosed.{HasDiagnosed}
 use Rattle.tfpg_run.specs.ask.Questions.{AnswersAsked, first_line, left_by}
 
 -- The last round has a finding for each hypothesis of the table, which has at most 4,096.
@@ -17,6 +19,12 @@ pub record CanBeAskedOf (diagnosis : Diagnosis) : Type 0 where
   pub budget : 1 ≤ diagnosis.engine.terms.budget
   pub few : length diagnosis.engine.table.hypotheses ≤ MAX_HYPOTHESES
   pub complete : IfSome diagnosis.last (λ round. length round.findings ≡ length diagnosis.engine.table.hypotheses)
+
+-- The diagnosis has taken no line. Its terms are within their limits, and it has at most 4,096 hypotheses.
+pub record IsNewDiagnosis (diagnosis : Diagnosis) : Type 0 where
+  pub new : HasDiagnosed diagnosis.engine.graph diagnosis.engine.terms [] diagnosis
+  pub within : AreReportTerms diagnosis.engine.terms
+  pub few : (count : ℕ) → HasHypotheses diagnosis.engine.graph diagnosis.engine.terms count → count ≤ MAX_HYPOTHESES
 
 -- what is asked after a diagnosis
 abbrev pub asked_after : Diagnosis → Asked
