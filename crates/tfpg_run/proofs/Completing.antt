@@ -10,6 +10,8 @@ use Rattle.tfpg_base.specs.Lines.{lines_of}
 use Rattle.tfpg_graph.specs.declared.cause.GraphFault.{GraphFault}
 use Rattle.tfpg_graph.specs.Declares.{declared_by}
 use Rattle.tfpg_graph.specs.Graph.{Tfpg}
+use Rattle.tfpg_hyp.specs.Hypotheses.{HasHypotheses}
+use Rattle.tfpg_hyp.specs.declared.limits.TheConstants.{MAX_HYPOTHESES}
 use Rattle.tfpg_graph.specs.Text.{Spells}
 use Rattle.tfpg_graph.specs.Valid.{IsValid}
 use Rattle.tfpg_graph.specs.Faults.{IsFirstFault}
@@ -23,7 +25,7 @@ use Rattle.tfpg_check.specs.RightReports.{LinesHaveOneCause, LinesOfTooManyHaveN
 use Rattle.tfpg_check.proofs.FirstLines.{OneLine, few_hypotheses}
 use Rattle.tfpg_sim.specs.Script.{IsScriptFault}
 use Rattle.tfpg_words.specs.declared.usage_cause.UsageCause.{UsageCause}
-use Rattle.tfpg_words.specs.Meaning.{Meaning, Diagnose, Explain, Check, Simulate, Generate, Convert}
+use Rattle.tfpg_words.specs.Meaning.{Meaning, Diagnose, Explain, Check, Simulate, Generate, Convert, Ask}
 use Rattle.tfpg_run.specs.declared.end.End.{End}
 use Rattle.tfpg_run.specs.declared.end.End.TheVariants as ends
 use Rattle.tfpg_run.specs.declared.fault.FetchFault.{FetchFault}
@@ -38,10 +40,13 @@ use Rattle.tfpg_run.specs.declared.fault.SimulateFault.{SimulateFault}
 use Rattle.tfpg_run.specs.declared.fault.SimulateFault.TheVariants as simulate
 use Rattle.tfpg_run.specs.declared.fault.OutputFault.{OutputFault}
 use Rattle.tfpg_run.specs.declared.fault.OutputFault.TheVariants as output
-use Rattle.tfpg_run.specs.Completeness.{CanCheck, CanConvert, CanDiagnose, CanExplain, CanJudge, CanRefuse, CanSimulate, CanBeDone, NothingFails, IsShort, IsCompleted, IsRefusedFor}
-use Rattle.tfpg_run.specs.EndsOf.{end_of_fetch_fault, end_of_stream_fault, end_of_check_fault, end_of_explain_fault, end_of_simulate_fault, end_of_output_fault, end_of_result}
+use Rattle.tfpg_run.specs.declared.fault.QuestionsFault.{QuestionsFault}
+use Rattle.tfpg_run.specs.declared.fault.QuestionsFault.TheVariants as questions
+use Rattle.tfpg_run.specs.Completeness.{CanAsk, CanCheck, CanConvert, CanDiagnose, CanExplain, CanJudge, CanRefuse, CanSimulate, CanBeDone, NothingFails, IsShort, IsCompleted, IsRefusedFor}
+use Rattle.tfpg_run.specs.EndsOf.{end_of_fetch_fault, end_of_stream_fault, end_of_check_fault, end_of_explain_fault, end_of_simulate_fault, end_of_output_fault, end_of_questions_fault, end_of_result}
 use Rattle.tfpg_run.specs.Fetch.{HasFile, IsTooLong, GivesGraph, GivesGraphBy, GivesGraphAndText, HasFaultyGraphBy, IsFetchFaultBy, IsFilesFault, LacksGraphOrText}
 use Rattle.tfpg_run.specs.generate.Generating.{HasSummary}
+use Rattle.tfpg_run.specs.ask.Asking.{AskEnds, QuestionsEnd}
 use Rattle.tfpg_run.specs.convert.Converting.{ConvertEnds, IsFaultFrom, SpellsFrom, converted_text}
 use Rattle.tfpg_run.specs.check.Checking.{CheckEnds, CheckingEnds, HasTooManyInHead, IsAccepted, matter_of}
 use Rattle.tfpg_run.specs.explain.Explaining.{ExplainEnds, ExplainingEnds}
@@ -335,6 +340,22 @@ module _ (graphs : GraphLaws) (laws : CheckLaws) (before now : World) (calm : No
   converted json end name can (inr converts) =
       subst IsCompleted (sym converts.ends.end_is) (text_written (λ text. text ≡ converted_text json converts.graph) converts.ends.result converts.ends.works)
 
+  -- questions that are written
+  questions_written : (terms : Terms) (graph : Tfpg) (log_text : List ℕ) → ((count : ℕ) → HasHypotheses graph terms count → count ≤ MAX_HYPOTHESES) → (result : Result (Unit {0}) QuestionsFault)
+      → QuestionsEnd terms graph log_text before.output now.output result → IsCompleted (end_of_result end_of_questions_fault result)
+  questions_written terms graph log_text few (Ok done) is = inl refl
+  questions_written terms graph log_text few (Err (questions.TooMany count)) is = absurd (omega (arith, is.0, few count is.1))
+  questions_written terms graph log_text few (Err questions.WriteFault) is = absurd (calm.output is.rose)
+  questions_written terms graph log_text few (Err questions.NoMemory) is = inr refl
+
+  asked : (terms : Terms) (end : End) (graph_name log_name : List ℕ) → CanAsk before.shelf terms graph_name log_name → AskEnds terms graph_name log_name before now end → IsCompleted end
+  asked terms end graph_name log_name can (inl lacks) =
+      inr (without_memory end lacks.fault
+      (both_fetched before.shelf can.files can.known graphs graph_name can.graph can.gives.of_graph now.shelf log_name can.log_text can.gives.file lacks.fault calm.shelf lacks.is_fault) lacks.end_is)
+  asked terms end graph_name log_name can (inr asks) =
+      subst IsCompleted (sym asks.works.end_is)
+      (questions_written terms asks.graph asks.other (λ count. can.few asks.graph count asks.gives.of_graph) asks.works.result asks.works.works)
+
   completed : (meant : Meaning) (end : End) → CanBeDone meant before → CommandEnds (Ok meant) before now end → IsCompleted end
   completed (Diagnose terms graph panels) end can is = diagnosed can.1 end terms graph can.0 is
   completed (Explain graph log) end can is = explained end graph log can is
@@ -342,6 +363,7 @@ module _ (graphs : GraphLaws) (laws : CheckLaws) (before now : World) (calm : No
   completed (Simulate draw trace graph script) end can is = simulated_files end (HasSimulation draw trace) graph script can is.0
   completed (Generate draw size) end can is = subst IsCompleted (sym is.0.end_is) (text_written (HasSummary draw size) is.0.result is.0.works)
   completed (Convert json graph) end can is = converted json end graph can is.0
+  completed (Ask terms graph log) end can is = asked terms end graph log can is.0
 
   -- the whole run
   pub run_completes : (words : Result Meaning UsageCause) (meant : Meaning) (end : End) → words ≡ Ok meant → CanBeDone meant before → RunEnds words before now end

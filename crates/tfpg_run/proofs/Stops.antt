@@ -1,5 +1,5 @@
 -- How a run on a file ends.
-use Rattle.std.proofs.Common.{◌≡◌, ℕ, ◌<◌, ◌≤◌, List, [], Result, Ok, Err, refl, sym, subst, subst₂, ◌∙◌, inl, inr, Bool}
+use Rattle.std.proofs.Common.{◌≡◌, ℕ, ◌<◌, ◌≤◌, List, [], Result, Ok, Err, refl, sym, ap, subst, subst₂, ◌∙◌, inl, inr, Bool}
 use Rattle.std.specs.Prelude.{◌↔◌, IsErrAnd, OnOk, IfErr}
 use Rattle.tfpg_base.specs.declared.terms.Terms.{Terms}
 use Rattle.tfpg_base.specs.Terms.{AreReportTerms}
@@ -9,7 +9,7 @@ use Rattle.tfpg_hyp.specs.Hypotheses.{HasHypotheses}
 use Rattle.tfpg_hyp.specs.declared.limits.TheConstants.{MAX_HYPOTHESES}
 use Rattle.tfpg_hyp.specs.declared.table.TableFault.{TableFault}
 use Rattle.tfpg_hyp.specs.declared.table.TableFault.TheVariants.{TooMany, NoMemory}
-use Rattle.tfpg_words.specs.Meaning.{Meaning, Explain, Check, Simulate, Convert}
+use Rattle.tfpg_words.specs.Meaning.{Meaning, Explain, Check, Simulate, Convert, Ask}
 use Rattle.tfpg_run.specs.declared.end.End.{End}
 use Rattle.tfpg_run.specs.declared.end.End.TheVariants as ends
 use Rattle.tfpg_run.specs.declared.end.End.TheVariants.{Done}
@@ -32,6 +32,7 @@ use Rattle.tfpg_run.specs.explain.Explaining.{ExplainEnds}
 use Rattle.tfpg_run.specs.check.Checking.{CheckEnds}
 use Rattle.tfpg_run.specs.simulate.Simulating.{HasSimulation, SimulateEnds}
 use Rattle.tfpg_run.specs.convert.Converting.{ConvertEnds}
+use Rattle.tfpg_run.specs.ask.Asking.{AskEnds}
 use Rattle.tfpg_run.specs.Streams.{Streams}
 use Rattle.tfpg_run.specs.World.{World, Watched, watched_of}
 use Rattle.tfpg_panel.specs.ToldRounds.{HasTold}
@@ -47,8 +48,17 @@ IfErr-with (Ok value) P Q is also = tt
 IfErr-with (Err fault) P Q is also = (is, also)
 
 -- what the result of `Engine::new` says of the number of hypotheses
-abbrev CountsHypotheses : {X : Type 0} → Tfpg → Terms → Result X TableFault → Type 0
+abbrev pub CountsHypotheses : {X : Type 0} → Tfpg → Terms → Result X TableFault → Type 0
 CountsHypotheses graph terms result = (count : ℕ) → (result ≡ Err (TooMany count)) ↔ ((MAX_HYPOTHESES < count) × HasHypotheses graph terms count)
+
+-- what is made of the engine says the same of their number
+pub counted_when_made : {X Y : Type 0} (graph : Tfpg) (terms : Terms) (engine : X) (made : Y) → CountsHypotheses graph terms (Ok engine) → CountsHypotheses graph terms (Ok made)
+counted_when_made graph terms engine made exact count = (λ is. cc, λ many. let is = (exact count).1 many in cc)
+
+-- and so does the same fault
+pub counted_when_not : {X Y : Type 0} (graph : Tfpg) (terms : Terms) (fault : TableFault) → CountsHypotheses {X = X} graph terms (Err fault) → CountsHypotheses {X = Y} graph terms (Err fault)
+counted_when_not graph terms fault exact count =
+    (λ is. (exact count).0 (let same : fault ≡ TooMany count = cc in ap Err same), λ many. let is = (exact count).1 many in let same : fault ≡ TooMany count = cc in ap Err same)
 
 -- where there is an engine, they are not too many
 pub not_too_many : {X : Type 0} (graph : Tfpg) (terms : Terms) (engine : X) → CountsHypotheses graph terms (Ok engine) → (count : ℕ) → HasHypotheses graph terms count → count ≤ MAX_HYPOTHESES
@@ -60,7 +70,7 @@ has_reports graph terms engine g other exact e f within =
     subst₂ HasReports (sym e) (sym f) (record { within = within; few_hypotheses = not_too_many graph terms engine exact })
 
 -- nor where memory ran out
-without_memory : {X : Type 0} (graph : Tfpg) (terms : Terms) → CountsHypotheses {X = X} graph terms (Err NoMemory) → (count : ℕ) → HasHypotheses graph terms count → count ≤ MAX_HYPOTHESES
+pub without_memory : {X : Type 0} (graph : Tfpg) (terms : Terms) → CountsHypotheses {X = X} graph terms (Err NoMemory) → (count : ℕ) → HasHypotheses graph terms count → count ≤ MAX_HYPOTHESES
 without_memory graph terms exact count counted = not_above count MAX_HYPOTHESES (λ many. let is = (exact count).1 (many, counted) in cc)
 
 module _ {T : Type 0} (terms : Terms) (name : List ℕ) (before now : World) (result : Result T End) where
@@ -177,6 +187,15 @@ module _ {T : Type 0} (result : Result T End) (meant : Meaning) (first second : 
       (IfErr-with result (SimulateEnds (HasSimulation draw trace) graph script before now) (now.input ≡ before.input)
       (subst (λ (name : List ℕ). IfErr result (SimulateEnds (HasSimulation draw trace) name script before now)) one
       (subst (λ (name : List ℕ). IfErr result (SimulateEnds (HasSimulation draw trace) first name before now)) other is)) same)
+
+  -- questions were not written
+  pub ask_stopped : (terms : Terms) (graph log : List ℕ) → meant ≡ Ask terms graph log → first ≡ graph → second ≡ log → now.input ≡ before.input
+      → IfErr result (AskEnds terms first second before now) → IfErr result (CommandEnds (Ok meant) before now)
+  ask_stopped terms graph log means one other same is =
+      subst (λ (m : Meaning). IfErr result (CommandEnds (Ok m) before now)) (sym means)
+      (IfErr-with result (AskEnds terms graph log before now) (now.input ≡ before.input)
+      (subst (λ (name : List ℕ). IfErr result (AskEnds terms name log before now)) one
+      (subst (λ (name : List ℕ). IfErr result (AskEnds terms first name before now)) other is)) same)
 
 -- a graph was not converted, as the words name its file
 pub convert_stopped : {T : Type 0} (result : Result T End) (meant : Meaning) (name : List ℕ) (before now : World) (json : Bool) (graph : List ℕ) → meant ≡ Convert json graph → name ≡ graph → now.input ≡ before.input

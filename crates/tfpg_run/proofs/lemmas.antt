@@ -3,4 +3,6 @@ pub mod map
 pub mod diagnose
 pub mod explain
 pub mod check
+pub mod diagnosis
 pub mod generate
+pub mod ask

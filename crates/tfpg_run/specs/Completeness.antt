@@ -11,7 +11,7 @@ use Rattle.tfpg_report.specs.Blocks.{Block}
 use Rattle.tfpg_check.specs.declared.cause.CheckCause.{CheckCause}
 use Rattle.tfpg_check.specs.Causes.{AreReportLines, IsCause}
 use Rattle.tfpg_sim.specs.Script.{IsScriptFault}
-use Rattle.tfpg_words.specs.Meaning.{Meaning, Diagnose, Explain, Check, Simulate, Generate, Convert}
+use Rattle.tfpg_words.specs.Meaning.{Meaning, Diagnose, Explain, Check, Simulate, Generate, Convert, Ask}
 use Rattle.tfpg_base.specs.declared.terms.Terms.{Terms}
 use Rattle.tfpg_run.specs.declared.end.End.{End}
 use Rattle.tfpg_run.specs.declared.end.End.TheVariants.{Done, NoMemory, NotAccepted}
@@ -86,6 +86,17 @@ pub record CanConvert (shelf : ShelfState) (json : Bool) (name : List ℕ) : Typ
   pub graph : Tfpg
   pub gives : GivesGraphBy (SpellsFrom json) shelf name graph
 
+-- The contents of the shelf are known, the files of these names give a graph and a text, and each graph that the one gives has at most
+-- 4,096 hypotheses on these terms.
+pub record CanAsk (shelf : ShelfState) (terms : Terms) (graph_name log_name : List ℕ) : Type 0 where
+  pub files : List (List ℕ × List ℕ)
+  pub known : shelf.files ≡ Some files
+  pub graph : Tfpg
+  pub log_text : List ℕ
+  pub gives : GivesGraphAndText shelf graph_name log_name graph log_text
+  pub few : (other : Tfpg) (count : ℕ) → GivesGraph shelf graph_name other → HasHypotheses other terms count
+      → count ≤ MAX_HYPOTHESES
+
 -- The files serve what the words mean, and so does the input where it is read.
 abbrev pub CanBeDone : Meaning → World → Type 0
 CanBeDone (Diagnose terms graph panels) before =
@@ -95,6 +106,7 @@ CanBeDone (Check graph log) before = CanCheck before.shelf before.input graph lo
 CanBeDone (Simulate draw trace graph script) before = CanSimulate before.shelf graph script
 CanBeDone (Generate draw size) before = Unit {0}
 CanBeDone (Convert json graph) before = CanConvert before.shelf json graph
+CanBeDone (Ask terms graph log) before = CanAsk before.shelf terms graph log
 
 -- Neither the shelf, nor the input, nor the output failed.
 pub record NothingFails (before now : World) : Type 0 where

@@ -12,6 +12,8 @@ use Rattle.tfpg_run.specs.declared.fault.SimulateFault.{SimulateFault}
 use Rattle.tfpg_run.specs.declared.fault.SimulateFault.TheVariants as simulate
 use Rattle.tfpg_run.specs.declared.fault.OutputFault.{OutputFault}
 use Rattle.tfpg_run.specs.declared.fault.OutputFault.TheVariants as output
+use Rattle.tfpg_run.specs.declared.fault.QuestionsFault.{QuestionsFault}
+use Rattle.tfpg_run.specs.declared.fault.QuestionsFault.TheVariants as questions
 use Rattle.tfpg_check.specs.declared.cause.CheckCause.TheVariants.{BadMap, BadScript}
 use Rattle.tfpg_run.specs.declared.end.End.{End}
 use Rattle.tfpg_run.specs.declared.end.End.TheVariants as ends
@@ -51,6 +53,12 @@ end_of_simulate_fault simulate.NoMemory = ends.NoMemory
 abbrev pub end_of_output_fault : OutputFault → End
 end_of_output_fault output.WriteFault = ends.WriteFault
 end_of_output_fault output.NoMemory = ends.NoMemory
+
+-- the end of a run whose questions were not written
+abbrev pub end_of_questions_fault : QuestionsFault → End
+end_of_questions_fault (questions.TooMany count) = ends.TooManyHypotheses count
+end_of_questions_fault questions.WriteFault = ends.WriteFault
+end_of_questions_fault questions.NoMemory = ends.NoMemory
 
 -- the end of a run whose work has this result, by the ends that its faults lead to
 abbrev pub end_of_result : {E : Type 0} → (E → End) → Result (Unit {0}) E → End

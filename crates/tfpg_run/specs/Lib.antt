@@ -9,13 +9,15 @@ pub mod Run
 pub mod Completeness
 -- What they say of the lines of file panels.
 pub mod PanelLines
--- What they say of maps, and of each command, in folders named like those of the source.
+-- What they say of maps, of a diagnosis in memory, and of each command, in folders named like those of the source.
 pub mod map
 pub mod diagnose
 pub mod explain
 pub mod check
 pub mod simulate
+pub mod diagnosis
 pub mod generate
 pub mod convert
+pub mod ask
 -- What the code and its proofs need besides. No public clause reaches it.
 pub mod inside

@@ -1,4 +1,4 @@
 -- How `generate` ends, what it diagnoses, and what it writes.
-pub mod Diagnosed
+pub mod Terms
 pub mod Summary
 pub mod Generating

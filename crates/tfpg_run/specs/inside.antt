@@ -5,6 +5,8 @@ pub mod map
 pub mod diagnose
 pub mod explain
 pub mod check
+pub mod diagnosis
 pub mod generate
+pub mod ask
 pub mod convert
 pub mod Writing

@@ -14,6 +14,7 @@ ghost use Rattle.tfpg_run.specs.World.{World, world};
 ghost use Rattle.tfpg_run.specs.check.AfterDiagnosis.{FollowsDiagnosis};
 ghost use Rattle.tfpg_run.specs.diagnose.Work.{RunsWithin};
 
+use crate::ask::ask_by_files;
 use crate::check::check_by_files;
 use crate::convert::convert_file;
 use crate::diagnose::{Subject, diagnose_file};
@@ -38,7 +39,7 @@ use tfpg_words::{Command, plan};
 /// then writes how many rounds it has. To simulate it reads the graph and the script that they name, and writes the log
 /// or the map of what happens. To generate it draws a graph and a script, diagnoses the log, and writes what became of
 /// the truth. To convert it reads the graph that they name, and writes it in the other form: a graph text as JSON, or JSON as a
-/// graph text. Searches count their steps on `work`.
+/// graph text. To ask it reads the graph and the log that they name, diagnoses the log, and writes which observation would tell most. Searches count their steps on `work`.
 pub fn run<F: Shelf, S: Source, K: Sink, P: Panel, L: Ledger>(
     alloc: Global,
     words: &[String],
@@ -163,6 +164,20 @@ fn perform<F: Shelf, S: Source, K: Sink, P: Panel, L: Ledger>(
         ),
         Command::Generate { draw, size } => generate_summary(alloc, *draw, *size, out, work),
         Command::Convert { json, graph } => convert_file(alloc, *json, graph.as_str(), shelf, out),
+        Command::Ask {
+            k,
+            doubt,
+            budget,
+            graph,
+            log,
+        } => {
+            let terms = Terms {
+                k: *k,
+                doubt: *doubt,
+                budget: *budget,
+            };
+            ask_by_files(alloc, terms, graph.as_str(), log.as_str(), shelf, out, work)
+        }
     }
 }
 

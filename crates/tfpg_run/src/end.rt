@@ -5,10 +5,12 @@ ghost use Rattle.std.specs.Process.{exit_status};
 ghost use Rattle.tfpg_base.specs.Append.{Appends};
 ghost use Rattle.tfpg_base.specs.Words.{line_of};
 ghost use Rattle.tfpg_run.specs.Ends.{check_cause_name, graph_cause_name, line_of_end, status_of, usage_name};
-ghost use Rattle.tfpg_run.specs.EndsOf.{end_of_check_fault, end_of_explain_fault, end_of_fetch_fault, end_of_output_fault, end_of_simulate_fault, end_of_stream_fault};
+ghost use Rattle.tfpg_run.specs.EndsOf.{end_of_check_fault, end_of_explain_fault, end_of_fetch_fault, end_of_output_fault, end_of_questions_fault, end_of_simulate_fault, end_of_stream_fault};
 ghost use Rattle.tfpg_run.specs.inside.Faults.{end_of_plan_fault, end_of_table_fault};
 
-use crate::fault::{CheckFault, ExplainFault, FetchFault, OutputFault, SimulateFault, StreamFault};
+use crate::fault::{
+    CheckFault, ExplainFault, FetchFault, OutputFault, QuestionsFault, SimulateFault, StreamFault,
+};
 use itoa::Buffer;
 use std::process::ExitCode;
 use tfpg_base::{NoMemory, append_words};
@@ -184,6 +186,18 @@ impl From<OutputFault> for End {
         match fault {
             OutputFault::WriteFault => End::WriteFault,
             OutputFault::NoMemory => End::NoMemory,
+        }
+    }
+}
+
+impl From<QuestionsFault> for End {
+    ghost from_gives = { λ fault e. e ≡ end_of_questions_fault fault };
+
+    fn from(fault: QuestionsFault) -> End {
+        match fault {
+            QuestionsFault::TooMany { count } => End::TooManyHypotheses { count },
+            QuestionsFault::WriteFault => End::WriteFault,
+            QuestionsFault::NoMemory => End::NoMemory,
         }
     }
 }

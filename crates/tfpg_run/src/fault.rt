@@ -8,11 +8,14 @@ ghost use Rattle.tfpg_run.specs.declared.fault.ExplainFault.TheVariants as expla
 ghost use Rattle.tfpg_run.specs.declared.fault.CheckFault.TheVariants as check;
 ghost use Rattle.tfpg_run.specs.declared.fault.SimulateFault.TheVariants as simulate;
 ghost use Rattle.tfpg_run.specs.declared.fault.OutputFault.TheVariants as output;
+ghost use Rattle.tfpg_run.specs.declared.fault.QuestionsFault.TheVariants as asking;
+ghost use Rattle.tfpg_run.specs.inside.ask.Asked.{questions_fault_of_table};
 
 use crate::map::NoMap;
 use tfpg_base::{Failed, LineFault, NoMemory, ShelfFault};
 use tfpg_check::{CheckCause, JudgeFault};
 use tfpg_graph::{GraphFault, GraphRefusal};
+use tfpg_hyp::TableFault;
 use tfpg_sim::SimFault;
 
 /// Why there is no graph of a file.
@@ -235,5 +238,35 @@ impl From<Failed> for OutputFault {
 
     fn from(_e: Failed) -> OutputFault {
         OutputFault::WriteFault
+    }
+}
+
+/// Why the questions after a log were not written.
+#[derive(Clone, Copy, Debug, PartialEq, Eq)]
+pub(crate) enum QuestionsFault {
+    /// There are more than [`MAX_HYPOTHESES`](tfpg_hyp::MAX_HYPOTHESES) hypotheses, exactly this many.
+    TooMany { count: u128 },
+    /// The output failed.
+    WriteFault,
+    /// Out of memory.
+    NoMemory,
+}
+
+impl From<TableFault> for QuestionsFault {
+    ghost from_gives = { λ fault e. e ≡ questions_fault_of_table fault };
+
+    fn from(fault: TableFault) -> QuestionsFault {
+        match fault {
+            TableFault::TooMany { count } => QuestionsFault::TooMany { count },
+            TableFault::NoMemory => QuestionsFault::NoMemory,
+        }
+    }
+}
+
+impl From<Failed> for QuestionsFault {
+    ghost from_gives = { λ _ e. e ≡ asking.WriteFault };
+
+    fn from(_e: Failed) -> QuestionsFault {
+        QuestionsFault::WriteFault
     }
 }

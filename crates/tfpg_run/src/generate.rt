@@ -1,24 +1,29 @@
 //! The command `generate`: from a number and a size to what a diagnosis says of the system that they draw.
 
-ghost use Rattle.std.specs.Prelude.{◌≤◌, IfOk, IfErr, OnOk, Ok, Err};
+ghost use Rattle.std.specs.Prelude.{◌≡◌, ◌≤◌, [], IfOk, IfErr, OnOk, Ok, Err, length};
 ghost use Rattle.tfpg_base.specs.declared.limits.TheConstants.{MAX_CASE_SIZE};
+ghost use Rattle.tfpg_graph.specs.Graph.{failures};
+ghost use Rattle.tfpg_sim.specs.declared.limits.TheConstants.{FAILURE_COUNT};
 ghost use Rattle.tfpg_run.specs.EndsOf.{EndsBy, end_of_output_fault};
 ghost use Rattle.tfpg_run.specs.Outputs.{TextEnds};
 ghost use Rattle.tfpg_run.specs.generate.Generating.{HasSummary};
+ghost use Rattle.tfpg_run.specs.generate.Terms.{generated_terms};
+ghost use Rattle.tfpg_run.specs.inside.diagnosis.Diagnosed.{HasDiagnosed};
 ghost use Rattle.tfpg_run.specs.inside.generate.Drawn.{IsDrawn};
 
-mod diagnosis;
 mod summary;
 
+use crate::diagnosis::Diagnosis;
 use crate::end::End;
 use crate::fault::OutputFault;
+use crate::limits::{GENERATED_BUDGET, GENERATED_K};
 use crate::output::write_all;
-use diagnosis::{diagnose_lines, lines_in};
 use std::alloc::Global;
 use std::sync::ledger::Ledger;
 use summary::summary_of;
-use tfpg_base::{NoMemory, Sink, Steps};
+use tfpg_base::{NoMemory, Sink, Steps, Terms};
 use tfpg_graph::Graph;
+use tfpg_hyp::TableFault;
 use tfpg_hyp::laws::rounds_say_which_sets_fit;
 use tfpg_sim::laws::a_generated_script_is_right;
 use tfpg_sim::{Generated, SimFault, Simulated, generate, simulate};
@@ -81,8 +86,8 @@ fn drawn_summary<L: Ledger>(
 {
     rounds_say_which_sets_fit();
     let Drawn { graph, simulated } = draw_simulation(alloc, number, size)?;
-    let lines = lines_in(alloc, simulated.log.as_slice())?;
-    let diagnosis = diagnose_lines(alloc, graph, &lines, work)?;
+    let mut diagnosis = new_diagnosis(alloc, graph)?;
+    diagnosis.take_text(alloc, simulated.log.as_slice(), work)?;
     summary_of(alloc, number, size, &diagnosis, simulated.set)
 }
 
@@ -98,5 +103,22 @@ fn draw_simulation(alloc: Global, number: u64, size: u32) -> Result<Drawn, NoMem
         Ok(simulated) => Ok(Drawn { graph, simulated }),
         Err(SimFault::NoMemory) => Err(NoMemory),
         Err(SimFault::BadScript { .. }) => unreachable!(),
+    }
+}
+
+/// A diagnosis of no line. Of 16 failure modes there are 137 sets of at most 2, which are not too many.
+fn new_diagnosis(alloc: Global, graph: Graph) -> Result<Diagnosis, NoMemory>
+    requires { length (failures graph) ≡ FAILURE_COUNT }
+    ensures { IfOk result (HasDiagnosed graph generated_terms []) }
+{
+    let terms = Terms {
+        k: GENERATED_K,
+        doubt: 0,
+        budget: GENERATED_BUDGET,
+    };
+    match Diagnosis::new(alloc, graph, terms) {
+        Ok(diagnosis) => Ok(diagnosis),
+        Err(TableFault::NoMemory) => Err(NoMemory),
+        Err(TableFault::TooMany { .. }) => unreachable!(),
     }
 }

@@ -11,10 +11,12 @@
 //! ```
 #![tactic(auto)]
 
+mod ask;
 mod check;
 mod commands;
 mod convert;
 mod diagnose;
+mod diagnosis;
 mod end;
 mod explain;
 mod fault;

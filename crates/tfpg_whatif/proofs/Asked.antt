@@ -29,7 +29,7 @@ use Rattle.tfpg_whatif.specs.Outcomes.{Asked, asked_at, Lengthens, HasEvidence, 
 use Rattle.tfpg_whatif.specs.Foresight.{ForeseeRounds, SayWhichKeep}
 use Rattle.tfpg_whatif.specs.Laws.{OutcomesForeseeRounds}
 use Rattle.tfpg_whatif.specs.declared.asking.Asking.{Asking}
-use Rattle.tfpg_whatif.specs.inside.Asking.{asked_by, IsAskedAt, IsShown, IsFound, AreFound, AreAllFound, IsAnswer}
+use Rattle.tfpg_whatif.specs.inside.Asking.{asked_by, IsAskedAt, IsShown, IsFound, AreFound, AreAllFound, AreKnown, IsAnswer}
 
 -- ---- the hypothesis of a number
 
@@ -130,6 +130,10 @@ module _ (asked : Asked) (outcomes : List Outcome) (all : AreAllFound asked outc
       (λ index outcome there.
       let own = slice_get-same_length asked.among outcomes index outcome all.counted there in
       (all.each index own.0 outcome own.1 there).known enough))
+
+-- outcomes of all are known
+pub all_known : (asked : Asked) (outcomes : List Outcome) → AreAllFound asked outcomes → AreKnown asked outcomes
+all_known asked outcomes all index number outcome at there = (all.each index number outcome at there).outcome_of
 
 -- ---- how many are asked about
 

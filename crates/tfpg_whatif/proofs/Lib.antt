@@ -1,4 +1,7 @@
 mod Searched
+mod SameRules
+mod AtOnce
+mod LastEvents
 mod Rounds
 mod Asked
 mod Questioned

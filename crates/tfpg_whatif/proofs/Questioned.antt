@@ -64,13 +64,19 @@ without_end graph event text count is counted =
 abbrev pub LinesAreAccepted : Type 0
 LinesAreAccepted = (graph : Tfpg) (log : Logbook) (event : Event) → IsValid graph → IsNextEvent graph log event → reply_to graph log (line_of (event_words graph event)) ≡ Accepted event
 
--- So that line is never refused.
+-- So what becomes of that line is its event,
+pub accepted_event : LinesAreAccepted → (graph lent : Tfpg) (log lent_log copied : Logbook) (event : Event) (text : List ℕ) (count : ℕ) (reply : Offered) → lent ≡ graph → IsValid lent
+    → IsNextEvent graph log event → lent_log ≡ log → copied ≡ lent_log → text ≡ event_line lent event → count ≡ length text → reply ≡ reply_to lent copied (take (count - 1) text) → reply ≡ Accepted event
+accepted_event accepts graph lent log lent_log copied event text count reply same valid next is_log is_copy is_text counted replied =
+    let next_lent : IsNextEvent lent copied event = subst (λ (g : Tfpg). IsNextEvent g copied event) (sym same) (subst (λ (l : Logbook). IsNextEvent graph l event) (sym (is_copy ∙ is_log)) next) in
+    replied ∙ ap (reply_to lent copied) (without_end lent event text count is_text counted) ∙ accepts lent copied event valid next_lent
+
+-- and it is never refused.
 pub never_refused : LinesAreAccepted → (graph lent : Tfpg) (log lent_log copied : Logbook) (event : Event) (text : List ℕ) (count : ℕ) (reply : Offered) (refusal : Refusal) → lent ≡ graph → IsValid lent
     → IsNextEvent graph log event → lent_log ≡ log → copied ≡ lent_log → text ≡ event_line lent event → count ≡ length text → reply ≡ reply_to lent copied (take (count - 1) text) → reply ≡ Refused refusal → ⊥
 never_refused accepts graph lent log lent_log copied event text count reply refusal same valid next is_log is_copy is_text counted replied refused =
-    let next_lent : IsNextEvent lent copied event = subst (λ (g : Tfpg). IsNextEvent g copied event) (sym same) (subst (λ (l : Logbook). IsNextEvent graph l event) (sym (is_copy ∙ is_log)) next) in
     let accepted : Refused refusal ≡ Accepted event =
-    sym refused ∙ replied ∙ ap (reply_to lent copied) (without_end lent event text count is_text counted) ∙ accepts lent copied event valid next_lent in
+    sym refused ∙ accepted_event accepts graph lent log lent_log copied event text count reply same valid next is_log is_copy is_text counted replied in
     cc
 
 -- What is asked can be asked after an accepted line.

@@ -1,3 +1,4 @@
 -- What the code and its proofs need besides. No public clause reaches it.
 pub mod Asking
+pub mod AtOnce
 pub mod Ordering

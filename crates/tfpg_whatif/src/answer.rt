@@ -10,7 +10,7 @@ ghost use Rattle.tfpg_whatif.specs.Foresight.{ForeseeRounds, SayWhichKeep};
 ghost use Rattle.tfpg_whatif.specs.inside.Asking.{IsAsking, IsAnswer, asked_of_lent};
 
 use crate::ask_fault::AskFault;
-use crate::asking::{Asking, is_well_asked};
+use crate::asking::{Asking, LastEvent, is_well_asked};
 use crate::laws::outcomes_foresee_rounds;
 use crate::outcome::OutcomeList;
 use crate::outcomes::outcomes_at;
@@ -70,9 +70,10 @@ fn answer<L: Ledger>(
     let mut log = asking.engine.log().copy()?;
     match log.offer(asking.engine.graph(), line)? {
         Offered::Refused(refusal) => Err(AskFault::Refused(refusal)),
-        Offered::Accepted(_) => {
+        Offered::Accepted(event) => {
             is_well_asked(asking, &log);
-            Ok(outcomes_at(alloc, asking, &mut log, work)?)
+            let last = LastEvent::alone(event);
+            Ok(outcomes_at(alloc, asking, &last, &mut log, work)?)
         }
     }
 }

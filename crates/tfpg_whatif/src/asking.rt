@@ -1,12 +1,14 @@
-//! What is asked, lent.
+//! What is asked, lent, and the event after which it is asked.
 
+ghost use Rattle.std.specs.Prelude.{◌≡◌, []};
 ghost use Rattle.tfpg_log.specs.Log.{IsLogOf};
 ghost use Rattle.tfpg_whatif.specs.Laws.{IsWellAsked};
 ghost use Rattle.tfpg_whatif.specs.inside.Asking.{IsAsking, asked_by};
 
+use crate::outcome::Outcome;
 use tfpg_base::NumberList;
 use tfpg_engine::Engine;
-use tfpg_log::Log;
+use tfpg_log::{Event, Log};
 
 /// Which hypotheses of an engine are asked about, by their numbers, and with which budget.
 #[derive(Clone, Copy)]
@@ -15,6 +17,23 @@ pub(crate) struct Asking<'a> {
     pub(crate) among: &'a NumberList,
     /// At least 1.
     pub(crate) budget: u64,
+}
+
+/// The last event of the log at which is asked, and outcomes at the log before it: of the first hypotheses that are asked about.
+#[derive(Clone, Copy)]
+pub(crate) struct LastEvent<'a> {
+    pub(crate) event: Event,
+    pub(crate) before: &'a [Outcome],
+}
+
+impl<'a> LastEvent<'a> {
+    /// The event, where no outcome before it is known.
+    pub(crate) fn alone(event: Event) -> LastEvent<'a>
+        ensures event { result.event ≡ event }
+        ensures none { result.before.now ≡ [] }
+    {
+        LastEvent { event, before: &[] }
+    }
 }
 
 /// What is asked makes sense at a log of the graph. It does nothing.

@@ -23,6 +23,7 @@
 mod answer;
 mod ask_fault;
 mod asking;
+mod at_once;
 pub mod laws;
 mod order;
 mod outcome;

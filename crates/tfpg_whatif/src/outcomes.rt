@@ -1,13 +1,14 @@
 //! The outcomes at a log.
 
-ghost use Rattle.std.specs.Prelude.{◌≡◌, ◌≤◌, ◌<◌, length, IfOk};
+ghost use Rattle.std.specs.Prelude.{◌≡◌, ◌≤◌, ◌<◌, length, IfOk, Some, slice_get};
 ghost use Rattle.tfpg_graph.specs.Graph.{AreFailures};
 ghost use Rattle.tfpg_graph.specs.Reach.{IsReach};
 ghost use Rattle.tfpg_log.specs.Log.{IsLogOf};
 ghost use Rattle.tfpg_clause.specs.Case.{case_of};
-ghost use Rattle.tfpg_whatif.specs.inside.Asking.{IsAsking, IsAskedAt, IsShown, IsFound, AreAllFound, asked_by, outcome_by};
+ghost use Rattle.tfpg_whatif.specs.inside.Asking.{IsAsking, IsAskedAt, IsLastEvent, IsShown, IsFound, AreAllFound, asked_by, outcome_by};
 
-use crate::asking::Asking;
+use crate::asking::{Asking, LastEvent};
+use crate::at_once::outcome_at_once;
 use crate::outcome::{Outcome, OutcomeList};
 use std::alloc::Global;
 use std::sync::ledger::Ledger;
@@ -21,32 +22,38 @@ use tfpg_search::{Found, Search};
 pub(crate) fn outcomes_at<L: Ledger>(
     alloc: Global,
     asking: &Asking<'_>,
+    last: &LastEvent<'_>,
     log: &mut Log,
     work: &mut Steps<L>,
 ) -> Result<OutcomeList, NoMemory>
     requires asking { IsAsking asking.now }
     requires log { IsAskedAt asking.now log.old }
+    requires last { IsLastEvent asking.now last.now log.old }
     ensures { IfOk result (AreAllFound (asked_by asking.now log.old)) }
 {
     let mut outcomes = Vec::new(alloc);
     for number in asking.among.as_slice() {
-        let outcome = outcome_of(alloc, asking, log, *number, work)?;
+        let outcome = outcome_of(alloc, asking, last, log, outcomes.len(), *number, work)?;
         outcomes.push(outcome)?;
     }
     Ok(OutcomeList::from_vec(outcomes))
 }
 
-/// The outcome at the log of the hypothesis of this number. The log is left ignoring the monitors that it doubts.
+/// The outcome at the log of the hypothesis of this number, which is asked about at this index. The log is left ignoring the monitors that it doubts.
 fn outcome_of<L: Ledger>(
     alloc: Global,
     asking: &Asking<'_>,
+    last: &LastEvent<'_>,
     log: &mut Log,
+    index: usize,
     number: u32,
     work: &mut Steps<L>,
 ) -> Result<Outcome, NoMemory>
     requires number { number < length asking.now.engine.now.table.hypotheses }
+    requires at { slice_get asking.now.among.now index ≡ Some number }
     requires budget { 1 ≤ asking.now.budget }
     requires log { IsAskedAt asking.now log.old }
+    requires last { IsLastEvent asking.now last.now log.old }
     ensures found { IfOk result (IsFound (asked_by asking.now log.old) number) }
     ensures events { log.new.events ≡ log.old.events }
 {
@@ -55,15 +62,11 @@ fn outcome_of<L: Ledger>(
     log.ignore(doubts);
     let set = table.set(number);
     let reach = *table.reach(number);
-    search(
-        alloc,
-        asking.engine.graph(),
-        log,
-        set,
-        reach,
-        asking.budget,
-        work,
-    )
+    let graph = asking.engine.graph();
+    match outcome_at_once(alloc, graph, log, &reach, last, index)? {
+        Some(outcome) => Ok(outcome),
+        None => search(alloc, graph, log, set, reach, asking.budget, work),
+    }
 }
 
 /// The outcome of a new search, by the log alone, for a set of failure modes that reaches these nodes.

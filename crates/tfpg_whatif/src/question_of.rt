@@ -3,14 +3,14 @@
 ghost use Rattle.std.specs.Prelude.{◌≡◌, ◌≤◌, ◌<◌, ◌^◌, ◌+◌, length, count_by, IfOk};
 ghost use Rattle.tfpg_base.specs.Set.{Rises};
 ghost use Rattle.tfpg_log.specs.EventLines.{IsNextEvent};
-ghost use Rattle.tfpg_log.specs.Log.{with_event};
+ghost use Rattle.tfpg_log.specs.Log.{now_of, time_of_event, with_event};
 ghost use Rattle.tfpg_log.specs.declared.limits.TheConstants.{MAX_EVENTS};
 ghost use Rattle.tfpg_whatif.specs.Outcomes.{is_out, is_unknown};
 ghost use Rattle.tfpg_whatif.specs.Questions.{IsQuestion, CanBeAsked};
 ghost use Rattle.tfpg_whatif.specs.Foresight.{IsKnownIfEnough};
-ghost use Rattle.tfpg_whatif.specs.inside.Asking.{IsAsking, AreAllFound, asked_by, asked_of_lent};
+ghost use Rattle.tfpg_whatif.specs.inside.Asking.{IsAsking, AreAllFound, AreKnown, asked_by, asked_of_lent};
 
-use crate::asking::Asking;
+use crate::asking::{Asking, LastEvent};
 use crate::outcome::{Outcome, OutcomeList};
 use crate::outcomes::outcomes_at;
 use crate::question::Question;
@@ -20,14 +20,16 @@ use tfpg_base::{NoMemory, Steps};
 use tfpg_log::laws::the_line_of_an_event_is_accepted;
 use tfpg_log::{Event, Offered, append_event};
 
-/// The question of a node: a silence and an alarm of it at now.
+/// The question of a node: a silence and an alarm of it at now. What is known before are outcomes at the log as it is.
 pub(crate) fn question_of<L: Ledger>(
     alloc: Global,
     asking: &Asking<'_>,
+    before: &[Outcome],
     node: u32,
     work: &mut Steps<L>,
 ) -> Result<Question, NoMemory>
     requires asking { IsAsking asking.now }
+    requires before { AreKnown (asked_of_lent asking.now) before.now }
     requires rising { Rises asking.now.among.now }
     requires node { CanBeAsked asking.now.engine.now.graph asking.now.engine.now.log node }
     requires room { length asking.now.engine.now.log.events < MAX_EVENTS }
@@ -39,19 +41,22 @@ pub(crate) fn question_of<L: Ledger>(
     let log = asking.engine.log();
     log.is_always_ordered();
     let time = log.now();
-    let silent = outcomes_after(alloc, asking, Event::Silent { time, node }, work)?;
-    let alarm = outcomes_after(alloc, asking, Event::Alarm { time, node }, work)?;
+    let silent = outcomes_after(alloc, asking, before, Event::Silent { time, node }, work)?;
+    let alarm = outcomes_after(alloc, asking, before, Event::Alarm { time, node }, work)?;
     Ok(question(node, silent.as_slice(), alarm.as_slice()))
 }
 
-/// The outcomes after an event that may come next.
+/// The outcomes after an event at now that may come next.
 fn outcomes_after<L: Ledger>(
     alloc: Global,
     asking: &Asking<'_>,
+    before: &[Outcome],
     event: Event,
     work: &mut Steps<L>,
 ) -> Result<OutcomeList, NoMemory>
     requires asking { IsAsking asking.now }
+    requires before { AreKnown (asked_of_lent asking.now) before.now }
+    requires at_now { time_of_event event ≡ now_of asking.now.engine.now.log }
     requires next { IsNextEvent asking.now.engine.now.graph asking.now.engine.now.log event }
     ensures { IfOk result (AreAllFound (asked_by asking.now (with_event asking.now.engine.now.log event))) }
 {
@@ -62,7 +67,10 @@ fn outcomes_after<L: Ledger>(
     append_event(graph, event, &mut text)?;
     let mut log = asking.engine.log().copy()?;
     match log.offer(graph, &text[..text.len() - 1])? {
-        Offered::Accepted(_) => outcomes_at(alloc, asking, &mut log, work),
+        Offered::Accepted(_) => {
+            let last = LastEvent { event, before };
+            outcomes_at(alloc, asking, &last, &mut log, work)
+        }
         Offered::Refused(_) => unreachable!(),
     }
 }

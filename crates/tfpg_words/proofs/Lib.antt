@@ -2,5 +2,6 @@ pub mod walk
 pub mod Taken
 pub mod Once
 pub mod Commands
+pub mod AskRefused
 pub mod WithinLimits
 pub mod PanelsRead

@@ -5,7 +5,7 @@ use Rattle.std.proofs.lemmas.Bool.{and_parts, leb-true}
 use Rattle.tfpg_base.specs.Words.{number_of}
 use Rattle.tfpg_words.specs.declared.usage_cause.UsageCause.{UsageCause}
 use Rattle.tfpg_words.specs.declared.usage_cause.UsageCause.TheVariants.{OutOfRange, UnknownCommand}
-use Rattle.tfpg_words.specs.Meaning.{Meaning, Diagnose, Explain, Check, Simulate, Generate, Convert, NumberOption, within, number_in, number_by, both, use_of, k_option, doubt_option, budget_option, draw_option, size_option, diagnose_form, diagnose_to, diagnose_with, diagnose_on, diagnose_of, explain_form, explain_on, explain_of, check_form, check_on, check_of, simulate_form, simulate_with, simulate_on, simulate_of, generate_form, generate_with, generate_on, generate_of, convert_form, convert_with, convert_of, meaning}
+use Rattle.tfpg_words.specs.Meaning.{Meaning, Diagnose, Explain, Check, Simulate, Generate, Convert, NumberOption, within, number_in, number_by, both, use_of, k_option, doubt_option, budget_option, draw_option, size_option, diagnose_form, diagnose_to, diagnose_with, diagnose_on, diagnose_of, explain_form, explain_on, explain_of, check_form, check_on, check_of, simulate_form, simulate_with, simulate_on, simulate_of, generate_form, generate_with, generate_on, generate_of, convert_form, convert_with, convert_of, meaning, Ask, ask_form, ask_with, ask_on, ask_of}
 use Rattle.tfpg_base.specs.declared.terms.Terms.{Terms}
 use Rattle.tfpg_words.specs.declared.panel_word.PanelWord.{PanelWord}
 use Rattle.tfpg_words.specs.PanelWords.{panels_named}
@@ -24,6 +24,7 @@ AreInLimits (Check graph log) = ⊤
 AreInLimits (Simulate draw trace graph script) = IsInLimits draw_option draw
 AreInLimits (Generate draw size) = IsInLimits draw_option draw × IsInLimits size_option size
 AreInLimits (Convert json graph) = ⊤
+AreInLimits (Ask terms graph log) = (IsInLimits k_option terms.k × IsInLimits doubt_option terms.doubt) × IsInLimits budget_option terms.budget
 
 -- ---- one number, and two
 
@@ -70,36 +71,40 @@ draw_within = number_within draw_option (record { low = omega arith; high = omeg
 size_within : (uses : List Use) → IfOk (number_by size_option uses) (IsInLimits size_option)
 size_within = number_within size_option (record { low = omega arith; high = omega arith })
 
+-- the terms of a diagnosis
+abbrev AreTermsWithin : (ℕ × ℕ) × ℕ → Type 0
+AreTermsWithin three = (IsInLimits k_option three.0.0 × IsInLimits doubt_option three.0.1) × IsInLimits budget_option three.1
+
+abbrev terms_by : List Use → Result ((ℕ × ℕ) × ℕ) UsageCause
+terms_by uses = both (both (number_by k_option uses) (number_by doubt_option uses)) (number_by budget_option uses)
+
+terms_within : (uses : List Use) → IfOk (terms_by uses) AreTermsWithin
+terms_within uses =
+    let members = both (number_by k_option uses) (number_by doubt_option uses) in
+    both_within (λ two. IsInLimits k_option two.0 × IsInLimits doubt_option two.1) (IsInLimits budget_option) members (number_by budget_option uses)
+    (both_within (IsInLimits k_option) (IsInLimits doubt_option) (number_by k_option uses) (number_by doubt_option uses) (k_within uses) (doubt_within uses))
+    (budget_within uses)
+
 -- ---- the commands
 
 diagnose_within : (parts : Option Parts) → IfOk (diagnose_of parts) AreInLimits
 diagnose_within None = tt
 diagnose_within (Some parts) = go parts.positional
   where
-    members_within : (uses : List Use)
-        → IfOk (both (number_by k_option uses) (number_by doubt_option uses)) (λ two. IsInLimits k_option two.0 × IsInLimits doubt_option two.1)
-    members_within uses =
-        both_within (IsInLimits k_option) (IsInLimits doubt_option) (number_by k_option uses) (number_by doubt_option uses) (k_within uses) (doubt_within uses)
-
     to : (terms : Terms) (graph : Word) (panels : Option (List PanelWord))
         → (IsInLimits k_option terms.k × IsInLimits doubt_option terms.doubt) × IsInLimits budget_option terms.budget
         → IfOk (diagnose_to terms graph panels) AreInLimits
     to terms graph None are = tt
     to terms graph (Some panels) are = are
 
-    by : (graph : Word) (words : List Word) (numbers : Result ((ℕ × ℕ) × ℕ) UsageCause)
-        → IfOk numbers (λ three. (IsInLimits k_option three.0.0 × IsInLimits doubt_option three.0.1) × IsInLimits budget_option three.1)
+    by : (graph : Word) (words : List Word) (numbers : Result ((ℕ × ℕ) × ℕ) UsageCause) → IfOk numbers AreTermsWithin
         → IfOk (diagnose_with graph words numbers) AreInLimits
     by graph words (Ok ((k, doubt), budget)) are = to (record { k = k; doubt = doubt; budget = budget }) graph (panels_named words) are
     by graph words (Err cause) are = tt
 
     go : (positional : List Word) → IfOk (diagnose_on parts.uses positional) AreInLimits
     go [] = tt
-    go (graph ∷ words) =
-        let members = both (number_by k_option parts.uses) (number_by doubt_option parts.uses) in
-        by graph words (both members (number_by budget_option parts.uses))
-        (both_within (λ two. IsInLimits k_option two.0 × IsInLimits doubt_option two.1) (IsInLimits budget_option) members (number_by budget_option parts.uses)
-        (members_within parts.uses) (budget_within parts.uses))
+    go (graph ∷ words) = by graph words (terms_by parts.uses) (terms_within parts.uses)
 
 explain_within : (parts : Option Parts) → IfOk (explain_of parts) AreInLimits
 explain_within None = tt
@@ -160,23 +165,39 @@ convert_within (Some parts) = go parts.positional
     go (a ∷ []) = tt
     go (a ∷ b ∷ others) = tt
 
+ask_within : (parts : Option Parts) → IfOk (ask_of parts) AreInLimits
+ask_within None = tt
+ask_within (Some parts) = go parts.positional
+  where
+    by : (graph log : Word) (numbers : Result ((ℕ × ℕ) × ℕ) UsageCause) → IfOk numbers AreTermsWithin → IfOk (ask_with graph log numbers) AreInLimits
+    by graph log (Ok ((k, doubt), budget)) are = are
+    by graph log (Err cause) are = tt
+
+    go : (positional : List Word) → IfOk (ask_on parts.uses positional) AreInLimits
+    go [] = tt
+    go (a ∷ []) = tt
+    go (graph ∷ log ∷ []) = by graph log (terms_by parts.uses) (terms_within parts.uses)
+    go (a ∷ b ∷ c ∷ others) = tt
+
 -- What the words mean is within the limits.
 pub meaning_within : (words : List Word) → IfOk (meaning words) AreInLimits
 meaning_within [] = tt
-meaning_within (command ∷ words) = by (bytes_eq command (codes "diagnose")) (bytes_eq command (codes "explain")) (bytes_eq command (codes "check")) (bytes_eq command (codes "simulate")) (bytes_eq command (codes "generate")) (bytes_eq command (codes "convert"))
+meaning_within (command ∷ words) = by (bytes_eq command (codes "diagnose")) (bytes_eq command (codes "explain")) (bytes_eq command (codes "check")) (bytes_eq command (codes "simulate")) (bytes_eq command (codes "generate")) (bytes_eq command (codes "convert")) (bytes_eq command (codes "ask"))
   where
-    by : (diagnoses explains checks simulates generates converts : Bool)
+    by : (diagnoses explains checks simulates generates converts asks : Bool)
         → IfOk (if diagnoses then diagnose_of (parts_of_words diagnose_form words)
         else (if explains then explain_of (parts_of_words explain_form words)
         else (if checks then check_of (parts_of_words check_form words)
         else (if simulates then simulate_of (parts_of_words simulate_form words)
         else (if generates then generate_of (parts_of_words generate_form words)
         else (if converts then convert_of (parts_of_words convert_form words)
-        else Err UnknownCommand)))))) AreInLimits
-    by true explains checks simulates generates converts = diagnose_within (parts_of_words diagnose_form words)
-    by false true checks simulates generates converts = explain_within (parts_of_words explain_form words)
-    by false false true simulates generates converts = check_within (parts_of_words check_form words)
-    by false false false true generates converts = simulate_within (parts_of_words simulate_form words)
-    by false false false false true converts = generate_within (parts_of_words generate_form words)
-    by false false false false false true = convert_within (parts_of_words convert_form words)
-    by false false false false false false = tt
+        else (if asks then ask_of (parts_of_words ask_form words)
+        else Err UnknownCommand))))))) AreInLimits
+    by true explains checks simulates generates converts asks = diagnose_within (parts_of_words diagnose_form words)
+    by false true checks simulates generates converts asks = explain_within (parts_of_words explain_form words)
+    by false false true simulates generates converts asks = check_within (parts_of_words check_form words)
+    by false false false true generates converts asks = simulate_within (parts_of_words simulate_form words)
+    by false false false false true converts asks = generate_within (parts_of_words generate_form words)
+    by false false false false false true asks = convert_within (parts_of_words convert_form words)
+    by false false false false false false true = ask_within (parts_of_words ask_form words)
+    by false false false false false false false = tt

@@ -19,6 +19,7 @@ pub data Meaning : Type 0 where
   Simulate : (draw : ℕ) (trace : Bool) (graph script : Word) → Meaning
   Generate : (draw size : ℕ) → Meaning
   Convert : (json : Bool) (graph : Word) → Meaning
+  Ask : (terms : Terms) (graph log : Word) → Meaning
 
 -- The first use of this name.
 abbrev pub use_of : Word → List Use → Option Use
@@ -185,6 +186,26 @@ convert_with json _ = Err BadWords
 abbrev pub convert_of : Option Parts → Result Meaning UsageCause
 convert_of = by_parts (λ parts. convert_with (is_some (use_of (codes "--json") parts.uses)) parts.positional)
 
+-- `ask [--k N] [--doubt N] [--budget N] GRAPH LOG`
+abbrev pub ask_form : Form
+ask_form = record { options = k_option.name ∷ doubt_option.name ∷ budget_option.name ∷ []; flags = [] }
+
+-- what the positional words after `ask` mean with these numbers
+abbrev pub ask_with : Word → Word → Result ((ℕ × ℕ) × ℕ) UsageCause → Result Meaning UsageCause
+ask_with graph log (Err cause) = Err cause
+ask_with graph log (Ok ((k, doubt), budget)) = Ok (Ask (record { k = k; doubt = doubt; budget = budget }) graph log)
+
+-- what the uses and the positional words after `ask` mean
+abbrev pub ask_on : List Use → List Word → Result Meaning UsageCause
+ask_on uses (graph ∷ log ∷ []) =
+    ask_with graph log
+    (both (both (number_by k_option uses) (number_by doubt_option uses)) (number_by budget_option uses))
+ask_on uses _ = Err BadWords
+
+-- what the words after `ask` mean, by their parts
+abbrev pub ask_of : Option Parts → Result Meaning UsageCause
+ask_of = by_parts (λ parts. ask_on parts.uses parts.positional)
+
 -- What the words after a command mean.
 abbrev pub command_meaning : Word → List Word → Result Meaning UsageCause
 command_meaning command words =
@@ -194,7 +215,8 @@ command_meaning command words =
     else (if bytes_eq command (codes "simulate") then simulate_of (parts_of_words simulate_form words)
     else (if bytes_eq command (codes "generate") then generate_of (parts_of_words generate_form words)
     else (if bytes_eq command (codes "convert") then convert_of (parts_of_words convert_form words)
-    else Err UnknownCommand)))))
+    else (if bytes_eq command (codes "ask") then ask_of (parts_of_words ask_form words)
+    else Err UnknownCommand))))))
 
 -- What the words after the program's name mean.
 abbrev pub meaning : List Word → Result Meaning UsageCause

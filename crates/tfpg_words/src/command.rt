@@ -49,6 +49,15 @@ pub enum Command {
         json: bool,
         graph: Text,
     },
+    /// `ask [--k N] [--doubt N] [--budget N] GRAPH LOG`: which observation would tell most after a log, for the hypotheses that its
+    /// diagnosis leaves. The numbers are those of `diagnose`; `budget` is also that of each outcome of a question.
+    Ask {
+        k: u32,
+        doubt: u32,
+        budget: u64,
+        graph: Text,
+        log: Text,
+    },
 }
 
 /// What is to be done.

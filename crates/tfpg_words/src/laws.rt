@@ -4,7 +4,7 @@ ghost use Rattle.std.specs.Prelude.{◌≡◌, ◌≤◌, ℕ, Bool, List, Ok};
 ghost use Rattle.tfpg_base.specs.declared.terms.Terms.{Terms};
 ghost use Rattle.tfpg_base.specs.Terms.{AreReportTerms};
 ghost use Rattle.tfpg_base.specs.declared.limits.TheConstants.{MAX_CASE_SIZE};
-ghost use Rattle.tfpg_words.specs.Meaning.{meaning, Diagnose, Generate, Simulate};
+ghost use Rattle.tfpg_words.specs.Meaning.{meaning, Diagnose, Generate, Simulate, Ask};
 ghost use Rattle.tfpg_words.specs.declared.panel_word.PanelWord.{PanelWord};
 ghost use Rattle.tfpg_words.specs.declared.limits.TheConstants.{MAX_DRAW};
 
@@ -16,4 +16,6 @@ pub fn numbers_are_within_their_limits()
         meaning words ≡ Ok (Simulate draw trace graph script) → draw ≤ MAX_DRAW }
     ensures generate { (words : List (List ℕ)) (draw size : ℕ) → meaning words ≡ Ok (Generate draw size) →
         (draw ≤ MAX_DRAW) × (1 ≤ size) × (size ≤ MAX_CASE_SIZE) }
+    ensures ask { (words : List (List ℕ)) (terms : Terms) (graph log : List ℕ) →
+        meaning words ≡ Ok (Ask terms graph log) → AreReportTerms terms }
 {}

@@ -2,12 +2,12 @@
 
 ghost use Rattle.std.specs.Prelude.{◌≡◌, map};
 ghost use Rattle.std.specs.String.{string_bytes};
-ghost use Rattle.tfpg_words.specs.Meaning.{check_form, check_of, command_meaning, convert_form, convert_of, diagnose_form, diagnose_of, diagnose_to, explain_form, explain_of, generate_form, generate_of, meaning, simulate_form, simulate_of};
+ghost use Rattle.tfpg_words.specs.Meaning.{check_form, check_of, command_meaning, convert_form, convert_of, diagnose_form, diagnose_of, diagnose_to, explain_form, explain_of, generate_form, generate_of, meaning, simulate_form, simulate_of, ask_form, ask_of};
 ghost use Rattle.tfpg_words.specs.PanelWords.{panels_named};
 ghost use Rattle.tfpg_words.specs.Plans.{IsPlanOf};
 ghost use Rattle.tfpg_words.specs.Words.{parts_of_words};
 ghost use Rattle.tfpg_words.specs.inside.CommandOf.{IsCommandOf};
-ghost use Rattle.tfpg_words.specs.inside.Given.{check_given, convert_given, diagnose_given, explain_given, generate_given, simulate_given};
+ghost use Rattle.tfpg_words.specs.inside.Given.{ask_given, check_given, convert_given, diagnose_given, explain_given, generate_given, simulate_given};
 ghost use Rattle.tfpg_words.specs.inside.Parts.{rows_in};
 
 use crate::command::{Command, Planned};
@@ -101,6 +101,8 @@ fn command_of(alloc: Global, command: &str, words: &[String]) -> Result<Command,
         plan_generate(alloc, words)
     } else if command == "convert" {
         plan_convert(alloc, words)
+    } else if command == "ask" {
+        plan_ask(alloc, words)
     } else {
         Err(PlanFault::Usage(UsageCause::UnknownCommand))
     }
@@ -274,5 +276,34 @@ fn plan_convert_by(alloc: Global, parts: &Parts) -> Result<Command, PlanFault>
     Ok(Command::Convert {
         json: parts.has("json"),
         graph: Text::of(alloc, graph)?,
+    })
+}
+
+/// `ask [--k N] [--doubt N] [--budget N] GRAPH LOG`
+fn plan_ask(alloc: Global, words: &[String]) -> Result<Command, PlanFault>
+    ensures { IsCommandOf (ask_of (parts_of_words ask_form (map string_bytes words.now))) result }
+{
+    let form = Form {
+        options: &[K.name, DOUBT.name, BUDGET.name],
+        flags: &[],
+    };
+    let parts = Parts::of(alloc, &form, words)?;
+    plan_ask_by(alloc, &parts)
+}
+
+fn plan_ask_by(alloc: Global, parts: &Parts) -> Result<Command, PlanFault>
+    ensures { IsCommandOf (ask_given (rows_in parts.now)) result }
+{
+    let Some([graph, log]) = parts.positional() else {
+        return Err(PlanFault::Usage(UsageCause::BadWords));
+    };
+    let members = both(K.number_in(parts), DOUBT.number_in(parts));
+    let ((k, doubt), budget) = both(members, BUDGET.number_in(parts))?;
+    Ok(Command::Ask {
+        k: k as u32,
+        doubt: doubt as u32,
+        budget,
+        graph: Text::of(alloc, graph)?,
+        log: Text::of(alloc, log)?,
     })
 }

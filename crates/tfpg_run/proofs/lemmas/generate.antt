@@ -1,4 +1,4 @@
 -- The diagnosis of a drawn system, and what it says of the simulated set.
-pub mod Diagnosed
+pub mod AcceptedEvents
 pub mod FewHypotheses
 pub mod Truths

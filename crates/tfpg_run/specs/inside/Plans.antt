@@ -2,7 +2,7 @@
 use Rattle.std.specs.Prelude.{◌≤◌}
 use Rattle.tfpg_base.specs.Terms.{AreReportTerms}
 use Rattle.tfpg_base.specs.declared.limits.TheConstants.{MAX_CASE_SIZE}
-use Rattle.tfpg_words.specs.Meaning.{Meaning, Diagnose, Explain, Check, Simulate, Generate, Convert}
+use Rattle.tfpg_words.specs.Meaning.{Meaning, Diagnose, Explain, Check, Simulate, Generate, Convert, Ask}
 
 -- The numbers of the command are within their limits.
 abbrev pub AreWithinLimits : Meaning → Type 0
@@ -12,3 +12,4 @@ AreWithinLimits (Check graph log) = Unit {0}
 AreWithinLimits (Simulate draw trace graph script) = Unit {0}
 AreWithinLimits (Generate draw size) = (1 ≤ size) × (size ≤ MAX_CASE_SIZE)
 AreWithinLimits (Convert json graph) = Unit {0}
+AreWithinLimits (Ask terms graph log) = AreReportTerms terms

@@ -1,4 +1,3 @@
--- What was drawn, diagnosed and found.
+-- What was drawn and found.
 pub mod Drawn
-pub mod Diagnosed
 pub mod Summary

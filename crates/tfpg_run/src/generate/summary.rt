@@ -8,7 +8,7 @@ ghost use Rattle.tfpg_graph.specs.Graph.{AreFailures};
 ghost use Rattle.tfpg_run.specs.generate.Summary.{drawing, drawn_text, rounds_text, status_word, truth_text};
 ghost use Rattle.tfpg_run.specs.inside.generate.Summary.{HasFindingOn, SaysOfRound};
 
-use super::diagnosis::Diagnosis;
+use crate::diagnosis::Diagnosis;
 use itoa::Buffer;
 use std::alloc::Global;
 use tfpg_base::{Doubts, NoMemory, Set, append_line};

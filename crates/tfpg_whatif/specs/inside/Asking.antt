@@ -1,6 +1,7 @@
 -- What the code asks, and what it has found so far.
-use Rattle.std.specs.Prelude.{◌≡◌, ℕ, ◌<◌, ◌≤◌, List, length, All, false, Some, slice_get}
-use Rattle.tfpg_log.specs.Log.{Logbook, IsEventOf}
+use Rattle.std.specs.Prelude.{◌≡◌, ℕ, ◌<◌, ◌≤◌, List, [], ◌∷◌, ◌++◌, length, All, false, Some, slice_get}
+use Rattle.tfpg_log.specs.declared.event.Event.{Event}
+use Rattle.tfpg_log.specs.Log.{Logbook, IsEventOf, now_of, time_of_event}
 use Rattle.tfpg_evidence.specs.declared.step.Step.{Step}
 use Rattle.tfpg_clause.specs.Case.{Case}
 use Rattle.tfpg_search.specs.declared.found.Found.{Found}
@@ -9,6 +10,7 @@ use Rattle.tfpg_search.specs.Enough.{IsEnough}
 use Rattle.tfpg_whatif.specs.declared.outcome.Outcome.{Outcome}
 use Rattle.tfpg_whatif.specs.declared.outcome.Outcome.TheVariants.{Fits, Out, Unknown}
 use Rattle.tfpg_whatif.specs.declared.asking.Asking.{Asking}
+use Rattle.tfpg_whatif.specs.declared.asking.LastEvent.{LastEvent}
 use Rattle.tfpg_whatif.specs.Outcomes.{Asked, asked_of, asked_at, HasEvidence, IsOutcomeOf, Lengthens, is_unknown}
 use Rattle.tfpg_whatif.specs.Laws.{IsWellAsked}
 
@@ -29,6 +31,20 @@ pub record IsAsking (asking : Asking) : Type 0 where
 pub record IsAskedAt (asking : Asking) (log : Logbook) : Type 0 where
   pub own : All (IsEventOf asking.engine.now.graph) log.events
   pub event : 1 ≤ length log.events
+
+-- These are outcomes of the first hypotheses that are asked about.
+abbrev pub AreKnown : Asked → List Outcome → Type 0
+AreKnown asked outcomes =
+    (index number : ℕ) (outcome : Outcome) → slice_get asked.among index ≡ Some number
+    → slice_get outcomes index ≡ Some outcome → IsOutcomeOf asked number outcome
+
+-- The event is the last of the log. What is known are outcomes at the log before it, and where some are, the event is at now.
+pub record IsLastEvent (asking : Asking) (last : LastEvent) (log : Logbook) : Type 0 where
+  pub earlier : Logbook
+  pub events : log.events ≡ earlier.events ++ last.event ∷ []
+  pub known : AreKnown (asked_by asking earlier) last.before.now
+  pub at_now : (index : ℕ) (outcome : Outcome) → slice_get last.before.now index ≡ Some outcome
+      → time_of_event last.event ≡ now_of earlier
 
 -- what was found with these steps, as an outcome
 abbrev pub outcome_by : Found → List Step → Outcome

@@ -1,7 +1,7 @@
 use Rattle.std.proofs.Common.{◌≡◌, ap, rules, refl}
 use Rattle.tfpg_words.specs.Plans.{meaning_of}
 use Rattle.tfpg_run.specs.World.{world}
-use Rattle.tfpg_run.proofs.Stops.{OnOk-with, check_stopped, explain_stopped, simulate_stopped, convert_stopped}
+use Rattle.tfpg_run.proofs.Stops.{OnOk-with, check_stopped, explain_stopped, simulate_stopped, convert_stopped, ask_stopped}
 use Rattle.tfpg_run.proofs.commands.perform.Goals as goal
 
 -- the input is untouched
@@ -60,3 +60,19 @@ pub returns-in-Check-clause-done : goal.returns-in-Check-clause-done
 returns-in-Check-clause-done g c =
     let done = c.check_by_files.ensures.done c.args.desk.now in
     search (rules, done)
+
+-- and of questions after a log
+pub returns-in-Ask-clause-done : goal.returns-in-Ask-clause-done
+returns-in-Ask-clause-done g c =
+    let input = g.S.Source.state c.args.input.now in
+    let done = OnOk-with c.ask_by_files.result _ (input ≡ input) (c.ask_by_files.ensures.done input c.args.desk.now) refl in
+    search (rules, done)
+
+pub returns-in-Ask-clause-stopped : goal.returns-in-Ask-clause-stopped
+returns-in-Ask-clause-stopped g c =
+    let input = g.S.Source.state c.args.input.now in
+    let before = world (g.F.Shelf.state c.args.shelf.now) input (g.K.Sink.state c.args.out.now) c.args.desk.now in
+    let now = world (g.F.Shelf.state c.ask_by_files.new.shelf) input (g.K.Sink.state c.ask_by_files.new.out) c.args.desk.now in
+    ask_stopped c.ask_by_files.result (meaning_of c.args.command.now) c.as_str-in-Ask.result.now c.as_str-in-Ask-2.result.now before now
+    (record { k = c.in-Ask.k; doubt = c.in-Ask.doubt; budget = c.in-Ask.budget }) c.in-Ask.graph c.in-Ask.log (ap meaning_of c.in-Ask.is) c.as_str-in-Ask.ensures c.as_str-in-Ask-2.ensures refl
+    (c.ask_by_files.ensures.stopped input c.args.desk.now)

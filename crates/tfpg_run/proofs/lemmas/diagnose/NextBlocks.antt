@@ -96,7 +96,7 @@ AreBlocks-push graph terms lines blocks last end number are numbered is = record
 }
 
 -- what the rounds of some blocks say, and of one more
-RoundsSay-push : (graph : Tfpg) (terms : Terms) (lines : List (List ℕ)) (blocks : List Block) (last : List ℕ) (end : Block) → length blocks ≡ length lines → RoundsSay graph terms lines blocks
+pub RoundsSay-push : (graph : Tfpg) (terms : Terms) (lines : List (List ℕ)) (blocks : List Block) (last : List ℕ) (end : Block) → length blocks ≡ length lines → RoundsSay graph terms lines blocks
     → BlockSays graph terms (progress_of graph lines blocks) last end → RoundsSay graph terms (lines ++ last ∷ []) (blocks ++ end ∷ [])
 RoundsSay-push graph terms lines blocks last end one_each say says =
     holds_of_one_more graph (λ before index line block. BlockSays graph terms before line block) lines blocks last end one_each say says

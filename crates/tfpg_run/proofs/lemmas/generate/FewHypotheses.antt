@@ -6,7 +6,7 @@ use Rattle.tfpg_hyp.specs.declared.limits.TheConstants.{MAX_HYPOTHESES}
 use Rattle.tfpg_hyp.proofs.Tables.{one_count, HasHypotheses-counted}
 use Rattle.tfpg_sim.specs.declared.limits.TheConstants.{FAILURE_COUNT}
 use Rattle.tfpg_run.specs.declared.limits.TheConstants.{GENERATED_K}
-use Rattle.tfpg_run.specs.generate.Diagnosed.{generated_terms}
+use Rattle.tfpg_run.specs.generate.Terms.{generated_terms}
 
 -- they are not too many
 pub few_hypotheses : (graph : Tfpg) (count : ℕ) → length (failures graph) ≡ FAILURE_COUNT → MAX_HYPOTHESES < count → HasHypotheses graph generated_terms count → ⊥

@@ -1,0 +1,2 @@
+-- A diagnosis of lines in memory.
+pub mod Diagnosed

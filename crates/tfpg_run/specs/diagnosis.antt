@@ -1,0 +1,2 @@
+-- What a diagnosis of a log in memory comes to.
+pub mod Rounds

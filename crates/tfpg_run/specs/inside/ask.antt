@@ -1,0 +1,2 @@
+-- What is asked of a diagnosis.
+pub mod Asked

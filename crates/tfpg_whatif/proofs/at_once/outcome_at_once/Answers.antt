@@ -1,0 +1,7 @@
+use Rattle.tfpg_whatif.proofs.AtOnce.{kept, kept_is}
+use Rattle.tfpg_whatif.proofs.at_once.outcome_at_once.Goals as goal
+
+pub returns-in-Some-2 : goal.returns-in-Some-2
+returns-in-Some-2 c = λ earlier set budget is explains.
+    kept c.args.graph.now c.args.log.now earlier c.args.reach.now set budget c.args.last.now c.args.index c.in-Some-2.trace is explains
+    (kept_is c.in_ok-trace.field-0 c.in-Some-2.trace c.in-Some-2.is _ c.in_ok-trace.ensures)
