@@ -4,3 +4,4 @@ pub mod diagnose
 pub mod explain
 pub mod check
 pub mod generate
+pub mod fleet

@@ -15,5 +15,6 @@ pub mod check
 pub mod simulate
 pub mod generate
 pub mod convert
+pub mod fleet
 -- What the code and its proofs need besides. No public clause reaches it.
 pub mod inside

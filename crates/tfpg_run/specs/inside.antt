@@ -7,4 +7,5 @@ pub mod explain
 pub mod check
 pub mod generate
 pub mod convert
+pub mod fleet
 pub mod Writing

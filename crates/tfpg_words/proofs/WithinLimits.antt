@@ -2,10 +2,14 @@
 use Rattle.std.proofs.Common.{◌≡◌, ℕ, ◌≤◌, Bool, true, false, List, [], ◌∷◌, Option, Some, None, Result, Ok, Err, refl, arith}
 use Rattle.std.specs.Prelude.{◌&&◌, ⊤, IfOk, bytes_eq, codes, if◌then◌else◌, is_some, nat_le}
 use Rattle.std.proofs.lemmas.Bool.{and_parts, leb-true}
+use Rattle.tfpg_base.specs.declared.terms.Terms.{Terms}
 use Rattle.tfpg_base.specs.Words.{number_of}
 use Rattle.tfpg_words.specs.declared.usage_cause.UsageCause.{UsageCause}
-use Rattle.tfpg_words.specs.declared.usage_cause.UsageCause.TheVariants.{OutOfRange, UnknownCommand}
-use Rattle.tfpg_words.specs.Meaning.{Meaning, Diagnose, Explain, Check, Simulate, Generate, Convert, NumberOption, within, number_in, number_by, both, use_of, k_option, doubt_option, budget_option, draw_option, size_option, diagnose_form, diagnose_with, diagnose_on, diagnose_of, explain_form, explain_on, explain_of, check_form, check_on, check_of, simulate_form, simulate_with, simulate_on, simulate_of, generate_form, generate_with, generate_on, generate_of, convert_form, convert_with, convert_of, meaning}
+use Rattle.tfpg_words.specs.declared.usage_cause.UsageCause.TheVariants.{BadNames, OutOfRange, UnknownCommand}
+use Rattle.tfpg_words.specs.Meaning.{Meaning, Diagnose, Explain, Check, Simulate, Generate, Convert, Fleet, NumberOption, within, number_in, number_by, both, use_of, k_option, doubt_option, budget_option, draw_option, size_option, diagnose_form, diagnose_with, diagnose_on, diagnose_of, explain_form, explain_on, explain_of, check_form, check_on, check_of, simulate_form, simulate_with, simulate_on, simulate_of, generate_form, generate_with, generate_on, generate_of, convert_form, convert_with, convert_of, fleet_form, fleet_with, fleet_on, fleet_of, meaning}
+use Rattle.tfpg_base.specs.Words.{comma_parts}
+use Rattle.tfpg_words.specs.Names.{AreNames, are_names}
+use Rattle.tfpg_words.proofs.NamesTested.{names_tested}
 use Rattle.tfpg_words.specs.Words.{Parts, Use, Word, parts_of_words}
 
 -- a number within the limits of an option
@@ -21,6 +25,7 @@ AreInLimits (Check graph log) = ⊤
 AreInLimits (Simulate draw trace graph script) = IsInLimits draw_option draw
 AreInLimits (Generate draw size) = IsInLimits draw_option draw × IsInLimits size_option size
 AreInLimits (Convert json graph) = ⊤
+AreInLimits (Fleet terms graph names) = ((IsInLimits k_option terms.k × IsInLimits doubt_option terms.doubt) × IsInLimits budget_option terms.budget) × AreNames names
 
 -- ---- one number, and two
 
@@ -153,23 +158,56 @@ convert_within (Some parts) = go parts.positional
     go (a ∷ []) = tt
     go (a ∷ b ∷ others) = tt
 
+fleet_within : (parts : Option Parts) → IfOk (fleet_of parts) AreInLimits
+fleet_within None = tt
+fleet_within (Some parts) = go parts.positional
+  where
+    members_within : (uses : List Use)
+        → IfOk (both (number_by k_option uses) (number_by doubt_option uses)) (λ two. IsInLimits k_option two.0 × IsInLimits doubt_option two.1)
+    members_within uses =
+        both_within (IsInLimits k_option) (IsInLimits doubt_option) (number_by k_option uses) (number_by doubt_option uses) (k_within uses) (doubt_within uses)
+
+    named : (terms : Terms) (graph : Word) (names : List Word) (test : Bool) → are_names names ≡ test
+        → (IsInLimits k_option terms.k × IsInLimits doubt_option terms.doubt) × IsInLimits budget_option terms.budget
+        → IfOk (if test then Ok (Fleet terms graph names) else Err BadNames) AreInLimits
+    named terms graph names true is are = (are, names_tested names is)
+    named terms graph names false is are = tt
+
+    by : (graph : Word) (names : List Word) (numbers : Result ((ℕ × ℕ) × ℕ) UsageCause)
+        → IfOk numbers (λ three. (IsInLimits k_option three.0.0 × IsInLimits doubt_option three.0.1) × IsInLimits budget_option three.1)
+        → IfOk (fleet_with graph names numbers) AreInLimits
+    by graph names (Ok ((k, doubt), budget)) are = named (record { k = k; doubt = doubt; budget = budget }) graph names (are_names names) refl are
+    by graph names (Err cause) are = tt
+
+    go : (positional : List Word) → IfOk (fleet_on parts.uses positional) AreInLimits
+    go [] = tt
+    go (a ∷ []) = tt
+    go (graph ∷ names ∷ []) =
+        let members = both (number_by k_option parts.uses) (number_by doubt_option parts.uses) in
+        by graph (comma_parts names) (both members (number_by budget_option parts.uses))
+        (both_within (λ two. IsInLimits k_option two.0 × IsInLimits doubt_option two.1) (IsInLimits budget_option) members (number_by budget_option parts.uses)
+        (members_within parts.uses) (budget_within parts.uses))
+    go (a ∷ b ∷ c ∷ others) = tt
+
 -- What the words mean is within the limits.
 pub meaning_within : (words : List Word) → IfOk (meaning words) AreInLimits
 meaning_within [] = tt
-meaning_within (command ∷ words) = by (bytes_eq command (codes "diagnose")) (bytes_eq command (codes "explain")) (bytes_eq command (codes "check")) (bytes_eq command (codes "simulate")) (bytes_eq command (codes "generate")) (bytes_eq command (codes "convert"))
+meaning_within (command ∷ words) = by (bytes_eq command (codes "diagnose")) (bytes_eq command (codes "explain")) (bytes_eq command (codes "check")) (bytes_eq command (codes "simulate")) (bytes_eq command (codes "generate")) (bytes_eq command (codes "convert")) (bytes_eq command (codes "fleet"))
   where
-    by : (diagnoses explains checks simulates generates converts : Bool)
+    by : (diagnoses explains checks simulates generates converts fleets : Bool)
         → IfOk (if diagnoses then diagnose_of (parts_of_words diagnose_form words)
         else (if explains then explain_of (parts_of_words explain_form words)
         else (if checks then check_of (parts_of_words check_form words)
         else (if simulates then simulate_of (parts_of_words simulate_form words)
         else (if generates then generate_of (parts_of_words generate_form words)
         else (if converts then convert_of (parts_of_words convert_form words)
-        else Err UnknownCommand)))))) AreInLimits
-    by true explains checks simulates generates converts = diagnose_within (parts_of_words diagnose_form words)
-    by false true checks simulates generates converts = explain_within (parts_of_words explain_form words)
-    by false false true simulates generates converts = check_within (parts_of_words check_form words)
-    by false false false true generates converts = simulate_within (parts_of_words simulate_form words)
-    by false false false false true converts = generate_within (parts_of_words generate_form words)
-    by false false false false false true = convert_within (parts_of_words convert_form words)
-    by false false false false false false = tt
+        else (if fleets then fleet_of (parts_of_words fleet_form words)
+        else Err UnknownCommand))))))) AreInLimits
+    by true explains checks simulates generates converts fleets = diagnose_within (parts_of_words diagnose_form words)
+    by false true checks simulates generates converts fleets = explain_within (parts_of_words explain_form words)
+    by false false true simulates generates converts fleets = check_within (parts_of_words check_form words)
+    by false false false true generates converts fleets = simulate_within (parts_of_words simulate_form words)
+    by false false false false true converts fleets = generate_within (parts_of_words generate_form words)
+    by false false false false false true fleets = convert_within (parts_of_words convert_form words)
+    by false false false false false false true = fleet_within (parts_of_words fleet_form words)
+    by false false false false false false false = tt

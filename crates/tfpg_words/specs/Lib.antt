@@ -1,5 +1,6 @@
 -- What the public contracts say.
 pub mod Words
+pub mod Names
 pub mod Meaning
 pub mod Plans
 -- What the code and its proofs need besides. No public clause reaches it.

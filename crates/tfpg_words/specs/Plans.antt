@@ -6,7 +6,8 @@ use Rattle.tfpg_words.specs.declared.plan_fault.PlanFault.TheVariants as fault
 use Rattle.tfpg_words.specs.declared.command.Command.{Command}
 use Rattle.tfpg_words.specs.declared.command.Command.TheVariants as command
 use Rattle.tfpg_words.specs.declared.command.Planned.{Planned}
-use Rattle.tfpg_words.specs.Meaning.{Meaning, Diagnose, Explain, Check, Simulate, Generate, Convert}
+use Rattle.tfpg_base.specs.Words.{comma_parts}
+use Rattle.tfpg_words.specs.Meaning.{Meaning, Diagnose, Explain, Check, Simulate, Generate, Convert, Fleet}
 
 -- what a command asks for
 abbrev pub meaning_of : Command → Meaning
@@ -16,6 +17,8 @@ meaning_of (command.Check graph log) = Check graph log
 meaning_of (command.Simulate draw trace graph script) = Simulate draw trace graph script
 meaning_of (command.Generate draw size) = Generate draw size
 meaning_of (command.Convert json graph) = Convert json graph
+meaning_of (command.Fleet k doubt budget graph names) =
+    Fleet (record { k = k; doubt = doubt; budget = budget }) graph (comma_parts names)
 
 -- A command has this meaning; a refusal gives its cause; and memory may run out on any words.
 abbrev pub IsPlanOf : Result Meaning UsageCause → Result Planned PlanFault → Type 0

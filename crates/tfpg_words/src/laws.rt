@@ -4,10 +4,11 @@ ghost use Rattle.std.specs.Prelude.{◌≡◌, ◌≤◌, ℕ, Bool, List, Ok};
 ghost use Rattle.tfpg_base.specs.declared.terms.Terms.{Terms};
 ghost use Rattle.tfpg_base.specs.Terms.{AreReportTerms};
 ghost use Rattle.tfpg_base.specs.declared.limits.TheConstants.{MAX_CASE_SIZE};
-ghost use Rattle.tfpg_words.specs.Meaning.{meaning, Diagnose, Generate, Simulate};
+ghost use Rattle.tfpg_words.specs.Meaning.{meaning, Diagnose, Fleet, Generate, Simulate};
+ghost use Rattle.tfpg_words.specs.Names.{AreNames};
 ghost use Rattle.tfpg_words.specs.declared.limits.TheConstants.{MAX_DRAW};
 
-/// The numbers of a command are within their limits.
+/// The numbers of a command are within their limits, and its names are names.
 pub fn numbers_are_within_their_limits()
     ensures diagnose { (words : List (List ℕ)) (terms : Terms) (graph : List ℕ) →
         meaning words ≡ Ok (Diagnose terms graph) → AreReportTerms terms }
@@ -15,4 +16,6 @@ pub fn numbers_are_within_their_limits()
         meaning words ≡ Ok (Simulate draw trace graph script) → draw ≤ MAX_DRAW }
     ensures generate { (words : List (List ℕ)) (draw size : ℕ) → meaning words ≡ Ok (Generate draw size) →
         (draw ≤ MAX_DRAW) × (1 ≤ size) × (size ≤ MAX_CASE_SIZE) }
+    ensures fleet { (words : List (List ℕ)) (terms : Terms) (graph : List ℕ) (names : List (List ℕ)) →
+        meaning words ≡ Ok (Fleet terms graph names) → AreReportTerms terms × AreNames names }
 {}

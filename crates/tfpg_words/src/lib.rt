@@ -2,7 +2,7 @@
 //!
 //! [`plan`] reads the words after the program's name. It returns a [`Command`], in a [`Planned`]. A [`PlanFault`] says why
 //! there is none: the first [`UsageCause`] that holds of the words, or out of memory. [`DEFAULT_K`] and the other constants
-//! are the defaults and the limits of the options. [`laws`] says between which limits the numbers of a command are.
+//! are the defaults and the limits of the options. [`laws`] says between which limits the numbers of a command are, and what its names are.
 //!
 //! ```
 //! // The words `diagnose --k 1 engine.tfpg`.
@@ -17,6 +17,7 @@ mod command;
 mod form;
 pub mod laws;
 mod limits;
+mod names;
 mod number;
 mod parts;
 mod plan_fault;
@@ -24,7 +25,9 @@ mod planning;
 mod usage_cause;
 
 pub use command::{Command, Planned};
-pub use limits::{DEFAULT_BUDGET, DEFAULT_DOUBT, DEFAULT_DRAW, DEFAULT_K, DEFAULT_SIZE, MAX_DRAW};
+pub use limits::{
+    DEFAULT_BUDGET, DEFAULT_DOUBT, DEFAULT_DRAW, DEFAULT_K, DEFAULT_SIZE, MAX_DRAW, MAX_NAMES,
+};
 pub use plan_fault::PlanFault;
 pub use planning::plan;
 pub use usage_cause::UsageCause;

@@ -2,11 +2,11 @@
 
 ghost use Rattle.std.specs.Prelude.{◌≡◌, map};
 ghost use Rattle.std.specs.String.{string_bytes};
-ghost use Rattle.tfpg_words.specs.Meaning.{check_form, check_of, command_meaning, convert_form, convert_of, diagnose_form, diagnose_of, explain_form, explain_of, generate_form, generate_of, meaning, simulate_form, simulate_of};
+ghost use Rattle.tfpg_words.specs.Meaning.{check_form, check_of, command_meaning, convert_form, convert_of, diagnose_form, diagnose_of, explain_form, explain_of, fleet_form, fleet_of, generate_form, generate_of, meaning, simulate_form, simulate_of};
 ghost use Rattle.tfpg_words.specs.Plans.{IsPlanOf};
 ghost use Rattle.tfpg_words.specs.Words.{parts_of_words};
 ghost use Rattle.tfpg_words.specs.inside.CommandOf.{IsCommandOf};
-ghost use Rattle.tfpg_words.specs.inside.Given.{check_given, convert_given, diagnose_given, explain_given, generate_given, simulate_given};
+ghost use Rattle.tfpg_words.specs.inside.Given.{check_given, convert_given, diagnose_given, explain_given, fleet_given, generate_given, simulate_given};
 ghost use Rattle.tfpg_words.specs.inside.Parts.{rows_in};
 
 use crate::command::{Command, Planned};
@@ -14,6 +14,7 @@ use crate::form::Form;
 use crate::limits::{
     DEFAULT_BUDGET, DEFAULT_DOUBT, DEFAULT_DRAW, DEFAULT_K, DEFAULT_SIZE, MAX_DRAW,
 };
+use crate::names::has_names;
 use crate::number::{NumberOption, both};
 use crate::parts::Parts;
 use crate::plan_fault::PlanFault;
@@ -99,6 +100,8 @@ fn command_of(alloc: Global, command: &str, words: &[String]) -> Result<Command,
         plan_generate(alloc, words)
     } else if command == "convert" {
         plan_convert(alloc, words)
+    } else if command == "fleet" {
+        plan_fleet(alloc, words)
     } else {
         Err(PlanFault::Usage(UsageCause::UnknownCommand))
     }
@@ -256,5 +259,37 @@ fn plan_convert_by(alloc: Global, parts: &Parts) -> Result<Command, PlanFault>
     Ok(Command::Convert {
         json: parts.has("json"),
         graph: Text::of(alloc, graph)?,
+    })
+}
+
+/// `fleet [--k N] [--doubt N] [--budget N] GRAPH NAMES`
+fn plan_fleet(alloc: Global, words: &[String]) -> Result<Command, PlanFault>
+    ensures { IsCommandOf (fleet_of (parts_of_words fleet_form (map string_bytes words.now))) result }
+{
+    let form = Form {
+        options: &[K.name, DOUBT.name, BUDGET.name],
+        flags: &[],
+    };
+    let parts = Parts::of(alloc, &form, words)?;
+    plan_fleet_by(alloc, &parts)
+}
+
+fn plan_fleet_by(alloc: Global, parts: &Parts) -> Result<Command, PlanFault>
+    ensures { IsCommandOf (fleet_given (rows_in parts.now)) result }
+{
+    let Some([graph, names]) = parts.positional() else {
+        return Err(PlanFault::Usage(UsageCause::BadWords));
+    };
+    let members = both(K.number_in(parts), DOUBT.number_in(parts));
+    let ((k, doubt), budget) = both(members, BUDGET.number_in(parts))?;
+    if !has_names(alloc, names)? {
+        return Err(PlanFault::Usage(UsageCause::BadNames));
+    }
+    Ok(Command::Fleet {
+        k: k as u32,
+        doubt: doubt as u32,
+        budget,
+        graph: Text::of(alloc, graph)?,
+        names: Text::of(alloc, names)?,
     })
 }

@@ -96,7 +96,7 @@ AreBlocks-push graph terms lines blocks last end number are numbered is = record
 }
 
 -- what the rounds of some blocks say, and of one more
-RoundsSay-push : (graph : Tfpg) (terms : Terms) (lines : List (List ℕ)) (blocks : List Block) (last : List ℕ) (end : Block) → length blocks ≡ length lines → RoundsSay graph terms lines blocks
+pub RoundsSay-push : (graph : Tfpg) (terms : Terms) (lines : List (List ℕ)) (blocks : List Block) (last : List ℕ) (end : Block) → length blocks ≡ length lines → RoundsSay graph terms lines blocks
     → BlockSays graph terms (progress_of graph lines blocks) last end → RoundsSay graph terms (lines ++ last ∷ []) (blocks ++ end ∷ [])
 RoundsSay-push graph terms lines blocks last end one_each say says =
     holds_of_one_more graph (λ before index line block. BlockSays graph terms before line block) lines blocks last end one_each say says
@@ -112,7 +112,7 @@ report_text-push graph terms blocks block =
     ∙ ap (λ (t : List ℕ). head_text terms ++ t) (sym (flat_map-append (block_text graph) blocks (block ∷ []) ∙ ap (λ (t : List ℕ). flat_map (block_text graph) blocks ++ t) (append-nil (block_text graph block))))
 
 -- lines of few bytes have numbers that a report may have
-few_numbered : (taken : List ℕ) (given : List (List ℕ)) → take (length given) (lines_of taken) ≡ given → length taken ≤ MAX_BYTES → length given ≤ MAX_LINE_NUMBER
+pub few_numbered : (taken : List ℕ) (given : List (List ℕ)) → take (length given) (lines_of taken) ≡ given → length taken ≤ MAX_BYTES → length given ≤ MAX_LINE_NUMBER
 few_numbered taken given front few = omega (arith, front_is_within (lines_of taken) given front, few_lines taken, few)
 
 -- the text of the blocks of all lines is right for them

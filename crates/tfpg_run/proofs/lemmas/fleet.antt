@@ -1,0 +1,5 @@
+-- On the command `fleet`.
+pub mod Counts
+pub mod OwnBlocks
+pub mod NextAnswers
+pub mod AnsweredStreams
