@@ -1,8 +1,12 @@
 -- The numbers of a meaning are within their limits.
-use Rattle.std.proofs.Common.{◌≡◌, ℕ, ◌≤◌, Bool, true, false, List, [], ◌∷◌, Option, Some, None, Result, Ok, Err, refl, arith}
+use Rattle.std.proofs.Common.{◌≡◌, ℕ, ◌≤◌, Bool, true, false, List, [], ◌∷◌, Option, Some, None, Result, Ok, Err, refl, sym, subst, arith}
 use Rattle.std.specs.Prelude.{◌&&◌, ⊤, IfOk, bytes_eq, codes, if◌then◌else◌, is_some, nat_le}
 use Rattle.std.proofs.lemmas.Bool.{and_parts, leb-true}
 use Rattle.tfpg_base.specs.declared.terms.Terms.{Terms}
+use Rattle.clap.specs.Walk.{Row}
+use Rattle.std.proofs.lemmas.Result.{IfOk-weaker}
+use Rattle.tfpg_base.specs.declared.limits.TheConstants.{MAX_DOUBT, MAX_K}
+use Rattle.tfpg_words.specs.inside.Given.{first_value, number_given, terms_given}
 use Rattle.tfpg_base.specs.Words.{number_of}
 use Rattle.tfpg_words.specs.declared.usage_cause.UsageCause.{UsageCause}
 use Rattle.tfpg_words.specs.declared.usage_cause.UsageCause.TheVariants.{BadNames, OutOfRange, UnknownCommand}
@@ -49,6 +53,12 @@ module _ (option : NumberOption) where
     number_within : (uses : List Use) → IfOk (number_by option uses) (IsInLimits option)
     number_within uses = used_within (use_of option.name uses)
 
+-- the same of a number by the first value of its option
+module _ (option : NumberOption) (default : IsInLimits option option.default) where
+  given_within : (value : Option Word) → IfOk (number_given option value) (IsInLimits option)
+  given_within None = default
+  given_within (Some value) = read_within option (number_of value)
+
 module _ {A B : Type 0} (One : A → Type 0) (Two : B → Type 0) where
   both_within : (first : Result A UsageCause) (second : Result B UsageCause) → IfOk first One → IfOk second Two
       → IfOk (both first second) (λ values. One values.0 × Two values.1)
@@ -71,6 +81,20 @@ draw_within = number_within draw_option (record { low = omega arith; high = omeg
 
 size_within : (uses : List Use) → IfOk (number_by size_option uses) (IsInLimits size_option)
 size_within = number_within size_option (record { low = omega arith; high = omega arith })
+
+-- the numbers of the terms, by their first values
+pub terms_small : (rows : List Row) (result : Result ((ℕ × ℕ) × ℕ) UsageCause) → result ≡ terms_given rows → IfOk result (λ three. (three.0.0 ≤ MAX_K) × (three.0.1 ≤ MAX_DOUBT))
+terms_small rows result is =
+    let k = number_given k_option (first_value (codes "k") rows) in
+    let doubt = number_given doubt_option (first_value (codes "doubt") rows) in
+    let budget = number_given budget_option (first_value (codes "budget") rows) in
+    let two = both_within (IsInLimits k_option) (IsInLimits doubt_option) k doubt
+    (given_within k_option (record { low = omega arith; high = omega arith }) (first_value (codes "k") rows))
+    (given_within doubt_option (record { low = omega arith; high = omega arith }) (first_value (codes "doubt") rows)) in
+    let three = both_within (λ (m : ℕ × ℕ). IsInLimits k_option m.0 × IsInLimits doubt_option m.1) (IsInLimits budget_option) (both k doubt) budget two
+    (given_within budget_option (record { low = omega arith; high = omega arith }) (first_value (codes "budget") rows)) in
+    subst (λ (r : Result ((ℕ × ℕ) × ℕ) UsageCause). IfOk r (λ numbers. (numbers.0.0 ≤ MAX_K) × (numbers.0.1 ≤ MAX_DOUBT))) (sym is)
+    (IfOk-weaker (both (both k doubt) budget) _ _ (λ numbers are. (are.0.0.high, are.0.1.high)) three)
 
 -- ---- the commands
 

@@ -3,7 +3,7 @@
 ghost use Rattle.std.specs.Prelude.{◌≡◌, IfOk, bytes_eq, map};
 ghost use Rattle.std.specs.List.{list_all, list_any};
 ghost use Rattle.tfpg_base.specs.Words.{comma_parts, is_name};
-ghost use Rattle.tfpg_words.specs.Names.{are_distinct, are_names};
+ghost use Rattle.tfpg_words.specs.Names.{are_distinct, are_few, are_names};
 
 use crate::limits::MAX_NAMES;
 use std::alloc::Global;
@@ -22,7 +22,20 @@ pub(crate) fn has_names(alloc: Global, word: &str) -> Result<bool, NoMemory>
 fn are_names(names: &[&[u8]]) -> bool
     ensures { result ≡ are_names (map (λ name. name.now) names.now) }
 {
-    !names.is_empty() && names.len() <= MAX_NAMES && have_form(names) && are_distinct(names)
+    if !are_few(names.len()) {
+        return false;
+    }
+    if !have_form(names) {
+        return false;
+    }
+    are_distinct(names)
+}
+
+/// Whether so many are few, and some.
+fn are_few(count: usize) -> bool
+    ensures { result ≡ are_few count }
+{
+    count >= 1 && count <= MAX_NAMES
 }
 
 /// Whether each is of the form of a name.
@@ -38,7 +51,12 @@ fn are_distinct(names: &[&[u8]]) -> bool
 {
     match names.split_first() {
         None => true,
-        Some((first, others)) => !is_among(others, first) && are_distinct(others),
+        Some((first, others)) => {
+            if is_among(others, first) {
+                return false;
+            }
+            are_distinct(others)
+        }
     }
 }
 

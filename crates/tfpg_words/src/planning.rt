@@ -1,12 +1,13 @@
 //! The plan of a line of words.
 
-ghost use Rattle.std.specs.Prelude.{◌≡◌, map};
+ghost use Rattle.std.specs.Prelude.{◌≡◌, ◌≤◌, IfOk, map};
 ghost use Rattle.std.specs.String.{string_bytes};
+ghost use Rattle.tfpg_base.specs.declared.limits.TheConstants.{MAX_DOUBT, MAX_K};
 ghost use Rattle.tfpg_words.specs.Meaning.{check_form, check_of, command_meaning, convert_form, convert_of, diagnose_form, diagnose_of, explain_form, explain_of, fleet_form, fleet_of, generate_form, generate_of, meaning, simulate_form, simulate_of};
 ghost use Rattle.tfpg_words.specs.Plans.{IsPlanOf};
 ghost use Rattle.tfpg_words.specs.Words.{parts_of_words};
 ghost use Rattle.tfpg_words.specs.inside.CommandOf.{IsCommandOf};
-ghost use Rattle.tfpg_words.specs.inside.Given.{check_given, convert_given, diagnose_given, explain_given, fleet_given, generate_given, simulate_given};
+ghost use Rattle.tfpg_words.specs.inside.Given.{check_given, convert_given, diagnose_given, explain_given, fleet_given, generate_given, simulate_given, terms_given};
 ghost use Rattle.tfpg_words.specs.inside.Parts.{rows_in};
 
 use crate::command::{Command, Planned};
@@ -280,8 +281,7 @@ fn plan_fleet_by(alloc: Global, parts: &Parts) -> Result<Command, PlanFault>
     let Some([graph, names]) = parts.positional() else {
         return Err(PlanFault::Usage(UsageCause::BadWords));
     };
-    let members = both(K.number_in(parts), DOUBT.number_in(parts));
-    let ((k, doubt), budget) = both(members, BUDGET.number_in(parts))?;
+    let ((k, doubt), budget) = terms_in(parts)?;
     if !has_names(alloc, names)? {
         return Err(PlanFault::Usage(UsageCause::BadNames));
     }
@@ -292,4 +292,19 @@ fn plan_fleet_by(alloc: Global, parts: &Parts) -> Result<Command, PlanFault>
         graph: Text::of(alloc, graph)?,
         names: Text::of(alloc, names)?,
     })
+}
+
+/// The numbers of the terms of a diagnosis, which are within their limits.
+fn terms_in(parts: &Parts) -> Result<((u64, u64), u64), UsageCause>
+    ensures numbers { result ≡ terms_given (rows_in parts.now) }
+    ensures small { IfOk result (λ numbers. (numbers.0.0 ≤ MAX_K) × (numbers.0.1 ≤ MAX_DOUBT)) }
+{
+    numbers_in(parts)
+}
+
+fn numbers_in(parts: &Parts) -> Result<((u64, u64), u64), UsageCause>
+    ensures { result ≡ terms_given (rows_in parts.now) }
+{
+    let members = both(K.number_in(parts), DOUBT.number_in(parts));
+    both(members, BUDGET.number_in(parts))
 }

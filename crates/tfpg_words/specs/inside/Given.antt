@@ -68,14 +68,16 @@ abbrev pub fleet_by : Result ((ℕ × ℕ) × ℕ) UsageCause → List Word → 
 fleet_by numbers (graph ∷ names ∷ []) = fleet_with graph (comma_parts names) numbers
 fleet_by numbers _ = Err BadWords
 
-abbrev pub fleet_given : List Row → Result Meaning UsageCause
-fleet_given rows =
-    fleet_by
-    (both
+-- the numbers of the terms of a diagnosis
+abbrev pub terms_given : List Row → Result ((ℕ × ℕ) × ℕ) UsageCause
+terms_given rows =
+    both
     (both (number_given k_option (first_value (codes "k") rows))
     (number_given doubt_option (first_value (codes "doubt") rows)))
-    (number_given budget_option (first_value (codes "budget") rows)))
-    (vals words_id rows)
+    (number_given budget_option (first_value (codes "budget") rows))
+
+abbrev pub fleet_given : List Row → Result Meaning UsageCause
+fleet_given rows = fleet_by (terms_given rows) (vals words_id rows)
 
 -- no option has two values, and no flag two uses
 abbrev pub once_given : List Text → List Text → List Row → Bool
