@@ -3,3 +3,4 @@ pub mod Counts
 pub mod OwnBlocks
 pub mod NextAnswers
 pub mod AnsweredStreams
+pub mod NewFleets

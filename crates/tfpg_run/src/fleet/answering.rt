@@ -7,7 +7,7 @@ ghost use Rattle.tfpg_run.specs.fleet.Answers.{Answer, naming_text, stray_text};
 ghost use Rattle.tfpg_run.specs.inside.fleet.UnderWay.{Answers, HasAnswered, IsToldOf, IsWatching, matter_in, told_text};
 
 use super::opening::append_name;
-use super::watch::{Vehicles, Watch, ranked_after};
+use super::watch::{Vehicles, Watch, keep_at, kept_at, ranked_after};
 use itoa::Buffer;
 use std::alloc::Global;
 use std::sync::ledger::Ledger;
@@ -49,8 +49,9 @@ pub(super) fn answer_line<L: Ledger>(
         } => {
             let vehicle = vehicle as usize;
             let failures = vehicles.graph.failure_count();
-            watch.ranked[vehicle] = ranked_after(&told, watch.ranked[vehicle], failures);
-            own_answer(alloc, vehicles, vehicle, line, &told)
+            let before = kept_at(&watch.ranked, vehicle);
+            keep_at(&mut watch.ranked, vehicle, ranked_after(&told, before, failures));
+            own_answer(alloc, vehicles, vehicle, line, told)
         }
     }
 }
@@ -71,16 +72,16 @@ fn own_answer(
     vehicles: &Vehicles<'_>,
     vehicle: usize,
     line: u64,
-    told: &Told,
+    told: Told,
 ) -> Result<Vec<u8>, NoMemory>
     requires within { vehicle < length vehicles.now.names.now }
-    requires of { IsToldOf (sizes_of vehicles.now.graph.now) told.now }
+    requires of { IsToldOf (sizes_of vehicles.now.graph.now) told }
     ensures { IfOk result (λ text. text.items ≡ naming_text (slice_index_or vehicles.now.names.now vehicle [])
-        ++ told_text vehicles.now.graph.now line told.now) }
+        ++ told_text vehicles.now.graph.now line told) }
 {
     let mut text = Vec::new(alloc);
     append_name(vehicles.names.as_slice()[vehicle].as_slice(), &mut text)?;
-    append_told(vehicles.graph, line, told, &mut text)?;
+    append_told(vehicles.graph, line, &told, &mut text)?;
     Ok(text)
 }
 

@@ -1,6 +1,6 @@
 //! What is watched: the vehicles, their fleet, and what is kept of each vehicle for the counts at the end.
 
-ghost use Rattle.std.specs.Prelude.{◌≡◌, ◌<◌, ◌≤◌, ◌↔◌, ◌&&◌, ℕ, [], Err, IfOk, length, replicate};
+ghost use Rattle.std.specs.Prelude.{◌≡◌, ◌⊎◌, ◌<◌, ◌≤◌, ◌↔◌, ◌&&◌, ℕ, [], Contains, Err, IfOk, IsTrue, Some, length, replicate, slice_get, slice_set};
 ghost use Rattle.std.specs.List.{list_any};
 ghost use Rattle.tfpg_base.specs.Terms.{AreReportTerms};
 ghost use Rattle.tfpg_base.specs.declared.limits.TheConstants.{MAX_MEMBERS};
@@ -55,6 +55,22 @@ fn empty_sets(alloc: Global, count: usize) -> Result<Vec<Set>, NoMemory>
     Ok(vec![in alloc; Set::empty(); count]?)
 }
 
+/// What is kept of the vehicle of this number.
+pub(super) fn kept_at(ranked: &[Set], vehicle: usize) -> Set
+    requires { vehicle < length ranked.now }
+    ensures { slice_get ranked.now vehicle ≡ Some result }
+{
+    ranked[vehicle]
+}
+
+/// Keeps this of the vehicle of this number.
+pub(super) fn keep_at(ranked: &mut Vec<Set>, vehicle: usize, set: Set)
+    requires { vehicle < length ranked.old.items }
+    ensures { ranked.new.items ≡ slice_set ranked.old.items vehicle set }
+{
+    ranked[vehicle] = set;
+}
+
 /// The failure modes that the last round of a vehicle ranks, after this was told of its next line, where these were those before. The
 /// graph has so many failure modes.
 pub(super) fn ranked_after(told: &Told, before: Set, failures: u32) -> Set
@@ -72,18 +88,33 @@ fn ranked_in(round: &Round, failures: u32) -> Set
     requires { failures ≤ MAX_MEMBERS }
     ensures { (position : ℕ) → position < failures → is_in position result ≡ ranks position round.entry.now }
 {
-    let findings = round.findings.as_slice();
     let mut ranked = Set::empty();
     for position in 0..failures {
-        if ranks(findings, position) {
-            ranked = ranked.with(position);
-        }
+        ranked = with_if(ranked, position, ranks(round, position));
     }
     ranked
 }
 
+/// The set with this member, if that holds.
+fn with_if(set: Set, position: u32, holds: bool) -> Set
+    requires { position < MAX_MEMBERS }
+    ensures { (other : ℕ) → Contains result other ↔ ((IsTrue holds × (position ≡ other)) ⊎ Contains set other) }
+{
+    if holds {
+        return set.with(position);
+    }
+    set
+}
+
+/// Whether the round ranks a hypothesis that has the failure mode at this position.
+fn ranks(round: &Round, position: u32) -> bool
+    ensures { result ≡ ranks position round.entry.now }
+{
+    one_ranks(round.findings.as_slice(), position)
+}
+
 /// Whether one of the findings ranks a hypothesis that has the failure mode at this position.
-fn ranks(findings: &[Finding], position: u32) -> bool
+fn one_ranks(findings: &[Finding], position: u32) -> bool
     ensures { result ≡ list_any (λ finding. is_ranked finding.status && is_in position finding.set) findings.now }
 {
     findings

@@ -36,7 +36,16 @@ use Rattle.tfpg_run.proofs.lemmas.diagnose.NextBlocks.{few_numbered}
 use Rattle.tfpg_run.proofs.lemmas.fleet.Counts.{kept_counts}
 use Rattle.tfpg_run.proofs.lemmas.fleet.NextAnswers.{no_own_blocks}
 
+-- the lines by what is kept, for equal lists
+pub kept_same : (graph : Tfpg) (one other : List (List ℕ)) (before after : SinkState) (result : Result (Unit {0}) OutputFault) → one ≡ other
+    → TextEnds (λ text. text ≡ kept_text graph one) before after result → TextEnds (λ text. text ≡ kept_text graph other) before after result
+kept_same graph one other before after result same ends = subst (λ (sets : List (List ℕ)). TextEnds (λ text. text ≡ kept_text graph sets) before after result) same ends
+
 -- ---- the text of one answer more
+
+-- equal answers were written
+pub writes_same : (text same : List ℕ) (before after : SinkState) (result : Result NextAnswer StreamFault) → text ≡ same → WritesAnswer text before after result → WritesAnswer same before after result
+writes_same text same before after result e writes = subst (λ (t : List ℕ). WritesAnswer t before after result) e writes
 
 answers_text-push : (graph : Tfpg) (names : List (List ℕ)) (number : ℕ) (answers : List Answer) (answer : Answer)
     → answers_text graph names number (answers ++ answer ∷ []) ≡ answers_text graph names number answers ++ answer_text graph names (number + length answers) answer

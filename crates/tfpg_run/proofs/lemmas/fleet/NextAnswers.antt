@@ -23,7 +23,7 @@ use Rattle.tfpg_engine.specs.declared.told.EventFault.{EventFault}
 use Rattle.tfpg_fleet.specs.declared.fleet_told.FleetTold.{FleetTold}
 use Rattle.tfpg_fleet.specs.declared.fleet_told.FleetTold.TheVariants.{Stray, Of}
 use Rattle.tfpg_fleet.specs.Belonging.{belongs, lines_for, vehicle_line}
-use Rattle.tfpg_fleet.specs.FleetState.{FleetRepresents, FleetState, IsToldTo, names_of, rounds_after, rounds_with}
+use Rattle.tfpg_fleet.specs.FleetState.{FleetBrings, FleetRepresents, FleetState, IsToldTo, names_of, rounds_after, rounds_with}
 use Rattle.tfpg_fleet.proofs.FleetTells.{represents_stray}
 use Rattle.tfpg_fleet.proofs.LinesFor.{lines-other, lines-own, lines-stray}
 use Rattle.tfpg_report.specs.Blocks.{Block, block_text}
@@ -75,6 +75,16 @@ module _ (fleet : FleetMatter) (lines : List (List ℕ)) (answers : List Answer)
           (so_far.kept number set (sym (ap (λ (sets : List (List ℕ)). slice_get sets number) same_ranked) ∙ at));
     }
 
+-- ---- what a line brings
+
+-- a stray line
+pub brings_stray : (text : List ℕ) (old new : FleetState) (t : FleetTold) → t ≡ Stray → FleetBrings text old new (Ok t) → (belongs (names_of old) text ≡ None) × (new ≡ old)
+brings_stray text old new t is brings = subst (λ (x : FleetTold). FleetBrings text old new (Ok x)) is brings
+
+-- a line of a vehicle
+pub brings_of : (text : List ℕ) (old new : FleetState) (t : FleetTold) (number line : ℕ) (answer : Told) → t ≡ Of number line answer → FleetBrings text old new (Ok t) → IsToldTo text old new number line answer
+brings_of text old new t number line answer is brings = subst (λ (x : FleetTold). FleetBrings text old new (Ok x)) is brings
+
 -- ---- the line of a vehicle
 
 -- the blocks of a vehicle with one more
@@ -91,7 +101,7 @@ own_blocks-push graph terms lines blocks own block line so_far at is says none =
 kept_told : (graph : Tfpg) (rounds : List Round) (answer : Told) (before after : List ℕ) → KeepsLast answer (length (failures graph)) before after → IsKept graph rounds before
     → IsKept graph (rounds_with rounds answer) after
 kept_told graph rounds (told.Refused refusal) before after same kept = subst (IsKept graph rounds) (sym same) kept
-kept_told graph rounds (told.Round round) before after keeps kept position within =
+kept_told graph rounds (told.Round round) before after keeps kept = λ position within.
     keeps position within ∙ ap (λ (last : Option Round). option_map_or (ranks position) last false) (sym (last_pushed rounds round))
 
 module _ (laws : RoundLaws) (fleet : FleetMatter) (valid : IsValid fleet.graph) (lines : List (List ℕ)) (answers : List Answer) (watch later : Watch)
