@@ -63,9 +63,7 @@ pub(crate) fn fleet_file<F: Shelf, S: Source, K: Sink, L: Ledger>(
         terms: subject.terms,
     };
     let mut watch = Watch::new(alloc, &vehicles)?;
-    Ok(answer_stream(
-        alloc, &vehicles, &mut watch, input, out, work,
-    )?)
+    Ok(answer_stream(alloc, &vehicles, &mut watch, input, out, work)?)
 }
 
 /// Fetches the graph of the file, and lists the names of the vehicles.

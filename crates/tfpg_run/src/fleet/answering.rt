@@ -50,7 +50,11 @@ pub(super) fn answer_line<L: Ledger>(
             let vehicle = vehicle as usize;
             let failures = vehicles.graph.failure_count();
             let before = kept_at(&watch.ranked, vehicle);
-            keep_at(&mut watch.ranked, vehicle, ranked_after(&told, before, failures));
+            keep_at(
+                &mut watch.ranked,
+                vehicle,
+                ranked_after(&told, before, failures),
+            );
             own_answer(alloc, vehicles, vehicle, line, told)
         }
     }
@@ -86,12 +90,7 @@ fn own_answer(
 }
 
 /// Appends the block of an own line of this number that brought this.
-fn append_told(
-    graph: &Graph,
-    line: u64,
-    told: &Told,
-    into: &mut Vec<u8>,
-) -> Result<(), NoMemory>
+fn append_told(graph: &Graph, line: u64, told: &Told, into: &mut Vec<u8>) -> Result<(), NoMemory>
     requires { IsToldOf (sizes_of graph.now) told.now }
     ensures { Appends result into.old.items into.new.items (told_text graph.now line told.now) }
 {

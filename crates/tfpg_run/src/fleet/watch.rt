@@ -117,9 +117,7 @@ fn ranks(round: &Round, position: u32) -> bool
 fn one_ranks(findings: &[Finding], position: u32) -> bool
     ensures { result ≡ list_any (λ finding. is_ranked finding.status && is_in position finding.set) findings.now }
 {
-    findings
-        .iter()
-        .any(|finding| finding.status.is_ranked() && is_in(position, finding.set))
+    findings.iter().any(|finding| finding.status.is_ranked() && is_in(position, finding.set))
 }
 
 /// Whether the failure mode at this position is in the set.

@@ -1,8 +1,6 @@
 -- A diagnosis of many vehicles, one answer after another.
-use Rattle.std.proofs.Common.{◌≡◌, ◌⊎◌, ℕ, ◌+◌, ◌<◌, ◌≤◌, List, [], ◌∷◌, ◌++◌, length, map, take, Option, Some, None, Result, Ok, Err, IfOk, IfErr, refl, sym, ap, subst, ◌∙◌, arith, inl, inr, append_assoc}
-use Rattle.std.specs.Prelude.{OnOk}
+use Rattle.std.proofs.Common.{◌≡◌, ℕ, ◌+◌, ◌<◌, ◌≤◌, List, [], ◌∷◌, ◌++◌, length, map, take, Result, Ok, Err, IfOk, IfErr, refl, sym, ap, subst, ◌∙◌, arith, inl, inr, append_assoc}
 use Rattle.std.proofs.lemmas.List.{append-nil, length-append, length-map, take_all}
-use Rattle.tfpg_base.specs.declared.terms.Terms.{Terms}
 use Rattle.tfpg_base.specs.declared.line.Line.{Line}
 use Rattle.tfpg_base.specs.declared.line.Line.TheVariants as line
 use Rattle.tfpg_base.specs.declared.line.LineFault.{LineFault}
@@ -27,8 +25,8 @@ use Rattle.tfpg_run.specs.inside.Faults.{stream_fault_of_lines, stream_fault_of_
 use Rattle.tfpg_run.specs.Outputs.{BeginsOutputOfInput, HasOutputOfFirstLines, TextEnds}
 use Rattle.tfpg_run.specs.Streams.{Streams, streams}
 use Rattle.tfpg_run.specs.fleet.Answers.{Answer, addressee, answer_text, answers_text, blocks_for, opening_text, vehicle_of}
-use Rattle.tfpg_run.specs.fleet.FleetOutput.{AreAnswers, BeginsFleetOutput, FleetMatter, IsFleetOutput, IsFleetOutputSoFar, answered_text, counts_text}
-use Rattle.tfpg_run.specs.fleet.FleetEnds.{AnsweringEnds, AnswersStream}
+use Rattle.tfpg_run.specs.fleet.FleetOutput.{AreAnswers, BeginsFleetOutput, FleetMatter, IsFleetOutputSoFar, answered_text, counts_text}
+use Rattle.tfpg_run.specs.fleet.FleetEnds.{AnswersStream}
 use Rattle.tfpg_run.specs.inside.fleet.UnderWay.{Answers, AreOwnBlocks, ComesTo, HasAnswered, HasAnsweredAll, IsAnswering, WritesAnswer, answering_at, kept_text}
 use Rattle.tfpg_run.proofs.InputLines.{came_to_end, few_lines, front_of_input, rest_at_end, rest_is_left, rest_of}
 use Rattle.tfpg_run.proofs.Putting.{Puts-append, Puts-same_held}

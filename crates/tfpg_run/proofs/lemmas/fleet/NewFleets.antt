@@ -21,7 +21,7 @@ use Rattle.tfpg_run.specs.inside.Faults.{end_of_table_fault}
 use Rattle.tfpg_run.specs.Fetch.{GivesGraph, IsFetchFault}
 use Rattle.tfpg_run.specs.Streams.{Streams}
 use Rattle.tfpg_run.specs.World.{Watched, World, streams_in, streams_of, watched_of}
-use Rattle.tfpg_run.specs.fleet.FleetOutput.{FleetMatter, fleet_matter}
+use Rattle.tfpg_run.specs.fleet.FleetOutput.{fleet_matter}
 use Rattle.tfpg_run.specs.fleet.FleetEnds.{AnswersStream, FleetEnds, FleetWords, fleet_words}
 use Rattle.tfpg_run.specs.Run.{CommandEnds}
 use Rattle.tfpg_words.specs.Meaning.{Meaning, Fleet}

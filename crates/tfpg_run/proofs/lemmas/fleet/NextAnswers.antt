@@ -1,5 +1,5 @@
 -- The answers with one answer more.
-use Rattle.std.proofs.Common.{◌≡◌, ◌≢◌, ℕ, ◌+◌, ◌<◌, ◌==◌, Bool, true, false, cond, List, [], ◌∷◌, ◌++◌, length, map, set, Option, Some, None, Ok, refl, sym, ap, subst, subst₂, ◌∙◌, arith, replicate, get_or}
+use Rattle.std.proofs.Common.{◌≡◌, ◌≢◌, ℕ, ◌+◌, ◌<◌, ◌==◌, Bool, true, false, cond, List, [], ◌∷◌, ◌++◌, length, set, Option, Some, None, Ok, refl, sym, ap, subst, subst₂, ◌∙◌, arith, replicate, get_or}
 use Rattle.std.specs.Prelude.{◌-◌, All, flat_map, option_map, slice_get}
 use Rattle.std.specs.Option.{option_map_or}
 use Rattle.std.specs.Bool.{then_some}
@@ -19,20 +19,19 @@ use Rattle.tfpg_graph.specs.Valid.{IsValid}
 use Rattle.tfpg_evidence.specs.declared.round.Round.{Round}
 use Rattle.tfpg_engine.specs.declared.told.Told.{Told}
 use Rattle.tfpg_engine.specs.declared.told.Told.TheVariants as told
-use Rattle.tfpg_engine.specs.declared.told.EventFault.{EventFault}
 use Rattle.tfpg_fleet.specs.declared.fleet_told.FleetTold.{FleetTold}
 use Rattle.tfpg_fleet.specs.declared.fleet_told.FleetTold.TheVariants.{Stray, Of}
 use Rattle.tfpg_fleet.specs.Belonging.{belongs, lines_for, vehicle_line}
 use Rattle.tfpg_fleet.specs.FleetState.{FleetBrings, FleetRepresents, FleetState, IsToldTo, names_of, rounds_after, rounds_with}
 use Rattle.tfpg_fleet.proofs.FleetTells.{represents_stray}
 use Rattle.tfpg_fleet.proofs.LinesFor.{lines-other, lines-own, lines-stray}
-use Rattle.tfpg_report.specs.Blocks.{Block, block_text}
-use Rattle.tfpg_check.specs.Report.{AreBlocks, IsBlock, progress_of, rounds_of}
+use Rattle.tfpg_report.specs.Blocks.{Block}
+use Rattle.tfpg_check.specs.Report.{IsBlock, progress_of, rounds_of}
 use Rattle.tfpg_run.specs.declared.fleet.watch.Watch.{Watch}
-use Rattle.tfpg_run.specs.diagnose.RightReport.{BlockSays, RoundsSay}
+use Rattle.tfpg_run.specs.diagnose.RightReport.{BlockSays}
 use Rattle.tfpg_run.specs.diagnose.TellsPanels.{losses_in}
-use Rattle.tfpg_run.specs.fleet.Answers.{Answer, OwnBlock, StrayLine, addressee, answer_text, block_for, blocks_for, naming_text, stray_text, vehicle_of}
-use Rattle.tfpg_run.specs.fleet.Counting.{is_in, last_ranks, ranks}
+use Rattle.tfpg_run.specs.fleet.Answers.{Answer, OwnBlock, StrayLine, addressee, block_for, blocks_for, naming_text, stray_text, vehicle_of}
+use Rattle.tfpg_run.specs.fleet.Counting.{is_in, ranks}
 use Rattle.tfpg_run.specs.fleet.FleetOutput.{FleetMatter, rounds_for}
 use Rattle.tfpg_run.specs.inside.fleet.UnderWay.{Answers, AreOwnBlocks, HasAnswered, IsKept, KeepsLast, told_text}
 use Rattle.tfpg_run.proofs.lemmas.diagnose.NextBlocks.{AreBlocks-none, AreBlocks-push, RoundsSay-none, RoundsSay-push}

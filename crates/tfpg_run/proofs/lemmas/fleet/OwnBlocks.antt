@@ -1,6 +1,6 @@
 -- The block of a vehicle's own line.
-use Rattle.std.proofs.Common.{◌≡◌, ℕ, ◌+◌, ◌<◌, ◌≤◌, false, List, [], ◌∷◌, ◌++◌, length, Some, Option, refl, sym, ap, ap₂, subst, ◌∙◌, arith}
-use Rattle.std.specs.Prelude.{flat_map, is_none}
+use Rattle.std.proofs.Common.{◌≡◌, ℕ, ◌+◌, ◌<◌, false, List, [], ◌∷◌, ◌++◌, length, Some, refl, sym, ap, subst, ◌∙◌, arith}
+use Rattle.std.specs.Prelude.{is_none}
 use Rattle.std.proofs.lemmas.List.{append-nil, length-map}
 use Rattle.std.proofs.lemmas.Option.{slice_get_within}
 use Rattle.std.proofs.lemmas.Bool.{ltb-false}
@@ -11,14 +11,14 @@ use Rattle.tfpg_graph.specs.Valid.{IsValid}
 use Rattle.tfpg_log.specs.Log.{IsLogOf, IsOrdered}
 use Rattle.tfpg_log.specs.LogOfLines.{log_of_lines}
 use Rattle.tfpg_evidence.specs.declared.round.Round.{Round}
-use Rattle.tfpg_engine.specs.EngineState.{Brings, GivesRound}
+use Rattle.tfpg_engine.specs.EngineState.{GivesRound}
 use Rattle.tfpg_engine.specs.declared.told.Told.{Told}
 use Rattle.tfpg_engine.specs.declared.told.Told.TheVariants as told
 use Rattle.tfpg_fleet.specs.Belonging.{belongs, lines_for, vehicle_line}
 use Rattle.tfpg_fleet.specs.FleetState.{FleetState, IsToldTo, VehicleRepresents, VehicleState, rounds_with}
 use Rattle.tfpg_fleet.proofs.FleetTells.{LogsGrow, told_represents}
 use Rattle.tfpg_fleet.proofs.LinesFor.{own_short}
-use Rattle.tfpg_report.specs.Blocks.{Block, round_text}
+use Rattle.tfpg_report.specs.Blocks.{round_text}
 use Rattle.tfpg_check.specs.Report.{Progress, progress_of, rounds_of}
 use Rattle.tfpg_run.specs.declared.fleet.watch.Watch.{Watch}
 use Rattle.tfpg_run.specs.diagnose.TellsPanels.{losses_in}

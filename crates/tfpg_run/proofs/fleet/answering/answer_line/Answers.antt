@@ -1,14 +1,13 @@
-use Rattle.std.proofs.Common.{List, ℕ, length, Ok, Some, subst, sym, refl, ◌≡◌, ◌∙◌, ◌++◌, ◌∷◌, []}
+use Rattle.std.proofs.Common.{List, ℕ, Ok, Some, subst, refl, ◌≡◌, ◌++◌, ◌∷◌, []}
 use Rattle.std.specs.Prelude.{slice_get, None}
 use Rattle.std.proofs.lemmas.Result.{IfOk-weaker}
-use Rattle.tfpg_graph.specs.Graph.{failures}
 use Rattle.tfpg_fleet.specs.declared.fleet_told.FleetTold.{FleetTold}
 use Rattle.tfpg_fleet.specs.Belonging.{belongs}
 use Rattle.tfpg_fleet.specs.FleetState.{FleetRepresents, rounds_after}
 use Rattle.tfpg_run.specs.declared.fleet.watch.Watch.{Watch}
 use Rattle.tfpg_run.specs.fleet.FleetOutput.{rounds_for}
 use Rattle.tfpg_run.specs.inside.fleet.UnderWay.{KeepsLast, matter_in}
-use Rattle.tfpg_run.proofs.lemmas.fleet.OwnBlocks.{RoundLaws, kept_within, own_within, told_of_graph}
+use Rattle.tfpg_run.proofs.lemmas.fleet.OwnBlocks.{RoundLaws, own_within, told_of_graph}
 use Rattle.tfpg_run.proofs.lemmas.fleet.NextAnswers.{answers_own, answers_stray, brings_of, brings_stray}
 use Rattle.tfpg_run.proofs.fleet.answering.answer_line.Goals as goal
 

@@ -1,4 +1,4 @@
-use Rattle.std.proofs.Common.{refl, sym, subst, ◌∙◌}
+use Rattle.std.proofs.Common.{subst, ◌∙◌}
 use Rattle.tfpg_run.specs.declared.fault.StreamFault.TheVariants as faults
 use Rattle.tfpg_run.specs.Streams.{streams}
 use Rattle.tfpg_run.specs.inside.fleet.UnderWay.{ComesTo, answering_at, matter_in}

@@ -1,4 +1,4 @@
-use Rattle.std.proofs.Common.{ap, refl, subst, List, ℕ, ◌++◌, ◌∷◌, [], ◌∙◌}
+use Rattle.std.proofs.Common.{refl, subst, List, ℕ, ◌++◌, ◌∷◌, [], ◌∙◌}
 use Rattle.tfpg_run.specs.declared.fault.StreamFault.TheVariants as faults
 use Rattle.tfpg_run.specs.inside.Faults.{stream_fault_of_lines}
 use Rattle.tfpg_run.specs.inside.fleet.UnderWay.{Answers, matter_in}

@@ -1,4 +1,4 @@
-use Rattle.std.proofs.Common.{length, ap, refl}
+use Rattle.std.proofs.Common.{length, ap}
 use Rattle.tfpg_run.specs.inside.fleet.UnderWay.{matter_in}
 use Rattle.tfpg_run.proofs.lemmas.fleet.NextAnswers.{answered_none}
 use Rattle.tfpg_run.proofs.lemmas.fleet.NewFleets.{counts_again, counts_no_memory, counts_ok}
