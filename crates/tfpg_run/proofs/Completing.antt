@@ -25,7 +25,7 @@ use Rattle.tfpg_check.specs.RightReports.{LinesHaveOneCause, LinesOfTooManyHaveN
 use Rattle.tfpg_check.proofs.FirstLines.{OneLine, few_hypotheses}
 use Rattle.tfpg_sim.specs.Script.{IsScriptFault}
 use Rattle.tfpg_words.specs.declared.usage_cause.UsageCause.{UsageCause}
-use Rattle.tfpg_words.specs.Meaning.{Meaning, Diagnose, Explain, Check, Simulate, Generate, Convert, Ask}
+use Rattle.tfpg_words.specs.Meaning.{Meaning, Diagnose, Explain, Check, Simulate, Generate, Convert, Ask, Fleet}
 use Rattle.tfpg_run.specs.declared.end.End.{End}
 use Rattle.tfpg_run.specs.declared.end.End.TheVariants as ends
 use Rattle.tfpg_run.specs.declared.fault.FetchFault.{FetchFault}
@@ -42,7 +42,7 @@ use Rattle.tfpg_run.specs.declared.fault.OutputFault.{OutputFault}
 use Rattle.tfpg_run.specs.declared.fault.OutputFault.TheVariants as output
 use Rattle.tfpg_run.specs.declared.fault.QuestionsFault.{QuestionsFault}
 use Rattle.tfpg_run.specs.declared.fault.QuestionsFault.TheVariants as questions
-use Rattle.tfpg_run.specs.Completeness.{CanAsk, CanCheck, CanConvert, CanDiagnose, CanExplain, CanJudge, CanRefuse, CanSimulate, CanBeDone, NothingFails, IsShort, IsCompleted, IsRefusedFor}
+use Rattle.tfpg_run.specs.Completeness.{CanAsk, CanCheck, CanConvert, CanDiagnose, CanExplain, CanJudge, CanRefuse, CanSimulate, CanBeDone, NothingFails, IsShort, IsCompleted, IsRefusedFor, CanFleet}
 use Rattle.tfpg_run.specs.EndsOf.{end_of_fetch_fault, end_of_stream_fault, end_of_check_fault, end_of_explain_fault, end_of_simulate_fault, end_of_output_fault, end_of_questions_fault, end_of_result}
 use Rattle.tfpg_run.specs.Fetch.{HasFile, IsTooLong, GivesGraph, GivesGraphBy, GivesGraphAndText, HasFaultyGraphBy, IsFetchFaultBy, IsFilesFault, LacksGraphOrText}
 use Rattle.tfpg_run.specs.generate.Generating.{HasSummary}
@@ -53,6 +53,8 @@ use Rattle.tfpg_run.specs.explain.Explaining.{ExplainEnds, ExplainingEnds}
 use Rattle.tfpg_run.specs.map.Spelling.{HasMap, BeginsMap, IsMapFault}
 use Rattle.tfpg_run.specs.Outputs.{IsStreamFault, LineByLineEnds, TextEnds}
 use Rattle.tfpg_run.specs.Run.{CommandEnds, RunEnds}
+use Rattle.tfpg_run.specs.fleet.FleetEnds.{AnsweringEnds, FleetEnds, FleetWords, fleet_words}
+use Rattle.tfpg_run.specs.fleet.FleetOutput.{fleet_matter}
 use Rattle.tfpg_run.specs.diagnose.Diagnosing.{DiagnoseEnds}
 use Rattle.tfpg_run.specs.diagnose.RightReport.{IsRightReport, BeginsRightReport}
 use Rattle.tfpg_run.specs.diagnose.TellsPanels.{desks}
@@ -201,6 +203,19 @@ module _ (graphs : GraphLaws) (laws : CheckLaws) (before now : World) (calm : No
           → end ≡ end_of_result end_of_stream_fault result → IsCompleted end
       go (Ok done) is e = inl e
       go (Err fault) is e = inr (e ∙ ap end_of_stream_fault (no_stream_fault short file.ends.works.taken file.ends.works.takes fault is.0))
+
+  -- a diagnosis of many vehicles
+  fleet_diagnosed : IsShort before.input → (end : End) (said : FleetWords) → CanFleet before.shelf said → FleetEnds said before now end → IsCompleted end
+  fleet_diagnosed short end said can (inl lacks) =
+      inr (without_memory end lacks.fault (fetched before.shelf can.files can.known Spells IsFirstFault graphs.text said.file can.graph can.gives now.shelf lacks.fault calm.shelf lacks.is_fault) lacks.end_is)
+  fleet_diagnosed short end said can (inr (inl many)) = absurd (can.few many.graph many.count many.gives many.too_many)
+  fleet_diagnosed short end said can (inr (inr done)) = go done.ends.result done.ends.works.ends done.ends.end_is
+    where
+      go : (result : Result (Unit {0}) StreamFault)
+          → AnsweringEnds (fleet_matter done.graph said.terms said.names) (streams_of before) (streams_of now) (done.ends.works.taken, done.ends.works.written) result
+          → end ≡ end_of_result end_of_stream_fault result → IsCompleted end
+      go (Ok all) is e = inl e
+      go (Err fault) is e = inr (e ∙ ap end_of_stream_fault (no_stream_fault short done.ends.works.taken done.ends.works.takes fault is.0))
 
   -- a map whose verdict is written
   explained_map : (short : IsShort before.input) (graph : Tfpg) (log : Logbook) (taken : List ℕ) → HasMap graph (lines_of short.known) → Takes before.input now.input taken → (result : Result (Unit {0}) ExplainFault)
@@ -364,6 +379,7 @@ module _ (graphs : GraphLaws) (laws : CheckLaws) (before now : World) (calm : No
   completed (Generate draw size) end can is = subst IsCompleted (sym is.0.end_is) (text_written (HasSummary draw size) is.0.result is.0.works)
   completed (Convert json graph) end can is = converted json end graph can is.0
   completed (Ask terms graph log) end can is = asked terms end graph log can is.0
+  completed (Fleet terms graph names) end can is = fleet_diagnosed can.1 end (fleet_words terms graph names) can.0 is
 
   -- the whole run
   pub run_completes : (words : Result Meaning UsageCause) (meant : Meaning) (end : End) → words ≡ Ok meant → CanBeDone meant before → RunEnds words before now end

@@ -4,6 +4,7 @@ pub mod LogTexts
 pub mod Putting
 pub mod InputLines
 pub mod Stops
+pub mod PlannedNumbers
 pub mod Completing
 pub mod WithinLimits
 pub mod ConvertedBack

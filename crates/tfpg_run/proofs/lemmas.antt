@@ -6,3 +6,4 @@ pub mod check
 pub mod diagnosis
 pub mod generate
 pub mod ask
+pub mod fleet

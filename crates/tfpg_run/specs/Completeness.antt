@@ -11,7 +11,7 @@ use Rattle.tfpg_report.specs.Blocks.{Block}
 use Rattle.tfpg_check.specs.declared.cause.CheckCause.{CheckCause}
 use Rattle.tfpg_check.specs.Causes.{AreReportLines, IsCause}
 use Rattle.tfpg_sim.specs.Script.{IsScriptFault}
-use Rattle.tfpg_words.specs.Meaning.{Meaning, Diagnose, Explain, Check, Simulate, Generate, Convert, Ask}
+use Rattle.tfpg_words.specs.Meaning.{Meaning, Diagnose, Explain, Check, Simulate, Generate, Convert, Ask, Fleet}
 use Rattle.tfpg_base.specs.declared.terms.Terms.{Terms}
 use Rattle.tfpg_run.specs.declared.end.End.{End}
 use Rattle.tfpg_run.specs.declared.end.End.TheVariants.{Done, NoMemory, NotAccepted}
@@ -19,6 +19,8 @@ use Rattle.tfpg_run.specs.Fetch.{GivesGraph, GivesGraphBy, GivesGraphAndLog, Giv
 use Rattle.tfpg_run.specs.check.Checking.{matter_of}
 use Rattle.tfpg_run.specs.convert.Converting.{SpellsFrom}
 use Rattle.tfpg_run.specs.map.Spelling.{HasMap}
+use Rattle.tfpg_fleet.specs.TooMany.{IsTooMany}
+use Rattle.tfpg_run.specs.fleet.FleetEnds.{FleetWords, fleet_words}
 use Rattle.tfpg_run.specs.World.{World}
 
 -- The input is known, and has at most 2^32 bytes left.
@@ -97,6 +99,15 @@ pub record CanAsk (shelf : ShelfState) (terms : Terms) (graph_name log_name : Li
   pub few : (other : Tfpg) (count : ℕ) → GivesGraph shelf graph_name other → HasHypotheses other terms count
       → count ≤ MAX_HYPOTHESES
 
+-- The contents of the shelf are known, the file of this name spells a valid graph, and each graph that it gives has not too many
+-- hypotheses for the vehicles.
+pub record CanFleet (shelf : ShelfState) (said : FleetWords) : Type 0 where
+  pub files : List (List ℕ × List ℕ)
+  pub known : shelf.files ≡ Some files
+  pub graph : Tfpg
+  pub gives : GivesGraph shelf said.file graph
+  pub few : (other : Tfpg) (count : ℕ) → GivesGraph shelf said.file other → IsTooMany other said.terms (length said.names) count → ⊥
+
 -- The files serve what the words mean, and so does the input where it is read.
 abbrev pub CanBeDone : Meaning → World → Type 0
 CanBeDone (Diagnose terms graph panels) before =
@@ -107,6 +118,7 @@ CanBeDone (Simulate draw trace graph script) before = CanSimulate before.shelf g
 CanBeDone (Generate draw size) before = Unit {0}
 CanBeDone (Convert json graph) before = CanConvert before.shelf json graph
 CanBeDone (Ask terms graph log) before = CanAsk before.shelf terms graph log
+CanBeDone (Fleet terms graph names) before = CanFleet before.shelf (fleet_words terms graph names) × IsShort before.input
 
 -- Neither the shelf, nor the input, nor the output failed.
 pub record NothingFails (before now : World) : Type 0 where

@@ -19,5 +19,6 @@ pub mod diagnosis
 pub mod generate
 pub mod convert
 pub mod ask
+pub mod fleet
 -- What the code and its proofs need besides. No public clause reaches it.
 pub mod inside

@@ -9,4 +9,5 @@ pub mod diagnosis
 pub mod generate
 pub mod ask
 pub mod convert
+pub mod fleet
 pub mod Writing

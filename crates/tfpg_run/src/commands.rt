@@ -20,6 +20,7 @@ use crate::convert::convert_file;
 use crate::diagnose::{Subject, diagnose_file};
 use crate::end::End;
 use crate::explain::explain_by_files;
+use crate::fleet::{FleetSubject, fleet_file};
 use crate::generate::generate_summary;
 use crate::simulate::simulate_files;
 use std::alloc::Global;
@@ -39,7 +40,9 @@ use tfpg_words::{Command, plan};
 /// then writes how many rounds it has. To simulate it reads the graph and the script that they name, and writes the log
 /// or the map of what happens. To generate it draws a graph and a script, diagnoses the log, and writes what became of
 /// the truth. To convert it reads the graph that they name, and writes it in the other form: a graph text as JSON, or JSON as a
-/// graph text. To ask it reads the graph and the log that they name, diagnoses the log, and writes which observation would tell most. Searches count their steps on `work`.
+/// graph text. To ask it reads the graph and the log that they name, diagnoses the log, and writes which observation would tell most. To
+/// diagnose a fleet it reads the graph, then takes the input line by line, writes the answer to each line before the next one is taken, and
+/// at the end writes how many vehicles have which failure mode. Searches count their steps on `work`.
 pub fn run<F: Shelf, S: Source, K: Sink, P: Panel, L: Ledger>(
     alloc: Global,
     words: &[String],
@@ -177,6 +180,25 @@ fn perform<F: Shelf, S: Source, K: Sink, P: Panel, L: Ledger>(
                 budget: *budget,
             };
             ask_by_files(alloc, terms, graph.as_str(), log.as_str(), shelf, out, work)
+        }
+        Command::Fleet {
+            k,
+            doubt,
+            budget,
+            graph,
+            names,
+        } => {
+            let terms = Terms {
+                k: *k,
+                doubt: *doubt,
+                budget: *budget,
+            };
+            let subject = FleetSubject {
+                file: graph.as_str(),
+                names: names.as_str(),
+                terms,
+            };
+            fleet_file(alloc, &subject, shelf, input, out, work)
         }
     }
 }

@@ -31,7 +31,8 @@ pub enum End {
     Usage { cause: UsageCause },
     /// The graph file has this fault in this line.
     Graph { line: u64, cause: GraphCause },
-    /// There are more than [`MAX_HYPOTHESES`](tfpg_hyp::MAX_HYPOTHESES) sets of at most `k` failure modes, exactly this many.
+    /// There are more than [`MAX_HYPOTHESES`](tfpg_hyp::MAX_HYPOTHESES) sets of at most `k` failure modes, exactly this many; or there are
+    /// not, and those of all vehicles of a fleet are more than [`MAX_FLEET_HYPOTHESES`](tfpg_fleet::MAX_FLEET_HYPOTHESES), exactly this many.
     TooManyHypotheses { count: u128 },
     /// The shelf of files or the input failed.
     ReadFault,
@@ -306,6 +307,7 @@ fn usage_cause_word(cause: UsageCause) -> &'static [u8]
         UsageCause::BadNumber => b"BadNumber",
         UsageCause::OutOfRange => b"OutOfRange",
         UsageCause::BadPanel => b"BadPanel",
+        UsageCause::BadNames => b"BadNames",
     }
 }
 

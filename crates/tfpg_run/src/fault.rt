@@ -1,7 +1,7 @@
 //! What ends the parts of a run early: fetching files, reading the input, writing the output, and the work of each command.
 
 ghost use Rattle.std.specs.Prelude.{◌≡◌};
-ghost use Rattle.tfpg_run.specs.inside.Faults.{check_fault_of_judge, check_fault_of_lines, explain_fault_of_no_map, fetch_fault_of_refusal, fetch_fault_of_shelf, simulate_fault_of_sim, stream_fault_of_lines};
+ghost use Rattle.tfpg_run.specs.inside.Faults.{check_fault_of_judge, check_fault_of_lines, explain_fault_of_no_map, fetch_fault_of_refusal, fetch_fault_of_shelf, simulate_fault_of_sim, stream_fault_of_lines, stream_fault_of_output};
 ghost use Rattle.tfpg_run.specs.declared.fault.FetchFault.TheVariants as fetch;
 ghost use Rattle.tfpg_run.specs.declared.fault.StreamFault.TheVariants as streams;
 ghost use Rattle.tfpg_run.specs.declared.fault.ExplainFault.TheVariants as explain;
@@ -99,6 +99,17 @@ impl From<Failed> for StreamFault {
 
     fn from(_e: Failed) -> StreamFault {
         StreamFault::WriteFault
+    }
+}
+
+impl From<OutputFault> for StreamFault {
+    ghost from_gives = { λ fault e. e ≡ stream_fault_of_output fault };
+
+    fn from(fault: OutputFault) -> StreamFault {
+        match fault {
+            OutputFault::WriteFault => StreamFault::WriteFault,
+            OutputFault::NoMemory => StreamFault::NoMemory,
+        }
     }
 }
 

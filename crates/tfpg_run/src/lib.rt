@@ -21,6 +21,7 @@ mod end;
 mod explain;
 mod fault;
 mod fetching;
+mod fleet;
 mod generate;
 pub mod laws;
 mod limits;

@@ -3,5 +3,6 @@ pub mod Taken
 pub mod Once
 pub mod Commands
 pub mod AskRefused
+pub mod NamesTested
 pub mod WithinLimits
 pub mod PanelsRead

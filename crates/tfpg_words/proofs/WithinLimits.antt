@@ -1,14 +1,22 @@
 -- The numbers of a meaning are within their limits.
-use Rattle.std.proofs.Common.{◌≡◌, ℕ, ◌≤◌, Bool, true, false, List, [], ◌∷◌, Option, Some, None, Result, Ok, Err, refl, arith}
+use Rattle.std.proofs.Common.{◌≡◌, ℕ, ◌≤◌, Bool, true, false, List, [], ◌∷◌, Option, Some, None, Result, Ok, Err, refl, sym, subst, arith}
 use Rattle.std.specs.Prelude.{◌&&◌, ⊤, IfOk, bytes_eq, codes, if◌then◌else◌, is_some, nat_le}
 use Rattle.std.proofs.lemmas.Bool.{and_parts, leb-true}
+use Rattle.tfpg_base.specs.declared.terms.Terms.{Terms}
+use Rattle.clap.specs.Walk.{Row}
+use Rattle.std.proofs.lemmas.Result.{IfOk-weaker}
+use Rattle.tfpg_base.specs.declared.limits.TheConstants.{MAX_DOUBT, MAX_K}
+use Rattle.tfpg_words.specs.inside.Given.{first_value, number_given, terms_given}
 use Rattle.tfpg_base.specs.Words.{number_of}
 use Rattle.tfpg_words.specs.declared.usage_cause.UsageCause.{UsageCause}
-use Rattle.tfpg_words.specs.declared.usage_cause.UsageCause.TheVariants.{OutOfRange, UnknownCommand}
-use Rattle.tfpg_words.specs.Meaning.{Meaning, Diagnose, Explain, Check, Simulate, Generate, Convert, NumberOption, within, number_in, number_by, both, use_of, k_option, doubt_option, budget_option, draw_option, size_option, diagnose_form, diagnose_to, diagnose_with, diagnose_on, diagnose_of, explain_form, explain_on, explain_of, check_form, check_on, check_of, simulate_form, simulate_with, simulate_on, simulate_of, generate_form, generate_with, generate_on, generate_of, convert_form, convert_with, convert_of, meaning, Ask, ask_form, ask_with, ask_on, ask_of}
+use Rattle.tfpg_words.specs.declared.usage_cause.UsageCause.TheVariants.{OutOfRange, UnknownCommand, BadNames}
+use Rattle.tfpg_words.specs.Meaning.{Meaning, Diagnose, Explain, Check, Simulate, Generate, Convert, NumberOption, within, number_in, number_by, both, use_of, k_option, doubt_option, budget_option, draw_option, size_option, diagnose_form, diagnose_to, diagnose_with, diagnose_on, diagnose_of, explain_form, explain_on, explain_of, check_form, check_on, check_of, simulate_form, simulate_with, simulate_on, simulate_of, generate_form, generate_with, generate_on, generate_of, convert_form, convert_with, convert_of, meaning, Ask, ask_form, ask_with, ask_on, ask_of, Fleet, fleet_form, fleet_with, fleet_on, fleet_of}
 use Rattle.tfpg_base.specs.declared.terms.Terms.{Terms}
 use Rattle.tfpg_words.specs.declared.panel_word.PanelWord.{PanelWord}
 use Rattle.tfpg_words.specs.PanelWords.{panels_named}
+use Rattle.tfpg_base.specs.Words.{comma_parts}
+use Rattle.tfpg_words.specs.Names.{AreNames, are_names}
+use Rattle.tfpg_words.proofs.NamesTested.{names_tested}
 use Rattle.tfpg_words.specs.Words.{Parts, Use, Word, parts_of_words}
 
 -- a number within the limits of an option
@@ -25,6 +33,7 @@ AreInLimits (Simulate draw trace graph script) = IsInLimits draw_option draw
 AreInLimits (Generate draw size) = IsInLimits draw_option draw × IsInLimits size_option size
 AreInLimits (Convert json graph) = ⊤
 AreInLimits (Ask terms graph log) = (IsInLimits k_option terms.k × IsInLimits doubt_option terms.doubt) × IsInLimits budget_option terms.budget
+AreInLimits (Fleet terms graph names) = ((IsInLimits k_option terms.k × IsInLimits doubt_option terms.doubt) × IsInLimits budget_option terms.budget) × AreNames names
 
 -- ---- one number, and two
 
@@ -47,6 +56,12 @@ module _ (option : NumberOption) where
 
     number_within : (uses : List Use) → IfOk (number_by option uses) (IsInLimits option)
     number_within uses = used_within (use_of option.name uses)
+
+-- the same of a number by the first value of its option
+module _ (option : NumberOption) (default : IsInLimits option option.default) where
+  given_within : (value : Option Word) → IfOk (number_given option value) (IsInLimits option)
+  given_within None = default
+  given_within (Some value) = read_within option (number_of value)
 
 module _ {A B : Type 0} (One : A → Type 0) (Two : B → Type 0) where
   both_within : (first : Result A UsageCause) (second : Result B UsageCause) → IfOk first One → IfOk second Two
@@ -84,6 +99,20 @@ terms_within uses =
     both_within (λ two. IsInLimits k_option two.0 × IsInLimits doubt_option two.1) (IsInLimits budget_option) members (number_by budget_option uses)
     (both_within (IsInLimits k_option) (IsInLimits doubt_option) (number_by k_option uses) (number_by doubt_option uses) (k_within uses) (doubt_within uses))
     (budget_within uses)
+
+-- the numbers of the terms, by their first values
+pub terms_small : (rows : List Row) (result : Result ((ℕ × ℕ) × ℕ) UsageCause) → result ≡ terms_given rows → IfOk result (λ three. (three.0.0 ≤ MAX_K) × (three.0.1 ≤ MAX_DOUBT))
+terms_small rows result is =
+    let k = number_given k_option (first_value (codes "k") rows) in
+    let doubt = number_given doubt_option (first_value (codes "doubt") rows) in
+    let budget = number_given budget_option (first_value (codes "budget") rows) in
+    let two = both_within (IsInLimits k_option) (IsInLimits doubt_option) k doubt
+    (given_within k_option (record { low = omega arith; high = omega arith }) (first_value (codes "k") rows))
+    (given_within doubt_option (record { low = omega arith; high = omega arith }) (first_value (codes "doubt") rows)) in
+    let three = both_within (λ (m : ℕ × ℕ). IsInLimits k_option m.0 × IsInLimits doubt_option m.1) (IsInLimits budget_option) (both k doubt) budget two
+    (given_within budget_option (record { low = omega arith; high = omega arith }) (first_value (codes "budget") rows)) in
+    subst (λ (r : Result ((ℕ × ℕ) × ℕ) UsageCause). IfOk r (λ numbers. (numbers.0.0 ≤ MAX_K) × (numbers.0.1 ≤ MAX_DOUBT))) (sym is)
+    (IfOk-weaker (both (both k doubt) budget) _ _ (λ numbers are. (are.0.0.high, are.0.1.high)) three)
 
 -- ---- the commands
 
@@ -179,12 +208,34 @@ ask_within (Some parts) = go parts.positional
     go (graph ∷ log ∷ []) = by graph log (terms_by parts.uses) (terms_within parts.uses)
     go (a ∷ b ∷ c ∷ others) = tt
 
+fleet_within : (parts : Option Parts) → IfOk (fleet_of parts) AreInLimits
+fleet_within None = tt
+fleet_within (Some parts) = go parts.positional
+  where
+    named : (terms : Terms) (graph : Word) (names : List Word) (test : Bool) → are_names names ≡ test
+        → (IsInLimits k_option terms.k × IsInLimits doubt_option terms.doubt) × IsInLimits budget_option terms.budget
+        → IfOk (if test then Ok (Fleet terms graph names) else Err BadNames) AreInLimits
+    named terms graph names true is are = (are, names_tested names is)
+    named terms graph names false is are = tt
+
+    by : (graph : Word) (names : List Word) (numbers : Result ((ℕ × ℕ) × ℕ) UsageCause)
+        → IfOk numbers AreTermsWithin
+        → IfOk (fleet_with graph names numbers) AreInLimits
+    by graph names (Ok ((k, doubt), budget)) are = named (record { k = k; doubt = doubt; budget = budget }) graph names (are_names names) refl are
+    by graph names (Err cause) are = tt
+
+    go : (positional : List Word) → IfOk (fleet_on parts.uses positional) AreInLimits
+    go [] = tt
+    go (a ∷ []) = tt
+    go (graph ∷ names ∷ []) = by graph (comma_parts names) (terms_by parts.uses) (terms_within parts.uses)
+    go (a ∷ b ∷ c ∷ others) = tt
+
 -- What the words mean is within the limits.
 pub meaning_within : (words : List Word) → IfOk (meaning words) AreInLimits
 meaning_within [] = tt
-meaning_within (command ∷ words) = by (bytes_eq command (codes "diagnose")) (bytes_eq command (codes "explain")) (bytes_eq command (codes "check")) (bytes_eq command (codes "simulate")) (bytes_eq command (codes "generate")) (bytes_eq command (codes "convert")) (bytes_eq command (codes "ask"))
+meaning_within (command ∷ words) = by (bytes_eq command (codes "diagnose")) (bytes_eq command (codes "explain")) (bytes_eq command (codes "check")) (bytes_eq command (codes "simulate")) (bytes_eq command (codes "generate")) (bytes_eq command (codes "convert")) (bytes_eq command (codes "ask")) (bytes_eq command (codes "fleet"))
   where
-    by : (diagnoses explains checks simulates generates converts asks : Bool)
+    by : (diagnoses explains checks simulates generates converts asks fleets : Bool)
         → IfOk (if diagnoses then diagnose_of (parts_of_words diagnose_form words)
         else (if explains then explain_of (parts_of_words explain_form words)
         else (if checks then check_of (parts_of_words check_form words)
@@ -192,12 +243,14 @@ meaning_within (command ∷ words) = by (bytes_eq command (codes "diagnose")) (b
         else (if generates then generate_of (parts_of_words generate_form words)
         else (if converts then convert_of (parts_of_words convert_form words)
         else (if asks then ask_of (parts_of_words ask_form words)
-        else Err UnknownCommand))))))) AreInLimits
-    by true explains checks simulates generates converts asks = diagnose_within (parts_of_words diagnose_form words)
-    by false true checks simulates generates converts asks = explain_within (parts_of_words explain_form words)
-    by false false true simulates generates converts asks = check_within (parts_of_words check_form words)
-    by false false false true generates converts asks = simulate_within (parts_of_words simulate_form words)
-    by false false false false true converts asks = generate_within (parts_of_words generate_form words)
-    by false false false false false true asks = convert_within (parts_of_words convert_form words)
-    by false false false false false false true = ask_within (parts_of_words ask_form words)
-    by false false false false false false false = tt
+        else (if fleets then fleet_of (parts_of_words fleet_form words)
+        else Err UnknownCommand)))))))) AreInLimits
+    by true explains checks simulates generates converts asks fleets = diagnose_within (parts_of_words diagnose_form words)
+    by false true checks simulates generates converts asks fleets = explain_within (parts_of_words explain_form words)
+    by false false true simulates generates converts asks fleets = check_within (parts_of_words check_form words)
+    by false false false true generates converts asks fleets = simulate_within (parts_of_words simulate_form words)
+    by false false false false true converts asks fleets = generate_within (parts_of_words generate_form words)
+    by false false false false false true asks fleets = convert_within (parts_of_words convert_form words)
+    by false false false false false false true fleets = ask_within (parts_of_words ask_form words)
+    by false false false false false false false true = fleet_within (parts_of_words fleet_form words)
+    by false false false false false false false false = tt

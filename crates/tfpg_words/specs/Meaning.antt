@@ -2,12 +2,13 @@
 use Rattle.std.specs.Prelude.{ℕ, ◌&&◌, Bool, List, [], ◌∷◌, Option, Some, None, Result, Ok, Err}
 use Rattle.std.specs.Prelude.{bytes_eq, codes, if◌then◌else◌, is_some, nat_le, find}
 use Rattle.tfpg_base.specs.declared.terms.Terms.{Terms}
-use Rattle.tfpg_base.specs.Words.{number_of}
+use Rattle.tfpg_base.specs.Words.{comma_parts, number_of}
 use Rattle.tfpg_base.specs.declared.limits.TheConstants.{MAX_K, MAX_DOUBT, MAX_BUDGET, MAX_CASE_SIZE}
 use Rattle.tfpg_words.specs.declared.limits.TheConstants.{MAX_DRAW, DEFAULT_K, DEFAULT_DOUBT, DEFAULT_BUDGET, DEFAULT_DRAW, DEFAULT_SIZE}
 use Rattle.tfpg_words.specs.declared.usage_cause.UsageCause.{UsageCause}
-use Rattle.tfpg_words.specs.declared.usage_cause.UsageCause.TheVariants.{NoCommand, UnknownCommand, BadWords, BadNumber, OutOfRange, BadPanel}
+use Rattle.tfpg_words.specs.declared.usage_cause.UsageCause.TheVariants.{NoCommand, UnknownCommand, BadWords, BadNumber, OutOfRange, BadPanel, BadNames}
 use Rattle.tfpg_words.specs.declared.panel_word.PanelWord.{PanelWord}
+use Rattle.tfpg_words.specs.Names.{are_names}
 use Rattle.tfpg_words.specs.Words.{Form, Parts, Use, Word, parts_of_words}
 use Rattle.tfpg_words.specs.PanelWords.{panels_named}
 
@@ -20,6 +21,7 @@ pub data Meaning : Type 0 where
   Generate : (draw size : ℕ) → Meaning
   Convert : (json : Bool) (graph : Word) → Meaning
   Ask : (terms : Terms) (graph log : Word) → Meaning
+  Fleet : (terms : Terms) (graph : Word) (names : List Word) → Meaning
 
 -- The first use of this name.
 abbrev pub use_of : Word → List Use → Option Use
@@ -206,6 +208,27 @@ ask_on uses _ = Err BadWords
 abbrev pub ask_of : Option Parts → Result Meaning UsageCause
 ask_of = by_parts (λ parts. ask_on parts.uses parts.positional)
 
+-- `fleet [--k N] [--doubt N] [--budget N] GRAPH NAMES`
+abbrev pub fleet_form : Form
+fleet_form = record { options = k_option.name ∷ doubt_option.name ∷ budget_option.name ∷ []; flags = [] }
+
+-- what the name of a graph and names with commas between mean after `fleet`, with these numbers
+abbrev pub fleet_with : Word → List Word → Result ((ℕ × ℕ) × ℕ) UsageCause → Result Meaning UsageCause
+fleet_with graph names (Err cause) = Err cause
+fleet_with graph names (Ok ((k, doubt), budget)) =
+    if are_names names then Ok (Fleet (record { k = k; doubt = doubt; budget = budget }) graph names) else Err BadNames
+
+-- what the uses and the positional words after `fleet` mean
+abbrev pub fleet_on : List Use → List Word → Result Meaning UsageCause
+fleet_on uses (graph ∷ names ∷ []) =
+    fleet_with graph (comma_parts names)
+    (both (both (number_by k_option uses) (number_by doubt_option uses)) (number_by budget_option uses))
+fleet_on uses _ = Err BadWords
+
+-- what the words after `fleet` mean, by their parts
+abbrev pub fleet_of : Option Parts → Result Meaning UsageCause
+fleet_of = by_parts (λ parts. fleet_on parts.uses parts.positional)
+
 -- What the words after a command mean.
 abbrev pub command_meaning : Word → List Word → Result Meaning UsageCause
 command_meaning command words =
@@ -216,7 +239,8 @@ command_meaning command words =
     else (if bytes_eq command (codes "generate") then generate_of (parts_of_words generate_form words)
     else (if bytes_eq command (codes "convert") then convert_of (parts_of_words convert_form words)
     else (if bytes_eq command (codes "ask") then ask_of (parts_of_words ask_form words)
-    else Err UnknownCommand))))))
+    else (if bytes_eq command (codes "fleet") then fleet_of (parts_of_words fleet_form words)
+    else Err UnknownCommand)))))))
 
 -- What the words after the program's name mean.
 abbrev pub meaning : List Word → Result Meaning UsageCause

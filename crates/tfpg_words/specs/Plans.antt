@@ -6,7 +6,8 @@ use Rattle.tfpg_words.specs.declared.plan_fault.PlanFault.TheVariants as fault
 use Rattle.tfpg_words.specs.declared.command.Command.{Command}
 use Rattle.tfpg_words.specs.declared.command.Command.TheVariants as command
 use Rattle.tfpg_words.specs.declared.command.Planned.{Planned}
-use Rattle.tfpg_words.specs.Meaning.{Meaning, Diagnose, Explain, Check, Simulate, Generate, Convert, Ask}
+use Rattle.tfpg_words.specs.Meaning.{Meaning, Diagnose, Explain, Check, Simulate, Generate, Convert, Ask, Fleet}
+use Rattle.tfpg_base.specs.Words.{comma_parts}
 
 -- what a command asks for
 abbrev pub meaning_of : Command → Meaning
@@ -18,6 +19,8 @@ meaning_of (command.Simulate draw trace graph script) = Simulate draw trace grap
 meaning_of (command.Generate draw size) = Generate draw size
 meaning_of (command.Convert json graph) = Convert json graph
 meaning_of (command.Ask k doubt budget graph log) = Ask (record { k = k; doubt = doubt; budget = budget }) graph log
+meaning_of (command.Fleet k doubt budget graph names) =
+    Fleet (record { k = k; doubt = doubt; budget = budget }) graph (comma_parts names)
 
 -- A command has this meaning; a refusal gives its cause; and memory may run out on any words.
 abbrev pub IsPlanOf : Result Meaning UsageCause → Result Planned PlanFault → Type 0

@@ -58,6 +58,16 @@ pub enum Command {
         graph: Text,
         log: Text,
     },
+    /// `fleet [--k N] [--doubt N] [--budget N] GRAPH NAMES`: reports on the logs of many vehicles of one graph, whose lines come on
+    /// one stream. The numbers are those of `diagnose`. `names` has the names of the vehicles with commas between: 1 to
+    /// [`MAX_NAMES`](crate::MAX_NAMES), no two alike.
+    Fleet {
+        k: u32,
+        doubt: u32,
+        budget: u64,
+        graph: Text,
+        names: Text,
+    },
 }
 
 /// What is to be done.

@@ -4,11 +4,12 @@ ghost use Rattle.std.specs.Prelude.{◌≡◌, ◌≤◌, ℕ, Bool, List, Ok};
 ghost use Rattle.tfpg_base.specs.declared.terms.Terms.{Terms};
 ghost use Rattle.tfpg_base.specs.Terms.{AreReportTerms};
 ghost use Rattle.tfpg_base.specs.declared.limits.TheConstants.{MAX_CASE_SIZE};
-ghost use Rattle.tfpg_words.specs.Meaning.{meaning, Diagnose, Generate, Simulate, Ask};
+ghost use Rattle.tfpg_words.specs.Meaning.{meaning, Diagnose, Generate, Simulate, Ask, Fleet};
 ghost use Rattle.tfpg_words.specs.declared.panel_word.PanelWord.{PanelWord};
+ghost use Rattle.tfpg_words.specs.Names.{AreNames};
 ghost use Rattle.tfpg_words.specs.declared.limits.TheConstants.{MAX_DRAW};
 
-/// The numbers of a command are within their limits.
+/// The numbers of a command are within their limits, and its names are names.
 pub fn numbers_are_within_their_limits()
     ensures diagnose { (words : List (List ℕ)) (terms : Terms) (graph : List ℕ)
         (panels : List PanelWord) → meaning words ≡ Ok (Diagnose terms graph panels) → AreReportTerms terms }
@@ -18,4 +19,6 @@ pub fn numbers_are_within_their_limits()
         (draw ≤ MAX_DRAW) × (1 ≤ size) × (size ≤ MAX_CASE_SIZE) }
     ensures ask { (words : List (List ℕ)) (terms : Terms) (graph log : List ℕ) →
         meaning words ≡ Ok (Ask terms graph log) → AreReportTerms terms }
+    ensures fleet { (words : List (List ℕ)) (terms : Terms) (graph : List ℕ) (names : List (List ℕ)) →
+        meaning words ≡ Ok (Fleet terms graph names) → AreReportTerms terms × AreNames names }
 {}

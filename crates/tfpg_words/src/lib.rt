@@ -3,7 +3,7 @@
 //! [`plan`] reads the words after the program's name. It returns a [`Command`], in a [`Planned`]. A [`PlanFault`] says why
 //! there is none: the first [`UsageCause`] that holds of the words, or out of memory. A [`PanelWord`] is a panel that the words name:
 //! what it writes, a [`PanelKind`], and the file to which it does. [`DEFAULT_K`] and the other constants
-//! are the defaults and the limits of the options. [`laws`] says between which limits the numbers of a command are.
+//! are the defaults and the limits of the options. [`laws`] says between which limits the numbers of a command are, and what its names are.
 //!
 //! ```
 //! // The words `diagnose --k 1 engine.tfpg`.
@@ -18,6 +18,7 @@ mod command;
 mod form;
 pub mod laws;
 mod limits;
+mod names;
 mod number;
 mod panel_word;
 mod panels;
@@ -27,7 +28,9 @@ mod planning;
 mod usage_cause;
 
 pub use command::{Command, Planned};
-pub use limits::{DEFAULT_BUDGET, DEFAULT_DOUBT, DEFAULT_DRAW, DEFAULT_K, DEFAULT_SIZE, MAX_DRAW};
+pub use limits::{
+    DEFAULT_BUDGET, DEFAULT_DOUBT, DEFAULT_DRAW, DEFAULT_K, DEFAULT_SIZE, MAX_DRAW, MAX_NAMES,
+};
 pub use panel_word::{PanelKind, PanelWord, PanelWordList};
 pub use plan_fault::PlanFault;
 pub use planning::plan;

@@ -1,13 +1,14 @@
 //! The plan of a line of words.
 
-ghost use Rattle.std.specs.Prelude.{◌≡◌, map};
+ghost use Rattle.std.specs.Prelude.{◌≡◌, ◌≤◌, IfOk, map};
 ghost use Rattle.std.specs.String.{string_bytes};
-ghost use Rattle.tfpg_words.specs.Meaning.{check_form, check_of, command_meaning, convert_form, convert_of, diagnose_form, diagnose_of, diagnose_to, explain_form, explain_of, generate_form, generate_of, meaning, simulate_form, simulate_of, ask_form, ask_of};
+ghost use Rattle.tfpg_words.specs.Meaning.{check_form, check_of, command_meaning, convert_form, convert_of, diagnose_form, diagnose_of, diagnose_to, explain_form, explain_of, generate_form, generate_of, meaning, simulate_form, simulate_of, ask_form, ask_of, fleet_form, fleet_of};
 ghost use Rattle.tfpg_words.specs.PanelWords.{panels_named};
 ghost use Rattle.tfpg_words.specs.Plans.{IsPlanOf};
 ghost use Rattle.tfpg_words.specs.Words.{parts_of_words};
 ghost use Rattle.tfpg_words.specs.inside.CommandOf.{IsCommandOf};
-ghost use Rattle.tfpg_words.specs.inside.Given.{ask_given, check_given, convert_given, diagnose_given, explain_given, generate_given, simulate_given};
+ghost use Rattle.tfpg_words.specs.inside.Given.{ask_given, check_given, convert_given, diagnose_given, explain_given, generate_given, simulate_given, fleet_given, terms_given};
+ghost use Rattle.tfpg_base.specs.declared.limits.TheConstants.{MAX_DOUBT, MAX_K};
 ghost use Rattle.tfpg_words.specs.inside.Parts.{rows_in};
 
 use crate::command::{Command, Planned};
@@ -15,6 +16,7 @@ use crate::form::Form;
 use crate::limits::{
     DEFAULT_BUDGET, DEFAULT_DOUBT, DEFAULT_DRAW, DEFAULT_K, DEFAULT_SIZE, MAX_DRAW,
 };
+use crate::names::has_names;
 use crate::number::{NumberOption, both};
 use crate::panels::panels_of;
 use crate::parts::Parts;
@@ -103,6 +105,8 @@ fn command_of(alloc: Global, command: &str, words: &[String]) -> Result<Command,
         plan_convert(alloc, words)
     } else if command == "ask" {
         plan_ask(alloc, words)
+    } else if command == "fleet" {
+        plan_fleet(alloc, words)
     } else {
         Err(PlanFault::Usage(UsageCause::UnknownCommand))
     }
@@ -297,8 +301,7 @@ fn plan_ask_by(alloc: Global, parts: &Parts) -> Result<Command, PlanFault>
     let Some([graph, log]) = parts.positional() else {
         return Err(PlanFault::Usage(UsageCause::BadWords));
     };
-    let members = both(K.number_in(parts), DOUBT.number_in(parts));
-    let ((k, doubt), budget) = both(members, BUDGET.number_in(parts))?;
+    let ((k, doubt), budget) = terms_in(parts)?;
     Ok(Command::Ask {
         k: k as u32,
         doubt: doubt as u32,
@@ -306,4 +309,50 @@ fn plan_ask_by(alloc: Global, parts: &Parts) -> Result<Command, PlanFault>
         graph: Text::of(alloc, graph)?,
         log: Text::of(alloc, log)?,
     })
+}
+
+/// `fleet [--k N] [--doubt N] [--budget N] GRAPH NAMES`
+fn plan_fleet(alloc: Global, words: &[String]) -> Result<Command, PlanFault>
+    ensures { IsCommandOf (fleet_of (parts_of_words fleet_form (map string_bytes words.now))) result }
+{
+    let form = Form {
+        options: &[K.name, DOUBT.name, BUDGET.name],
+        flags: &[],
+    };
+    let parts = Parts::of(alloc, &form, words)?;
+    plan_fleet_by(alloc, &parts)
+}
+
+fn plan_fleet_by(alloc: Global, parts: &Parts) -> Result<Command, PlanFault>
+    ensures { IsCommandOf (fleet_given (rows_in parts.now)) result }
+{
+    let Some([graph, names]) = parts.positional() else {
+        return Err(PlanFault::Usage(UsageCause::BadWords));
+    };
+    let ((k, doubt), budget) = terms_in(parts)?;
+    if !has_names(alloc, names)? {
+        return Err(PlanFault::Usage(UsageCause::BadNames));
+    }
+    Ok(Command::Fleet {
+        k: k as u32,
+        doubt: doubt as u32,
+        budget,
+        graph: Text::of(alloc, graph)?,
+        names: Text::of(alloc, names)?,
+    })
+}
+
+/// The numbers of the terms of a diagnosis, which are within their limits.
+fn terms_in(parts: &Parts) -> Result<((u64, u64), u64), UsageCause>
+    ensures numbers { result ≡ terms_given (rows_in parts.now) }
+    ensures small { IfOk result (λ numbers. (numbers.0.0 ≤ MAX_K) × (numbers.0.1 ≤ MAX_DOUBT)) }
+{
+    numbers_in(parts)
+}
+
+fn numbers_in(parts: &Parts) -> Result<((u64, u64), u64), UsageCause>
+    ensures { result ≡ terms_given (rows_in parts.now) }
+{
+    let members = both(K.number_in(parts), DOUBT.number_in(parts));
+    both(members, BUDGET.number_in(parts))
 }

@@ -15,4 +15,6 @@ pub enum UsageCause {
     OutOfRange,
     /// A word in the place of a panel is none.
     BadPanel,
+    /// The names of vehicles are not 1 to [`MAX_NAMES`](crate::MAX_NAMES) words of the form of a name, no two alike.
+    BadNames,
 }

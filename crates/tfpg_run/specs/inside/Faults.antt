@@ -15,6 +15,8 @@ use Rattle.tfpg_run.specs.declared.fault.FetchFault.{FetchFault}
 use Rattle.tfpg_run.specs.declared.fault.FetchFault.TheVariants as fetch
 use Rattle.tfpg_run.specs.declared.fault.StreamFault.{StreamFault}
 use Rattle.tfpg_run.specs.declared.fault.StreamFault.TheVariants as streams
+use Rattle.tfpg_run.specs.declared.fault.OutputFault.{OutputFault}
+use Rattle.tfpg_run.specs.declared.fault.OutputFault.TheVariants as output
 use Rattle.tfpg_run.specs.Fetch.{IsTooLong}
 use Rattle.tfpg_sim.specs.declared.fault.SimFault.{SimFault}
 use Rattle.tfpg_sim.specs.declared.fault.SimFault.TheVariants as sim
@@ -46,6 +48,11 @@ fetch_fault_of_refusal refusal.NoMemory = fetch.NoMemory
 abbrev pub stream_fault_of_lines : LineFault → StreamFault
 stream_fault_of_lines lines.ReadFault = streams.ReadFault
 stream_fault_of_lines lines.TooMuchInput = streams.TooMuchInput
+
+-- the fault of the streams that a fault of the output is
+abbrev pub stream_fault_of_output : OutputFault → StreamFault
+stream_fault_of_output output.WriteFault = streams.WriteFault
+stream_fault_of_output output.NoMemory = streams.NoMemory
 
 -- why a map is not judged whose input gives none
 abbrev pub explain_fault_of_no_map : NoMap → ExplainFault

@@ -2,11 +2,11 @@
 use Rattle.std.specs.List.{list_all}
 use Rattle.std.specs.Prelude.{ℕ, ◌&&◌, length, nat_le, Bool, List, [], ◌∷◌, Option, Some, None, Result, Ok, Err, codes, nat_lt, slice_get}
 use Rattle.clap.specs.Walk.{Row, Text, count_of}
-use Rattle.tfpg_base.specs.Words.{number_of}
+use Rattle.tfpg_base.specs.Words.{comma_parts, number_of}
 use Rattle.tfpg_words.specs.declared.usage_cause.UsageCause.{UsageCause}
 use Rattle.tfpg_words.specs.declared.usage_cause.UsageCause.TheVariants.{BadWords}
 use Rattle.tfpg_words.specs.Words.{Word}
-use Rattle.tfpg_words.specs.Meaning.{Meaning, NumberOption, both, within, k_option, doubt_option, budget_option, draw_option, size_option, diagnose_with, explain_on, check_on, generate_with, simulate_with, convert_with, ask_with}
+use Rattle.tfpg_words.specs.Meaning.{Meaning, NumberOption, both, within, k_option, doubt_option, budget_option, draw_option, size_option, diagnose_with, explain_on, check_on, generate_with, simulate_with, convert_with, ask_with, fleet_with}
 use Rattle.tfpg_words.specs.inside.Rules.{words_id}
 use Rattle.tfpg_words.specs.inside.Rows.{vals}
 
@@ -64,18 +64,27 @@ generate_given rows =
 abbrev pub convert_given : List Row → Result Meaning UsageCause
 convert_given rows = convert_with (is_used (codes "json") rows) (vals words_id rows)
 
+-- the numbers of the terms of a diagnosis
+abbrev pub terms_given : List Row → Result ((ℕ × ℕ) × ℕ) UsageCause
+terms_given rows =
+    both
+    (both (number_given k_option (first_value (codes "k") rows))
+    (number_given doubt_option (first_value (codes "doubt") rows)))
+    (number_given budget_option (first_value (codes "budget") rows))
+
 abbrev pub ask_by : Result ((ℕ × ℕ) × ℕ) UsageCause → List Word → Result Meaning UsageCause
 ask_by numbers (graph ∷ log ∷ []) = ask_with graph log numbers
 ask_by numbers _ = Err BadWords
 
 abbrev pub ask_given : List Row → Result Meaning UsageCause
-ask_given rows =
-    ask_by
-    (both
-    (both (number_given k_option (first_value (codes "k") rows))
-    (number_given doubt_option (first_value (codes "doubt") rows)))
-    (number_given budget_option (first_value (codes "budget") rows)))
-    (vals words_id rows)
+ask_given rows = ask_by (terms_given rows) (vals words_id rows)
+
+abbrev pub fleet_by : Result ((ℕ × ℕ) × ℕ) UsageCause → List Word → Result Meaning UsageCause
+fleet_by numbers (graph ∷ names ∷ []) = fleet_with graph (comma_parts names) numbers
+fleet_by numbers _ = Err BadWords
+
+abbrev pub fleet_given : List Row → Result Meaning UsageCause
+fleet_given rows = fleet_by (terms_given rows) (vals words_id rows)
 
 -- no option has two values, and no flag two uses
 abbrev pub once_given : List Text → List Text → List Row → Bool

@@ -1,5 +1,9 @@
+use Rattle.tfpg_base.specs.declared.terms.Terms.{Terms}
 use Rattle.std.proofs.Common.{◌≡◌, ap, rules, refl}
+use Rattle.tfpg_base.specs.Words.{comma_parts}
 use Rattle.tfpg_words.specs.Plans.{meaning_of}
+use Rattle.tfpg_run.specs.fleet.FleetEnds.{fleet_words}
+use Rattle.tfpg_run.proofs.lemmas.fleet.NewFleets.{fleet_done, fleet_stopped}
 use Rattle.tfpg_run.specs.World.{world}
 use Rattle.tfpg_run.proofs.Stops.{OnOk-with, check_stopped, explain_stopped, simulate_stopped, convert_stopped, ask_stopped}
 use Rattle.tfpg_run.proofs.commands.perform.Goals as goal
@@ -76,3 +80,22 @@ returns-in-Ask-clause-stopped g c =
     ask_stopped c.ask_by_files.result (meaning_of c.args.command.now) c.as_str-in-Ask.result.now c.as_str-in-Ask-2.result.now before now
     (record { k = c.in-Ask.k; doubt = c.in-Ask.doubt; budget = c.in-Ask.budget }) c.in-Ask.graph c.in-Ask.log (ap meaning_of c.in-Ask.is) c.as_str-in-Ask.ensures c.as_str-in-Ask-2.ensures refl
     (c.ask_by_files.ensures.stopped input c.args.desk.now)
+
+-- a fleet
+pub returns-in-Fleet-clause-done : goal.returns-in-Fleet-clause-done
+returns-in-Fleet-clause-done g c =
+    let before = world (g.F.Shelf.state c.args.shelf.now) (g.S.Source.state c.args.input.now) (g.K.Sink.state c.args.out.now) c.args.desk.now in
+    let now = world (g.F.Shelf.state c.fleet_file.new.shelf) (g.S.Source.state c.fleet_file.new.input) (g.K.Sink.state c.fleet_file.new.out) c.args.desk.now in
+    let terms : Terms = record { k = c.in-Fleet.k; doubt = c.in-Fleet.doubt; budget = c.in-Fleet.budget } in
+    fleet_done c.fleet_file.result (meaning_of c.args.command.now) (fleet_words terms c.as_str-in-Fleet.result.now (comma_parts c.as_str-in-Fleet-2.result.now)) before now
+    terms c.in-Fleet.graph (comma_parts c.in-Fleet.names) (ap meaning_of c.in-Fleet.is) (λ i. fleet_words terms (c.as_str-in-Fleet.ensures i) (comma_parts (c.as_str-in-Fleet-2.ensures i)))
+    (c.fleet_file.ensures.done c.args.desk.now)
+
+pub returns-in-Fleet-clause-stopped : goal.returns-in-Fleet-clause-stopped
+returns-in-Fleet-clause-stopped g c =
+    let before = world (g.F.Shelf.state c.args.shelf.now) (g.S.Source.state c.args.input.now) (g.K.Sink.state c.args.out.now) c.args.desk.now in
+    let now = world (g.F.Shelf.state c.fleet_file.new.shelf) (g.S.Source.state c.fleet_file.new.input) (g.K.Sink.state c.fleet_file.new.out) c.args.desk.now in
+    let terms : Terms = record { k = c.in-Fleet.k; doubt = c.in-Fleet.doubt; budget = c.in-Fleet.budget } in
+    fleet_stopped c.fleet_file.result (meaning_of c.args.command.now) (fleet_words terms c.as_str-in-Fleet.result.now (comma_parts c.as_str-in-Fleet-2.result.now)) before now
+    terms c.in-Fleet.graph (comma_parts c.in-Fleet.names) (ap meaning_of c.in-Fleet.is) (λ i. fleet_words terms (c.as_str-in-Fleet.ensures i) (comma_parts (c.as_str-in-Fleet-2.ensures i)))
+    (c.fleet_file.ensures.stopped c.args.desk.now)

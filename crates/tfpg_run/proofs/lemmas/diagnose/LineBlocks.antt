@@ -58,14 +58,14 @@ module _ (number : ℕ) (line : List ℕ) (rounds : List Round) where
 -- ---- what a round says
 
 -- the laws on rounds
-abbrev NamesOfRounds : Type 0
+abbrev pub NamesOfRounds : Type 0
 NamesOfRounds = (graph : Tfpg) (terms : Terms) (line : ℕ) (rounds : List Round) (log : Logbook) (round : Round) → IsLogOf graph log → IsRound graph terms rounds log line round → IsRoundOf (sizes_of graph) round
 
-abbrev FitsOfRounds : Type 0
+abbrev pub FitsOfRounds : Type 0
 FitsOfRounds = (graph : Tfpg) (terms : Terms) (line : ℕ) (rounds : List Round) (log : Logbook) (round : Round) → IsValid graph → IsLogOf graph log → IsOrdered log → IsRound graph terms rounds log line round
     → SayWhichSetsFit graph log terms round.findings
 
-abbrev MinimalOfRounds : Type 0
+abbrev pub MinimalOfRounds : Type 0
 MinimalOfRounds = (graph : Tfpg) (terms : Terms) (line : ℕ) (rounds : List Round) (log : Logbook) (round : Round) → IsValid graph → IsLogOf graph log → IsOrdered log → IsRound graph terms rounds log line round
     → HasNoneOpen round → AreStatusesOfMinimalSets graph log terms round.findings
 

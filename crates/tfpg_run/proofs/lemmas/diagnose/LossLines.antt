@@ -1,5 +1,5 @@
 -- The lines of lost panels, as they are written.
-use Rattle.std.proofs.Common.{◌≡◌, ℕ, ◌+◌, ◌<◌, ◌≤◌, List, [], ◌∷◌, ◌++◌, length, take, drop, get_or, flat_map, Option, Some, None, Result, Ok, Err, codes, decimal, refl, sym, ap, subst, ◌∙◌, inl, inr, append_assoc}
+use Rattle.std.proofs.Common.{◌≡◌, ℕ, ◌+◌, ◌<◌, ◌≤◌, List, [], ◌∷◌, ◌++◌, length, take, drop, get_or, Option, Some, None, Result, Ok, Err, codes, decimal, refl, sym, ap, subst, ◌∙◌, inl, inr, append_assoc}
 use Rattle.std.proofs.lemmas.List.{append-nil, take-append-drop, take_all}
 use Rattle.std.proofs.lemmas.List.Concat.{flat_map-append}
 use Rattle.tfpg_base.proofs.lists.Appended.{appended_more}
@@ -11,13 +11,12 @@ use Rattle.tfpg_panel.specs.declared.panel.PanelFault.TheVariants.{Lost, NoMemor
 use Rattle.tfpg_panel.specs.declared.lost_panel.LostPanel.{LostPanel}
 use Rattle.tfpg_panel.specs.Desk.{DeskState, IsTold}
 use Rattle.tfpg_report.specs.Blocks.{lost_text}
-use Rattle.tfpg_run.specs.declared.diagnose.report.NextBlock.{NextBlock}
 use Rattle.tfpg_run.specs.declared.diagnose.report.NextBlock.TheVariants.{Written}
 use Rattle.tfpg_run.specs.declared.fault.StreamFault.{StreamFault}
 use Rattle.tfpg_run.specs.declared.fault.StreamFault.TheVariants.{WriteFault}
 use Rattle.tfpg_run.specs.inside.Writing.{Cuts, Writes}
-use Rattle.tfpg_run.specs.inside.diagnose.Telling.{Outgoing, TellsIf, CutsLosses, WritesBlock, end_of_loss, is_memory, loss_text, losses_text, new_lines, outgoing, said_loss}
-use Rattle.tfpg_run.proofs.Putting.{Puts-append, Puts-same, Puts-same_held, Writes-then, cut_first, cut_second}
+use Rattle.tfpg_run.specs.inside.diagnose.Telling.{Outgoing, WritesBlock, end_of_loss, is_memory, loss_text, losses_text, new_lines, outgoing}
+use Rattle.tfpg_run.proofs.Putting.{Puts-append, Puts-same, Writes-then, cut_first, cut_second}
 use Rattle.tfpg_run.proofs.lemmas.diagnose.ToldBlocks.{none_came}
 
 -- the line of a lost panel in its three pieces

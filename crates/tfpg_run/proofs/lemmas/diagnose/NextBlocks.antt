@@ -112,7 +112,7 @@ report_text-push graph terms blocks block =
     ∙ ap (λ (t : List ℕ). head_text terms ++ t) (sym (flat_map-append (block_text graph) blocks (block ∷ []) ∙ ap (λ (t : List ℕ). flat_map (block_text graph) blocks ++ t) (append-nil (block_text graph block))))
 
 -- lines of few bytes have numbers that a report may have
-few_numbered : (taken : List ℕ) (given : List (List ℕ)) → take (length given) (lines_of taken) ≡ given → length taken ≤ MAX_BYTES → length given ≤ MAX_LINE_NUMBER
+pub few_numbered : (taken : List ℕ) (given : List (List ℕ)) → take (length given) (lines_of taken) ≡ given → length taken ≤ MAX_BYTES → length given ≤ MAX_LINE_NUMBER
 few_numbered taken given front few = omega (arith, front_is_within (lines_of taken) given front, few_lines taken, few)
 
 -- the text of the blocks of all lines is right for them

@@ -1,29 +1,25 @@
 -- What the words of the lines of a map say.
-use Rattle.std.proofs.Common.{◌≡◌, ℕ, ◌<◌, ◌≤◌, ◌==◌, Bool, true, false, cond, List, [], ◌∷◌, length, leb, Option, Some, None, unwrap_or, codes, refl, ap, sym, ◌∙◌, arith}
+use Rattle.std.proofs.Common.{◌≡◌, ℕ, ◌≤◌, Bool, true, false, cond, List, [], ◌∷◌, leb, Option, Some, None, codes, refl, ap, sym, ◌∙◌, arith}
 use Rattle.std.specs.Prelude.{decimal, IfSome}
 use Rattle.std.specs.List.{join_with_byte}
 use Rattle.std.specs.Str.{bytes_eq}
-use Rattle.std.proofs.lemmas.Bool.{false≢true}
 use Rattle.std.proofs.lemmas.Bool.Decides.{nat_tests}
-use Rattle.std.proofs.lemmas.List.Splits.{join_with_byte-slice_split, length-slice_split}
 use Rattle.std.proofs.lemmas.Option.{same_Some}
 use Rattle.std.proofs.lemmas.Slice.Eq.{bytes_eq-Decides}
 use Rattle.tfpg_base.specs.Hypothesis.{Hypothesis}
 use Rattle.tfpg_base.specs.declared.activation.Activation.{Activation}
 use Rattle.tfpg_base.specs.declared.word.Number.TheVariants.{Value, TooLarge}
 use Rattle.tfpg_base.specs.declared.limits.TheConstants.{MAX_TIME}
-use Rattle.tfpg_base.specs.Words.{words_of, line_of, comma_parts, number_of, number_up_to}
+use Rattle.tfpg_base.specs.Words.{words_of, line_of, number_of, number_up_to}
 use Rattle.tfpg_base.proofs.Numbers.{number_of-decimal, decimal-number_of, number_up_to-value}
 use Rattle.tfpg_base.proofs.Separators.{join_with_byte-words_of}
 use Rattle.tfpg_base.proofs.lists.Lacking.{lacks_checked, slice_split-join}
-use Rattle.tfpg_graph.specs.Graph.{Tfpg, name_word, node_named}
+use Rattle.tfpg_graph.specs.Graph.{Tfpg, name_word}
 use Rattle.tfpg_graph.specs.Valid.{IsValid}
-use Rattle.tfpg_graph.proofs.lemmas.declaring.Named.{named_found}
 use Rattle.tfpg_report.specs.LineWords.{activation_line}
-use Rattle.tfpg_report.specs.SetText.{IsHypothesisOf, hyphen_or_joined, set_word}
-use Rattle.tfpg_graph.specs.Members.{member_words}
+use Rattle.tfpg_report.specs.SetText.{IsHypothesisOf, set_word}
 use Rattle.tfpg_report.proofs.ActivationLines.{IsInRange, activation_words, one_activation}
-use Rattle.tfpg_report.proofs.SetWords.{set_word-no_space, set_word-parts}
+use Rattle.tfpg_report.proofs.SetWords.{set_word-no_space}
 use Rattle.tfpg_run.specs.map.Spelling.{IsActivationOf, set_line}
 use Rattle.tfpg_run.specs.inside.map.Lines.{word_after_set, words_after_at}
 

@@ -1,5 +1,5 @@
 -- Telling the desk a round once its text is written, and the lines of the panels that are lost.
-use Rattle.std.specs.Prelude.{◌≡◌, ◌⊎◌, ℕ, ◌<◌, List, ◌++◌, length, drop, map, flat_map, codes, decimal, Bool, true, false, Option, Some, None, Result, Ok, Err}
+use Rattle.std.specs.Prelude.{◌≡◌, ◌⊎◌, ℕ, List, ◌++◌, length, drop, flat_map, codes, Bool, true, false, Option, Some, None, Result, Ok, Err}
 use Rattle.tfpg_base.specs.Outside.{SinkState, Puts}
 use Rattle.tfpg_run.specs.inside.Writing.{Cuts}
 use Rattle.tfpg_evidence.specs.declared.round.Round.{Round}

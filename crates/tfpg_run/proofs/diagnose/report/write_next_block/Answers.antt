@@ -1,4 +1,3 @@
-use Rattle.std.proofs.Common.{ap, refl, ◌∙◌}
 use Rattle.tfpg_run.specs.declared.fault.StreamFault.TheVariants as faults
 use Rattle.tfpg_run.specs.inside.Faults.{stream_fault_of_lines}
 use Rattle.tfpg_base.proofs.lists.Choices.{IfErr-from}

@@ -1,0 +1,6 @@
+-- On the command `fleet`.
+pub mod Counts
+pub mod OwnBlocks
+pub mod NextAnswers
+pub mod AnsweredStreams
+pub mod NewFleets

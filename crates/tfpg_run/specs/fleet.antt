@@ -1,0 +1,5 @@
+-- What `fleet` writes, and how it ends.
+pub mod Answers
+pub mod Counting
+pub mod FleetOutput
+pub mod FleetEnds

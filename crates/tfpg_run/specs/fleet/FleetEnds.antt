@@ -1,0 +1,64 @@
+-- How `fleet` ends: it reads a graph, and answers the lines of the stream one by one.
+use Rattle.std.specs.Prelude.{◌≡◌, ◌⊎◌, ℕ, List, length, Result, Ok, Err}
+use Rattle.tfpg_base.specs.declared.terms.Terms.{Terms}
+use Rattle.tfpg_base.specs.Outside.{Takes, Puts}
+use Rattle.tfpg_graph.specs.Graph.{Tfpg}
+use Rattle.tfpg_fleet.specs.TooMany.{IsTooMany}
+use Rattle.tfpg_run.specs.declared.end.End.{End}
+use Rattle.tfpg_run.specs.declared.end.End.TheVariants as ends
+use Rattle.tfpg_run.specs.declared.fault.StreamFault.{StreamFault}
+use Rattle.tfpg_run.specs.EndsOf.{EndsBy, end_of_stream_fault}
+use Rattle.tfpg_run.specs.Fetch.{GivesGraph, LacksGraph}
+use Rattle.tfpg_run.specs.Outputs.{IsStreamFault, IsWrittenBefore, WritesOutput}
+use Rattle.tfpg_run.specs.Streams.{Streams}
+use Rattle.tfpg_run.specs.World.{World, streams_of, watched_of}
+use Rattle.tfpg_run.specs.fleet.FleetOutput.{FleetMatter, BeginsFleetOutput, IsFleetOutput, IsFleetOutputSoFar, fleet_matter}
+
+-- How it ends where these bytes were taken, and these were written: with the whole output for the whole input; or with its cause, and
+-- what is right so far, or what begins it.
+abbrev pub AnsweringEnds : FleetMatter → Streams → Streams → (List ℕ × List ℕ) → Result (Unit {0}) StreamFault → Type 0
+AnsweringEnds fleet before now (taken, written) (Ok done) = WritesOutput (IsFleetOutput fleet) before now taken written
+AnsweringEnds fleet before now (taken, written) (Err fault) =
+    IsStreamFault before now taken fault
+    × IsWrittenBefore (IsFleetOutputSoFar fleet) (BeginsFleetOutput fleet) now.input taken written fault
+
+-- A diagnosis of the fleet took bytes from the input and wrote its answers, with this result.
+pub record AnswersStream (fleet : FleetMatter) (before now : Streams) (result : Result (Unit {0}) StreamFault) : Type 0 where
+  pub taken : List ℕ
+  pub takes : Takes before.input now.input taken
+  pub written : List ℕ
+  pub writes : Puts before.output now.output written
+  pub ends : AnsweringEnds fleet before now (taken, written) result
+
+-- What the words say of a fleet: its terms, the name of the graph file, and the names of the vehicles.
+pub record FleetWords : Type 0 where
+  pub terms : Terms
+  pub file : List ℕ
+  pub names : List (List ℕ)
+
+-- these three
+abbrev pub fleet_words : Terms → List ℕ → List (List ℕ) → FleetWords
+fleet_words terms file names = record { terms = terms; file = file; names = names }
+
+-- The graph of the file has too many hypotheses for the vehicles, as this number says, and all but the shelf is untouched.
+pub record HasTooManyForFleet (said : FleetWords) (before now : World) (end : End) : Type 0 where
+  pub graph : Tfpg
+  pub gives : GivesGraph before.shelf said.file graph
+  pub no_fault : now.shelf.faults ≡ before.shelf.faults
+  pub count : ℕ
+  pub too_many : IsTooMany graph said.terms (length said.names) count
+  pub end_is : end ≡ ends.TooManyHypotheses count
+  pub untouched : watched_of now ≡ watched_of before
+
+-- The vehicles of the graph of the file were diagnosed. There are not too many hypotheses for them.
+pub record DiagnosesFleet (said : FleetWords) (before now : World) (end : End) : Type 0 where
+  pub graph : Tfpg
+  pub gives : GivesGraph before.shelf said.file graph
+  pub no_fault : now.shelf.faults ≡ before.shelf.faults
+  pub not_too_many : (count : ℕ) → IsTooMany graph said.terms (length said.names) count → ⊥
+  pub ends : EndsBy (AnswersStream (fleet_matter graph said.terms said.names) (streams_of before) (streams_of now)) end_of_stream_fault end
+
+-- There is no graph of the file; or it has too many hypotheses; or the vehicles were diagnosed.
+abbrev pub FleetEnds : FleetWords → World → World → End → Type 0
+FleetEnds said before now end =
+    LacksGraph said.file before now end ⊎ (HasTooManyForFleet said before now end ⊎ DiagnosesFleet said before now end)

@@ -1,0 +1,2 @@
+-- The answers to a stream under way.
+pub mod UnderWay
