@@ -6,7 +6,6 @@ pub mod InputLines
 pub mod Stops
 pub mod PlannedNumbers
 pub mod Completing
-pub mod WithinLimits
 pub mod ConvertedBack
 -- Lemmas on the lines of file panels.
 pub mod BestFinding

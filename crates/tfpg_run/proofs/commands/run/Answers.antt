@@ -5,15 +5,18 @@ use Rattle.tfpg_words.specs.Plans.{meaning_of}
 use Rattle.tfpg_run.specs.World.{world}
 use Rattle.tfpg_run.proofs.PlannedNumbers.{within_limits}
 use Rattle.tfpg_run.proofs.Stops.{runs_within}
-use Rattle.tfpg_run.proofs.WithinLimits.{are_within}
 use Rattle.tfpg_run.proofs.Completing.{by_work, run_completes, run_refuses}
 use Rattle.tfpg_run.proofs.lemmas.check.AcceptedDiagnoses.{can_check_after}
 use Rattle.tfpg_run.proofs.commands.run.Goals as goal
 
 pub perform-requires : goal.perform-requires
 perform-requires g c =
-    are_within (map string_bytes c.args.words.now) c.numbers_are_within_their_limits.ensures.diagnose c.numbers_are_within_their_limits.ensures.generate
-    (meaning_of c.in-Ok.planned.command) c.in-Ok.ensures
+    within_limits (record {
+      diagnose = c.numbers_are_within_their_limits.ensures.diagnose;
+      generate = c.numbers_are_within_their_limits.ensures.generate;
+      ask = c.numbers_are_within_their_limits.ensures.ask;
+      fleet = c.numbers_are_within_their_limits.ensures.fleet;
+    }) (map string_bytes c.args.words.now) (meaning_of c.in-Ok.planned.command) c.in-Ok.ensures
 
 pub returns-in-Ok-clause-completes : goal.returns-in-Ok-clause-completes
 returns-in-Ok-clause-completes g c meant e can calm =
@@ -59,11 +62,3 @@ returns-in-Ok-clause-refuses g c graph log line cause e can calm =
     }) before now calm words graph log line cause c.end_of.result e can
     (by_work words (meaning_of c.in-Ok.planned.command) before now c.perform.result c.end_of.result
     c.in-Ok.ensures c.end_of.ensures c.perform.ensures.done c.perform.ensures.stopped)
-
-pub perform-requires : goal.perform-requires
-perform-requires g c =
-    within_limits (record {
-      diagnose = c.numbers_are_within_their_limits.ensures.diagnose;
-      generate = c.numbers_are_within_their_limits.ensures.generate;
-      fleet = c.numbers_are_within_their_limits.ensures.fleet;
-    }) (map string_bytes c.args.words.now) (meaning_of c.in-Ok.planned.command) c.in-Ok.ensures
