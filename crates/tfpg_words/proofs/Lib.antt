@@ -2,7 +2,6 @@ pub mod walk
 pub mod Taken
 pub mod Once
 pub mod Commands
-pub mod AskRefused
 pub mod NamesTested
 pub mod WithinLimits
 pub mod PanelsRead
