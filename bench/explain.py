@@ -84,4 +84,5 @@ def main():
             run(pathlib.Path(folder))
 
 
-main()
+if __name__ == "__main__":
+    main()

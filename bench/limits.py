@@ -1,0 +1,157 @@
+#!/usr/bin/env python3
+"""Tries the limits that no row can hold: the longest input, and how much stack and memory the largest inputs take.
+
+    bench/limits.py [--program FILE] [--stack KB]
+
+- An input of 2^32 bytes is diagnosed: it is one line that is too long. One byte more ends the run with `too much input`, and what was
+  written before stands. `explain` ends so too.
+- 65,536 events are accepted, and the next line is refused as `LogFull`.
+- With a stack of so many KB (96 if nothing is said): a report of 10^6 nested splits, a map of all of 512 nodes, JSON of 127 levels, and a
+  graph of 512 nodes in one chain.
+
+Each line says what was tried, how the run ended, its seconds, and its peak memory. The exit status is 1 if one did not end as it should.
+
+The program is the one that `./tfpg` has built; where it is not built yet, proving and building it takes minutes.
+"""
+
+import argparse
+import resource
+import subprocess
+import sys
+import tempfile
+import time
+from pathlib import Path
+
+import explain
+from check import nested
+from diagnose import TWO_MODES, built_program
+
+SMALL = "tfpg 1\nmode N\nfailure F 1\nor A watch 5\nedge F A 1 3 *\nend\n"
+MEGABYTE = b"a" * 2**20
+
+
+def fed(words, pieces, folder, stack=None):
+    """Runs the program on pieces of input: what it wrote, what it said, the status, the seconds and the peak memory."""
+
+    def with_stack():
+        if stack is not None:
+            resource.setrlimit(resource.RLIMIT_STACK, (stack * 1024, stack * 1024))
+
+    out, said, size = folder / "out", folder / "said", folder / "size"
+    words = ["/usr/bin/time", "-q", "-f", "%M", "-o", size, *words]
+    with open(out, "wb") as written, open(said, "wb") as line:
+        begun = time.monotonic()
+        process = subprocess.Popen(words, stdin=subprocess.PIPE, stdout=written, stderr=line, preexec_fn=with_stack)
+        try:
+            for piece in pieces:
+                process.stdin.write(piece)
+            process.stdin.close()
+        except BrokenPipeError:
+            pass
+        status = process.wait()
+        seconds = time.monotonic() - begun
+    return out.read_bytes(), said.read_bytes().decode(), status, seconds, int(size.read_text()) / 1024
+
+
+def long_input(count):
+    """So many bytes without a line end."""
+    for _ in range(count // len(MEGABYTE)):
+        yield MEGABYTE
+    yield MEGABYTE[: count % len(MEGABYTE)]
+
+
+def full_log():
+    """65,537 lines, of which each would be accepted if there were room."""
+    yield "".join(f"{time} tick\n" for time in range(65537)).encode()
+
+
+def chain():
+    """A graph of 512 nodes, each of which leads to the next."""
+    lines = ["tfpg 1", "mode N", "failure F 1"] + [f"or A{number} watch 5" for number in range(511)]
+    lines += ["edge F A0 1 3 *"] + [f"edge A{number} A{number + 1} 1 3 *" for number in range(510)]
+    return "\n".join(lines + ["end"]) + "\n"
+
+
+def deep_json():
+    """The JSON of the small graph, with 126 levels of lists under a key that is ignored."""
+    graph = (
+        '{"modes":["N"],"nodes":[{"name":"F","kind":"failure","rarity":1},{"name":"A","kind":"or","lag":5}],'
+        '"edges":[{"from":"F","to":"A","min":1,"max":3,"modes":null}],"note":' + "[" * 126 + "]" * 126 + "}"
+    )
+    return graph + "\n"
+
+
+def main():
+    parser = argparse.ArgumentParser(description=__doc__, formatter_class=argparse.RawDescriptionHelpFormatter)
+    parser.add_argument("--program", type=Path)
+    parser.add_argument("--stack", type=int, default=96)
+    given = parser.parse_args()
+    program = built_program(given.program)
+    wrong = 0
+    with tempfile.TemporaryDirectory() as name:
+        folder = Path(name)
+
+        def text(name, content):
+            path = folder / name
+            path.write_text(content)
+            return str(path)
+
+        def tell(what, run, is_right):
+            nonlocal wrong
+            out, said, status, seconds, peak = run
+            right = is_right(out, said, status)
+            wrong += not right
+            print(f"{what}: {'as it should' if right else f'WRONG: {status} {said!r} {out[-80:]!r}'}, {seconds:.1f} s, {peak:.0f} MB", flush=True)
+
+        small = text("small", SMALL)
+        empty = text("empty", "")
+        head = b"report 2 k 2 doubt 0 budget 1000\n"
+        tell(
+            "diagnose, 2^32 bytes in one line",
+            fed([program, "diagnose", small], long_input(2**32), folder),
+            lambda out, said, status: status == 0 and out == head + b"refused 1 TooLong\n",
+        )
+        tell(
+            "diagnose, a byte more",
+            fed([program, "diagnose", small], long_input(2**32 + 1), folder),
+            lambda out, said, status: said == "too much input\n" and out == head,
+        )
+        tell(
+            "explain, a byte more",
+            fed([program, "explain", small, empty], long_input(2**32 + 1), folder),
+            lambda out, said, status: said == "too much input\n" and out == b"",
+        )
+        tell(
+            "diagnose, 65,537 events",
+            fed([program, "diagnose", small], full_log(), folder),
+            lambda out, said, status: status == 0 and out.endswith(b"refused 65537 LogFull\n"),
+        )
+        stack = given.stack
+        graph, log = text("two-modes", TWO_MODES), text("nested.log", "30 alarm A\n")
+        tell(
+            f"check, 10^6 nested splits, a stack of {stack} KB",
+            fed([program, "check", graph, log], [nested(1_000_000).encode()], folder, stack),
+            lambda out, said, status: status == 0 and out.startswith(b"accepted "),
+        )
+        graph = text("wide", "\n".join(explain.graph()) + "\n")
+        log = text("log", "\n".join(explain.log()) + "\n")
+        tell(
+            f"explain, a map of 512 nodes, a stack of {stack} KB",
+            fed([program, "explain", graph, log], ["\n".join(explain.all_nodes()).encode() + b"\n"], folder, stack),
+            lambda out, said, status: status == 0 and out == b"yes\n",
+        )
+        tell(
+            f"convert, JSON of 127 levels, a stack of {stack} KB",
+            fed([program, "convert", "--json", text("json", deep_json())], [], folder, stack),
+            lambda out, said, status: status == 0 and out.decode() == SMALL,
+        )
+        tell(
+            f"diagnose, a chain of 512 nodes, a stack of {stack} KB",
+            fed([program, "diagnose", text("chain", chain())], [b"100 alarm A0\n2000 alarm A510\n"], folder, stack),
+            lambda out, said, status: status == 0 and b"ranked" in out,
+        )
+    sys.exit(1 if wrong else 0)
+
+
+if __name__ == "__main__":
+    main()
