@@ -117,4 +117,5 @@ def main():
         timed(pathlib.Path(folder))
 
 
-main()
+if __name__ == "__main__":
+    main()

@@ -10,6 +10,7 @@ with that request refused, and once more with all requests from that one on refu
 - "several rounds": `diagnose` with a refused line, a split that a later round goes on from, and rejections.
 - "check": the judge on the report of the first run, and on that of the second.
 - "explain", "simulate", "simulate --trace", "generate".
+- "convert", and "convert --json" of the JSON that the first one writes.
 
 A run has to end with `no memory` and its status, or with the status alone where there is no memory for the line, or with the right
 answer. What it wrote has to be a front of the right output that ends with a block. Two lines for each run say how many requests there
@@ -90,6 +91,10 @@ def runs(refusing, top):
     yield Run("simulate", ["simulate", "two-modes", "script"])
     yield Run("simulate --trace", ["simulate", "--trace", "two-modes", "script"])
     yield Run("generate", ["generate", "--size", "1"])
+    to_json = Run("convert", ["convert", "two-modes"])
+    (top / "two-modes.json").write_bytes(refusing.run(to_json).out)
+    yield to_json
+    yield Run("convert --json", ["convert", "--json", "two-modes.json"])
 
 
 def ends_with_a_block(run, written, whole):

@@ -18,3 +18,4 @@ pub mod PartsByNumber
 pub mod PartsSoFar
 pub mod Hearings
 pub mod RoundJudged
+pub mod NothingAdded

@@ -8,6 +8,7 @@ pub mod InTurn
 pub mod Parts
 pub mod Hearings
 pub mod LargestParts
+pub mod KeptFlags
 pub mod RankedKeys
 pub mod Named
 pub mod Kept

@@ -16,9 +16,12 @@ ghost use Rattle.tfpg_check.specs.inside.Passing.{RoundPasses};
 ghost use Rattle.tfpg_check.specs.inside.InTurn.{IsFailure, IsFaultOf};
 ghost use Rattle.tfpg_check.specs.inside.Hearings.{IsHearing};
 ghost use Rattle.tfpg_check.specs.inside.Kept.{AreNewCheckers, AreFlagsBefore, PassesRest, RestFails};
+ghost use Rattle.tfpg_check.specs.inside.KeptFlags.{AreKept, AddsNothing};
+ghost use Rattle.tfpg_check.specs.DocketState.{DocketState};
 
 use crate::cause::CheckCause;
-use crate::round::counts::are_right_counts;
+use crate::kept_flags::{KeptFlags, are_all_flagged, numbers_of, unchanged_by};
+use crate::round::counts::{are_right_counts, count_raised};
 use crate::round::hearing::{Hearing, closed_flags, named_flags, part_indexes, ranked_flags};
 use crate::round::largest_parts::LargestParts;
 use crate::round::parts::judge_parts;
@@ -37,8 +40,8 @@ use tfpg_kernel::Checker;
 use tfpg_log::Log;
 use tfpg_report::ReadRound;
 
-/// The hypotheses of a report, with what is kept of each between two rounds: its largest proper parts, and the checker of its
-/// steps so far.
+/// The hypotheses of a report, with what is kept of each between two rounds: its largest proper parts, the checker of its steps so
+/// far, and what the last round has shown of it.
 #[derive(Drop)]
 pub(crate) struct KeptDocket {
     alloc: Global,
@@ -46,12 +49,15 @@ pub(crate) struct KeptDocket {
     table: Table,
     largest_parts: LargestParts,
     checkers: Vec<Checker>,
+    /// What the last round has shown of each, if it passed.
+    flags: Option<KeptFlags>,
 }
 
 impl Model for KeptDocket {
-    ghost use Rattle.std.specs.Prelude.{◌≡◌, length};
+    ghost use Rattle.std.specs.Prelude.{◌≡◌, length, IfSome};
     ghost use Rattle.tfpg_check.specs.DocketState.{DocketState};
     ghost use Rattle.tfpg_check.specs.inside.LargestParts.{ListsLargestParts};
+    ghost use Rattle.tfpg_check.specs.inside.KeptFlags.{AreKept};
 
     ghost Value = { DocketState };
 
@@ -59,7 +65,8 @@ impl Model for KeptDocket {
 
     ghost invariant = { λ docket.
         (length docket.checkers.items ≡ length docket.table.hypotheses)
-        × ListsLargestParts docket.table.hypotheses docket.largest_parts };
+        × ListsLargestParts docket.table.hypotheses docket.largest_parts
+        × IfSome docket.flags (AreKept docket.table.hypotheses docket.checkers.items) };
 }
 
 impl KeptDocket {
@@ -85,13 +92,15 @@ impl KeptDocket {
             table,
             largest_parts,
             checkers,
+            flags: None,
         })
     }
 
     /// Judges a round of the report, for this line of the log, by the log with the event of that line. Where no test fails its
     /// steps are kept. Else the docket is of no more use.
     ///
-    /// It costs what the steps and traces cost, and a pass over the hypotheses with a look at the largest proper parts of each.
+    /// It costs what the steps and traces cost, and a pass over the hypotheses with a look at the largest proper parts of each. A
+    /// round without steps that ranks the same hypotheses as the one before costs what its lines and traces cost.
     pub(crate) fn judge_round(
         &mut self,
         graph: &Graph,
@@ -119,6 +128,10 @@ impl KeptDocket {
     {
         log.is_always_ordered();
         judge_first_line(log, read, line)?;
+        if let Some(flags) = unchanged_by(&self.flags, read) {
+            return judge_unchanged(graph, &self.table, self.terms.budget, flags, log, read);
+        }
+        self.flags = None;
         let was_closed = closed_flags(self.alloc, &self.checkers)?;
         judge_parts(
             &self.table,
@@ -127,28 +140,33 @@ impl KeptDocket {
             log,
             read.parts.as_slice(),
         )?;
-        self.judge_statuses(graph, log, read, &was_closed)
+        let flags = self.judge_statuses(graph, log, read, &was_closed)?;
+        self.flags = Some(flags);
+        Ok(())
     }
 
-    /// Judges what a round says of each hypothesis, once its steps are taken.
+    /// Judges what a round says of each hypothesis, once its steps are taken: what it has shown of each.
     fn judge_statuses(
         &self,
         graph: &Graph,
         log: &mut Log,
         read: &ReadRound,
         was_closed: &[bool],
-    ) -> Result<(), RoundFault>
+    ) -> Result<KeptFlags, RoundFault>
         requires of { IsLogOf graph.now log.old }
         requires ignores { log.old.ignored ≡ [] }
+        requires table { IsTableOf graph.now self.now.terms self.now.table }
         requires lines { IsReadRoundOf graph.now read.now }
         ensures rest { (docket : Docket) → docket.graph ≡ graph.now → docket.log ≡ log.old →
             KeepsDocket (after_round docket read.entry.now) docket.log self.now → AreFlagsBefore docket was_closed.now →
             MatchResult result (λ _. PassesRest docket read.entry.now) (IsFaultOf (RestFails docket read.entry.now)) }
+        ensures kept { IfOk result (AreKept self.now.table.hypotheses self.now.checkers) }
         ensures log { log.new ≡ log.old }
     {
         subsets_stand_before_their_supersets();
         let count = self.table.len();
         let closed = closed_flags(self.alloc, &self.checkers)?;
+        let closed_count = count_raised(&closed);
         let ranked = ranked_flags(self.alloc, count, read.ranked.as_slice())?;
         let part_ranked = self.largest_parts.flagged(self.alloc, &ranked)?;
         let unsettled = named_flags(self.alloc, count, read.unsettled.as_slice())?;
@@ -160,14 +178,63 @@ impl KeptDocket {
             read,
             was_closed,
             closed: &closed,
+            closed_count,
             ranked: &ranked,
             part_ranked: &part_ranked,
+            are_all_flagged: false,
             unsettled: &unsettled,
             parts: &parts,
         };
         judge_hearing(&hearing, log)?;
-        Ok(())
+        let numbers = numbers_of(self.alloc, read.ranked.as_slice())?;
+        let all_flagged = are_all_flagged(count, &closed, &ranked, &part_ranked);
+        Ok(KeptFlags {
+            numbers,
+            closed,
+            closed_count,
+            ranked,
+            part_ranked,
+            are_all_flagged: all_flagged,
+        })
     }
+}
+
+/// Judges a round that adds nothing to what the last one has shown, by these flags.
+fn judge_unchanged(
+    graph: &Graph,
+    table: &Table,
+    budget: u64,
+    flags: &KeptFlags,
+    log: &mut Log,
+    read: &ReadRound,
+) -> Result<(), RoundFault>
+    requires of { IsLogOf graph.now log.old }
+    requires ignores { log.old.ignored ≡ [] }
+    requires lines { IsReadRoundOf graph.now read.now }
+    requires nothing { AddsNothing flags.now read.now }
+    ensures rest { (docket : Docket) (state : DocketState) → docket.graph ≡ graph.now → docket.log ≡ log.old →
+        KeepsDocket (after_round docket read.entry.now) docket.log state →
+        state.table ≡ table.now → state.terms.budget ≡ budget →
+        AreKept table.now.hypotheses state.checkers flags.entry.now → AreFlagsBefore docket flags.entry.now.closed.items →
+        MatchResult result (λ _. PassesRest docket read.entry.now) (IsFaultOf (RestFails docket read.entry.now)) }
+    ensures log { log.new ≡ log.old }
+{
+    let hearing = Hearing {
+        graph,
+        table,
+        budget,
+        read,
+        was_closed: &flags.closed,
+        closed: &flags.closed,
+        closed_count: flags.closed_count,
+        ranked: &flags.ranked,
+        part_ranked: &flags.part_ranked,
+        are_all_flagged: flags.are_all_flagged,
+        unsettled: &[],
+        parts: &[],
+    };
+    judge_hearing(&hearing, log)?;
+    Ok(())
 }
 
 /// Tests the first line of a round.

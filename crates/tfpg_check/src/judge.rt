@@ -69,8 +69,8 @@ impl Judge {
     ///
     /// It costs a pass over the line. What a block costs besides comes with its last line: that of the head looks once at each two
     /// hypotheses, for what is a proper part of what; a round costs what its steps and traces cost, and a pass over the hypotheses,
-    /// with a look at their largest proper parts, of which a hypothesis has at most `k`; and the block of a refused line a pass over
-    /// the line of the log.
+    /// with a look at their largest proper parts, of which a hypothesis has at most `k`, but no such pass if it has no steps and ranks
+    /// the same hypotheses as the round before; and the block of a refused line a pass over the line of the log.
     pub fn take(&mut self, number: u64, line: &[u8]) -> Result<(), JudgeFault>
         requires few { number < 2 ^ 64 - 1 }
         requires next { self.old.fault ≡ None → number ≡ self.old.lines + 1 }

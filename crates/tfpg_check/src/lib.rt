@@ -20,6 +20,7 @@ mod cause;
 mod docket;
 mod judge;
 mod judge_fault;
+mod kept_flags;
 pub mod laws;
 mod log_lines;
 mod round;

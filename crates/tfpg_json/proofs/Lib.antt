@@ -1,11 +1,11 @@
--- Names as texts, values pushed one after another, and lists that are read.
+-- Names as texts, lists that are read, and tokens that are written.
 pub mod NameTexts
-pub mod Pushed
+pub mod DataLists
+pub mod TokensWritten
 pub mod ListsRead
 pub mod Refused
 pub mod FindingsByNumber
 pub mod LinesSaid
 pub mod StoodFor
-pub mod NoFractions
 pub mod read_back
 pub mod ReadAgain

@@ -1,5 +1,5 @@
 -- What is written of a valid graph spells it.
-use Rattle.std.proofs.Common.{◌≡◌, true, cond, Ok, Err, ap, ◌∙◌, arith}
+use Rattle.std.proofs.Common.{◌≡◌, cond, Ok, Err, ap, ◌∙◌, arith}
 use Rattle.std.specs.Option.{option_and_then}
 use Rattle.tfpg_graph.specs.declared.cause.GraphCause.TheVariants.{BadName}
 use Rattle.tfpg_graph.specs.Graph.{Tfpg}

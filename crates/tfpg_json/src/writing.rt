@@ -1,8 +1,6 @@
 //! Writes graphs and rounds as JSON.
 
-ghost use Rattle.std.specs.Prelude.{◌≡◌, ◌++◌, false};
-ghost use Rattle.serde_json.specs.View.{view};
-ghost use Rattle.serde_json.specs.Written.{compact_text, has_float};
+ghost use Rattle.std.specs.Prelude.{◌≡◌, []};
 ghost use Rattle.tfpg_base.specs.Append.{Appends};
 ghost use Rattle.tfpg_evidence.specs.RoundOf.{IsRoundOf};
 ghost use Rattle.tfpg_graph.specs.Graph.{sizes_of};
@@ -12,10 +10,12 @@ ghost use Rattle.tfpg_json.specs.RoundData.{round_json};
 mod from_graph;
 mod from_names;
 mod from_round;
+mod members;
 
-use crate::writing::from_graph::graph_value;
-use crate::writing::from_round::round_value;
-use serde_json::Value;
+use crate::writing::from_graph::append_graph;
+use crate::writing::from_round::append_round;
+use json::Writer;
+use std::mem;
 use tfpg_base::NoMemory;
 use tfpg_evidence::Round;
 use tfpg_graph::Graph;
@@ -27,8 +27,10 @@ use tfpg_graph::Graph;
 pub fn write_graph(graph: &Graph, into: &mut Vec<u8>) -> Result<(), NoMemory>
     ensures { Appends result into.old.items into.new.items (graph_json graph.now) }
 {
-    let value = graph_value(*into.allocator(), graph)?;
-    append_json(&value, into)?;
+    let mut writer = writer_after(into);
+    let written = append_graph(graph, &mut writer);
+    *into = writer.into_inner();
+    written?;
     into.push(b'\n')?;
     Ok(())
 }
@@ -43,16 +45,18 @@ pub fn write_round(graph: &Graph, round: &Round, into: &mut Vec<u8>) -> Result<(
     requires { IsRoundOf (sizes_of graph.now) round.now }
     ensures { Appends result into.old.items into.new.items (round_json graph.now round.entry.now) }
 {
-    let value = round_value(*into.allocator(), graph, round)?;
-    append_json(&value, into)
+    let alloc = *into.allocator();
+    let mut writer = writer_after(into);
+    let written = append_round(alloc, graph, round, &mut writer);
+    *into = writer.into_inner();
+    written
 }
 
-/// Appends the compact text of a value without a fraction.
-fn append_json(value: &Value, into: &mut Vec<u8>) -> Result<(), NoMemory>
-    requires { has_float (view value.now) ≡ false }
-    ensures { Appends result into.old.items into.new.items (compact_text (view value.now)) }
+/// A writer that writes after these bytes, which it takes.
+fn writer_after(into: &mut Vec<u8>) -> Writer
+    ensures before { result.before ≡ into.old.items }
+    ensures tokens { result.tokens ≡ [] }
 {
-    let text = value.to_vec(*into.allocator())?;
-    into.extend_from_slice(text.as_slice())?;
-    Ok(())
+    let empty = Vec::new(*into.allocator());
+    Writer::new(mem::replace(into, empty))
 }

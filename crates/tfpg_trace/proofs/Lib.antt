@@ -2,6 +2,7 @@ pub mod FailureModes
 pub mod AgesByWindow
 pub mod MayRule
 pub mod FirstNodes
+pub mod NoStrays
 pub mod Sweeps
 pub mod Decided
 pub mod Explained

@@ -9,7 +9,7 @@ use tfpg_graph::Graph;
 use tfpg_log::Log;
 
 /// Whether the edge has an age of at least so many milliseconds at the instant: its window began so long before, and its
-/// source became active so long before. Goes through the spans of the window up to the instant.
+/// source became active so long before. Goes through the spans of the window up to the instant, if the source has a time.
 pub(crate) fn has_age(
     graph: &Graph,
     log: &Log,
@@ -23,14 +23,14 @@ pub(crate) fn has_age(
     ensures { IsTrue result ↔ IsSomeAnd (slice_get graph.now.edges edge)
         (λ e. HasAge log.now trace.now e instant age) }
 {
+    let Some(start) = trace.at(graph.edge(edge).source) else {
+        return false;
+    };
     let Some(span) = log.span_of(instant) else {
         return false;
     };
-    let Some(window) = log.window_of(graph, edge, span, instant) else {
-        return false;
-    };
-    match trace.at(graph.edge(edge).source) {
-        Some(start) => are_since(window.lo, start, age, instant),
+    match log.window_of(graph, edge, span, instant) {
+        Some(window) => are_since(window.lo, start, age, instant),
         None => false,
     }
 }

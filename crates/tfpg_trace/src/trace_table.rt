@@ -50,6 +50,13 @@ impl<'a> TraceTable<'a> {
         }
     }
 
+    /// The activations, by rising nodes.
+    pub(crate) fn as_slice(&self) -> &[Activation]
+        ensures { result.now ≡ self.now }
+    {
+        self.trace.as_slice()
+    }
+
     /// Does nothing: brings into a proof that the activations stand by rising nodes.
     pub(crate) fn is_always_rising(&self)
         ensures { IsRisingByNode self.now }

@@ -1,5 +1,5 @@
 -- What is looked up is what the docket and the round say.
-use Rattle.std.proofs.Common.{◌≡◌, ◌↔◌, ◌<◌, ◌≤◌, ℕ, List, Bool, true, false, cond, Option, Some, [], length, slice_get, eqb, inl, inr, refl, sym, ap, subst, arith, ◌∙◌}
+use Rattle.std.proofs.Common.{◌≡◌, ◌↔◌, ◌<◌, ◌≤◌, ℕ, List, Bool, true, false, cond, Option, Some, None, [], length, get_or, slice_get, eqb, inl, inr, refl, sym, ap, subst, arith, ◌∙◌}
 use Rattle.std.proofs.lemmas.Bool.Decides.{nat_tests}
 use Rattle.std.specs.Prelude.{◌==◌, option_map, option_and_then, unwrap_or}
 use Rattle.std.proofs.lemmas.Option.{slice_get_within}
@@ -21,7 +21,7 @@ use Rattle.tfpg_report.specs.declared.read_round.RankedLine.{RankedLine}
 use Rattle.tfpg_report.specs.declared.read_round.NamedSet.{NamedSet}
 use Rattle.tfpg_check.specs.declared.round.hearing.Hearing.{Hearing}
 use Rattle.tfpg_check.specs.Judging.{Docket, IsNumberOf, MayBeRanked, MayBeOpen, HasStatus, EachHasStatus, steps_read, key_read}
-use Rattle.tfpg_check.specs.inside.Hearings.{IsHearing}
+use Rattle.tfpg_check.specs.inside.Hearings.{IsHearing, IsFlagged}
 use Rattle.tfpg_check.specs.inside.Named.{IsLeftOpen, HasStatusHeard, steps_heard}
 use Rattle.tfpg_check.specs.inside.Parts.{IsNextAfter}
 use Rattle.tfpg_check.specs.inside.RankedKeys.{SaysRight, IsLastOf}
@@ -34,6 +34,23 @@ fraction_by monitored alarmed false is = grind (arith, nat_tests)
 is_fraction : (graph : Tfpg) (log : Logbook) (reach : List ℕ) (r : RankedLine) → robustness_of graph log reach r.doubts ≡ record { alarmed = r.alarmed; monitored = r.monitored } → 1 ≤ r.monitored
 is_fraction graph log reach r is =
     subst (λ (f : Fraction). 1 ≤ f.monitored) is (fraction_by (believed_in graph reach r.doubts) (alarmed_in graph log reach r.doubts) (believed_in graph reach r.doubts == 0) refl)
+
+abbrev no_parts : List Part
+no_parts = []
+
+no_part_heard : (found : Option ℕ) → unwrap_or (option_map (λ (part : Part). part.steps) (option_and_then (slice_get no_parts) found)) [] ≡ []
+no_part_heard None = refl
+no_part_heard (Some index) = refl
+
+-- A hypothesis of which a flag is up has a status in a round without steps.
+pub flagged_has_status : (hearing : Hearing) → hearing.read.now.parts ≡ [] → (number : ℕ) → IsFlagged hearing.closed.now hearing.ranked.now hearing.part_ranked.now number → HasStatusHeard hearing number
+flagged_has_status hearing none number (inl closed) = inl closed
+flagged_has_status hearing none number (inr (inl ranked)) = inr (inl ranked)
+flagged_has_status hearing none number (inr (inr part)) = inr (inr (inr (
+  ap (λ (parts : List Part). unwrap_or (option_map (λ (part : Part). part.steps) (option_and_then (slice_get parts) (get_or hearing.parts.now number None))) []) none
+      ∙ no_part_heard (get_or hearing.parts.now number None),
+  part,
+)))
 
 module _ (docket : Docket) (hearing : Hearing) (is : IsHearing docket hearing) where
   -- what stands in the one table stands in the other

@@ -1,7 +1,7 @@
 -- What is looked up in a round whose steps are taken is right.
 use Rattle.std.proofs.Common.{◌≡◌, ◌↔◌, ◌<◌, ℕ, List, Bool, false, Some, None, length, map, get_or, slice_get, eqb, inl, inr, refl, sym, ap, subst, arith, ◌∙◌}
 use Rattle.std.specs.List.{Contains, list_any}
-use Rattle.std.specs.Prelude.{IsTrue, option_map}
+use Rattle.std.specs.Prelude.{IsTrue, count_by, option_map}
 use Rattle.std.proofs.lemmas.Bool.{eqb-true, eq-eqb, false≢true}
 use Rattle.std.proofs.lemmas.List.{get_or_past, length-map}
 use Rattle.std.proofs.lemmas.Option.{get_or_from_slice_get, same_Some, slice_get_cases, slice_get-map, slice_get_within}
@@ -20,7 +20,7 @@ use Rattle.tfpg_check.specs.declared.round.hearing.Hearing.{Hearing}
 use Rattle.tfpg_check.specs.Judging.{Docket, IsNumberOf, AreClosed, IsRankedLine, HasRankedPartIn}
 use Rattle.tfpg_check.specs.DocketState.{DocketState, KeepsDocket}
 use Rattle.tfpg_check.specs.inside.AfterRound.{after_round}
-use Rattle.tfpg_check.specs.inside.Hearings.{IsHearing, flag_at, part_index}
+use Rattle.tfpg_check.specs.inside.Hearings.{IsHearing, IsFlagged, flag_at, part_index}
 use Rattle.tfpg_check.specs.inside.LargestParts.{ArePartsBefore, HasFlaggedPart, SayFlaggedParts}
 use Rattle.tfpg_check.specs.inside.Kept.{AreFlagsBefore}
 use Rattle.tfpg_check.proofs.judging.ClosedTrees.{closed_exactly}
@@ -78,6 +78,10 @@ module _ {X : Type 0} (number_of : X → ℕ) (lines : List X) (number : ℕ) wh
 abbrev pub OrdersParts : Type 0
 OrdersParts = (graph : Tfpg) (terms : Terms) (hypotheses : List Hypothesis) → IsTable graph terms hypotheses → (number other : ℕ) (part whole : Hypothesis)
     → slice_get hypotheses number ≡ Some part → slice_get hypotheses other ≡ Some whole → IsProperPart part whole → number < other
+
+-- A proper part stands before its whole in a table.
+pub parts_before : OrdersParts → (graph : Tfpg) (terms : Terms) (hypotheses : List Hypothesis) → IsTable graph terms hypotheses → ArePartsBefore hypotheses
+parts_before orders graph terms hypotheses table part whole is = orders graph terms hypotheses table part whole is.less is.more is.less_at is.more_at is.proper
 
 -- What was found by the flags of ranked lines is what is looked up.
 pub said_of_ranked : OrdersParts → (docket : Docket) (earlier : Logbook) (state : DocketState) → KeepsDocket docket earlier state → (table : Hypotheses) → state.table ≡ table → (flags said : List Bool)
@@ -140,6 +144,8 @@ pub record AreFlags (hearing : Hearing) (checkers : List CheckerState) (count : 
   pub part_ranked : SayFlaggedParts hearing.table.now.hypotheses hearing.ranked.now (length hearing.table.now.hypotheses) hearing.part_ranked.now
   pub unsettled : (number : ℕ) → number < count → flag_at hearing.unsettled.now number ≡ list_any (λ (named : NamedSet). eqb named.number number) hearing.read.now.unsettled
   pub parts : (number : ℕ) → number < count → get_or hearing.parts.now number None ≡ part_index hearing.read.now.parts number
+  pub counted : hearing.closed_count ≡ count_by (λ (closed : Bool). closed) hearing.closed.now
+  pub all_flagged : IsTrue hearing.are_all_flagged → (number : ℕ) → number < count → IsFlagged hearing.closed.now hearing.ranked.now hearing.part_ranked.now number
 
 pub hearing_is : (docket : Docket) (hearing : Hearing) (state : DocketState) (count : ℕ) → docket.graph ≡ hearing.graph.now → KeepsDocket (after_round docket hearing.read.now) docket.log state
     → state.table ≡ hearing.table.now → state.terms.budget ≡ hearing.budget → count ≡ length hearing.table.now.hypotheses → AreFlagsBefore docket hearing.was_closed.now
@@ -160,4 +166,6 @@ hearing_is docket hearing state count same_graph keeps same_table same_budget co
       part_ranked = part_ranked_exactly docket hearing rows ranked flags.part_ranked;
       unsettled = λ number within. flag_exactly (λ (named : NamedSet). named.number) hearing.read.now.unsettled number hearing.unsettled.now (flags.unsettled number (omega (arith, within, few)));
       parts = λ number within. flags.parts number (omega (arith, within, few));
+      counted = flags.counted;
+      all_flagged = λ up number within. flags.all_flagged up number (omega (arith, within, few));
     }

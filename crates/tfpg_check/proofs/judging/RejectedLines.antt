@@ -1,21 +1,42 @@
 -- Whether the rejected lines are those of the hypotheses whose trees were closed in a round.
-use Rattle.std.proofs.Common.{◌≡◌, ◌↔◌, ◌≤◌, ◌<◌, ℕ, ◌∷◌, ◌++◌, List, Bool, true, false, Option, Some, None, length, take, map, slice_get, refl, sym, ap, subst, arith, ◌∙◌}
-use Rattle.std.specs.Prelude.{IsTrue, ◌&&◌, not, option_map}
+use Rattle.std.proofs.Common.{◌≡◌, ◌↔◌, ◌≤◌, ◌<◌, ℕ, zero, suc, ◌∷◌, [], ◌++◌, List, Bool, true, false, Option, Some, None, length, take, map, slice_get, eqb, refl, sym, ap, subst, arith, ◌∙◌, append-nil}
+use Rattle.std.specs.Prelude.{IsTrue, ◌&&◌, not, find, option_map, unwrap_or}
 use Rattle.std.proofs.Math.Seq.{take-append_seam}
-use Rattle.std.proofs.lemmas.Bool.{false≢true}
+use Rattle.std.proofs.lemmas.Bool.{eqb-true, false≢true}
 use Rattle.std.proofs.lemmas.List.{length-map, take_all}
 use Rattle.std.proofs.lemmas.Option.{none-some, same_Some, slice_get_within, slice_get_past, slice_get-map}
 use Rattle.tfpg_base.specs.Hypothesis.{Hypothesis}
+use Rattle.tfpg_clause.specs.Paths.{judged_by, with_steps}
 use Rattle.tfpg_base.proofs.lists.Elements.{slice_get-there}
 use Rattle.tfpg_base.proofs.lists.Written.{slice_get-after}
 use Rattle.tfpg_report.specs.declared.read_round.NamedSet.{NamedSet}
+use Rattle.tfpg_report.specs.declared.read_round.Part.{Part}
+use Rattle.tfpg_report.specs.declared.read_round.ReadRound.{ReadRound}
 use Rattle.tfpg_check.specs.declared.cause.CheckCause.TheVariants as cause
 use Rattle.tfpg_check.specs.declared.round.hearing.Hearing.{Hearing}
-use Rattle.tfpg_check.specs.Judging.{Docket, NumberedHypothesis, IsClosed, WasClosed, AreNewlyClosed, RejectedFails, named_by}
+use Rattle.tfpg_check.specs.Judging.{Docket, NumberedHypothesis, AreClosed, IsClosed, WasClosed, AreNewlyClosed, RejectedFails, named_by, steps_read}
 use Rattle.tfpg_check.specs.inside.Hearings.{IsHearing, flag_at, is_newly_closed}
 use Rattle.tfpg_check.specs.inside.Named.{Names, line_at}
 use Rattle.tfpg_check.proofs.judging.HearingSays.{listed_in, listed_from}
-use Rattle.tfpg_check.proofs.judging.NewlyClosed.{passing_below, below_only, below_each, below_rises, next_passing}
+use Rattle.tfpg_check.proofs.judging.NewlyClosed.{passing_at, passing_below, below_only, below_each, below_rises, next_passing}
+
+-- without parts no hypothesis has steps in the round
+no_steps_read : (docket : Docket) (read : ReadRound) → read.parts ≡ [] → (number : ℕ) → with_steps (docket.steps number) docket.log (steps_read read number) ≡ docket.steps number
+no_steps_read docket read none number =
+    ap (λ (parts : List Part). docket.steps number ++ map (judged_by docket.log) (unwrap_or (option_map (λ (part : Part). part.steps) (find (λ (part : Part). eqb part.number number) parts)) [])) none
+    ∙ append-nil (docket.steps number)
+
+-- whether there is an item, by a test of the length
+pub none_there : (n m : ℕ) (empty : Bool) → empty ≡ eqb n 0 → empty ≡ true → n ≡ m → m ≡ 0
+none_there n m empty is up same = sym same ∙ eqb-true n 0 (sym is ∙ up)
+
+pub some_there : (n m : ℕ) (empty : Bool) → empty ≡ eqb n 0 → empty ≡ false → n ≡ m → 0 < m
+some_there zero m empty is down same = absurd (false≢true (sym down ∙ is))
+some_there (suc n) m empty is down same = omega (arith, same)
+
+not_true : (test : Bool) → (test ≡ true → ⊥) → test ≡ false
+not_true true never = absurd (never refl)
+not_true false never = refl
 
 -- the one test passes, and the other does not
 one_alone : (one other : Bool) → (one && not other ≡ true) ↔ ((one ≡ true) × (other ≡ true → ⊥))
@@ -69,6 +90,16 @@ module _ (docket : Docket) (hearing : Hearing) (is : IsHearing docket hearing) w
     );
   }
 
+  -- Without steps no tree was closed in the round.
+  none_newly : hearing.read.now.parts ≡ [] → (number : ℕ) → is_newly_closed hearing number ≡ false
+  none_newly none number =
+      not_true (is_newly_closed hearing number)
+      (λ up. (let newly = (newly_exactly number).0 up in newly.1 (subst (AreClosed docket number) (no_steps_read docket hearing.read.now none number) newly.0)))
+
+  none_below : hearing.read.now.parts ≡ [] → (end : ℕ) → closed_below end ≡ []
+  none_below none zero = refl
+  none_below none (suc end) = λ i. none_below none end i ++ passing_at (none_newly none end i) (slice_get hypotheses end) end
+
   -- The lines are those found by number.
   pub rejected_pass : (index end : ℕ) → length hypotheses ≤ end → end ≤ length hypotheses → length rejected ≤ index → take index lines ≡ closed_below end
       → AreNewlyClosed docket hearing.read.now lines
@@ -117,3 +148,12 @@ module _ (docket : Docket) (hearing : Hearing) (is : IsHearing docket hearing) w
         at = sym at;
         cause_is = refl;
       }
+
+  -- In a round without steps there is no line,
+  pub none_pass : hearing.read.now.parts ≡ [] → length rejected ≡ 0 → AreNewlyClosed docket hearing.read.now lines
+  none_pass none empty = rejected_pass 0 (length hypotheses) (omega arith) (omega arith) (omega (arith, empty)) (sym (none_below none (length hypotheses)))
+
+  -- or the first one is too many.
+  pub none_left : hearing.read.now.parts ≡ [] → 0 < length rejected → (line : ℕ) → line ≡ line_at hearing.read.now 0 → RejectedFails docket hearing.read.now line cause.WrongRejected
+  none_left none more line at =
+      rejected_left 0 (length hypotheses) line (omega arith) (omega arith) more (sym (none_below none (length hypotheses))) (ap length (none_below none (length hypotheses))) at

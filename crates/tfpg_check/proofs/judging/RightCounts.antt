@@ -65,7 +65,7 @@ module _ (docket : Docket) (hearing : Hearing) (is : IsHearing docket hearing) w
       closed = closed;
       rising = numbers_rise (λ (flag : Bool). flag) 0 hearing.closed.now;
       exact = closed_exactly;
-      rejected = heard.rejected ∙ sym counted;
+      rejected = heard.rejected ∙ is.counted ∙ sym counted;
       all = heard.all ∙ ap length (sym is.hypotheses);
     },
     λ right. (let same : right.closed ≡ closed =
@@ -74,7 +74,7 @@ module _ (docket : Docket) (hearing : Hearing) (is : IsHearing docket hearing) w
         record {
           ranked = right.ranked;
           left_open = right.left_open;
-          rejected = right.rejected ∙ ap length same ∙ counted;
+          rejected = right.rejected ∙ ap length same ∙ counted ∙ sym is.counted;
           all = right.all ∙ ap length is.hypotheses;
         }),
   )

@@ -1,5 +1,5 @@
 -- What the tests of a round are judged by, once its steps are taken.
-use Rattle.std.specs.Prelude.{◌≡◌, ◌↔◌, ℕ, ◌<◌, List, length, get_or, Bool, false, not, ◌&&◌, ◌==◌, if◌then◌else◌, IsTrue, Option, Some, None, position, slice_get}
+use Rattle.std.specs.Prelude.{◌≡◌, ◌⊎◌, ◌↔◌, ℕ, ◌<◌, List, length, get_or, count_by, Bool, false, not, ◌&&◌, ◌==◌, if◌then◌else◌, IsTrue, Option, Some, None, position, slice_get}
 use Rattle.tfpg_base.specs.Hypothesis.{Hypothesis}
 use Rattle.tfpg_hyp.specs.Hypotheses.{IsTableOf}
 use Rattle.tfpg_report.specs.declared.read_round.Part.{Part}
@@ -9,6 +9,11 @@ use Rattle.tfpg_check.specs.Judging.{Docket, WasClosed, IsClosed, IsRankedLine, 
 -- the flag of a number, which is down past the end
 abbrev pub flag_at : List Bool → ℕ → Bool
 flag_at flags number = get_or flags number false
+
+-- One of the flags of a number is up: that its tree is closed, that it is ranked, or that a proper part of it is.
+abbrev pub IsFlagged : List Bool → List Bool → List Bool → ℕ → Type 0
+IsFlagged closed ranked part_ranked number =
+    IsTrue (flag_at closed number) ⊎ (IsTrue (flag_at ranked number) ⊎ IsTrue (flag_at part_ranked number))
 
 -- the index of the first part of a number
 abbrev pub part_index : List Part → ℕ → Option ℕ
@@ -35,6 +40,9 @@ pub record IsHearing (docket : Docket) (hearing : Hearing) : Type 0 where
       → IsTrue (flag_at hearing.unsettled.now number) ↔ IsOpenLine hearing.read.now number
   pub parts : (number : ℕ) → number < length docket.hypotheses
       → get_or hearing.parts.now number None ≡ part_index hearing.read.now.parts number
+  pub counted : hearing.closed_count ≡ count_by (λ closed. closed) hearing.closed.now
+  pub all_flagged : IsTrue hearing.are_all_flagged → (number : ℕ) → number < length docket.hypotheses
+      → IsFlagged hearing.closed.now hearing.ranked.now hearing.part_ranked.now number
 
 -- whether the tree of the hypothesis of a number was closed in this round
 abbrev pub is_newly_closed : Hearing → ℕ → Bool

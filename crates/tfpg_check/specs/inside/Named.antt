@@ -1,5 +1,5 @@
 -- What the code tests of open and of rejected lines, of the hypotheses and of the counts.
-use Rattle.std.specs.Prelude.{◌≡◌, ◌⊎◌, ℕ, ◌+◌, ◌≤◌, List, [], length, count_by, get_or, IsTrue, Option, Some, None, option_map, option_and_then, unwrap_or, slice_get}
+use Rattle.std.specs.Prelude.{◌≡◌, ◌⊎◌, ℕ, ◌+◌, ◌≤◌, List, [], length, get_or, IsTrue, Option, Some, None, option_map, option_and_then, unwrap_or, slice_get}
 use Rattle.tfpg_base.specs.Hypothesis.{Hypothesis}
 use Rattle.tfpg_evidence.specs.declared.step.Step.{Step}
 use Rattle.tfpg_clause.specs.Trees.{split_count}
@@ -41,6 +41,11 @@ HasStatusHeard hearing number =
     ⊎ (IsTrue (flag_at hearing.ranked.now number)
     ⊎ (IsTrue (flag_at hearing.unsettled.now number) ⊎ IsCoveredHeard hearing number))
 
+-- The round has no steps, and each hypothesis is known to have a status, by what is looked up.
+pub record IsEachKnown (hearing : Hearing) : Type 0 where
+  pub all_flagged : IsTrue hearing.are_all_flagged
+  pub no_parts : hearing.read.now.parts ≡ []
+
 -- There is a line, and it names the hypothesis of this number.
 abbrev pub Names : List Hypothesis → ℕ → Option NamedSet → Type 0
 Names hypotheses number None = ⊥
@@ -51,6 +56,6 @@ Names hypotheses number (Some named) =
 pub record AreCountsHeard (hearing : Hearing) : Type 0 where
   pub ranked : hearing.read.now.counts.ranked ≡ length hearing.read.now.ranked
   pub left_open : hearing.read.now.counts.left_open ≡ length hearing.read.now.unsettled
-  pub rejected : hearing.read.now.counts.rejected ≡ count_by (λ closed. closed) hearing.closed.now
+  pub rejected : hearing.read.now.counts.rejected ≡ hearing.closed_count
   pub all : hearing.read.now.counts.ranked + hearing.read.now.counts.covered + hearing.read.now.counts.rejected + hearing.read.now.counts.left_open
       ≡ length hearing.table.now.hypotheses

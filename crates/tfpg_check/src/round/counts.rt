@@ -14,7 +14,7 @@ pub(crate) fn are_right_counts(hearing: &Hearing<'_>) -> bool
     let counts = read.counts;
     counts.ranked as usize == read.ranked.as_slice().len()
         && counts.left_open as usize == read.unsettled.as_slice().len()
-        && counts.rejected as usize == count_raised(hearing.closed)
+        && counts.rejected as usize == hearing.closed_count
         && total(counts) == u64::from(hearing.table.len())
 }
 
@@ -28,8 +28,8 @@ fn total(counts: Counts) -> u64
         + u64::from(counts.left_open)
 }
 
-/// How many flags are raised.
-fn count_raised(flags: &[bool]) -> usize
+/// How many flags are raised. Goes once through them.
+pub(crate) fn count_raised(flags: &[bool]) -> usize
     ensures { result ≡ count_by (λ flag. flag) flags.now }
 {
     flags.iter().filter(|flag| **flag).count()

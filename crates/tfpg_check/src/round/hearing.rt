@@ -26,10 +26,14 @@ pub(crate) struct Hearing<'a> {
     pub(crate) was_closed: &'a [bool],
     /// Whose trees are closed.
     pub(crate) closed: &'a [bool],
+    /// How many these are.
+    pub(crate) closed_count: usize,
     /// Which are named by ranked lines.
     pub(crate) ranked: &'a [bool],
     /// Of which a proper part is named by a ranked line.
     pub(crate) part_ranked: &'a [bool],
+    /// Whether one of these three is known of each. If not, nothing is said.
+    pub(crate) are_all_flagged: bool,
     /// Which are named by open lines.
     pub(crate) unsettled: &'a [bool],
     /// Which part each has.

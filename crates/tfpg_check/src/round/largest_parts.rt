@@ -107,7 +107,8 @@ fn is_part_of_any(table: &Table, part: u32, wholes: &[u32]) -> bool
 }
 
 /// Whether the hypothesis of the one number is a proper part of that of the other: of the same failure modes with fewer doubts,
-/// or of fewer failure modes with no other doubt.
+/// or of fewer failure modes with no other doubt. Inlined, since a table asks it of each two hypotheses.
+#[inline(always)]
 fn is_part(table: &Table, part: u32, whole: u32) -> bool
     requires part { part < length table.now.hypotheses }
     requires whole { whole < length table.now.hypotheses }

@@ -1,6 +1,6 @@
 //! The rejected hypotheses of a round.
 
-ghost use Rattle.std.specs.Prelude.{◌≡◌, ◌↔◌, ◌<◌, ℕ, length, map, MatchResult, IsTrue, slice_get};
+ghost use Rattle.std.specs.Prelude.{◌≡◌, ◌↔◌, ◌<◌, ℕ, [], length, map, MatchResult, IsTrue, slice_get};
 ghost use Rattle.tfpg_check.specs.declared.cause.CheckCause.TheVariants as cause;
 ghost use Rattle.tfpg_check.specs.Judging.{Docket, AreNewlyClosed, RejectedFails, named_by};
 ghost use Rattle.tfpg_check.specs.inside.InTurn.{IsFailure};
@@ -13,8 +13,35 @@ use crate::round_fault::FailedTest;
 use tfpg_report::ReadRound;
 
 /// Tests that the rejected lines are those of the hypotheses whose trees were closed in this round. Goes once through the
-/// hypotheses.
+/// hypotheses, if the round has steps.
 pub(crate) fn judge_rejected(hearing: &Hearing<'_>) -> Result<(), FailedTest>
+    ensures { (docket : Docket) → IsHearing docket hearing.now →
+        MatchResult result
+        (λ _. AreNewlyClosed docket hearing.now.read.now (map named_by hearing.now.read.now.rejected))
+        (IsFailure (RejectedFails docket hearing.now.read.now)) }
+{
+    if hearing.read.parts.as_slice().is_empty() {
+        return judge_none_rejected(hearing);
+    }
+    judge_each_rejected(hearing)
+}
+
+/// The same for a round without steps, which closes no tree.
+fn judge_none_rejected(hearing: &Hearing<'_>) -> Result<(), FailedTest>
+    requires { hearing.now.read.now.parts ≡ [] }
+    ensures { (docket : Docket) → IsHearing docket hearing.now →
+        MatchResult result
+        (λ _. AreNewlyClosed docket hearing.now.read.now (map named_by hearing.now.read.now.rejected))
+        (IsFailure (RejectedFails docket hearing.now.read.now)) }
+{
+    if hearing.read.rejected.as_slice().is_empty() {
+        return Ok(());
+    }
+    Err(fails_at(hearing.read, 0))
+}
+
+/// The same for any round. Goes once through the hypotheses.
+fn judge_each_rejected(hearing: &Hearing<'_>) -> Result<(), FailedTest>
     ensures { (docket : Docket) → IsHearing docket hearing.now →
         MatchResult result
         (λ _. AreNewlyClosed docket hearing.now.read.now (map named_by hearing.now.read.now.rejected))

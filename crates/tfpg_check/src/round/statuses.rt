@@ -3,21 +3,31 @@
 ghost use Rattle.std.specs.Prelude.{◌≡◌, ◌↔◌, [], IsTrue};
 ghost use Rattle.tfpg_check.specs.Judging.{Docket, EachHasStatus};
 ghost use Rattle.tfpg_check.specs.inside.Hearings.{IsHearing};
-ghost use Rattle.tfpg_check.specs.inside.Named.{HasStatusHeard, IsCoveredHeard, steps_heard};
+ghost use Rattle.tfpg_check.specs.inside.Named.{HasStatusHeard, IsCoveredHeard, IsEachKnown, steps_heard};
 
 use crate::round::hearing::Hearing;
 
-/// Whether each hypothesis has a status. Goes once through them.
+/// Whether each hypothesis has a status. Goes once through them, unless the round has no steps and one is known of each.
 pub(crate) fn each_has_status(hearing: &Hearing<'_>) -> bool
     ensures { (docket : Docket) → IsHearing docket hearing.now →
         IsTrue result ↔ EachHasStatus docket hearing.now.read.now }
 {
+    if is_each_known(hearing) {
+        return true;
+    }
     for number in 0..hearing.table.len() {
         if !has_status(hearing, number) {
             return false;
         }
     }
     true
+}
+
+/// Whether the round has no steps, and each hypothesis is known to have a status.
+fn is_each_known(hearing: &Hearing<'_>) -> bool
+    ensures { IsTrue result → IsEachKnown hearing.now }
+{
+    hearing.are_all_flagged && hearing.read.parts.as_slice().is_empty()
 }
 
 /// Whether the hypothesis of this number has a status: its tree is closed, it is ranked, it is open, or it has no steps in this

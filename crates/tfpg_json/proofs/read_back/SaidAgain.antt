@@ -1,6 +1,5 @@
 -- The data of a graph says the graph: its modes and nodes, and its edges by names.
-use Rattle.std.proofs.Common.{◌≡◌, ℕ, ◌==◌, if◌then◌else◌, Bool, true, false, List, [], ◌∷◌, map, All, IsTrue, Option, Some, None, codes, refl, sym, ap, ◌∙◌}
-use Rattle.std.specs.Prelude.{◌&&◌}
+use Rattle.std.proofs.Common.{◌≡◌, ℕ, ◌==◌, if◌then◌else◌, Bool, true, false, List, [], ◌∷◌, map, Option, Some, None, codes, refl, sym, ap, ◌∙◌}
 use Rattle.std.specs.List.{list_all}
 use Rattle.std.specs.Option.{option_map, option_and_then}
 use Rattle.std.proofs.lemmas.Bool.{eqb-true, and_from}
@@ -19,8 +18,8 @@ use Rattle.tfpg_graph.specs.declared.edge.Edge.{Edge}
 use Rattle.tfpg_graph.specs.Graph.{Tfpg, Node, name_word}
 use Rattle.tfpg_graph.specs.Valid.{IsValid, IsValidEdge}
 use Rattle.tfpg_graph.proofs.lemmas.reading.spelling.SpelledEdges.{is_name-name_word}
-use Rattle.tfpg_json.specs.GraphData.{whole, texts, greatest_data, mode_names, edge_data, discrepancy_data, kind_data, node_data, graph_data}
-use Rattle.tfpg_json.specs.GraphSaid.{EdgeSaid, GraphSaid, list_of, each_in, number_in, unless_null, kind_in, kind_of, lag_in, node_in, edge_in, graph_in, has_edge_names, has_names}
+use Rattle.tfpg_json.specs.GraphData.{whole, texts, greatest_data, mode_names, edge_data, kind_data, node_data, graph_data}
+use Rattle.tfpg_json.specs.GraphSaid.{EdgeSaid, GraphSaid, list_of, each_in, number_in, unless_null, node_in, edge_in, graph_in, has_edge_names, has_names}
 use Rattle.tfpg_json.proofs.read_back.WrittenGraphs.{modes_named}
 
 -- what is said of an edge

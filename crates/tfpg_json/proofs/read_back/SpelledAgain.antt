@@ -1,11 +1,10 @@
 -- The graph text that the data of a graph stands for spells the graph.
-use Rattle.std.proofs.Common.{◌≡◌, ◌≢◌, ℕ, ◌<◌, ◌≤◌, ◌^◌, true, false, not, List, [], ◌∷◌, ◌++◌, length, map, get_or, filter_map, slice_get, All, IsTrue, Option, Some, None, IfSome, codes, refl, sym, ap, subst, ◌∙◌, inr, append-nil, arith}
-use Rattle.std.specs.List.{AllZip, join_with_byte}
+use Rattle.std.proofs.Common.{◌≡◌, ◌≢◌, ℕ, ◌≤◌, true, false, not, List, [], ◌∷◌, ◌++◌, length, map, get_or, slice_get, All, IsTrue, Option, Some, None, IfSome, codes, refl, sym, ap, subst, ◌∙◌, inr, arith}
+use Rattle.std.specs.List.{AllZip}
 use Rattle.std.specs.Prelude.{decimal}
-use Rattle.std.proofs.lemmas.List.{length-map}
 use Rattle.std.proofs.lemmas.List.Elements.{All-map, All-append, All-cons, All-nil, All-weaker, All-same}
 use Rattle.tfpg_base.specs.Words.{line_of, is_name, joined_by_commas}
-use Rattle.tfpg_base.specs.Lines.{lines_of, HasNoLineEnd, ends_line, with_line_end}
+use Rattle.tfpg_base.specs.Lines.{lines_of, HasNoLineEnd, ends_line}
 use Rattle.tfpg_base.specs.declared.limits.TheConstants.{LONGEST_LINE, LONGEST_NAME, MAX_TIME}
 use Rattle.tfpg_base.proofs.LinesOf.{lines_again}
 use Rattle.tfpg_base.proofs.WordLengths.{name_short}
@@ -18,10 +17,9 @@ use Rattle.tfpg_base.proofs.lists.Zipped.{AllZip-map}
 use Rattle.tfpg_graph.specs.declared.kind.Kind.{Kind}
 use Rattle.tfpg_graph.specs.declared.kind.Kind.TheVariants.{Failure, Or, And}
 use Rattle.tfpg_graph.specs.declared.edge.Edge.{Edge}
-use Rattle.tfpg_graph.specs.declared.limits.TheConstants.{MAX_MODES}
 use Rattle.tfpg_graph.specs.declared.version.Version.TheVariants.{Two}
 use Rattle.tfpg_graph.specs.Graph.{Tfpg, name_word}
-use Rattle.tfpg_graph.specs.Text.{header, mode_line, node_words, node_line, edge_line, tmax_word, SpellsModes, SpellsEdge, Spells, CanSpell, content_lines}
+use Rattle.tfpg_graph.specs.Text.{header, mode_line, node_words, node_line, tmax_word, SpellsModes, SpellsEdge, Spells, CanSpell, content_lines}
 use Rattle.tfpg_graph.specs.Statements.{is_empty_or_comment}
 use Rattle.tfpg_graph.specs.Valid.{IsValid, IsValidEdge}
 use Rattle.tfpg_graph.specs.inside.writing.Written.{modes_before}
@@ -30,7 +28,7 @@ use Rattle.tfpg_graph.proofs.lemmas.writing.LineLengths.{short_header, short_mod
 use Rattle.tfpg_graph.proofs.lemmas.writing.CleanLines.{clean_header, clean_mode, clean_node, clean_end, clean_name, clean_number, clean_words}
 use Rattle.tfpg_graph.proofs.lemmas.reading.spelling.SpelledEdges.{is_name-name_word}
 use Rattle.tfpg_json.specs.GraphData.{mode_names}
-use Rattle.tfpg_json.specs.GraphText.{modes_said_word, edge_said_line, lines_said, text_said}
+use Rattle.tfpg_json.specs.GraphText.{modes_said_word, edge_said_line, text_said}
 use Rattle.tfpg_json.proofs.read_back.SaidAgain.{edge_said, said_of}
 use Rattle.tfpg_json.proofs.read_back.WrittenGraphs.{modes_named}
 

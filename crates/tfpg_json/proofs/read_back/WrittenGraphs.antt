@@ -1,5 +1,5 @@
 -- The data of a valid graph is written so that it is read back.
-use Rattle.std.proofs.Common.{◌≡◌, ℕ, ◌<◌, ◌≤◌, ◌^◌, ◌==◌, if◌then◌else◌, Bool, true, false, List, [], ◌∷◌, map, All, IsTrue, Option, Some, None, IfSome, codes, refl, arith}
+use Rattle.std.proofs.Common.{ℕ, ◌<◌, ◌≤◌, ◌^◌, ◌==◌, if◌then◌else◌, Bool, true, false, List, [], ◌∷◌, map, All, IsTrue, Option, Some, None, IfSome, codes, refl, arith}
 use Rattle.std.proofs.lemmas.List.Elements.{All-head, All-tail, All-weaker}
 use Rattle.serde_json.specs.Data.{Data, string, no_members, member, object}
 use Rattle.serde_json.specs.View.{items_of}
@@ -10,13 +10,12 @@ use Rattle.tfpg_graph.specs.declared.kind.Kind.{Kind}
 use Rattle.tfpg_graph.specs.declared.kind.Kind.TheVariants.{Failure, Or, And}
 use Rattle.tfpg_graph.specs.declared.kind.Lag.{Lag}
 use Rattle.tfpg_graph.specs.declared.edge.Edge.{Edge}
-use Rattle.tfpg_graph.specs.Graph.{Tfpg, Node, name_word}
+use Rattle.tfpg_graph.specs.Graph.{Tfpg, name_word}
 use Rattle.tfpg_graph.specs.Valid.{IsValid, IsValidEdge, IsValidLag, HasValidNumber}
-use Rattle.tfpg_graph.specs.inside.writing.Written.{modes_before}
 use Rattle.tfpg_graph.proofs.lemmas.reading.spelling.SpelledEdges.{is_name-name_word}
-use Rattle.tfpg_json.specs.GraphData.{whole, texts, greatest_data, mode_names, edge_data, after_least, discrepancy_data, kind_data, node_data, graph_data}
+use Rattle.tfpg_json.specs.GraphData.{whole, texts, greatest_data, mode_names, edge_data, discrepancy_data, kind_data, node_data, graph_data}
 use Rattle.tfpg_json.proofs.NameTexts.{each_name_byte}
-use Rattle.tfpg_json.proofs.read_back.WrittenData.{IsWritten, AreWritten, MembersWritten, InOrder, AreNameBytes}
+use Rattle.tfpg_json.proofs.read_back.WrittenData.{IsWritten, AreWritten, AreNameBytes}
 
 -- a name has bytes of names
 named : (name : List ℕ) → IsTrue (is_name name) → AreNameBytes name

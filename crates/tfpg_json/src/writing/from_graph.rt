@@ -1,136 +1,175 @@
-//! A graph as a JSON value.
+//! A graph as JSON, token by token.
 
-ghost use Rattle.std.specs.Prelude.{◌≡◌, IfOk, map};
+ghost use Rattle.std.specs.Prelude.{◌≡◌, ◌++◌, OnOk, codes, map};
 ghost use Rattle.serde_json.specs.Data.{array, string};
-ghost use Rattle.serde_json.specs.View.{items_view, view};
+ghost use Rattle.serde_json.specs.View.{items_of};
 ghost use Rattle.tfpg_graph.specs.Valid.{IsValidEdge};
-ghost use Rattle.tfpg_json.specs.GraphData.{discrepancy_data, edge_data, edge_object, graph_data, kind_data, mode_names, node_data};
+ghost use Rattle.tfpg_json.specs.GraphData.{discrepancy_data, edge_data, failure_data, graph_data, greatest_data, kind_data, mode_names, node_data, texts};
+ghost use Rattle.tfpg_json.specs.inside.Tokens.{data_tokens, lag_tokens, member_tokens};
 
 use crate::writing::from_names::{mode_name, node_name};
-use serde_json::{Value, json};
-use std::alloc::{AllocError, Global};
-use tfpg_base::NoMemory;
+use crate::writing::members::{append_null, append_number, append_text};
+use json::Writer;
+use std::alloc::AllocError;
 use tfpg_graph::{Edge, Graph, Kind, Lag};
 
-/// The graph.
-pub(crate) fn graph_value(alloc: Global, graph: &Graph) -> Result<Value, NoMemory>
-    ensures { IfOk result (λ value. view value ≡ graph_data graph.now) }
+/// Appends the graph.
+pub(crate) fn append_graph(graph: &Graph, into: &mut Writer) -> Result<(), AllocError>
+    ensures before { into.new.before ≡ into.old.before }
+    ensures ok { OnOk result
+        (into.new.tokens ≡ into.old.tokens ++ data_tokens (graph_data graph.now)) }
 {
-    let edges = edge_values(alloc, graph)?;
-    let modes = mode_values(alloc, graph)?;
-    let nodes = node_values(alloc, graph)?;
-    Ok(json!(in alloc; {"edges": edges, "modes": modes, "nodes": nodes})?)
+    into.begin_object()?;
+    append_edges(graph, into)?;
+    append_modes(graph, into)?;
+    append_nodes(graph, into)?;
+    into.end_object()
 }
 
-/// The edges.
-fn edge_values(alloc: Global, graph: &Graph) -> Result<Vec<Value>, NoMemory>
-    ensures { IfOk result
-        (λ values. map view values.items ≡ map (edge_data graph.now) graph.now.edges) }
+/// Appends the member with the edges.
+fn append_edges(graph: &Graph, into: &mut Writer) -> Result<(), AllocError>
+    ensures before { into.new.before ≡ into.old.before }
+    ensures ok { OnOk result (into.new.tokens ≡ into.old.tokens
+        ++ member_tokens (codes "edges") (array (items_of (map (edge_data graph.now) graph.now.edges)))) }
 {
     graph.is_always_valid();
-    let mut values = Vec::new(alloc);
+    into.key("edges")?;
+    into.begin_array()?;
     for number in 0..graph.edge_count() {
-        values.push(edge_value(alloc, graph, graph.edge(number))?)?;
+        append_edge(graph, &graph.edge(number), into)?;
     }
-    Ok(values)
+    into.end_array()
 }
 
-/// The names of all modes.
-fn mode_values(alloc: Global, graph: &Graph) -> Result<Vec<Value>, NoMemory>
-    ensures { IfOk result (λ values. map view values.items ≡ map string graph.now.modes) }
+/// Appends the member with the names of all modes.
+fn append_modes(graph: &Graph, into: &mut Writer) -> Result<(), AllocError>
+    ensures before { into.new.before ≡ into.old.before }
+    ensures ok { OnOk result (into.new.tokens
+        ≡ into.old.tokens ++ member_tokens (codes "modes") (texts graph.now.modes)) }
 {
-    let mut values = Vec::new(alloc);
+    into.key("modes")?;
+    into.begin_array()?;
     for mode in 0..graph.mode_count() {
-        values.push(Value::try_from_str(alloc, mode_name(graph, mode))?)?;
+        into.string(mode_name(graph, mode))?;
     }
-    Ok(values)
+    into.end_array()
 }
 
-/// The nodes.
-fn node_values(alloc: Global, graph: &Graph) -> Result<Vec<Value>, NoMemory>
-    ensures { IfOk result (λ values. map view values.items ≡ map node_data graph.now.nodes) }
+/// Appends the member with the nodes.
+fn append_nodes(graph: &Graph, into: &mut Writer) -> Result<(), AllocError>
+    ensures before { into.new.before ≡ into.old.before }
+    ensures ok { OnOk result (into.new.tokens ≡ into.old.tokens
+        ++ member_tokens (codes "nodes") (array (items_of (map node_data graph.now.nodes)))) }
 {
-    let mut values = Vec::new(alloc);
+    into.key("nodes")?;
+    into.begin_array()?;
     for node in 0..graph.node_count() {
-        values.push(kind_value(alloc, node_name(graph, node), graph.kind(node))?)?;
+        append_node(node_name(graph, node), graph.kind(node), into)?;
     }
-    Ok(values)
+    into.end_array()
 }
 
-/// An edge.
-fn edge_value(alloc: Global, graph: &Graph, edge: Edge) -> Result<Value, NoMemory>
-    requires { IsValidEdge graph.now edge }
-    ensures { IfOk result (λ value. view value ≡ edge_data graph.now edge) }
+/// Appends an edge.
+fn append_edge(graph: &Graph, edge: &Edge, into: &mut Writer) -> Result<(), AllocError>
+    requires { IsValidEdge graph.now edge.now }
+    ensures before { into.new.before ≡ into.old.before }
+    ensures ok { OnOk result
+        (into.new.tokens ≡ into.old.tokens ++ data_tokens (edge_data graph.now edge.now)) }
 {
     let source = node_name(graph, edge.source);
     let target = node_name(graph, edge.target);
-    let modes = active_modes(alloc, graph, &edge)?;
-    Ok(edge_object(alloc, source, target, &edge, modes)?)
+    into.begin_object()?;
+    append_text("from", source, into)?;
+    append_greatest(edge.tmax, into)?;
+    append_number("min", edge.tmin, into)?;
+    append_active_modes(graph, edge, into)?;
+    append_text("to", target, into)?;
+    into.end_object()
 }
 
-/// An edge between the nodes of two names, with the names of its modes.
-fn edge_object(
-    alloc: Global,
-    source: &str,
-    target: &str,
-    edge: &Edge,
-    modes: Vec<Value>,
-) -> Result<Value, AllocError>
-    ensures { IfOk result (λ value. view value
-        ≡ edge_object source.now target.now edge.now (array (items_view modes.items))) }
+/// Appends the member with the greatest delay of an edge, which is null where it is infinite.
+fn append_greatest(tmax: Option<u64>, into: &mut Writer) -> Result<(), AllocError>
+    ensures before { into.new.before ≡ into.old.before }
+    ensures ok { OnOk result
+        (into.new.tokens ≡ into.old.tokens ++ member_tokens (codes "max") (greatest_data tmax)) }
 {
-    json!(in alloc; {
-        "from": source,
-        "max": edge.tmax,
-        "min": edge.tmin,
-        "modes": modes,
-        "to": target
-    })
+    match tmax {
+        Some(tmax) => append_number("max", tmax, into),
+        None => append_null("max", into),
+    }
 }
 
-/// The names of the modes in which an edge is active.
-fn active_modes(alloc: Global, graph: &Graph, edge: &Edge) -> Result<Vec<Value>, NoMemory>
-    ensures { IfOk result
-        (λ values. map view values.items ≡ map string (mode_names graph.now edge.now.modes)) }
+/// Appends the member with the names of the modes in which an edge is active.
+fn append_active_modes(graph: &Graph, edge: &Edge, into: &mut Writer) -> Result<(), AllocError>
+    ensures before { into.new.before ≡ into.old.before }
+    ensures ok { OnOk result (into.new.tokens ≡ into.old.tokens
+        ++ member_tokens (codes "modes") (texts (mode_names graph.now edge.now.modes))) }
 {
-    let mut values = Vec::new(alloc);
+    into.key("modes")?;
+    into.begin_array()?;
     for mode in 0..graph.mode_count() {
         if edge.is_active_in(mode) {
-            values.push(Value::try_from_str(alloc, mode_name(graph, mode))?)?;
+            into.string(mode_name(graph, mode))?;
         }
     }
-    Ok(values)
+    into.end_array()
 }
 
-/// A node of this name and kind.
-fn kind_value(alloc: Global, name: &str, kind: Kind) -> Result<Value, AllocError>
-    ensures { IfOk result (λ value. view value ≡ kind_data name.now kind) }
+/// Appends a node of this name and kind.
+fn append_node(name: &str, kind: Kind, into: &mut Writer) -> Result<(), AllocError>
+    ensures before { into.new.before ≡ into.old.before }
+    ensures ok { OnOk result
+        (into.new.tokens ≡ into.old.tokens ++ data_tokens (kind_data name.now kind)) }
 {
     match kind {
-        Kind::Failure { rarity } => {
-            json!(in alloc; {"kind": "failure", "name": name, "rarity": rarity})
-        }
-        Kind::Or { lag } => discrepancy_value(alloc, "or", name, lag),
-        Kind::And { lag } => discrepancy_value(alloc, "and", name, lag),
+        Kind::Failure { rarity } => append_failure(name, rarity, into),
+        Kind::Or { lag } => append_discrepancy("or", name, lag, into),
+        Kind::And { lag } => append_discrepancy("and", name, lag, into),
     }
 }
 
-/// A discrepancy of this kind.
-fn discrepancy_value(
-    alloc: Global,
+/// Appends a failure mode.
+fn append_failure(name: &str, rarity: u64, into: &mut Writer) -> Result<(), AllocError>
+    ensures before { into.new.before ≡ into.old.before }
+    ensures ok { OnOk result
+        (into.new.tokens ≡ into.old.tokens ++ data_tokens (failure_data name.now rarity)) }
+{
+    into.begin_object()?;
+    append_text("kind", "failure", into)?;
+    append_text("name", name, into)?;
+    append_number("rarity", rarity, into)?;
+    into.end_object()
+}
+
+/// Appends a discrepancy of this kind.
+fn append_discrepancy(
     kind: &str,
     name: &str,
     lag: Option<Lag>,
-) -> Result<Value, AllocError>
-    ensures { IfOk result (λ value. view value ≡ discrepancy_data kind.now name.now lag) }
+    into: &mut Writer,
+) -> Result<(), AllocError>
+    ensures before { into.new.before ≡ into.old.before }
+    ensures ok { OnOk result (into.new.tokens
+        ≡ into.old.tokens ++ data_tokens (discrepancy_data kind.now name.now lag)) }
 {
-    match lag {
-        None => json!(in alloc; {"kind": kind, "name": name}),
-        Some(lag) if lag.least == 0 => {
-            json!(in alloc; {"kind": kind, "lag": lag.most, "name": name})
-        }
-        Some(lag) => {
-            json!(in alloc; {"kind": kind, "lag": lag.most, "least": lag.least, "name": name})
-        }
+    into.begin_object()?;
+    append_text("kind", kind, into)?;
+    append_lag(lag, into)?;
+    append_text("name", name, into)?;
+    into.end_object()
+}
+
+/// Appends the members that a monitored discrepancy has: the greatest lag, and the least where it is not 0.
+fn append_lag(lag: Option<Lag>, into: &mut Writer) -> Result<(), AllocError>
+    ensures before { into.new.before ≡ into.old.before }
+    ensures ok { OnOk result (into.new.tokens ≡ into.old.tokens ++ lag_tokens lag) }
+{
+    let Some(lag) = lag else {
+        return Ok(());
+    };
+    append_number("lag", lag.most, into)?;
+    if lag.least == 0 {
+        return Ok(());
     }
+    append_number("least", lag.least, into)
 }

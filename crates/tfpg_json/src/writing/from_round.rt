@@ -1,103 +1,109 @@
-//! A round as a JSON value.
+//! A round as JSON, token by token.
 
-ghost use Rattle.std.specs.Prelude.{◌≡◌, ◌<◌, ◌++◌, All, AllPairs, IfOk, OnOk, filter, filter_map, length, map, option_and_then, option_map};
+ghost use Rattle.std.specs.Prelude.{◌≡◌, ◌<◌, ◌++◌, All, AllPairs, OnOk, codes, filter, filter_map, length, map, option_and_then};
 ghost use Rattle.std.specs.Option.{option_copied};
 ghost use Rattle.serde_json.specs.Data.{array, string};
-ghost use Rattle.serde_json.specs.View.{items_view, view};
+ghost use Rattle.serde_json.specs.View.{items_of};
 ghost use Rattle.tfpg_evidence.specs.Findings.{findings_at, is_rejected_now};
 ghost use Rattle.tfpg_evidence.specs.RoundOf.{IsFindingOf, IsRoundOf, finding_numbered, is_open};
 ghost use Rattle.tfpg_graph.specs.Graph.{AreFailures, failure_word, sizes_of};
 ghost use Rattle.tfpg_graph.specs.Members.{doubt_word};
-ghost use Rattle.tfpg_json.specs.RoundData.{counts_data, ranked_data, round_data, round_object, set_data};
+ghost use Rattle.tfpg_json.specs.RoundData.{counts_data, ranked_data, round_data, set_data, sets_data};
+ghost use Rattle.tfpg_json.specs.inside.Tokens.{data_tokens, each_tokens, found_tokens, member_tokens};
 
 use crate::writing::from_names::{doubt_word, failure_name};
-use serde_json::{Value, json};
-use std::alloc::{AllocError, Global};
+use crate::writing::members::{append_count, append_number};
+use json::Writer;
+use std::alloc::Global;
 use tfpg_base::{Doubts, NoMemory, Set};
 use tfpg_evidence::{Counts, Finding, Round, Status};
 use tfpg_graph::Graph;
 
-/// The round.
-pub(crate) fn round_value(alloc: Global, graph: &Graph, round: &Round) -> Result<Value, NoMemory>
+/// Appends the round.
+pub(crate) fn append_round(
+    alloc: Global,
+    graph: &Graph,
+    round: &Round,
+    into: &mut Writer,
+) -> Result<(), NoMemory>
     requires { IsRoundOf (sizes_of graph.now) round.now }
-    ensures { IfOk result (λ value. view value ≡ round_data graph.now round.entry.now) }
+    ensures before { into.new.before ≡ into.old.before }
+    ensures ok { OnOk result
+        (into.new.tokens ≡ into.old.tokens ++ data_tokens (round_data graph.now round.entry.now)) }
 {
     let findings = round.findings.as_slice();
-    let counts = counts_value(alloc, round.counts)?;
-    let left_open = open_values(alloc, graph, findings)?;
-    let ranked = ranked_values(alloc, graph, findings, round.order.as_slice())?;
-    let rejected = rejected_values(alloc, graph, findings)?;
-    Ok(round_object(alloc, round, counts, left_open, ranked, rejected)?)
+    into.begin_object()?;
+    append_counts(round.counts, into)?;
+    append_number("line", round.line, into)?;
+    append_number("now", round.now, into)?;
+    append_open(alloc, graph, findings, into)?;
+    append_ranked(alloc, graph, findings, round.order.as_slice(), into)?;
+    append_rejected(alloc, graph, findings, into)?;
+    append_count("round", round.number, into)?;
+    into.end_object()?;
+    Ok(())
 }
 
-/// A round with these counts and hypotheses.
-fn round_object(
-    alloc: Global,
-    round: &Round,
-    counts: Value,
-    left_open: Vec<Value>,
-    ranked: Vec<Value>,
-    rejected: Vec<Value>,
-) -> Result<Value, AllocError>
-    ensures { IfOk result (λ value. view value ≡ round_object round.entry.now (view counts)
-        (array (items_view left_open.items)) (array (items_view ranked.items))
-        (array (items_view rejected.items))) }
+/// Appends the member with how many hypotheses have each status.
+fn append_counts(counts: Counts, into: &mut Writer) -> Result<(), NoMemory>
+    ensures before { into.new.before ≡ into.old.before }
+    ensures ok { OnOk result
+        (into.new.tokens ≡ into.old.tokens ++ member_tokens (codes "counts") (counts_data counts)) }
 {
-    json!(in alloc; {
-        "counts": counts,
-        "line": round.line,
-        "now": round.now,
-        "open": left_open,
-        "ranked": ranked,
-        "rejected": rejected,
-        "round": round.number
-    })
+    into.key("counts")?;
+    into.begin_object()?;
+    append_count("covered", counts.covered, into)?;
+    append_count("open", counts.left_open, into)?;
+    append_count("ranked", counts.ranked, into)?;
+    append_count("rejected", counts.rejected, into)?;
+    into.end_object()?;
+    Ok(())
 }
 
-/// How many hypotheses have each status.
-fn counts_value(alloc: Global, counts: Counts) -> Result<Value, AllocError>
-    ensures { IfOk result (λ value. view value ≡ counts_data counts) }
-{
-    json!(in alloc; {
-        "covered": counts.covered,
-        "open": counts.left_open,
-        "ranked": counts.ranked,
-        "rejected": counts.rejected
-    })
-}
-
-/// The sets of the open hypotheses.
-fn open_values(alloc: Global, graph: &Graph, findings: &[Finding]) -> Result<Vec<Value>, NoMemory>
-    requires { All (IsFindingOf (sizes_of graph.now)) findings.now }
-    ensures { IfOk result (λ values. map view values.items
-        ≡ map (set_data graph.now) (filter (λ finding. is_open finding.status) findings.now)) }
-{
-    let mut values = Vec::new(alloc);
-    for finding in findings {
-        if is_open(finding) {
-            values.push(set_value(alloc, graph, finding)?)?;
-        }
-    }
-    Ok(values)
-}
-
-/// The sets of the hypotheses that this round rejected.
-fn rejected_values(
+/// Appends the member with the sets of the open hypotheses.
+fn append_open(
     alloc: Global,
     graph: &Graph,
     findings: &[Finding],
-) -> Result<Vec<Value>, NoMemory>
+    into: &mut Writer,
+) -> Result<(), NoMemory>
     requires { All (IsFindingOf (sizes_of graph.now)) findings.now }
-    ensures { IfOk result (λ values. map view values.items
-        ≡ map (set_data graph.now) (filter is_rejected_now findings.now)) }
+    ensures before { into.new.before ≡ into.old.before }
+    ensures ok { OnOk result (into.new.tokens ≡ into.old.tokens ++ member_tokens (codes "open")
+        (sets_data graph.now (filter (λ finding. is_open finding.status) findings.now))) }
 {
-    let mut values = Vec::new(alloc);
+    into.key("open")?;
+    into.begin_array()?;
     for finding in findings {
-        if is_rejected_now(finding) {
-            values.push(set_value(alloc, graph, finding)?)?;
+        if is_open(finding) {
+            append_set(alloc, graph, finding, into)?;
         }
     }
-    Ok(values)
+    into.end_array()?;
+    Ok(())
+}
+
+/// Appends the member with the sets of the hypotheses that this round rejected.
+fn append_rejected(
+    alloc: Global,
+    graph: &Graph,
+    findings: &[Finding],
+    into: &mut Writer,
+) -> Result<(), NoMemory>
+    requires { All (IsFindingOf (sizes_of graph.now)) findings.now }
+    ensures before { into.new.before ≡ into.old.before }
+    ensures ok { OnOk result (into.new.tokens ≡ into.old.tokens ++ member_tokens (codes "rejected")
+        (sets_data graph.now (filter is_rejected_now findings.now))) }
+{
+    into.key("rejected")?;
+    into.begin_array()?;
+    for finding in findings {
+        if is_rejected_now(finding) {
+            append_set(alloc, graph, finding, into)?;
+        }
+    }
+    into.end_array()?;
+    Ok(())
 }
 
 /// Whether the hypothesis is open.
@@ -114,44 +120,49 @@ fn is_rejected_now(finding: &Finding) -> bool
     matches!(finding.status, Status::Rejected) && !finding.steps.as_slice().is_empty()
 }
 
-/// The ranked hypotheses of these numbers, in their order. Costs for each the logarithm of the count of findings, besides its set.
-fn ranked_values(
+/// Appends the member with the ranked hypotheses of these numbers, in their order. Costs for each the logarithm of the count of
+/// findings, besides its set.
+fn append_ranked(
     alloc: Global,
     graph: &Graph,
     findings: &[Finding],
     order: &[u32],
-) -> Result<Vec<Value>, NoMemory>
+    into: &mut Writer,
+) -> Result<(), NoMemory>
     requires findings { All (IsFindingOf (sizes_of graph.now)) findings.now }
     requires rising { AllPairs (λ earlier later. earlier.number < later.number) findings.now }
-    ensures { IfOk result (λ values. map view values.items
-        ≡ filter_map (λ finding. ranked_data graph.now finding finding.status)
-        (findings_at findings.now order.now)) }
+    ensures before { into.new.before ≡ into.old.before }
+    ensures ok { OnOk result (into.new.tokens ≡ into.old.tokens ++ member_tokens (codes "ranked")
+        (array (items_of (filter_map (λ finding. ranked_data graph.now finding finding.status)
+        (findings_at findings.now order.now))))) }
 {
-    let mut values = Vec::new(alloc);
+    into.key("ranked")?;
+    into.begin_array()?;
     for number in order {
-        if let Some(value) = numbered_value(alloc, graph, findings, *number)? {
-            values.push(value)?;
-        }
+        append_numbered(alloc, graph, findings, *number, into)?;
     }
-    Ok(values)
+    into.end_array()?;
+    Ok(())
 }
 
-/// The hypothesis of a number, where it is ranked.
-fn numbered_value(
+/// Appends the hypothesis of a number, where it is ranked.
+fn append_numbered(
     alloc: Global,
     graph: &Graph,
     findings: &[Finding],
     number: u32,
-) -> Result<Option<Value>, NoMemory>
+    into: &mut Writer,
+) -> Result<(), NoMemory>
     requires findings { All (IsFindingOf (sizes_of graph.now)) findings.now }
     requires rising { AllPairs (λ earlier later. earlier.number < later.number) findings.now }
-    ensures { IfOk result (λ value. option_map view value
-        ≡ option_and_then (λ finding. ranked_data graph.now finding finding.status)
-        (finding_numbered findings.now number)) }
+    ensures before { into.new.before ≡ into.old.before }
+    ensures ok { OnOk result (into.new.tokens ≡ into.old.tokens
+        ++ found_tokens (option_and_then (λ finding. ranked_data graph.now finding finding.status)
+        (finding_numbered findings.now number))) }
 {
     match finding_of(findings, number) {
-        Some(finding) => ranked_value(alloc, graph, finding),
-        None => Ok(None),
+        Some(finding) => append_finding(alloc, graph, finding, into),
+        None => Ok(()),
     }
 }
 
@@ -166,11 +177,17 @@ fn finding_of(findings: &[Finding], number: u32) -> Option<&Finding>
     }
 }
 
-/// A hypothesis with its cost and robustness, where it is ranked.
-fn ranked_value(alloc: Global, graph: &Graph, finding: &Finding) -> Result<Option<Value>, NoMemory>
+/// Appends a hypothesis with its cost and robustness, where it is ranked.
+fn append_finding(
+    alloc: Global,
+    graph: &Graph,
+    finding: &Finding,
+    into: &mut Writer,
+) -> Result<(), NoMemory>
     requires { IsFindingOf (sizes_of graph.now) finding.now }
-    ensures { IfOk result (λ value. option_map view value
-        ≡ ranked_data graph.now finding.now finding.now.status) }
+    ensures before { into.new.before ≡ into.old.before }
+    ensures ok { OnOk result (into.new.tokens ≡ into.old.tokens
+        ++ found_tokens (ranked_data graph.now finding.now finding.now.status)) }
 {
     let Status::Ranked {
         trace: _,
@@ -179,65 +196,71 @@ fn ranked_value(alloc: Global, graph: &Graph, finding: &Finding) -> Result<Optio
         monitored,
     } = &finding.status
     else {
-        return Ok(None);
+        return Ok(());
     };
-    let set = set_value(alloc, graph, finding)?;
-    let value = json!(in alloc; {
-        "alarmed": *alarmed,
-        "cost": *cost,
-        "monitored": *monitored,
-        "set": set
-    })?;
-    Ok(Some(value))
+    into.begin_object()?;
+    append_count("alarmed", *alarmed, into)?;
+    append_number("cost", *cost, into)?;
+    append_count("monitored", *monitored, into)?;
+    into.key("set")?;
+    append_set(alloc, graph, finding, into)?;
+    into.end_object()?;
+    Ok(())
 }
 
-/// The set of a finding's hypothesis: the names of its failure modes, and then the words for the monitors that are not believed.
-fn set_value(alloc: Global, graph: &Graph, finding: &Finding) -> Result<Value, NoMemory>
-    requires { IsFindingOf (sizes_of graph.now) finding.now }
-    ensures { IfOk result (λ value. view value ≡ set_data graph.now finding.now) }
-{
-    let mut members = Vec::new(alloc);
-    push_failures(alloc, graph, finding.set, &mut members)?;
-    push_doubts(alloc, graph, finding.doubts, &mut members)?;
-    Ok(Value::from(members))
-}
-
-/// Pushes the names of the failure modes, in the order of their positions.
-fn push_failures(
+/// Appends the set of a finding's hypothesis: the names of its failure modes, and then the words for the monitors that are not
+/// believed.
+fn append_set(
     alloc: Global,
     graph: &Graph,
-    set: Set,
-    members: &mut Vec<Value>,
+    finding: &Finding,
+    into: &mut Writer,
 ) -> Result<(), NoMemory>
+    requires { IsFindingOf (sizes_of graph.now) finding.now }
+    ensures before { into.new.before ≡ into.old.before }
+    ensures ok { OnOk result
+        (into.new.tokens ≡ into.old.tokens ++ data_tokens (set_data graph.now finding.now)) }
+{
+    into.begin_array()?;
+    append_failures(graph, finding.set, into)?;
+    append_doubts(alloc, graph, finding.doubts, into)?;
+    into.end_array()?;
+    Ok(())
+}
+
+/// Appends the names of the failure modes, in the order of their positions.
+fn append_failures(graph: &Graph, set: Set, into: &mut Writer) -> Result<(), NoMemory>
     requires { AreFailures graph.now set }
-    ensures { OnOk result (map view members.new.items
-        ≡ map view members.old.items ++ map string (map (failure_word graph.now) set)) }
+    ensures before { into.new.before ≡ into.old.before }
+    ensures ok { OnOk result (into.new.tokens
+        ≡ into.old.tokens ++ each_tokens (map string (map (failure_word graph.now) set))) }
 {
     for position in 0..graph.failure_count() {
         if set.has(position) {
-            members.push(Value::try_from_str(alloc, failure_name(graph, position))?)?;
+            into.string(failure_name(graph, position))?;
         }
     }
     Ok(())
 }
 
-/// Pushes the words for the monitors that are not believed, in the order of their nodes.
-fn push_doubts(
+/// Appends the words for the monitors that are not believed, in the order of their nodes.
+fn append_doubts(
     alloc: Global,
     graph: &Graph,
     doubts: Doubts,
-    members: &mut Vec<Value>,
+    into: &mut Writer,
 ) -> Result<(), NoMemory>
     requires { All (λ node. node < length graph.now.nodes) doubts }
-    ensures { OnOk result (map view members.new.items
-        ≡ map view members.old.items ++ map string (map (doubt_word graph.now) doubts)) }
+    ensures before { into.new.before ≡ into.old.before }
+    ensures ok { OnOk result (into.new.tokens
+        ≡ into.old.tokens ++ each_tokens (map string (map (doubt_word graph.now) doubts))) }
 {
     if doubts.len() == 0 {
         return Ok(());
     }
     for node in 0..graph.node_count() {
         if doubts.has(node) {
-            members.push(Value::from(doubt_word(alloc, graph, node)?))?;
+            into.string(doubt_word(alloc, graph, node)?.as_str())?;
         }
     }
     Ok(())

@@ -1,7 +1,15 @@
-use Rattle.std.proofs.Common.{ap, ◌∙◌}
-use Rattle.serde_json.specs.Written.{has_float}
-use Rattle.tfpg_json.proofs.NoFractions.{graph_whole}
+use Rattle.std.proofs.Common.{[], ◌∷◌, ◌++◌, ap, ◌∙◌, append_assoc}
+use Rattle.serde_json.specs.Written.{compact_text}
+use Rattle.tfpg_json.specs.GraphData.{graph_data}
+use Rattle.tfpg_json.proofs.TokensWritten.{text_written}
 use Rattle.tfpg_json.proofs.writing.write_graph.Goals as goal
 
-pub append_json-requires : goal.append_json-requires
-append_json-requires c = ap has_float c.in_ok-value.ensures ∙ graph_whole c.args.graph.now
+pub returns : goal.returns
+returns c =
+    let old = c.args.into.now.items in
+    let value = graph_data c.args.graph.now in
+    c.in_ok-push.ensures.items
+    ∙ ap (λ bytes. bytes ++ 10 ∷ [])
+    (text_written old value c.writer_after-writer.result c.append_graph-written.new.into _ c.writer_after-writer.ensures.before c.writer_after-writer.ensures.tokens
+    c.in_ok-written.ensures.before c.into_inner.ensures.items c.in_ok-written.ensures.ok)
+    ∙ append_assoc old (compact_text value) (10 ∷ [])

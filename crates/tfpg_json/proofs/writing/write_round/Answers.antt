@@ -1,7 +1,9 @@
-use Rattle.std.proofs.Common.{ap, ◌∙◌}
-use Rattle.serde_json.specs.Written.{has_float}
-use Rattle.tfpg_json.proofs.NoFractions.{round_whole}
+use Rattle.tfpg_json.specs.RoundData.{round_data}
+use Rattle.tfpg_json.proofs.TokensWritten.{text_appended}
 use Rattle.tfpg_json.proofs.writing.write_round.Goals as goal
 
-pub append_json-requires : goal.append_json-requires
-append_json-requires c = ap has_float c.in_ok-value.ensures ∙ round_whole c.args.graph.now c.args.round.now
+pub returns : goal.returns
+returns c =
+    text_appended c.args.into.now.items (round_data c.args.graph.now c.args.round.now) c.writer_after-writer.result c.append_round-written.new.into _
+    c.writer_after-writer.ensures.before c.writer_after-writer.ensures.tokens c.append_round-written.ensures.before c.into_inner.ensures.items
+    c.append_round-written.result c.append_round-written.ensures.ok

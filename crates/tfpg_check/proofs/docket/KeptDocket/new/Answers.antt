@@ -25,6 +25,7 @@ pub invariant_of-result : goal.invariant_of-result
 invariant_of-result c = (
   one_checker_each c.args.graph.now c.args.terms c.in_ok-table.table c.in_ok-checkers.checkers.items (c.in_ok-table.ensures.table c.args.terms refl refl) c.in_ok-checkers.ensures,
   c.in_ok-largest_parts.ensures,
+  tt,
 )
 
 pub returns-clause-keeps : goal.returns-clause-keeps

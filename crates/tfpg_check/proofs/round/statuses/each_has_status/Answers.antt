@@ -1,8 +1,18 @@
-use Rattle.std.proofs.Common.{refl, arith}
+use Rattle.std.proofs.Common.{length, refl, ap, arith}
 use Rattle.std.proofs.lemmas.Bool.{false≢true}
-use Rattle.tfpg_check.proofs.judging.HearingSays.{statuses_hold, statuses_fail}
+use Rattle.tfpg_check.proofs.judging.HearingSays.{flagged_has_status, statuses_hold, statuses_fail}
 use Rattle.tfpg_check.proofs.judging.TestsInTurn.{not_where_false}
 use Rattle.tfpg_check.proofs.round.statuses.each_has_status.Goals as goal
+
+pub returns-then-is_each_known : goal.returns-then-is_each_known
+returns-then-is_each_known c = λ docket is. (
+  λ holds.
+      (let hearing = c.args.hearing.now in
+      let known = c.is_each_known.ensures c.if-is_each_known.true in
+      statuses_hold docket hearing is (length hearing.table.now.hypotheses) (omega arith)
+      (λ number within. flagged_has_status hearing known.no_parts number (is.all_flagged known.all_flagged number (omega (arith, within, ap length is.hypotheses))))),
+  λ each. refl,
+)
 
 pub returns-then-not-has_status : goal.returns-then-not-has_status
 returns-then-not-has_status c = λ docket is. (

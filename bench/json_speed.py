@@ -1,0 +1,141 @@
+#!/usr/bin/env python3
+"""Times `convert` on the largest graph, both ways, and `convert --json` on hostile texts of 16 MiB.
+
+    bench/json_speed.py [--program FILE] [--only WORD].. [--runs N] [--keep FOLDER]
+
+- "to JSON", "from JSON": the graph of `bench/graph_texts.py`, with 512 nodes, 2,048 edges and 64 modes, and in each edge a list of
+  63 names of 32 bytes. The JSON that comes must be read back as the same text.
+- the others are texts that are no graph, each of them refused with `graph 0 BadLine`: arrays that nest without an end, as deep as may
+  be, or empty; numbers; a number of 16 MiB; texts, short ones, a long one, one of escapes; objects, empty or with one member; keys in
+  one object, rising, falling or mixed; blanks; and a text whose last byte is wrong, because it is no UTF-8, or no JSON.
+
+A line has the processor time beyond the start of the program on the smallest graph, the shortest of some runs, and the peak memory.
+"""
+
+import argparse
+import os
+import random
+import subprocess
+import sys
+import tempfile
+from pathlib import Path
+
+from diagnose import built_program
+from graph_texts import MOST_BYTES, largest_graph
+
+SMALLEST = "tfpg 1\nmode N\nend\n"
+BAD_GRAPH = 3
+
+
+def filled(front, item, back, between=","):
+    """A text of at most 16 MiB that has this item as often as it fits."""
+    count = (MOST_BYTES - len(front) - len(back) + len(between)) // (len(item) + len(between))
+    return front + between.join([item] * count) + back
+
+
+def numbered(order):
+    """One object with as many keys of seven digits as fit, in this order."""
+    count = (MOST_BYTES - 2) // len('"1234567":0,')
+    return "{" + ",".join(f'"{number:07}":0' for number in order(range(count))) + "}"
+
+
+def mixed(numbers):
+    found = list(numbers)
+    random.Random(1).shuffle(found)
+    return found
+
+
+def hostile_texts():
+    """The name of each text, and how it is made."""
+    deep = "[" * 126 + "]" * 126
+    zeros = filled("[", "0", "]")
+    yield "nesting without an end", lambda: "[" * MOST_BYTES
+    yield "nesting as deep as may be", lambda: filled("[", deep, "]")
+    yield "empty arrays", lambda: filled("[", "[]", "]")
+    yield "numbers", lambda: zeros
+    yield "a long number", lambda: "1" * MOST_BYTES
+    yield "a long fraction", lambda: "0." + "1" * (MOST_BYTES - 2)
+    yield "empty texts", lambda: filled("[", '""', "]")
+    yield "short texts", lambda: filled("[", '"a"', "]")
+    yield "a long text", lambda: '"' + "a" * (MOST_BYTES - 2) + '"'
+    yield "a text of escapes", lambda: filled('"', "\\u0041", '"', between="")
+    yield "empty objects", lambda: filled("[", "{}", "]")
+    yield "small objects", lambda: filled("[", '{"":0}', "]")
+    yield "nested objects", lambda: filled("[", '{"":' * 126 + "0" + "}" * 126, "]")
+    yield "rising keys", lambda: numbered(lambda numbers: numbers)
+    yield "falling keys", lambda: numbered(reversed)
+    yield "mixed keys", lambda: numbered(mixed)
+    yield "the same key", lambda: filled("{", '"":0', "}")
+    yield "blanks", lambda: " " * MOST_BYTES
+    yield "lines", lambda: "\n" * MOST_BYTES
+    yield "no UTF-8 at the end", lambda: zeros[:-1].encode() + b"\xff"
+    yield "no JSON at the end", lambda: zeros[:-1] + "}"
+    yield "a graph that is cut short", lambda: filled('{"modes":["N"],"edges":[],"nodes":[', '{"kind":"or","name":"A"}', "")
+
+
+def run(program, words):
+    """The status, what was written, the processor seconds, and the peak memory in KB, as GNU time reports it."""
+    process = subprocess.Popen(
+        ["/usr/bin/time", "-q", "-f", "%M", program, *words], stdin=subprocess.DEVNULL, stdout=subprocess.PIPE, stderr=subprocess.PIPE
+    )
+    out = process.stdout.read()
+    said = process.stderr.read().decode().split("\n")
+    _, status, usage = os.wait4(process.pid, 0)
+    process.returncode = os.waitstatus_to_exitcode(status)
+    return process.returncode, out, said[0], usage.ru_utime + usage.ru_stime, int(said[-2])
+
+
+def shortest(program, words, runs, status, said=None):
+    """What was written, the seconds of the shortest of some runs, and the peak memory."""
+    best = None
+    for _ in range(runs):
+        came, out, line, took, peak = run(program, words)
+        if came != status or (said and line != said):
+            raise SystemExit(f"{words}: status {came}, {line}")
+        best = took if best is None else min(best, took)
+    return out, best, peak
+
+
+def show(name, size, seconds, peak):
+    print(f"{name:26} {size / 1e6:5.1f} MB {1000 * seconds:7.1f} ms {peak / 1024:7.1f} MB resident", flush=True)
+
+
+def main():
+    arguments = argparse.ArgumentParser(description=__doc__, formatter_class=argparse.RawDescriptionHelpFormatter)
+    arguments.add_argument("--program", type=Path, metavar="FILE", help="a built program")
+    arguments.add_argument("--only", action="append", metavar="WORD", help="only the texts whose names begin so")
+    arguments.add_argument("--runs", type=int, default=7)
+    arguments.add_argument("--keep", type=Path, help="the folder for the texts, which stay there")
+    words = arguments.parse_args()
+    program = built_program(words.program)
+    wanted = lambda name: not words.only or any(name.startswith(word) for word in words.only)
+    with tempfile.TemporaryDirectory() as folder:
+        top = words.keep or Path(folder)
+        top.mkdir(exist_ok=True)
+        (top / "smallest").write_text(SMALLEST)
+        _, start, _ = shortest(program, ["convert", top / "smallest"], 3 * words.runs, 0)
+        random.seed(1)
+        text, json = top / "largest", top / "largest.json"
+        text.write_text(largest_graph())
+        written, to_json, peak = shortest(program, ["convert", text], words.runs, 0)
+        json.write_bytes(written)
+        if wanted("to JSON"):
+            show("to JSON", len(written), to_json - start, peak)
+        if wanted("from JSON"):
+            again, from_json, peak = shortest(program, ["convert", "--json", json], words.runs, 0)
+            show("from JSON", len(written), from_json - start, peak)
+            (top / "again").write_bytes(again)
+            if shortest(program, ["convert", top / "again"], 1, 0)[0] != written:
+                raise SystemExit("the graph that is read back is another one")
+        for number, (name, make) in enumerate(hostile_texts()):
+            if wanted(name):
+                made = make()
+                hostile = top / f"hostile-{number}.json"
+                hostile.write_bytes(made if isinstance(made, bytes) else made.encode())
+                _, seconds, peak = shortest(program, ["convert", "--json", hostile], words.runs, BAD_GRAPH, "graph 0 BadLine")
+                show(name, hostile.stat().st_size, seconds - start, peak)
+    return 0
+
+
+if __name__ == "__main__":
+    sys.exit(main())

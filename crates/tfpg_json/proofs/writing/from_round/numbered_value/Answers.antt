@@ -1,9 +1,0 @@
-use Rattle.std.proofs.Common.{sym}
-use Rattle.tfpg_evidence.specs.RoundOf.{IsFindingOf}
-use Rattle.tfpg_graph.specs.Graph.{sizes_of}
-use Rattle.tfpg_json.proofs.FindingsByNumber.{finding_numbered-all}
-use Rattle.tfpg_json.proofs.writing.from_round.numbered_value.Goals as goal
-
-pub ranked_value-requires : goal.ranked_value-requires
-ranked_value-requires c =
-    finding_numbered-all (IsFindingOf (sizes_of c.args.graph.now)) c.args.findings.now c.args.number _ c.requires.findings (sym c.in-Some.ensures)
