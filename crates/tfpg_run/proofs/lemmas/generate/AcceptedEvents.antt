@@ -1,5 +1,5 @@
 -- A log whose lines are all accepted has an event for each.
-use Rattle.std.proofs.Common.{◌≡◌, ℕ, suc, ◌≤◌, cond, List, [], ◌∷◌, ◌++◌, length, take, refl, sym, ap, ◌∙◌, arith}
+use Rattle.std.proofs.Common.{◌≡◌, ℕ, zero, suc, ◌≤◌, cond, List, [], ◌∷◌, ◌++◌, length, take, refl, sym, ap, ◌∙◌, arith}
 use Rattle.std.proofs.lemmas.List.{take_all, length_push}
 use Rattle.tfpg_base.proofs.lists.Cuts.{take-item}
 use Rattle.tfpg_base.proofs.lists.Elements.{slice_get-there}
@@ -21,7 +21,7 @@ module _ (graph : Tfpg) where
 
   -- so the first lines have as many events
   first_events : (lines : List (List ℕ)) → AreAccepted graph lines → (count : ℕ) → count ≤ length lines → length (log_of_lines graph (take count lines)).events ≡ count
-  first_events lines accepted 0 within = refl
+  first_events lines accepted zero within = refl
   first_events lines accepted (suc count) within =
       let there = slice_get-there lines count (omega (arith, within)) in
       let more = accepted count there.0 there.1 in
