@@ -229,12 +229,16 @@ fn an_unreadable_file_is_a_read_fault(rt: HostRuntime) -> Result<(), Fail> {
 }
 
 /// A graph of two failure modes, of which both explain an alarm of `A` at 30.
-const TWO_CAUSES: &str = "tfpg 1\nmode N\nfailure F1 3\nfailure F2 5\nor A watch 0\nor B hidden\nand C watch 0\n\
+const TWO_CAUSES: &str =
+    "tfpg 1\nmode N\nfailure F1 3\nfailure F2 5\nor A watch 0\nor B hidden\nand C watch 0\n\
     edge F1 A 10 20 *\nedge F2 A 5 5 *\nedge F1 B 0 inf *\nedge A C 0 10 *\nedge B C 0 10 *\nend\n";
 
 /// What panels of each kind write, in the files of these names.
 const PANEL_FILES: [(&str, &str); 3] = [
-    ("top.file_panel", "round 1 best F1 cost 3\nround 2 best F1 cost 3\n"),
+    (
+        "top.file_panel",
+        "round 1 best F1 cost 3\nround 2 best F1 cost 3\n",
+    ),
     (
         "count.file_panel",
         "round 1 ranked 2 covered 0 rejected 1 open 0\nround 2 ranked 2 covered 0 rejected 1 open 0\n",
