@@ -25,7 +25,7 @@ use Rattle.tfpg_check.specs.RightReports.{LinesHaveOneCause, LinesOfTooManyHaveN
 use Rattle.tfpg_check.proofs.FirstLines.{OneLine, few_hypotheses}
 use Rattle.tfpg_sim.specs.Script.{IsScriptFault}
 use Rattle.tfpg_words.specs.declared.usage_cause.UsageCause.{UsageCause}
-use Rattle.tfpg_words.specs.Meaning.{Meaning, Diagnose, Explain, Check, Simulate, Generate, Convert, Ask, Fleet}
+use Rattle.tfpg_words.specs.Meaning.{Meaning, Diagnose, Explain, Check, Simulate, Generate, Convert, Ask, Fleet, Predict}
 use Rattle.tfpg_run.specs.declared.end.End.{End}
 use Rattle.tfpg_run.specs.declared.end.End.TheVariants as ends
 use Rattle.tfpg_run.specs.declared.fault.FetchFault.{FetchFault}
@@ -42,7 +42,7 @@ use Rattle.tfpg_run.specs.declared.fault.OutputFault.{OutputFault}
 use Rattle.tfpg_run.specs.declared.fault.OutputFault.TheVariants as output
 use Rattle.tfpg_run.specs.declared.fault.QuestionsFault.{QuestionsFault}
 use Rattle.tfpg_run.specs.declared.fault.QuestionsFault.TheVariants as questions
-use Rattle.tfpg_run.specs.Completeness.{CanAsk, CanCheck, CanConvert, CanDiagnose, CanExplain, CanJudge, CanRefuse, CanSimulate, CanBeDone, NothingFails, IsShort, IsCompleted, IsRefusedFor, CanFleet}
+use Rattle.tfpg_run.specs.Completeness.{CanAsk, CanCheck, CanConvert, CanDiagnose, CanExplain, CanJudge, CanRefuse, CanSimulate, CanBeDone, NothingFails, IsShort, IsCompleted, IsRefusedFor, CanFleet, CanPredict}
 use Rattle.tfpg_run.specs.EndsOf.{end_of_fetch_fault, end_of_stream_fault, end_of_check_fault, end_of_explain_fault, end_of_simulate_fault, end_of_output_fault, end_of_questions_fault, end_of_result}
 use Rattle.tfpg_run.specs.Fetch.{HasFile, IsTooLong, GivesGraph, GivesGraphBy, GivesGraphAndText, HasFaultyGraphBy, IsFetchFaultBy, IsFilesFault, LacksGraphOrText}
 use Rattle.tfpg_run.specs.generate.Generating.{HasSummary}
@@ -59,6 +59,8 @@ use Rattle.tfpg_run.specs.diagnose.Diagnosing.{DiagnoseEnds}
 use Rattle.tfpg_run.specs.diagnose.RightReport.{IsRightReport, BeginsRightReport}
 use Rattle.tfpg_run.specs.diagnose.TellsPanels.{desks}
 use Rattle.tfpg_run.specs.simulate.Simulating.{HasSimulation, SimulateEnds, SimulationEnds}
+use Rattle.tfpg_run.specs.predict.Forecasts.{HasForecasts, Prediction, prediction}
+use Rattle.tfpg_run.specs.predict.Predicting.{PredictEnds, PredictionEnds}
 use Rattle.tfpg_run.specs.Streams.{HasLeft}
 use Rattle.tfpg_run.specs.World.{World, streams_of}
 
@@ -371,6 +373,20 @@ module _ (graphs : GraphLaws) (laws : CheckLaws) (before now : World) (calm : No
       subst IsCompleted (sym asks.works.end_is)
       (questions_written terms asks.graph asks.other (λ count. can.few asks.graph count asks.gives.of_graph) asks.works.result asks.works.works)
 
+  -- a prediction
+  predicted : (end : End) (asked : Prediction) (graph_name log_name : List ℕ) → CanPredict before.shelf asked graph_name log_name → PredictEnds asked graph_name log_name before now end → IsCompleted end
+  predicted end asked graph_name log_name can (inl lacks) =
+      inr (without_memory end lacks.fault
+      (both_fetched before.shelf can.files can.known graphs graph_name can.graph can.gives.of_graph now.shelf log_name can.log_text can.gives.file lacks.fault calm.shelf lacks.is_fault) lacks.end_is)
+  predicted end asked graph_name log_name can (inr predicts) = go predicts.works
+    where
+      go : PredictionEnds asked before now predicts.graph predicts.other end → IsCompleted end
+      go (inl none) = absurd (can.takes_probe predicts.graph none.fault predicts.gives.of_graph none.is_fault)
+      go (inr (inl many)) = absurd (omega (arith, many.2.too_many, can.few predicts.graph many.2.count predicts.gives.of_graph many.2.counted))
+      go (inr (inr writes)) =
+          subst IsCompleted (sym writes.ends.end_is)
+          (text_written (HasForecasts predicts.graph asked writes.node (lines_of predicts.other)) writes.ends.result writes.ends.works)
+
   completed : (meant : Meaning) (end : End) → CanBeDone meant before → CommandEnds (Ok meant) before now end → IsCompleted end
   completed (Diagnose terms graph panels) end can is = diagnosed can.1 end terms graph can.0 is
   completed (Explain graph log) end can is = explained end graph log can is
@@ -380,6 +396,7 @@ module _ (graphs : GraphLaws) (laws : CheckLaws) (before now : World) (calm : No
   completed (Convert json graph) end can is = converted json end graph can is.0
   completed (Ask terms graph log) end can is = asked terms end graph log can is.0
   completed (Fleet terms graph names) end can is = fleet_diagnosed can.1 end (fleet_words terms graph names) can.0 is
+  completed (Predict terms ahead graph log node) end can is = predicted end (prediction terms ahead node) graph log can is.0
 
   -- the whole run
   pub run_completes : (words : Result Meaning UsageCause) (meant : Meaning) (end : End) → words ≡ Ok meant → CanBeDone meant before → RunEnds words before now end

@@ -7,3 +7,4 @@ pub mod diagnosis
 pub mod generate
 pub mod ask
 pub mod fleet
+pub mod predict

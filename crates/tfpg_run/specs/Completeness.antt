@@ -1,5 +1,5 @@
 -- When a run is done, or memory ran out: where the files, the input and the output serve what the words mean.
-use Rattle.std.specs.Prelude.{◌≡◌, ◌⊎◌, ℕ, ◌≤◌, List, length, Bool, Some}
+use Rattle.std.specs.Prelude.{◌≡◌, ◌⊎◌, ℕ, ◌≤◌, List, length, Bool, Some, Err}
 use Rattle.tfpg_base.specs.declared.limits.TheConstants.{MAX_BYTES}
 use Rattle.tfpg_base.specs.Outside.{SourceState, ShelfState, Rose}
 use Rattle.tfpg_base.specs.Lines.{lines_of}
@@ -11,7 +11,7 @@ use Rattle.tfpg_report.specs.Blocks.{Block}
 use Rattle.tfpg_check.specs.declared.cause.CheckCause.{CheckCause}
 use Rattle.tfpg_check.specs.Causes.{AreReportLines, IsCause}
 use Rattle.tfpg_sim.specs.Script.{IsScriptFault}
-use Rattle.tfpg_words.specs.Meaning.{Meaning, Diagnose, Explain, Check, Simulate, Generate, Convert, Ask, Fleet}
+use Rattle.tfpg_words.specs.Meaning.{Meaning, Diagnose, Explain, Check, Simulate, Generate, Convert, Ask, Fleet, Predict}
 use Rattle.tfpg_base.specs.declared.terms.Terms.{Terms}
 use Rattle.tfpg_run.specs.declared.end.End.{End}
 use Rattle.tfpg_run.specs.declared.end.End.TheVariants.{Done, NoMemory, NotAccepted}
@@ -21,6 +21,9 @@ use Rattle.tfpg_run.specs.convert.Converting.{SpellsFrom}
 use Rattle.tfpg_run.specs.map.Spelling.{HasMap}
 use Rattle.tfpg_fleet.specs.TooMany.{IsTooMany}
 use Rattle.tfpg_run.specs.fleet.FleetEnds.{FleetWords, fleet_words}
+use Rattle.tfpg_run.specs.declared.fault.ProbeFault.{ProbeFault}
+use Rattle.tfpg_run.specs.predict.Forecasts.{Prediction, prediction}
+use Rattle.tfpg_run.specs.predict.Probing.{probed_node}
 use Rattle.tfpg_run.specs.World.{World}
 
 -- The input is known, and has at most 2^32 bytes left.
@@ -108,6 +111,18 @@ pub record CanFleet (shelf : ShelfState) (said : FleetWords) : Type 0 where
   pub gives : GivesGraph shelf said.file graph
   pub few : (other : Tfpg) (count : ℕ) → GivesGraph shelf said.file other → IsTooMany other said.terms (length said.names) count → ⊥
 
+-- The contents of the shelf are known, and the files of these names give a graph and a text. Each graph that the one gives takes a
+-- probe of the node, and has at most 4,096 hypotheses on these terms.
+pub record CanPredict (shelf : ShelfState) (asked : Prediction) (graph_name log_name : List ℕ) : Type 0 where
+  pub files : List (List ℕ × List ℕ)
+  pub known : shelf.files ≡ Some files
+  pub graph : Tfpg
+  pub log_text : List ℕ
+  pub gives : GivesGraphAndText shelf graph_name log_name graph log_text
+  pub takes_probe : (other : Tfpg) (fault : ProbeFault) → GivesGraph shelf graph_name other → probed_node other asked.node ≡ Err fault → ⊥
+  pub few : (other : Tfpg) (count : ℕ) → GivesGraph shelf graph_name other → HasHypotheses other asked.terms count
+      → count ≤ MAX_HYPOTHESES
+
 -- The files serve what the words mean, and so does the input where it is read.
 abbrev pub CanBeDone : Meaning → World → Type 0
 CanBeDone (Diagnose terms graph panels) before =
@@ -119,6 +134,7 @@ CanBeDone (Generate draw size) before = Unit {0}
 CanBeDone (Convert json graph) before = CanConvert before.shelf json graph
 CanBeDone (Ask terms graph log) before = CanAsk before.shelf terms graph log
 CanBeDone (Fleet terms graph names) before = CanFleet before.shelf (fleet_words terms graph names) × IsShort before.input
+CanBeDone (Predict terms ahead graph log node) before = CanPredict before.shelf (prediction terms ahead node) graph log
 
 -- Neither the shelf, nor the input, nor the output failed.
 pub record NothingFails (before now : World) : Type 0 where

@@ -54,6 +54,7 @@ usage_name usage.BadNumber = codes "BadNumber"
 usage_name usage.OutOfRange = codes "OutOfRange"
 usage_name usage.BadPanel = codes "BadPanel"
 usage_name usage.BadNames = codes "BadNames"
+usage_name usage.UnknownNode = codes "UnknownNode"
 
 -- the name of what is wrong with a graph
 abbrev pub graph_cause_name : GraphCause → List ℕ

@@ -14,6 +14,10 @@ use Rattle.tfpg_run.specs.declared.fault.OutputFault.{OutputFault}
 use Rattle.tfpg_run.specs.declared.fault.OutputFault.TheVariants as output
 use Rattle.tfpg_run.specs.declared.fault.QuestionsFault.{QuestionsFault}
 use Rattle.tfpg_run.specs.declared.fault.QuestionsFault.TheVariants as questions
+use Rattle.tfpg_run.specs.declared.fault.ProbeFault.{ProbeFault}
+use Rattle.tfpg_run.specs.declared.fault.ProbeFault.TheVariants as probe
+use Rattle.tfpg_graph.specs.declared.cause.GraphCause.TheVariants as graph
+use Rattle.tfpg_words.specs.declared.usage_cause.UsageCause.TheVariants.{UnknownNode}
 use Rattle.tfpg_check.specs.declared.cause.CheckCause.TheVariants.{BadMap, BadScript}
 use Rattle.tfpg_run.specs.declared.end.End.{End}
 use Rattle.tfpg_run.specs.declared.end.End.TheVariants as ends
@@ -59,6 +63,12 @@ abbrev pub end_of_questions_fault : QuestionsFault → End
 end_of_questions_fault (questions.TooMany count) = ends.TooManyHypotheses count
 end_of_questions_fault questions.WriteFault = ends.WriteFault
 end_of_questions_fault questions.NoMemory = ends.NoMemory
+
+-- the end of a run whose node takes no probe
+abbrev pub end_of_probe_fault : ProbeFault → End
+end_of_probe_fault probe.TooManyNodes = ends.Graph 0 graph.TooManyNodes
+end_of_probe_fault probe.TooManyEdges = ends.Graph 0 graph.TooManyEdges
+end_of_probe_fault probe.UnknownNode = ends.Usage UnknownNode
 
 -- the end of a run whose work has this result, by the ends that its faults lead to
 abbrev pub end_of_result : {E : Type 0} → (E → End) → Result (Unit {0}) E → End

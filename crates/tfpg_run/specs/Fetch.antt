@@ -11,7 +11,7 @@ use Rattle.tfpg_graph.specs.Faults.{IsFirstFault}
 use Rattle.tfpg_log.specs.Log.{Logbook}
 use Rattle.tfpg_log.specs.LogOfLines.{log_of_lines}
 use Rattle.tfpg_words.specs.declared.usage_cause.UsageCause.{UsageCause}
-use Rattle.tfpg_words.specs.Meaning.{Meaning, Diagnose, Explain, Check, Simulate, Generate, Convert, Ask, Fleet}
+use Rattle.tfpg_words.specs.Meaning.{Meaning, Diagnose, Explain, Check, Simulate, Generate, Convert, Ask, Fleet, Predict}
 use Rattle.tfpg_run.specs.declared.end.End.{End}
 use Rattle.tfpg_run.specs.declared.fault.FetchFault.{FetchFault}
 use Rattle.tfpg_run.specs.declared.fault.FetchFault.TheVariants.{Failed, TooLong, Graph, NoMemory}
@@ -108,6 +108,7 @@ AsksOnly (Ok (Generate draw size)) before after = after ≡ before
 AsksOnly (Ok (Convert json graph)) before after = AsksFor graph before after
 AsksOnly (Ok (Ask terms graph log)) before after = AsksInOrder (graph ∷ log ∷ []) before after
 AsksOnly (Ok (Fleet terms graph names)) before after = AsksFor graph before after
+AsksOnly (Ok (Predict terms ahead graph log node)) before after = AsksInOrder (graph ∷ log ∷ []) before after
 
 -- What is wanted of the shelf is not there, with a cause of which this holds, and all else is untouched.
 pub record LacksFiles (IsFault : FetchFault → Type 0) (before now : World) (end : End) : Type 0 where

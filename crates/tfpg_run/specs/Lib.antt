@@ -20,5 +20,6 @@ pub mod generate
 pub mod convert
 pub mod ask
 pub mod fleet
+pub mod predict
 -- What the code and its proofs need besides. No public clause reaches it.
 pub mod inside

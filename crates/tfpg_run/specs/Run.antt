@@ -1,7 +1,7 @@
 -- How a run of the program ends, and what it has done with the outside by then.
 use Rattle.std.specs.Prelude.{◌≡◌, ◌⊎◌, Result, Ok, Err}
 use Rattle.tfpg_words.specs.declared.usage_cause.UsageCause.{UsageCause}
-use Rattle.tfpg_words.specs.Meaning.{Meaning, Diagnose, Explain, Check, Simulate, Generate, Convert, Ask, Fleet}
+use Rattle.tfpg_words.specs.Meaning.{Meaning, Diagnose, Explain, Check, Simulate, Generate, Convert, Ask, Fleet, Predict}
 use Rattle.tfpg_panel.specs.Desk.{DeskState}
 use Rattle.tfpg_run.specs.declared.end.End.{End}
 use Rattle.tfpg_run.specs.declared.end.End.TheVariants as ends
@@ -14,6 +14,8 @@ use Rattle.tfpg_run.specs.generate.Generating.{GenerateEnds}
 use Rattle.tfpg_run.specs.convert.Converting.{ConvertEnds}
 use Rattle.tfpg_run.specs.ask.Asking.{AskEnds}
 use Rattle.tfpg_run.specs.fleet.FleetEnds.{FleetEnds, fleet_words}
+use Rattle.tfpg_run.specs.predict.Forecasts.{prediction}
+use Rattle.tfpg_run.specs.predict.Predicting.{PredictEnds}
 
 -- No command touches the desk but the one that diagnoses, and words that are refused do not either.
 abbrev pub LeavesDesk : Result Meaning UsageCause → DeskState → DeskState → Type 0
@@ -25,6 +27,7 @@ LeavesDesk (Ok (Generate draw size)) before now = now ≡ before
 LeavesDesk (Ok (Convert json graph)) before now = now ≡ before
 LeavesDesk (Ok (Ask terms graph log)) before now = now ≡ before
 LeavesDesk (Ok (Fleet terms graph names)) before now = now ≡ before
+LeavesDesk (Ok (Predict terms ahead graph log node)) before now = now ≡ before
 LeavesDesk (Err cause) before now = now ≡ before
 
 -- How a run ends whose words mean this: words that are refused have their cause, and nothing was asked for, taken or
@@ -41,6 +44,8 @@ CommandEnds (Ok (Generate draw size)) before now end = GenerateEnds draw size be
 CommandEnds (Ok (Convert json graph)) before now end = ConvertEnds json graph before now end × (now.input ≡ before.input)
 CommandEnds (Ok (Ask terms graph log)) before now end = AskEnds terms graph log before now end × (now.input ≡ before.input)
 CommandEnds (Ok (Fleet terms graph names)) before now end = FleetEnds (fleet_words terms graph names) before now end
+CommandEnds (Ok (Predict terms ahead graph log node)) before now end =
+    PredictEnds (prediction terms ahead node) graph log before now end × (now.input ≡ before.input)
 
 -- How a run ends: as the words say; or memory ran out for the words, and nothing was asked for, taken or written.
 abbrev pub RunEnds : Result Meaning UsageCause → World → World → End → Type 0

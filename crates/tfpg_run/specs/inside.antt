@@ -10,4 +10,5 @@ pub mod generate
 pub mod ask
 pub mod convert
 pub mod fleet
+pub mod predict
 pub mod Writing

@@ -22,6 +22,7 @@ use crate::end::End;
 use crate::explain::explain_by_files;
 use crate::fleet::{FleetSubject, fleet_file};
 use crate::generate::generate_summary;
+use crate::predict::{Asked, predict_by_files};
 use crate::simulate::simulate_files;
 use std::alloc::Global;
 use std::sync::ledger::Ledger;
@@ -42,7 +43,8 @@ use tfpg_words::{Command, plan};
 /// the truth. To convert it reads the graph that they name, and writes it in the other form: a graph text as JSON, or JSON as a
 /// graph text. To ask it reads the graph and the log that they name, diagnoses the log, and writes which observation would tell most. To
 /// diagnose a fleet it reads the graph, then takes the input line by line, writes the answer to each line before the next one is taken, and
-/// at the end writes how many vehicles have which failure mode. Searches count their steps on `work`.
+/// at the end writes how many vehicles have which failure mode. To predict it reads the graph and the log that they name, diagnoses the
+/// log, and writes when at the earliest a node becomes active by each ranked hypothesis. Searches count their steps on `work`.
 pub fn run<F: Shelf, S: Source, K: Sink, P: Panel, L: Ledger>(
     alloc: Global,
     words: &[String],
@@ -199,6 +201,28 @@ fn perform<F: Shelf, S: Source, K: Sink, P: Panel, L: Ledger>(
                 terms,
             };
             fleet_file(alloc, &subject, shelf, input, out, work)
+        }
+        Command::Predict {
+            k,
+            doubt,
+            budget,
+            ahead,
+            graph,
+            log,
+            node,
+        } => {
+            let asked = Asked {
+                graph: graph.as_str(),
+                log: log.as_str(),
+                node: node.as_str(),
+                terms: Terms {
+                    k: *k,
+                    doubt: *doubt,
+                    budget: *budget,
+                },
+                ahead: *ahead,
+            };
+            predict_by_files(alloc, &asked, shelf, out, work)
         }
     }
 }

@@ -5,11 +5,12 @@ ghost use Rattle.std.specs.Process.{exit_status};
 ghost use Rattle.tfpg_base.specs.Append.{Appends};
 ghost use Rattle.tfpg_base.specs.Words.{line_of};
 ghost use Rattle.tfpg_run.specs.Ends.{check_cause_name, graph_cause_name, line_of_end, status_of, usage_name};
-ghost use Rattle.tfpg_run.specs.EndsOf.{end_of_check_fault, end_of_explain_fault, end_of_fetch_fault, end_of_output_fault, end_of_questions_fault, end_of_simulate_fault, end_of_stream_fault};
+ghost use Rattle.tfpg_run.specs.EndsOf.{end_of_check_fault, end_of_explain_fault, end_of_fetch_fault, end_of_output_fault, end_of_questions_fault, end_of_simulate_fault, end_of_stream_fault, end_of_probe_fault};
 ghost use Rattle.tfpg_run.specs.inside.Faults.{end_of_plan_fault, end_of_table_fault};
 
 use crate::fault::{
-    CheckFault, ExplainFault, FetchFault, OutputFault, QuestionsFault, SimulateFault, StreamFault,
+    CheckFault, ExplainFault, FetchFault, OutputFault, ProbeFault, QuestionsFault, SimulateFault,
+    StreamFault,
 };
 use itoa::Buffer;
 use std::process::ExitCode;
@@ -203,6 +204,26 @@ impl From<QuestionsFault> for End {
     }
 }
 
+impl From<ProbeFault> for End {
+    ghost from_gives = { λ fault e. e ≡ end_of_probe_fault fault };
+
+    fn from(fault: ProbeFault) -> End {
+        match fault {
+            ProbeFault::TooManyNodes => End::Graph {
+                line: 0,
+                cause: GraphCause::TooManyNodes,
+            },
+            ProbeFault::TooManyEdges => End::Graph {
+                line: 0,
+                cause: GraphCause::TooManyEdges,
+            },
+            ProbeFault::UnknownNode => End::Usage {
+                cause: UsageCause::UnknownNode,
+            },
+        }
+    }
+}
+
 /// Appends what is said of a line that is refused.
 fn append_not_accepted(line: u64, cause: CheckCause, into: &mut Vec<u8>) -> Result<(), NoMemory>
     ensures { Appends result into.old.items into.new.items
@@ -308,6 +329,7 @@ fn usage_cause_word(cause: UsageCause) -> &'static [u8]
         UsageCause::OutOfRange => b"OutOfRange",
         UsageCause::BadPanel => b"BadPanel",
         UsageCause::BadNames => b"BadNames",
+        UsageCause::UnknownNode => b"UnknownNode",
     }
 }
 

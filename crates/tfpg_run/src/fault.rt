@@ -281,3 +281,14 @@ impl From<Failed> for QuestionsFault {
         QuestionsFault::WriteFault
     }
 }
+
+/// Why a node takes no probe.
+#[derive(Clone, Copy, Debug, PartialEq, Eq)]
+pub(crate) enum ProbeFault {
+    /// The graph has [`MAX_NODES`](tfpg_graph::MAX_NODES) nodes, and no room for one more.
+    TooManyNodes,
+    /// The graph has [`MAX_EDGES`](tfpg_graph::MAX_EDGES) edges, and no room for one more.
+    TooManyEdges,
+    /// The graph has no node of this name.
+    UnknownNode,
+}

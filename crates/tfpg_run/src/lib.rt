@@ -28,6 +28,7 @@ mod limits;
 mod map;
 mod output;
 mod panel_lines;
+mod predict;
 mod simulate;
 
 pub use commands::run;

@@ -5,8 +5,8 @@ use Rattle.std.proofs.lemmas.Bool.{lt-ltb}
 use Rattle.std.proofs.lemmas.List.Sums.{sum_by-cons}
 use Rattle.clap.specs.Walk.{Row, Text}
 use Rattle.tfpg_words.specs.Words.{Form, Parts, Use, Word, is_word_among}
-use Rattle.tfpg_words.specs.Meaning.{NumberOption, both, number_by, number_in, use_of, k_option, doubt_option, budget_option, draw_option, size_option, diagnose_form, diagnose_of, diagnose_on, generate_form, generate_of, generate_on, simulate_form, simulate_of, simulate_on, convert_form, convert_of, convert_with, ask_form, ask_of, ask_on, fleet_form, fleet_of, fleet_on}
-use Rattle.tfpg_words.specs.inside.Given.{diagnose_by, diagnose_given, first_value, generate_by, generate_given, is_used, number_given, simulate_by, simulate_given, convert_given, ask_by, ask_given, fleet_by, fleet_given}
+use Rattle.tfpg_words.specs.Meaning.{NumberOption, both, number_by, number_in, use_of, k_option, doubt_option, budget_option, draw_option, size_option, diagnose_form, diagnose_of, diagnose_on, generate_form, generate_of, generate_on, simulate_form, simulate_of, simulate_on, convert_form, convert_of, convert_with, ask_form, ask_of, ask_on, fleet_form, fleet_of, fleet_on, ahead_option, predict_form, predict_of, predict_on}
+use Rattle.tfpg_words.specs.inside.Given.{diagnose_by, diagnose_given, first_value, generate_by, generate_given, is_used, number_given, simulate_by, simulate_given, convert_given, ask_by, ask_given, fleet_by, fleet_given, predict_by, predict_given}
 use Rattle.tfpg_words.specs.inside.Rows.{Holds, hyphened}
 
 -- the first value of an option is that of its first use
@@ -110,3 +110,20 @@ fleet_is parts rows (said, is, h) =
     (both (both (number_is fleet_form rows said h k_option (codes "k") refl refl i) (number_is fleet_form rows said h doubt_option (codes "doubt") refl refl i))
     (number_is fleet_form rows said h budget_option (codes "budget") refl refl i)) (h.words i))
     ∙ (fleet_same said.uses said.positional ∙ ap fleet_of (sym is))
+
+predict_same : (uses : List Use) (words : List Word)
+    → predict_by (both (both (both (number_by k_option uses) (number_by doubt_option uses)) (number_by budget_option uses)) (number_by ahead_option uses)) words ≡ predict_on uses words
+predict_same uses [] = refl
+predict_same uses (graph ∷ []) = refl
+predict_same uses (graph ∷ log ∷ []) = refl
+predict_same uses (graph ∷ log ∷ node ∷ []) = refl
+predict_same uses (graph ∷ log ∷ node ∷ word ∷ words) = refl
+
+pub predict_is : (parts : Option Parts) (rows : List Row) → Given predict_form parts rows → predict_given rows ≡ predict_of parts
+predict_is parts rows (said, is, h) =
+    (λ i. predict_by
+    (both
+    (both (both (number_is predict_form rows said h k_option (codes "k") refl refl i) (number_is predict_form rows said h doubt_option (codes "doubt") refl refl i))
+    (number_is predict_form rows said h budget_option (codes "budget") refl refl i))
+    (number_is predict_form rows said h ahead_option (codes "ahead") refl refl i)) (h.words i))
+    ∙ (predict_same said.uses said.positional ∙ ap predict_of (sym is))

@@ -6,11 +6,11 @@ use Rattle.tfpg_base.specs.declared.terms.Terms.{Terms}
 use Rattle.clap.specs.Walk.{Row}
 use Rattle.std.proofs.lemmas.Result.{IfOk-weaker}
 use Rattle.tfpg_base.specs.declared.limits.TheConstants.{MAX_DOUBT, MAX_K}
-use Rattle.tfpg_words.specs.inside.Given.{first_value, number_given, terms_given}
+use Rattle.tfpg_words.specs.inside.Given.{first_value, number_given, terms_given, predict_numbers}
 use Rattle.tfpg_base.specs.Words.{number_of}
 use Rattle.tfpg_words.specs.declared.usage_cause.UsageCause.{UsageCause}
 use Rattle.tfpg_words.specs.declared.usage_cause.UsageCause.TheVariants.{OutOfRange, UnknownCommand, BadNames}
-use Rattle.tfpg_words.specs.Meaning.{Meaning, Diagnose, Explain, Check, Simulate, Generate, Convert, NumberOption, within, number_in, number_by, both, use_of, k_option, doubt_option, budget_option, draw_option, size_option, diagnose_form, diagnose_to, diagnose_with, diagnose_on, diagnose_of, explain_form, explain_on, explain_of, check_form, check_on, check_of, simulate_form, simulate_with, simulate_on, simulate_of, generate_form, generate_with, generate_on, generate_of, convert_form, convert_with, convert_of, meaning, Ask, ask_form, ask_with, ask_on, ask_of, Fleet, fleet_form, fleet_with, fleet_on, fleet_of}
+use Rattle.tfpg_words.specs.Meaning.{Meaning, Diagnose, Explain, Check, Simulate, Generate, Convert, NumberOption, within, number_in, number_by, both, use_of, k_option, doubt_option, budget_option, draw_option, size_option, diagnose_form, diagnose_to, diagnose_with, diagnose_on, diagnose_of, explain_form, explain_on, explain_of, check_form, check_on, check_of, simulate_form, simulate_with, simulate_on, simulate_of, generate_form, generate_with, generate_on, generate_of, convert_form, convert_with, convert_of, meaning, Ask, ask_form, ask_with, ask_on, ask_of, Fleet, fleet_form, fleet_with, fleet_on, fleet_of, Predict, ahead_option, predict_form, predict_with, predict_on, predict_of}
 use Rattle.tfpg_base.specs.declared.terms.Terms.{Terms}
 use Rattle.tfpg_words.specs.declared.panel_word.PanelWord.{PanelWord}
 use Rattle.tfpg_words.specs.PanelWords.{panels_named}
@@ -34,6 +34,8 @@ AreInLimits (Generate draw size) = IsInLimits draw_option draw × IsInLimits siz
 AreInLimits (Convert json graph) = ⊤
 AreInLimits (Ask terms graph log) = (IsInLimits k_option terms.k × IsInLimits doubt_option terms.doubt) × IsInLimits budget_option terms.budget
 AreInLimits (Fleet terms graph names) = ((IsInLimits k_option terms.k × IsInLimits doubt_option terms.doubt) × IsInLimits budget_option terms.budget) × AreNames names
+AreInLimits (Predict terms ahead graph log node) =
+    ((IsInLimits k_option terms.k × IsInLimits doubt_option terms.doubt) × IsInLimits budget_option terms.budget) × IsInLimits ahead_option ahead
 
 -- ---- one number, and two
 
@@ -80,6 +82,9 @@ doubt_within = number_within doubt_option (record { low = omega arith; high = om
 budget_within : (uses : List Use) → IfOk (number_by budget_option uses) (IsInLimits budget_option)
 budget_within = number_within budget_option (record { low = omega arith; high = omega arith })
 
+ahead_within : (uses : List Use) → IfOk (number_by ahead_option uses) (IsInLimits ahead_option)
+ahead_within = number_within ahead_option (record { low = omega arith; high = omega arith })
+
 draw_within : (uses : List Use) → IfOk (number_by draw_option uses) (IsInLimits draw_option)
 draw_within = number_within draw_option (record { low = omega arith; high = omega arith })
 
@@ -101,18 +106,33 @@ terms_within uses =
     (budget_within uses)
 
 -- the numbers of the terms, by their first values
-pub terms_small : (rows : List Row) (result : Result ((ℕ × ℕ) × ℕ) UsageCause) → result ≡ terms_given rows → IfOk result (λ three. (three.0.0 ≤ MAX_K) × (three.0.1 ≤ MAX_DOUBT))
-terms_small rows result is =
+terms_given_within : (rows : List Row) → IfOk (terms_given rows) AreTermsWithin
+terms_given_within rows =
     let k = number_given k_option (first_value (codes "k") rows) in
     let doubt = number_given doubt_option (first_value (codes "doubt") rows) in
     let budget = number_given budget_option (first_value (codes "budget") rows) in
     let two = both_within (IsInLimits k_option) (IsInLimits doubt_option) k doubt
     (given_within k_option (record { low = omega arith; high = omega arith }) (first_value (codes "k") rows))
     (given_within doubt_option (record { low = omega arith; high = omega arith }) (first_value (codes "doubt") rows)) in
-    let three = both_within (λ (m : ℕ × ℕ). IsInLimits k_option m.0 × IsInLimits doubt_option m.1) (IsInLimits budget_option) (both k doubt) budget two
-    (given_within budget_option (record { low = omega arith; high = omega arith }) (first_value (codes "budget") rows)) in
+    both_within (λ (m : ℕ × ℕ). IsInLimits k_option m.0 × IsInLimits doubt_option m.1) (IsInLimits budget_option) (both k doubt) budget two
+    (given_within budget_option (record { low = omega arith; high = omega arith }) (first_value (codes "budget") rows))
+
+pub terms_small : (rows : List Row) (result : Result ((ℕ × ℕ) × ℕ) UsageCause) → result ≡ terms_given rows → IfOk result (λ three. (three.0.0 ≤ MAX_K) × (three.0.1 ≤ MAX_DOUBT))
+terms_small rows result is =
     subst (λ (r : Result ((ℕ × ℕ) × ℕ) UsageCause). IfOk r (λ numbers. (numbers.0.0 ≤ MAX_K) × (numbers.0.1 ≤ MAX_DOUBT))) (sym is)
-    (IfOk-weaker (both (both k doubt) budget) _ _ (λ numbers are. (are.0.0.high, are.0.1.high)) three)
+    (IfOk-weaker (terms_given rows) _ _ (λ numbers are. (are.0.0.high, are.0.1.high)) (terms_given_within rows))
+
+-- the numbers of a prediction, by their first values
+numbers_within : (rows : List Row) → IfOk (predict_numbers rows) (λ four. AreTermsWithin four.0 × IsInLimits ahead_option four.1)
+numbers_within rows =
+    both_within AreTermsWithin (IsInLimits ahead_option) (terms_given rows) (number_given ahead_option (first_value (codes "ahead") rows)) (terms_given_within rows)
+    (given_within ahead_option (record { low = omega arith; high = omega arith }) (first_value (codes "ahead") rows))
+
+pub numbers_small : (rows : List Row) (result : Result (((ℕ × ℕ) × ℕ) × ℕ) UsageCause) → result ≡ predict_numbers rows
+    → IfOk result (λ four. (four.0.0.0 ≤ MAX_K) × (four.0.0.1 ≤ MAX_DOUBT))
+numbers_small rows result is =
+    subst (λ (r : Result (((ℕ × ℕ) × ℕ) × ℕ) UsageCause). IfOk r (λ four. (four.0.0.0 ≤ MAX_K) × (four.0.0.1 ≤ MAX_DOUBT))) (sym is)
+    (IfOk-weaker (predict_numbers rows) _ _ (λ four are. (are.0.0.0.high, are.0.0.1.high)) (numbers_within rows))
 
 -- ---- the commands
 
@@ -230,12 +250,30 @@ fleet_within (Some parts) = go parts.positional
     go (graph ∷ names ∷ []) = by graph (comma_parts names) (terms_by parts.uses) (terms_within parts.uses)
     go (a ∷ b ∷ c ∷ others) = tt
 
+predict_within : (parts : Option Parts) → IfOk (predict_of parts) AreInLimits
+predict_within None = tt
+predict_within (Some parts) = go parts.positional
+  where
+    by : (graph log node : Word) (numbers : Result (((ℕ × ℕ) × ℕ) × ℕ) UsageCause) → IfOk numbers (λ four. AreTermsWithin four.0 × IsInLimits ahead_option four.1)
+        → IfOk (predict_with graph log node numbers) AreInLimits
+    by graph log node (Ok (((k, doubt), budget), ahead)) are = are
+    by graph log node (Err cause) are = tt
+
+    go : (positional : List Word) → IfOk (predict_on parts.uses positional) AreInLimits
+    go [] = tt
+    go (a ∷ []) = tt
+    go (a ∷ b ∷ []) = tt
+    go (graph ∷ log ∷ node ∷ []) =
+        by graph log node (both (terms_by parts.uses) (number_by ahead_option parts.uses))
+        (both_within AreTermsWithin (IsInLimits ahead_option) (terms_by parts.uses) (number_by ahead_option parts.uses) (terms_within parts.uses) (ahead_within parts.uses))
+    go (a ∷ b ∷ c ∷ d ∷ others) = tt
+
 -- What the words mean is within the limits.
 pub meaning_within : (words : List Word) → IfOk (meaning words) AreInLimits
 meaning_within [] = tt
-meaning_within (command ∷ words) = by (bytes_eq command (codes "diagnose")) (bytes_eq command (codes "explain")) (bytes_eq command (codes "check")) (bytes_eq command (codes "simulate")) (bytes_eq command (codes "generate")) (bytes_eq command (codes "convert")) (bytes_eq command (codes "ask")) (bytes_eq command (codes "fleet"))
+meaning_within (command ∷ words) = by (bytes_eq command (codes "diagnose")) (bytes_eq command (codes "explain")) (bytes_eq command (codes "check")) (bytes_eq command (codes "simulate")) (bytes_eq command (codes "generate")) (bytes_eq command (codes "convert")) (bytes_eq command (codes "ask")) (bytes_eq command (codes "fleet")) (bytes_eq command (codes "predict"))
   where
-    by : (diagnoses explains checks simulates generates converts asks fleets : Bool)
+    by : (diagnoses explains checks simulates generates converts asks fleets predicts : Bool)
         → IfOk (if diagnoses then diagnose_of (parts_of_words diagnose_form words)
         else (if explains then explain_of (parts_of_words explain_form words)
         else (if checks then check_of (parts_of_words check_form words)
@@ -244,13 +282,15 @@ meaning_within (command ∷ words) = by (bytes_eq command (codes "diagnose")) (b
         else (if converts then convert_of (parts_of_words convert_form words)
         else (if asks then ask_of (parts_of_words ask_form words)
         else (if fleets then fleet_of (parts_of_words fleet_form words)
-        else Err UnknownCommand)))))))) AreInLimits
-    by true explains checks simulates generates converts asks fleets = diagnose_within (parts_of_words diagnose_form words)
-    by false true checks simulates generates converts asks fleets = explain_within (parts_of_words explain_form words)
-    by false false true simulates generates converts asks fleets = check_within (parts_of_words check_form words)
-    by false false false true generates converts asks fleets = simulate_within (parts_of_words simulate_form words)
-    by false false false false true converts asks fleets = generate_within (parts_of_words generate_form words)
-    by false false false false false true asks fleets = convert_within (parts_of_words convert_form words)
-    by false false false false false false true fleets = ask_within (parts_of_words ask_form words)
-    by false false false false false false false true = fleet_within (parts_of_words fleet_form words)
-    by false false false false false false false false = tt
+        else (if predicts then predict_of (parts_of_words predict_form words)
+        else Err UnknownCommand))))))))) AreInLimits
+    by true explains checks simulates generates converts asks fleets predicts = diagnose_within (parts_of_words diagnose_form words)
+    by false true checks simulates generates converts asks fleets predicts = explain_within (parts_of_words explain_form words)
+    by false false true simulates generates converts asks fleets predicts = check_within (parts_of_words check_form words)
+    by false false false true generates converts asks fleets predicts = simulate_within (parts_of_words simulate_form words)
+    by false false false false true converts asks fleets predicts = generate_within (parts_of_words generate_form words)
+    by false false false false false true asks fleets predicts = convert_within (parts_of_words convert_form words)
+    by false false false false false false true fleets predicts = ask_within (parts_of_words ask_form words)
+    by false false false false false false false true predicts = fleet_within (parts_of_words fleet_form words)
+    by false false false false false false false false true = predict_within (parts_of_words predict_form words)
+    by false false false false false false false false false = tt

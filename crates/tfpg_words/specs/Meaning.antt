@@ -3,8 +3,8 @@ use Rattle.std.specs.Prelude.{ℕ, ◌&&◌, Bool, List, [], ◌∷◌, Option, 
 use Rattle.std.specs.Prelude.{bytes_eq, codes, if◌then◌else◌, is_some, nat_le, find}
 use Rattle.tfpg_base.specs.declared.terms.Terms.{Terms}
 use Rattle.tfpg_base.specs.Words.{comma_parts, number_of}
-use Rattle.tfpg_base.specs.declared.limits.TheConstants.{MAX_K, MAX_DOUBT, MAX_BUDGET, MAX_CASE_SIZE}
-use Rattle.tfpg_words.specs.declared.limits.TheConstants.{MAX_DRAW, DEFAULT_K, DEFAULT_DOUBT, DEFAULT_BUDGET, DEFAULT_DRAW, DEFAULT_SIZE}
+use Rattle.tfpg_base.specs.declared.limits.TheConstants.{MAX_K, MAX_DOUBT, MAX_BUDGET, MAX_CASE_SIZE, MAX_TIME}
+use Rattle.tfpg_words.specs.declared.limits.TheConstants.{MAX_DRAW, DEFAULT_K, DEFAULT_DOUBT, DEFAULT_BUDGET, DEFAULT_DRAW, DEFAULT_SIZE, DEFAULT_AHEAD}
 use Rattle.tfpg_words.specs.declared.usage_cause.UsageCause.{UsageCause}
 use Rattle.tfpg_words.specs.declared.usage_cause.UsageCause.TheVariants.{NoCommand, UnknownCommand, BadWords, BadNumber, OutOfRange, BadPanel, BadNames}
 use Rattle.tfpg_words.specs.declared.panel_word.PanelWord.{PanelWord}
@@ -22,6 +22,7 @@ pub data Meaning : Type 0 where
   Convert : (json : Bool) (graph : Word) → Meaning
   Ask : (terms : Terms) (graph log : Word) → Meaning
   Fleet : (terms : Terms) (graph : Word) (names : List Word) → Meaning
+  Predict : (terms : Terms) (ahead : ℕ) (graph log node : Word) → Meaning
 
 -- The first use of this name.
 abbrev pub use_of : Word → List Use → Option Use
@@ -72,6 +73,10 @@ doubt_option = record { name = codes "--doubt"; least = 0; limit = MAX_DOUBT; de
 -- `--budget N`: the greatest number of splits of a hypothesis in a round
 abbrev pub budget_option : NumberOption
 budget_option = record { name = codes "--budget"; least = 1; limit = MAX_BUDGET; default = DEFAULT_BUDGET }
+
+-- `--ahead N`: how many milliseconds past the last event are looked ahead
+abbrev pub ahead_option : NumberOption
+ahead_option = record { name = codes "--ahead"; least = 0; limit = MAX_TIME; default = DEFAULT_AHEAD }
 
 -- `--draw N`: the number of a draw
 abbrev pub draw_option : NumberOption
@@ -229,6 +234,27 @@ fleet_on uses _ = Err BadWords
 abbrev pub fleet_of : Option Parts → Result Meaning UsageCause
 fleet_of = by_parts (λ parts. fleet_on parts.uses parts.positional)
 
+-- `predict [--k N] [--doubt N] [--budget N] [--ahead N] GRAPH LOG NODE`
+abbrev pub predict_form : Form
+predict_form = record { options = k_option.name ∷ doubt_option.name ∷ budget_option.name ∷ ahead_option.name ∷ []; flags = [] }
+
+-- what the positional words after `predict` mean with these numbers
+abbrev pub predict_with : Word → Word → Word → Result (((ℕ × ℕ) × ℕ) × ℕ) UsageCause → Result Meaning UsageCause
+predict_with graph log node (Err cause) = Err cause
+predict_with graph log node (Ok (((k, doubt), budget), ahead)) =
+    Ok (Predict (record { k = k; doubt = doubt; budget = budget }) ahead graph log node)
+
+-- what the uses and the positional words after `predict` mean
+abbrev pub predict_on : List Use → List Word → Result Meaning UsageCause
+predict_on uses (graph ∷ log ∷ node ∷ []) =
+    predict_with graph log node
+    (both (both (both (number_by k_option uses) (number_by doubt_option uses)) (number_by budget_option uses)) (number_by ahead_option uses))
+predict_on uses _ = Err BadWords
+
+-- what the words after `predict` mean, by their parts
+abbrev pub predict_of : Option Parts → Result Meaning UsageCause
+predict_of = by_parts (λ parts. predict_on parts.uses parts.positional)
+
 -- What the words after a command mean.
 abbrev pub command_meaning : Word → List Word → Result Meaning UsageCause
 command_meaning command words =
@@ -240,7 +266,8 @@ command_meaning command words =
     else (if bytes_eq command (codes "convert") then convert_of (parts_of_words convert_form words)
     else (if bytes_eq command (codes "ask") then ask_of (parts_of_words ask_form words)
     else (if bytes_eq command (codes "fleet") then fleet_of (parts_of_words fleet_form words)
-    else Err UnknownCommand)))))))
+    else (if bytes_eq command (codes "predict") then predict_of (parts_of_words predict_form words)
+    else Err UnknownCommand))))))))
 
 -- What the words after the program's name mean.
 abbrev pub meaning : List Word → Result Meaning UsageCause

@@ -6,7 +6,7 @@ use Rattle.tfpg_words.specs.declared.plan_fault.PlanFault.TheVariants as fault
 use Rattle.tfpg_words.specs.declared.command.Command.{Command}
 use Rattle.tfpg_words.specs.declared.command.Command.TheVariants as command
 use Rattle.tfpg_words.specs.declared.command.Planned.{Planned}
-use Rattle.tfpg_words.specs.Meaning.{Meaning, Diagnose, Explain, Check, Simulate, Generate, Convert, Ask, Fleet}
+use Rattle.tfpg_words.specs.Meaning.{Meaning, Diagnose, Explain, Check, Simulate, Generate, Convert, Ask, Fleet, Predict}
 use Rattle.tfpg_base.specs.Words.{comma_parts}
 
 -- what a command asks for
@@ -21,6 +21,8 @@ meaning_of (command.Convert json graph) = Convert json graph
 meaning_of (command.Ask k doubt budget graph log) = Ask (record { k = k; doubt = doubt; budget = budget }) graph log
 meaning_of (command.Fleet k doubt budget graph names) =
     Fleet (record { k = k; doubt = doubt; budget = budget }) graph (comma_parts names)
+meaning_of (command.Predict k doubt budget ahead graph log node) =
+    Predict (record { k = k; doubt = doubt; budget = budget }) ahead graph log node
 
 -- A command has this meaning; a refusal gives its cause; and memory may run out on any words.
 abbrev pub IsPlanOf : Result Meaning UsageCause → Result Planned PlanFault → Type 0

@@ -68,6 +68,19 @@ pub enum Command {
         graph: Text,
         names: Text,
     },
+    /// `predict [--k N] [--doubt N] [--budget N] [--ahead N] GRAPH LOG NODE`: when at the earliest the node becomes active, by
+    /// each ranked hypothesis of a diagnosis of the log. `k`, `doubt` and `budget` are those of `diagnose`; the budget is also
+    /// that of each search. It looks `ahead` milliseconds past the last event, at most [`MAX_TIME`](tfpg_base::MAX_TIME),
+    /// [`DEFAULT_AHEAD`](crate::DEFAULT_AHEAD) by default.
+    Predict {
+        k: u32,
+        doubt: u32,
+        budget: u64,
+        ahead: u64,
+        graph: Text,
+        log: Text,
+        node: Text,
+    },
 }
 
 /// What is to be done.

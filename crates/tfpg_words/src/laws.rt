@@ -3,8 +3,8 @@
 ghost use Rattle.std.specs.Prelude.{◌≡◌, ◌≤◌, ℕ, Bool, List, Ok};
 ghost use Rattle.tfpg_base.specs.declared.terms.Terms.{Terms};
 ghost use Rattle.tfpg_base.specs.Terms.{AreReportTerms};
-ghost use Rattle.tfpg_base.specs.declared.limits.TheConstants.{MAX_CASE_SIZE};
-ghost use Rattle.tfpg_words.specs.Meaning.{meaning, Diagnose, Generate, Simulate, Ask, Fleet};
+ghost use Rattle.tfpg_base.specs.declared.limits.TheConstants.{MAX_CASE_SIZE, MAX_TIME};
+ghost use Rattle.tfpg_words.specs.Meaning.{meaning, Diagnose, Generate, Simulate, Ask, Fleet, Predict};
 ghost use Rattle.tfpg_words.specs.declared.panel_word.PanelWord.{PanelWord};
 ghost use Rattle.tfpg_words.specs.Names.{AreNames};
 ghost use Rattle.tfpg_words.specs.declared.limits.TheConstants.{MAX_DRAW};
@@ -21,4 +21,6 @@ pub fn numbers_are_within_their_limits()
         meaning words ≡ Ok (Ask terms graph log) → AreReportTerms terms }
     ensures fleet { (words : List (List ℕ)) (terms : Terms) (graph : List ℕ) (names : List (List ℕ)) →
         meaning words ≡ Ok (Fleet terms graph names) → AreReportTerms terms × AreNames names }
+    ensures predict { (words : List (List ℕ)) (terms : Terms) (ahead : ℕ) (graph log node : List ℕ) →
+        meaning words ≡ Ok (Predict terms ahead graph log node) → AreReportTerms terms × (ahead ≤ MAX_TIME) }
 {}

@@ -15,6 +15,9 @@ pub const DEFAULT_DOUBT: u64 = 0;
 /// The budget where the words give none.
 pub const DEFAULT_BUDGET: u64 = 1000;
 
+/// How many milliseconds are looked ahead where the words give no number.
+pub const DEFAULT_AHEAD: u64 = 1000;
+
 /// The number of a draw where the words give none.
 pub const DEFAULT_DRAW: u64 = 1;
 

@@ -2,19 +2,19 @@
 
 ghost use Rattle.std.specs.Prelude.{◌≡◌, ◌≤◌, IfOk, map};
 ghost use Rattle.std.specs.String.{string_bytes};
-ghost use Rattle.tfpg_words.specs.Meaning.{check_form, check_of, command_meaning, convert_form, convert_of, diagnose_form, diagnose_of, diagnose_to, explain_form, explain_of, generate_form, generate_of, meaning, simulate_form, simulate_of, ask_form, ask_of, fleet_form, fleet_of};
+ghost use Rattle.tfpg_words.specs.Meaning.{check_form, check_of, command_meaning, convert_form, convert_of, diagnose_form, diagnose_of, diagnose_to, explain_form, explain_of, generate_form, generate_of, meaning, simulate_form, simulate_of, ask_form, ask_of, fleet_form, fleet_of, predict_form, predict_of};
 ghost use Rattle.tfpg_words.specs.PanelWords.{panels_named};
 ghost use Rattle.tfpg_words.specs.Plans.{IsPlanOf};
 ghost use Rattle.tfpg_words.specs.Words.{parts_of_words};
 ghost use Rattle.tfpg_words.specs.inside.CommandOf.{IsCommandOf};
-ghost use Rattle.tfpg_words.specs.inside.Given.{ask_given, check_given, convert_given, diagnose_given, explain_given, generate_given, simulate_given, fleet_given, terms_given};
+ghost use Rattle.tfpg_words.specs.inside.Given.{ask_given, check_given, convert_given, diagnose_given, explain_given, generate_given, simulate_given, fleet_given, terms_given, predict_given, predict_numbers};
 ghost use Rattle.tfpg_base.specs.declared.limits.TheConstants.{MAX_DOUBT, MAX_K};
 ghost use Rattle.tfpg_words.specs.inside.Parts.{rows_in};
 
 use crate::command::{Command, Planned};
 use crate::form::Form;
 use crate::limits::{
-    DEFAULT_BUDGET, DEFAULT_DOUBT, DEFAULT_DRAW, DEFAULT_K, DEFAULT_SIZE, MAX_DRAW,
+    DEFAULT_AHEAD, DEFAULT_BUDGET, DEFAULT_DOUBT, DEFAULT_DRAW, DEFAULT_K, DEFAULT_SIZE, MAX_DRAW,
 };
 use crate::names::has_names;
 use crate::number::{NumberOption, both};
@@ -23,7 +23,7 @@ use crate::parts::Parts;
 use crate::plan_fault::PlanFault;
 use crate::usage_cause::UsageCause;
 use std::alloc::Global;
-use tfpg_base::{MAX_BUDGET, MAX_CASE_SIZE, MAX_DOUBT, MAX_K, Terms, Text};
+use tfpg_base::{MAX_BUDGET, MAX_CASE_SIZE, MAX_DOUBT, MAX_K, MAX_TIME, Terms, Text};
 
 const K: NumberOption = NumberOption {
     name: "k",
@@ -44,6 +44,13 @@ const BUDGET: NumberOption = NumberOption {
     least: 1,
     limit: MAX_BUDGET,
     default: DEFAULT_BUDGET,
+};
+
+const AHEAD: NumberOption = NumberOption {
+    name: "ahead",
+    least: 0,
+    limit: MAX_TIME,
+    default: DEFAULT_AHEAD,
 };
 
 const DRAW: NumberOption = NumberOption {
@@ -107,6 +114,8 @@ fn command_of(alloc: Global, command: &str, words: &[String]) -> Result<Command,
         plan_ask(alloc, words)
     } else if command == "fleet" {
         plan_fleet(alloc, words)
+    } else if command == "predict" {
+        plan_predict(alloc, words)
     } else {
         Err(PlanFault::Usage(UsageCause::UnknownCommand))
     }
@@ -342,6 +351,36 @@ fn plan_fleet_by(alloc: Global, parts: &Parts) -> Result<Command, PlanFault>
     })
 }
 
+/// `predict [--k N] [--doubt N] [--budget N] [--ahead N] GRAPH LOG NODE`
+fn plan_predict(alloc: Global, words: &[String]) -> Result<Command, PlanFault>
+    ensures { IsCommandOf (predict_of (parts_of_words predict_form (map string_bytes words.now))) result }
+{
+    let form = Form {
+        options: &[K.name, DOUBT.name, BUDGET.name, AHEAD.name],
+        flags: &[],
+    };
+    let parts = Parts::of(alloc, &form, words)?;
+    plan_predict_by(alloc, &parts)
+}
+
+fn plan_predict_by(alloc: Global, parts: &Parts) -> Result<Command, PlanFault>
+    ensures { IsCommandOf (predict_given (rows_in parts.now)) result }
+{
+    let Some([graph, log, node]) = parts.positional() else {
+        return Err(PlanFault::Usage(UsageCause::BadWords));
+    };
+    let (((k, doubt), budget), ahead) = predict_numbers(parts)?;
+    Ok(Command::Predict {
+        k: k as u32,
+        doubt: doubt as u32,
+        budget,
+        ahead,
+        graph: Text::of(alloc, graph)?,
+        log: Text::of(alloc, log)?,
+        node: Text::of(alloc, node)?,
+    })
+}
+
 /// The numbers of the terms of a diagnosis, which are within their limits.
 fn terms_in(parts: &Parts) -> Result<((u64, u64), u64), UsageCause>
     ensures numbers { result ≡ terms_given (rows_in parts.now) }
@@ -355,4 +394,12 @@ fn numbers_in(parts: &Parts) -> Result<((u64, u64), u64), UsageCause>
 {
     let members = both(K.number_in(parts), DOUBT.number_in(parts));
     both(members, BUDGET.number_in(parts))
+}
+
+/// The numbers of the options of `predict`.
+fn predict_numbers(parts: &Parts) -> Result<(((u64, u64), u64), u64), UsageCause>
+    ensures numbers { result ≡ predict_numbers (rows_in parts.now) }
+    ensures small { IfOk result (λ numbers. (numbers.0.0.0 ≤ MAX_K) × (numbers.0.0.1 ≤ MAX_DOUBT)) }
+{
+    both(terms_in(parts), AHEAD.number_in(parts))
 }

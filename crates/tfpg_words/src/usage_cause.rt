@@ -17,4 +17,6 @@ pub enum UsageCause {
     BadPanel,
     /// The names of vehicles are not 1 to [`MAX_NAMES`](crate::MAX_NAMES) words of the form of a name, no two alike.
     BadNames,
+    /// The word for a node names no node of the graph. No words are refused for this, since only the graph's file shows it.
+    UnknownNode,
 }

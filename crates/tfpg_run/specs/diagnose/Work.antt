@@ -6,7 +6,7 @@ use Rattle.tfpg_log.specs.LogOfLines.{log_after}
 use Rattle.tfpg_engine.specs.Work.{IsRoundLimit}
 use Rattle.tfpg_report.specs.Blocks.{Block, RefusedBlock, RoundBlock}
 use Rattle.tfpg_check.specs.Report.{Progress, IsReport, progress_of}
-use Rattle.tfpg_words.specs.Meaning.{Meaning, Diagnose, Explain, Check, Simulate, Generate, Convert, Ask, Fleet}
+use Rattle.tfpg_words.specs.Meaning.{Meaning, Diagnose, Explain, Check, Simulate, Generate, Convert, Ask, Fleet, Predict}
 use Rattle.tfpg_run.specs.Fetch.{GivesGraph}
 use Rattle.tfpg_run.specs.Outputs.{WorksToEnd}
 use Rattle.tfpg_run.specs.World.{World, streams_of}
@@ -54,3 +54,4 @@ RunsWithin (Generate draw size) before now start end = Unit {0}
 RunsWithin (Convert json name) before now start end = Unit {0}
 RunsWithin (Ask terms name log) before now start end = Unit {0}
 RunsWithin (Fleet terms name names) before now start end = Unit {0}
+RunsWithin (Predict terms ahead name log node) before now start end = Unit {0}

@@ -6,7 +6,7 @@ use Rattle.tfpg_base.specs.Words.{comma_parts, number_of}
 use Rattle.tfpg_words.specs.declared.usage_cause.UsageCause.{UsageCause}
 use Rattle.tfpg_words.specs.declared.usage_cause.UsageCause.TheVariants.{BadWords}
 use Rattle.tfpg_words.specs.Words.{Word}
-use Rattle.tfpg_words.specs.Meaning.{Meaning, NumberOption, both, within, k_option, doubt_option, budget_option, draw_option, size_option, diagnose_with, explain_on, check_on, generate_with, simulate_with, convert_with, ask_with, fleet_with}
+use Rattle.tfpg_words.specs.Meaning.{Meaning, NumberOption, both, within, k_option, doubt_option, budget_option, draw_option, size_option, diagnose_with, explain_on, check_on, generate_with, simulate_with, convert_with, ask_with, fleet_with, ahead_option, predict_with}
 use Rattle.tfpg_words.specs.inside.Rules.{words_id}
 use Rattle.tfpg_words.specs.inside.Rows.{vals}
 
@@ -85,6 +85,17 @@ fleet_by numbers _ = Err BadWords
 
 abbrev pub fleet_given : List Row → Result Meaning UsageCause
 fleet_given rows = fleet_by (terms_given rows) (vals words_id rows)
+
+abbrev pub predict_by : Result (((ℕ × ℕ) × ℕ) × ℕ) UsageCause → List Word → Result Meaning UsageCause
+predict_by numbers (graph ∷ log ∷ node ∷ []) = predict_with graph log node numbers
+predict_by numbers _ = Err BadWords
+
+abbrev pub predict_numbers : List Row → Result (((ℕ × ℕ) × ℕ) × ℕ) UsageCause
+predict_numbers rows =
+    both (terms_given rows) (number_given ahead_option (first_value (codes "ahead") rows))
+
+abbrev pub predict_given : List Row → Result Meaning UsageCause
+predict_given rows = predict_by (predict_numbers rows) (vals words_id rows)
 
 -- no option has two values, and no flag two uses
 abbrev pub once_given : List Text → List Text → List Row → Bool

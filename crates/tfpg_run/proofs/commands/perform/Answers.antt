@@ -6,6 +6,7 @@ use Rattle.tfpg_run.specs.fleet.FleetEnds.{fleet_words}
 use Rattle.tfpg_run.proofs.lemmas.fleet.NewFleets.{fleet_done, fleet_stopped}
 use Rattle.tfpg_run.specs.World.{world}
 use Rattle.tfpg_run.proofs.Stops.{OnOk-with, check_stopped, explain_stopped, simulate_stopped, convert_stopped, ask_stopped}
+use Rattle.tfpg_run.proofs.lemmas.predict.Endings.{predict_done, predict_stopped}
 use Rattle.tfpg_run.proofs.commands.perform.Goals as goal
 
 -- the input is untouched
@@ -99,3 +100,23 @@ returns-in-Fleet-clause-stopped g c =
     fleet_stopped c.fleet_file.result (meaning_of c.args.command.now) (fleet_words terms c.as_str-in-Fleet.result.now (comma_parts c.as_str-in-Fleet-2.result.now)) before now
     terms c.in-Fleet.graph (comma_parts c.in-Fleet.names) (ap meaning_of c.in-Fleet.is) (λ i. fleet_words terms (c.as_str-in-Fleet.ensures i) (comma_parts (c.as_str-in-Fleet-2.ensures i)))
     (c.fleet_file.ensures.stopped c.args.desk.now)
+
+-- the forecasts were written
+pub returns-in-Predict-clause-done : goal.returns-in-Predict-clause-done
+returns-in-Predict-clause-done g c =
+    let input = g.S.Source.state c.args.input.now in
+    let before = world (g.F.Shelf.state c.args.shelf.now) input (g.K.Sink.state c.args.out.now) c.args.desk.now in
+    let now = world (g.F.Shelf.state c.predict_by_files.new.shelf) input (g.K.Sink.state c.predict_by_files.new.out) c.args.desk.now in
+    predict_done c.predict_by_files.result (meaning_of c.args.command.now) _ c.in-Predict.ahead c.as_str-in-Predict.result.now c.as_str-in-Predict-2.result.now c.as_str-in-Predict-3.result.now
+    c.in-Predict.graph c.in-Predict.log c.in-Predict.node before now (ap meaning_of c.in-Predict.is) c.as_str-in-Predict.ensures c.as_str-in-Predict-2.ensures c.as_str-in-Predict-3.ensures refl
+    (c.predict_by_files.ensures.done input c.args.desk.now)
+
+-- or they were not
+pub returns-in-Predict-clause-stopped : goal.returns-in-Predict-clause-stopped
+returns-in-Predict-clause-stopped g c =
+    let input = g.S.Source.state c.args.input.now in
+    let before = world (g.F.Shelf.state c.args.shelf.now) input (g.K.Sink.state c.args.out.now) c.args.desk.now in
+    let now = world (g.F.Shelf.state c.predict_by_files.new.shelf) input (g.K.Sink.state c.predict_by_files.new.out) c.args.desk.now in
+    predict_stopped c.predict_by_files.result (meaning_of c.args.command.now) _ c.in-Predict.ahead c.as_str-in-Predict.result.now c.as_str-in-Predict-2.result.now c.as_str-in-Predict-3.result.now
+    c.in-Predict.graph c.in-Predict.log c.in-Predict.node before now (ap meaning_of c.in-Predict.is) c.as_str-in-Predict.ensures c.as_str-in-Predict-2.ensures c.as_str-in-Predict-3.ensures refl
+    (c.predict_by_files.ensures.stopped input c.args.desk.now)

@@ -16,6 +16,7 @@ perform-requires g c =
       generate = c.numbers_are_within_their_limits.ensures.generate;
       ask = c.numbers_are_within_their_limits.ensures.ask;
       fleet = c.numbers_are_within_their_limits.ensures.fleet;
+      predict = c.numbers_are_within_their_limits.ensures.predict;
     }) (map string_bytes c.args.words.now) (meaning_of c.in-Ok.planned.command) c.in-Ok.ensures
 
 pub returns-in-Ok-clause-completes : goal.returns-in-Ok-clause-completes

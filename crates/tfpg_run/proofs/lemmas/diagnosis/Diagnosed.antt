@@ -122,3 +122,7 @@ module _ (graph : Tfpg) (terms : Terms) (lines : List (List ℕ)) (d : Diagnosis
   -- and the last round is that of the lines
   pub last_diagnosed : IsLastRound graph terms lines d.last
   last_diagnosed = record { rounds = flat_map rounds_of has.blocks; are = rounds_diagnosed; last_is = last_by d.last (flat_map rounds_of has.blocks) has.last }
+
+  -- its graph and its terms are those of the engine
+  pub own_diagnosed : HasDiagnosed d.engine.graph d.engine.terms lines d
+  own_diagnosed = subst₂ (λ (x : Tfpg) (y : Terms). HasDiagnosed x y lines d) (sym has.reports.graph_is) (sym has.reports.terms_is) has

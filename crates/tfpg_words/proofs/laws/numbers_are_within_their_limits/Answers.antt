@@ -1,6 +1,6 @@
 use Rattle.std.proofs.Common.{◌≡◌, List, Ok, subst}
 use Rattle.std.specs.Prelude.{Result, IfOk}
-use Rattle.tfpg_words.specs.Meaning.{Meaning, Ask, Diagnose, Simulate, Generate, meaning, Fleet}
+use Rattle.tfpg_words.specs.Meaning.{Meaning, Ask, Diagnose, Simulate, Generate, meaning, Fleet, Predict}
 use Rattle.tfpg_words.specs.Words.{Word}
 use Rattle.tfpg_words.specs.declared.usage_cause.UsageCause.{UsageCause}
 use Rattle.tfpg_words.proofs.WithinLimits.{AreInLimits, meaning_within}
@@ -29,3 +29,8 @@ pub returns-clause-fleet : goal.returns-clause-fleet
 returns-clause-fleet c words terms graph names is =
     let are = within words (Fleet terms graph names) is in
     (record { few_members = are.0.0.0.high; few_doubts = are.0.0.1.high; some_splits = are.0.1.low; few_splits = are.0.1.high }, are.1)
+
+pub returns-clause-predict : goal.returns-clause-predict
+returns-clause-predict c words terms ahead graph log node is =
+    let are = within words (Predict terms ahead graph log node) is in
+    (record { few_members = are.0.0.0.high; few_doubts = are.0.0.1.high; some_splits = are.0.1.low; few_splits = are.0.1.high }, are.1.high)

@@ -1,0 +1,6 @@
+-- Forecasts: what outlooks name, and how forecasts are appended one after another.
+pub mod RightSteps
+pub mod NamedOutlooks
+pub mod Appended
+pub mod Predictions
+pub mod Endings

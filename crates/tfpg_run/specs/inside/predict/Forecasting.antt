@@ -1,0 +1,61 @@
+-- What the code of `predict` asks, and the forecasts that it has appended.
+use Rattle.std.specs.Prelude.{◌≡◌, ℕ, ◌<◌, ◌≤◌, List, ◌++◌, length, All, IsTrue}
+use Rattle.tfpg_base.specs.declared.limits.TheConstants.{MAX_TIME}
+use Rattle.tfpg_graph.specs.Graph.{Tfpg, Sizes, AreFailures, is_monitored}
+use Rattle.tfpg_graph.specs.Valid.{IsValid}
+use Rattle.tfpg_graph.specs.declared.limits.TheConstants.{MAX_NODES, MAX_EDGES}
+use Rattle.tfpg_log.specs.Log.{IsOrdered}
+use Rattle.tfpg_evidence.specs.declared.finding.Finding.{Finding}
+use Rattle.tfpg_evidence.specs.RoundOf.{IsStepOf}
+use Rattle.tfpg_predict.specs.declared.outlook.Outlook.{Outlook}
+use Rattle.tfpg_predict.specs.declared.outlook.Outlook.TheVariants.{Earliest, Never, Unsettled}
+use Rattle.tfpg_predict.specs.LeastTime.{Question, question_of}
+use Rattle.tfpg_predict.specs.Probed.{IsProbeable, IsProbeNumber}
+use Rattle.tfpg_run.specs.declared.predict.forecasts.Aim.{Aim}
+use Rattle.tfpg_run.specs.declared.predict.query.Query.{Query}
+use Rattle.tfpg_run.specs.predict.Forecasts.{AreForecastsOf, HasForecastsOf, probed_names}
+
+-- The node is one of the graph, which has room for a probe, and it is not looked too far ahead.
+pub record IsAimAt (graph : Tfpg) (aim : Aim) : Type 0 where
+  pub node : aim.node < length graph.nodes
+  pub few_nodes : length graph.nodes < MAX_NODES
+  pub few_edges : length graph.edges < MAX_EDGES
+  pub not_far : aim.ahead ≤ MAX_TIME
+
+-- the question that the code asks, by the log as it stands
+abbrev pub question_in : Query → Question
+question_in query = question_of query.graph.now query.log.now query.node query.to
+
+-- The question allows a probe, of which the graph of names is one, and the budget is not 0.
+pub record IsQuery (query : Query) : Type 0 where
+  pub valid : IsValid query.graph.now
+  pub ordered : IsOrdered query.log.now
+  pub probeable : IsProbeable (question_in query)
+  pub budget : 1 ≤ query.budget
+  pub number : ℕ
+  pub named : IsProbeNumber query.graph.now number
+  pub probed_is : query.probed.now ≡ probed_names (question_in query) number
+
+-- The hypothesis of the finding is one of the graph.
+pub record IsAskable (graph : Tfpg) (finding : Finding) : Type 0 where
+  pub members : AreFailures graph finding.set
+  pub doubts : All (λ node. IsTrue (is_monitored graph node)) finding.doubts
+
+-- The outlook names only what the graph has in its trace, and only what the probed graph has in its steps.
+abbrev pub IsOutlookOf : Sizes → Sizes → Outlook → Type 0
+IsOutlookOf sizes probed (Earliest time trace earlier) =
+    All (λ activation. activation.node < sizes.nodes) trace × All (IsStepOf probed) earlier
+IsOutlookOf sizes probed (Never steps) = All (IsStepOf probed) steps
+IsOutlookOf sizes probed (Unsettled bound steps) = All (IsStepOf probed) steps
+
+-- Right forecasts of these findings stand after the old bytes.
+pub record AddsForecasts (query : Query) (findings : List Finding) (old new : List ℕ) : Type 0 where
+  pub text : List ℕ
+  pub has : HasForecastsOf (question_in query) query.budget query.probed.now findings text
+  pub appended : new ≡ old ++ text
+
+-- Forecasts of these findings stand after the old bytes.
+pub record ForecastsFollow (asked : Question) (budget : ℕ) (findings : List Finding) (old new : List ℕ) : Type 0 where
+  pub text : List ℕ
+  pub are : AreForecastsOf asked budget findings text
+  pub appended : new ≡ old ++ text

@@ -1,0 +1,217 @@
+//! The text of a prediction: its line, and a forecast for each ranked hypothesis of the last round.
+
+ghost use Rattle.std.specs.Prelude.{◌≡◌, ◌≤◌, ◌∷◌, [], ℕ, List, All, IfOk, OnOk};
+ghost use Rattle.std.specs.Option.{option_copied};
+ghost use Rattle.tfpg_base.specs.Append.{Appends};
+ghost use Rattle.tfpg_base.specs.Lines.{lines_of};
+ghost use Rattle.tfpg_base.specs.declared.limits.TheConstants.{MAX_TIME};
+ghost use Rattle.tfpg_evidence.specs.Findings.{findings_at, ranked_in_order};
+ghost use Rattle.tfpg_evidence.specs.RoundOf.{finding_numbered};
+ghost use Rattle.tfpg_predict.specs.LeastTime.{question_of};
+ghost use Rattle.tfpg_predict.specs.Probed.{IsProbeable};
+ghost use Rattle.tfpg_run.specs.predict.Forecasts.{HasForecasts, predict_line, prediction, time_ahead};
+ghost use Rattle.tfpg_run.specs.inside.diagnosis.Diagnosed.{HasDiagnosed, IsDiagnosed};
+ghost use Rattle.tfpg_run.specs.inside.predict.Forecasting.{AddsForecasts, ForecastsFollow, IsAimAt, IsAskable, IsQuery};
+
+use super::forecast_lines::append_outlook;
+use super::query::Query;
+use crate::diagnosis::Diagnosis;
+use itoa::Buffer;
+use std::alloc::Global;
+use std::sync::ledger::Ledger;
+use tfpg_base::{MAX_TIME, NoMemory, Steps, append_line};
+use tfpg_evidence::{Finding, Round};
+use tfpg_predict::{forecast, probed};
+
+/// What is aimed at: the node by its name and its number, and how many milliseconds past the last event.
+#[derive(Clone, Copy)]
+pub(super) struct Aim<'a> {
+    pub(super) name: &'a str,
+    pub(super) node: u32,
+    pub(super) ahead: u64,
+}
+
+/// Diagnoses the lines of the log, and returns the prediction for the node.
+pub(super) fn forecasts_text<L: Ledger>(
+    alloc: Global,
+    diagnosis: &mut Diagnosis,
+    log_text: &[u8],
+    aim: &Aim<'_>,
+    work: &mut Steps<L>,
+) -> Result<Vec<u8>, NoMemory>
+    requires new { HasDiagnosed diagnosis.old.engine.graph diagnosis.old.engine.terms [] diagnosis.old }
+    requires budget { 1 ≤ diagnosis.old.engine.terms.budget }
+    requires aim { IsAimAt diagnosis.old.engine.graph aim.now }
+    ensures { IfOk result (λ text. HasForecasts diagnosis.old.engine.graph
+        (prediction diagnosis.old.engine.terms aim.now.ahead aim.now.name.now) aim.now.node (lines_of log_text.now) text.items) }
+{
+    diagnosis.take_text(alloc, log_text, work)?;
+    predicted_text(alloc, diagnosis, aim, work)
+}
+
+/// The prediction for the node by a diagnosis.
+fn predicted_text<L: Ledger>(
+    alloc: Global,
+    diagnosis: &Diagnosis,
+    aim: &Aim<'_>,
+    work: &mut Steps<L>,
+) -> Result<Vec<u8>, NoMemory>
+    requires diagnosed { IsDiagnosed diagnosis.now }
+    requires budget { 1 ≤ diagnosis.now.engine.terms.budget }
+    requires aim { IsAimAt diagnosis.now.engine.graph aim.now }
+    ensures { (lines : List (List ℕ)) → HasDiagnosed diagnosis.now.engine.graph diagnosis.now.engine.terms lines diagnosis.entry.now →
+        IfOk result (λ text. HasForecasts diagnosis.now.engine.graph
+        (prediction diagnosis.now.engine.terms aim.now.ahead aim.now.name.now) aim.now.node lines text.items) }
+{
+    let log = diagnosis.engine.log();
+    log.is_always_ordered();
+    let now = log.now();
+    let to = time_ahead(now, aim.ahead);
+    let mut text = Vec::new(alloc);
+    append_predict_line(aim.name, now, to, &mut text)?;
+    match &diagnosis.last {
+        Some(last) => {
+            append_forecasts(alloc, diagnosis, last, aim.node, to, &mut text, work)?;
+            Ok(text)
+        }
+        None => Ok(text),
+    }
+}
+
+/// So many milliseconds after now, but not past the greatest time.
+fn time_ahead(now: u64, ahead: u64) -> u64
+    requires now { now ≤ MAX_TIME }
+    requires not_far { ahead ≤ MAX_TIME }
+    ensures { result ≡ time_ahead now ahead }
+{
+    (now + ahead).min(MAX_TIME)
+}
+
+/// Appends the line that says what is predicted.
+fn append_predict_line(name: &str, now: u64, to: u64, into: &mut Vec<u8>) -> Result<(), NoMemory>
+    ensures { Appends result into.old.items into.new.items (predict_line name.now now to) }
+{
+    let mut now_digits = Buffer::new();
+    let mut to_digits = Buffer::new();
+    append_line(
+        into,
+        &[
+            b"predict",
+            name.as_bytes(),
+            b"now",
+            now_digits.format(now).as_bytes(),
+            b"to",
+            to_digits.format(to).as_bytes(),
+        ],
+    )
+}
+
+/// Appends a forecast for each ranked hypothesis of the round, in ranking order. The names of steps are those of a probe of the node.
+fn append_forecasts<L: Ledger>(
+    alloc: Global,
+    diagnosis: &Diagnosis,
+    last: &Round,
+    node: u32,
+    to: u64,
+    into: &mut Vec<u8>,
+    work: &mut Steps<L>,
+) -> Result<(), NoMemory>
+    requires probeable { IsProbeable (question_of diagnosis.now.engine.graph diagnosis.now.engine.log node to) }
+    requires budget { 1 ≤ diagnosis.now.engine.terms.budget }
+    requires askable { All (IsAskable diagnosis.now.engine.graph) last.now.findings }
+    ensures { OnOk result (ForecastsFollow (question_of diagnosis.now.engine.graph diagnosis.now.engine.log node to)
+        diagnosis.now.engine.terms.budget (ranked_in_order last.entry.now) into.old.items into.new.items) }
+{
+    let graph = diagnosis.engine.graph();
+    let log = diagnosis.engine.log();
+    graph.is_always_valid();
+    log.is_always_ordered();
+    let probed = probed(alloc, graph, log, node, to, to)?;
+    let query = Query {
+        graph,
+        log,
+        probed: &probed.graph,
+        node,
+        to,
+        budget: diagnosis.engine.budget(),
+    };
+    append_ranked(
+        alloc,
+        &query,
+        last.findings.as_slice(),
+        last.order.as_slice(),
+        into,
+        work,
+    )
+}
+
+/// Appends a forecast for each of the hypotheses of these numbers.
+fn append_ranked<L: Ledger>(
+    alloc: Global,
+    query: &Query<'_>,
+    findings: &[Finding],
+    order: &[u32],
+    into: &mut Vec<u8>,
+    work: &mut Steps<L>,
+) -> Result<(), NoMemory>
+    requires query { IsQuery query.now }
+    requires askable { All (IsAskable query.now.graph.now) findings.now }
+    ensures { OnOk result (AddsForecasts query.now (findings_at findings.now order.now) into.old.items into.new.items) }
+{
+    for number in order {
+        append_numbered(alloc, query, findings, *number, into, work)?;
+    }
+    Ok(())
+}
+
+/// Appends a forecast for the hypothesis of this number.
+fn append_numbered<L: Ledger>(
+    alloc: Global,
+    query: &Query<'_>,
+    findings: &[Finding],
+    number: u32,
+    into: &mut Vec<u8>,
+    work: &mut Steps<L>,
+) -> Result<(), NoMemory>
+    requires query { IsQuery query.now }
+    requires askable { All (IsAskable query.now.graph.now) findings.now }
+    ensures { OnOk result (AddsForecasts query.now (findings_at findings.now (number ∷ [])) into.old.items into.new.items) }
+{
+    match finding_numbered(findings, number) {
+        Some(finding) => append_forecast(alloc, query, finding, into, work),
+        None => Ok(()),
+    }
+}
+
+/// The finding of this number.
+fn finding_numbered(findings: &[Finding], number: u32) -> Option<&Finding>
+    ensures { option_copied result ≡ finding_numbered findings.now number }
+{
+    findings.iter().find(|finding| finding.number == number)
+}
+
+/// Appends a forecast for the hypothesis of the finding.
+fn append_forecast<L: Ledger>(
+    alloc: Global,
+    query: &Query<'_>,
+    finding: &Finding,
+    into: &mut Vec<u8>,
+    work: &mut Steps<L>,
+) -> Result<(), NoMemory>
+    requires query { IsQuery query.now }
+    requires askable { IsAskable query.now.graph.now finding.now }
+    ensures { OnOk result (AddsForecasts query.now (finding.entry.now ∷ []) into.old.items into.new.items) }
+{
+    let outlook = forecast(
+        alloc,
+        query.graph,
+        query.log,
+        finding.set,
+        finding.doubts,
+        query.node,
+        query.to,
+        query.budget,
+        work,
+    )?;
+    append_outlook(alloc, query.graph, query.probed, finding, &outlook, into)
+}
