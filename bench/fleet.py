@@ -1,8 +1,8 @@
 #!/usr/bin/env python3
 """Times a fleet of 64 vehicles with 128 hypotheses each, by 64,000 lines that come in turn, beside 64 diagnoses of one vehicle each:
-seconds, the quotient of both, and peak memory, the shortest of three runs each.
+processor seconds, the quotient of both, and peak memory. What is written goes to files, some 2 GB each.
 
-    bench/fleet.py
+    bench/fleet.py [--program FILE] [--lines N] [--folder FOLDER]
 
 The graph has 64 failure modes and 63 monitors, so that with `--k 1 --doubt 1` there are 128 hypotheses: the empty one, and one for each
 failure mode and each monitor. 64 times as many are the most that a fleet may have. The log of each vehicle is that of a script that starts
@@ -10,13 +10,16 @@ one failure mode, another one for each vehicle, with sweeps and ticks up to 1,00
 of its own diagnosis.
 """
 
+import argparse
+import filecmp
+import os
 import random
 import subprocess
 import sys
 import tempfile
 from pathlib import Path
 
-from diagnose import TFPG, kept_searches, run
+from diagnose import built_program, kept_searches
 
 VEHICLES = 64
 LINES = 1000
@@ -33,42 +36,63 @@ def script(draws, failure):
     return "\n".join([*lines, f"{now + 10} stop"]) + "\n"
 
 
-def blocks_by_vehicle(names, output):
-    """What the output of a fleet says of each vehicle, joined in order."""
-    of, name = {name: [] for name in names}, None
-    for line in output.decode().split("\n"):
-        if line.startswith("vehicle "):
-            name = line.removeprefix("vehicle ")
-        elif line.startswith(("stray ", "mode ")):
-            name = None
-        elif name is not None and line:
-            of[name].append(line)
-    return of
+def run(program, words, given, written):
+    """The processor seconds of a run over these files, and its peak memory in KB."""
+    with open(given) as lines, open(written, "w") as output:
+        process = subprocess.Popen([program, *words], stdin=lines, stdout=output)
+        _, status, usage = os.wait4(process.pid, 0)
+        process.returncode = os.waitstatus_to_exitcode(status)
+    if process.returncode != 0:
+        raise SystemExit(f"{words[0]}: status {process.returncode}")
+    return usage.ru_utime + usage.ru_stime, usage.ru_maxrss
+
+
+def part_by_vehicle(output, files):
+    """Writes what the output of a fleet says of each vehicle to the file of its name."""
+    to = None
+    with open(output) as lines:
+        for line in lines:
+            if line.startswith("vehicle "):
+                to = files[line.split()[1]]
+            elif line.startswith(("stray ", "mode ")):
+                to = None
+            elif to is not None:
+                to.write(line)
 
 
 def main():
-    subprocess.run([TFPG, "generate", "--size", "1"], stdout=subprocess.DEVNULL, check=True)
+    arguments = argparse.ArgumentParser(description=__doc__, formatter_class=argparse.RawDescriptionHelpFormatter)
+    arguments.add_argument("--program", type=Path, metavar="FILE", help="a built program")
+    arguments.add_argument("--lines", type=int, default=LINES, help="lines of each vehicle")
+    arguments.add_argument("--folder", type=Path, help="where the files lie meanwhile")
+    words = arguments.parse_args()
+    program = built_program(words.program)
     draws = random.Random(20)
     names = [f"v{number}" for number in range(VEHICLES)]
-    with tempfile.TemporaryDirectory() as folder:
+    with tempfile.TemporaryDirectory(dir=words.folder) as folder:
         top = Path(folder)
-        graph = str(top / "graph")
-        Path(graph).write_text(kept_searches(nodes=64 + 20 + 63, monitors=63))
+        graph = top / "graph"
+        graph.write_text(kept_searches(nodes=64 + 20 + 63, monitors=63))
         logs = {}
         for number, name in enumerate(names):
             (top / "script").write_text(script(draws, number))
-            log, _, _ = run(["simulate", "--draw", str(number), graph, str(top / "script")])
-            logs[name] = log.decode().split("\n")[:LINES]
-        stream = "".join(f"{name} {logs[name][place]}\n" for place in range(LINES) for name in names)
-        output, seconds, peak = run(["fleet", *TERMS, graph, ",".join(names)], stream.encode())
-        said = blocks_by_vehicle(names, output)
+            log = subprocess.run([program, "simulate", "--draw", str(number), graph, top / "script"], stdout=subprocess.PIPE, check=True)
+            logs[name] = log.stdout.decode().split("\n")[:words.lines]
+            (top / f"{name}.log").write_text("\n".join(logs[name]) + "\n")
+        (top / "stream").write_text("".join(f"{name} {logs[name][place]}\n" for place in range(words.lines) for name in names))
+        seconds, peak = run(program, ["fleet", *TERMS, graph, ",".join(names)], top / "stream", top / "output")
+        files = {name: open(top / f"{name}.blocks", "w") for name in names}
+        part_by_vehicle(top / "output", files)
+        (top / "output").unlink()
         alone = 0.0
         for name in names:
-            report, took, _ = run(["diagnose", *TERMS, graph], ("\n".join(logs[name]) + "\n").encode())
+            files[name].close()
+            took, _ = run(program, ["diagnose", *TERMS, graph], top / f"{name}.log", top / "report")
             alone += took
-            if report.decode().rstrip("\n").split("\n") != said[name]:
+            if not filecmp.cmp(top / "report", top / f"{name}.blocks", shallow=False):
                 print(f"the blocks of {name} are not its own report")
-        print(f"{VEHICLES} vehicles, {VEHICLES * LINES} lines: {seconds:8.3f} s in a fleet, {peak / 1024:6.1f} MB; {alone:8.3f} s alone; {seconds / alone:5.2f} times")
+            (top / f"{name}.blocks").unlink()
+        print(f"{VEHICLES} vehicles, {VEHICLES * words.lines} lines: {seconds:8.3f} s in a fleet, {peak / 1024:6.1f} MB; {alone:8.3f} s alone; {seconds / alone:5.2f} times")
     return 0
 
 
