@@ -14,5 +14,6 @@ pub mod Declares
 pub mod Causes
 pub mod Faults
 pub mod Probe
+pub mod Laws
 -- What the code and its proofs need besides. No public clause reaches it.
 pub mod inside

@@ -10,6 +10,7 @@ ghost use Rattle.tfpg_graph.specs.ZeroCycle.{HasZeroOrder};
 ghost use Rattle.tfpg_graph.specs.Text.{Spells};
 ghost use Rattle.tfpg_graph.specs.Statements.{Statement, SaysStatement, statement_of};
 ghost use Rattle.tfpg_graph.specs.Faults.{IsFirstFault};
+ghost use Rattle.tfpg_graph.specs.Laws.{TextsSpellAtMostOneGraph};
 ghost use Rattle.tfpg_graph.specs.Reach.{IsClosed, IsReach, is_among};
 
 /// What a set reaches is the least closed set of nodes: it is closed, each closed test passes all of it, and so there
@@ -55,6 +56,11 @@ pub fn a_valid_graph_has_a_zero_order()
 pub fn a_line_says_the_statement_whose_words_it_has()
     ensures { (version : Version) (line : List ℕ) (said : Statement) →
         (statement_of version line ≡ Some said) ↔ SaysStatement version line said }
+{}
+
+/// A text spells at most one valid graph.
+pub fn a_text_spells_at_most_one_valid_graph()
+    ensures { TextsSpellAtMostOneGraph }
 {}
 
 /// A text has at most one first fault, and one that spells a valid graph has none.

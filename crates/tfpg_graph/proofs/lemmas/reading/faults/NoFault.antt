@@ -210,6 +210,11 @@ module _ (text : List ℕ) (graph : Tfpg) (spells : Spells text graph) (valid : 
       (subst (λ lines. AllZip (Says version) lines (said_so_far graph.modes graph.nodes edges.0 ++ Ends ∷ []))
       (sym spells.said.all) (says_whole version graph valid spells.said.kinds spells.said.edge_lines edges.0 edges.2)))
 
+-- A text spells at most one valid graph.
+pub Spells-one : (text : List ℕ) (graph other : Tfpg) → Spells text graph → IsValid graph → Spells text other → IsValid other → graph ≡ other
+Spells-one text graph other spells valid spells_other valid_other =
+    sym (Spells-clean text graph spells valid).1 ∙ (Spells-clean text other spells_other valid_other).1
+
 -- ---- no fault
 
 -- where no line has a cause, no line has a fault
