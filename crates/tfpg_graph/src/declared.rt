@@ -159,6 +159,7 @@ impl Declared {
     pub(crate) fn mode_count(&self) -> u32
         ensures count { result ≡ length self.now.modes }
         ensures few { length self.now.modes ≤ MAX_MODES }
+        ensures so_far { IsValidSoFar self.now }
     {
         self.modes.len() as u32
     }

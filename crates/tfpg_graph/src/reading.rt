@@ -26,9 +26,8 @@ use tfpg_base::without_last_line_end;
 ///
 /// Returns the graph that the text spells, where it spells a valid one, and else the first fault of the text: the first
 /// line that has a cause, with the first of its causes; or, where no line has one, what is wrong with the whole text. In
-/// place of either it may run out of memory. Takes time linear in the text, but for look-ups by name, and for each edge
-/// the square of the number of modes that it lists, which is at most [`MAX_MODES`](crate::MAX_MODES), except in a line
-/// with a fault. Takes memory for the graph and one line.
+/// place of either it may run out of memory. Takes time linear in the text, but for look-ups by name, and in a line with a
+/// fault the square of the number of modes that it lists. Takes memory for the graph and one line.
 pub fn read(alloc: Global, text: &[u8]) -> Result<Graph, GraphRefusal>
     ensures spelled { IfOk result (λ graph. Spells text.now graph) }
     ensures valid { IfOk result IsValid }

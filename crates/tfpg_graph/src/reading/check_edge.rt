@@ -1,13 +1,14 @@
 //! What is tested of a line that declares an edge.
 
-ghost use Rattle.std.specs.Prelude.{◌≡◌, ◌<◌, ◌≤◌, ◌∷◌, ◌&&◌, ℕ, List, length, map, Some, IfOk, IfNone, is_none, false, bytes_eq, codes};
-ghost use Rattle.std.specs.List.{list_any, list_all};
+ghost use Rattle.std.specs.Prelude.{◌≡◌, ◌<◌, ◌≤◌, ◌∷◌, ◌&&◌, ℕ, List, length, map, Some, None, IfOk, IfErr, IfSome, IfNone, false, bytes_eq, codes};
+ghost use Rattle.std.specs.List.{list_all};
 ghost use Rattle.tfpg_base.specs.Words.{is_name};
-ghost use Rattle.tfpg_graph.specs.Graph.{node_named, mode_named};
-ghost use Rattle.tfpg_graph.specs.Declares.{modes_listed, edge_declared, ends_named};
+ghost use Rattle.tfpg_graph.specs.Graph.{Tfpg, node_named};
+ghost use Rattle.tfpg_graph.specs.Declares.{modes_listed, edge_declared};
 ghost use Rattle.tfpg_base.specs.Choice.{first_of};
-ghost use Rattle.tfpg_graph.specs.Causes.{causes, has_twice};
-ghost use Rattle.tfpg_graph.specs.inside.reading.LineCauses.{edge_name_causes, edge_unknown_causes, end_causes, edge_room_causes};
+ghost use Rattle.tfpg_graph.specs.Causes.{causes};
+ghost use Rattle.tfpg_graph.specs.inside.reading.LineCauses.{edge_name_causes, end_causes, edge_room_causes};
+ghost use Rattle.tfpg_graph.specs.inside.reading.EdgeNames.{AreNamed, HasWrongName};
 ghost use Rattle.tfpg_graph.specs.inside.reading.StatementSeen.{edge_said};
 ghost use Rattle.tfpg_graph.specs.inside.reading.Turns.{is_misplaced, ReadAs};
 ghost use Rattle.tfpg_graph.specs.inside.declaring.Declaring.{CanDeclareEdge, CanJoin, HasEdgeRoom};
@@ -16,13 +17,14 @@ use crate::cause::GraphCause;
 use crate::declared::Declared;
 use crate::edge::Edge;
 use crate::limits::{MAX_EDGES, MAX_INCOMING, MAX_MODES};
-use crate::reading::list_modes::{has_twice, has_unknown_mode, modes_of};
+use crate::reading::list_modes::{bits_of_names, has_twice, modes_of};
 use crate::reading::read_numbers::read_delays;
 use crate::reading::statement::EdgeWords;
 use tfpg_base::read_name;
 
 /// The edge that a line declares with these words, or the cause of the line. The names are those that the word for
-/// its modes lists. Takes two look-ups by name, and up to two for each mode.
+/// its modes lists. Takes two look-ups by name, and one for each mode, and where one of the names is wrong, time quadratic
+/// in their number.
 pub(crate) fn read_edge(
     declared: &Declared,
     words: EdgeWords<'_>,
@@ -36,10 +38,7 @@ pub(crate) fn read_edge(
         result }
     ensures clear { IfOk result (CanDeclareEdge declared.now) }
 {
-    if let Some(cause) = edge_name_cause(declared, words, modes) {
-        return Err(cause);
-    }
-    let (source, target) = find_ends(declared, words, modes)?;
+    let (source, target, listed) = read_names(declared, words, modes)?;
     let (tmin, tmax) = read_delays(words.tmin, words.tmax)?;
     if let Some(cause) = end_cause(declared, words, source, target) {
         return Err(cause);
@@ -52,27 +51,65 @@ pub(crate) fn read_edge(
         target,
         tmin,
         tmax,
-        modes: modes_of(declared, words.modes, modes),
+        modes: modes_of(declared, words.modes, listed),
     })
 }
 
-/// The cause that the line is out of order, or that one of its names is wrong, where there is one.
-fn edge_name_cause(declared: &Declared, words: EdgeWords<'_>, modes: &[&[u8]]) -> Option<GraphCause>
+/// What its names say, or the cause that the line is out of order, or that one of its names is wrong.
+fn read_names(
+    declared: &Declared,
+    words: EdgeWords<'_>,
+    modes: &[&[u8]],
+) -> Result<(u32, u32, u64), GraphCause>
     requires listed { map (λ name. name.now) modes.now ≡ modes_listed words.modes.now }
-    ensures first { result ≡ first_of
-        (edge_name_causes declared.now words.entry.source.now words.entry.target.now words.entry.modes.now) }
-    ensures some { IfNone result (0 < length declared.now.modes) }
-    ensures few { IfNone result (length declared.now.modes ≤ MAX_MODES) }
-    ensures once { IfNone result (has_twice (modes_listed words.entry.modes.now) ≡ false) }
+    ensures named { IfOk result (AreNamed declared.now
+        words.entry.source.now words.entry.target.now words.entry.modes.now) }
+    ensures clear { IfOk result (λ _. first_of (edge_name_causes
+        declared.now words.entry.source.now words.entry.target.now words.entry.modes.now) ≡ None) }
+    ensures some { IfOk result (λ _. 0 < length declared.now.modes) }
+    ensures few { IfOk result (λ _. length declared.now.modes ≤ MAX_MODES) }
+    ensures refused { IfErr result (λ cause. first_of (edge_name_causes
+        declared.now words.entry.source.now words.entry.target.now words.entry.modes.now) ≡ Some cause) }
 {
     if declared.mode_count() == 0 {
-        Some(GraphCause::BadLine)
-    } else if !has_names(words, modes) {
-        Some(GraphCause::BadName)
+        return Err(GraphCause::BadLine);
+    }
+    match find_names(declared, words, modes) {
+        Some(named) => Ok(named),
+        None => Err(name_cause(words, modes)),
+    }
+}
+
+/// The two nodes that it names, and the bits of the modes that it lists, where each name is declared and no mode is
+/// named twice.
+fn find_names(declared: &Declared, words: EdgeWords<'_>, modes: &[&[u8]]) -> Option<(u32, u32, u64)>
+    requires listed { map (λ name. name.now) modes.now ≡ modes_listed words.modes.now }
+    requires few { length declared.now.modes ≤ MAX_MODES }
+    ensures named { IfSome result (AreNamed declared.now
+        words.entry.source.now words.entry.target.now words.entry.modes.now) }
+    ensures refused { IfNone result (HasWrongName declared.now
+        words.entry.source.now words.entry.target.now words.entry.modes.now) }
+{
+    let source = declared.find(words.source)?;
+    let target = declared.find(words.target)?;
+    let listed = bits_of_names(declared, modes)?;
+    Some((source, target, listed))
+}
+
+/// The cause that one of its names is wrong, where one is.
+fn name_cause(words: EdgeWords<'_>, modes: &[&[u8]]) -> GraphCause
+    requires listed { map (λ name. name.now) modes.now ≡ modes_listed words.modes.now }
+    ensures { (graph : Tfpg) → 0 < length graph.modes
+        → HasWrongName graph words.entry.source.now words.entry.target.now words.entry.modes.now
+        → first_of (edge_name_causes graph
+        words.entry.source.now words.entry.target.now words.entry.modes.now) ≡ Some result }
+{
+    if !has_names(words, modes) {
+        GraphCause::BadName
     } else if has_twice(modes) {
-        Some(GraphCause::DuplicateName)
+        GraphCause::DuplicateName
     } else {
-        None
+        GraphCause::UnknownName
     }
 }
 
@@ -95,35 +132,6 @@ fn are_names(words: &[&[u8]]) -> bool
     ensures { result ≡ list_all (λ word. is_name word.now) words.now }
 {
     words.iter().all(|word| read_name(word))
-}
-
-/// The nodes that it names, where all its names are declared.
-fn find_ends(
-    declared: &Declared,
-    words: EdgeWords<'_>,
-    modes: &[&[u8]],
-) -> Result<(u32, u32), GraphCause>
-    requires listed { map (λ name. name.now) modes.now ≡ modes_listed words.modes.now }
-    ensures first { ReadAs
-        (first_of (edge_unknown_causes
-        declared.now words.entry.source.now words.entry.target.now words.entry.modes.now))
-        (ends_named declared.now words.entry.source.now words.entry.target.now)
-        result }
-    ensures within { IfOk result (λ ends. (ends.0 < length declared.now.nodes) ×
-        (ends.1 < length declared.now.nodes)) }
-    ensures named { IfOk result (λ ends. (node_named declared.now words.entry.source.now ≡ Some ends.0) ×
-        (node_named declared.now words.entry.target.now ≡ Some ends.1)) }
-    ensures known { IfOk result (λ ends. list_any (λ name. is_none (mode_named declared.now name))
-        (modes_listed words.entry.modes.now) ≡ false) }
-{
-    let (Some(source), Some(target)) = (declared.find(words.source), declared.find(words.target))
-    else {
-        return Err(GraphCause::UnknownName);
-    };
-    if has_unknown_mode(declared, modes) {
-        return Err(GraphCause::UnknownName);
-    }
-    Ok((source, target))
 }
 
 /// The cause of its two ends, which are these nodes, where there is one.

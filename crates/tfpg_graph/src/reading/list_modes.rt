@@ -1,12 +1,12 @@
 //! The word for the modes of an edge: `*` for all, `-` for none, or names with commas between.
 
-ghost use Rattle.std.specs.Prelude.{◌≡◌, ◌≤◌, ◌<◌, ◌^◌, ◌-◌, ◌==◌, map, length, drop, true, false, bytes_eq, codes, All, Contains, IfOk, is_none, filter_map};
+ghost use Rattle.std.specs.Prelude.{◌≡◌, ◌≤◌, ◌<◌, ◌+◌, ◌^◌, [], map, length, drop, true, false, bytes_eq, codes, IfOk, IfSome, IfNone, filter_map};
 ghost use Rattle.std.specs.List.{list_any};
 ghost use Rattle.tfpg_base.specs.SetBits.{bits_of};
 ghost use Rattle.tfpg_graph.specs.Graph.{mode_named};
 ghost use Rattle.tfpg_graph.specs.Declares.{modes_listed, modes_of_word};
 ghost use Rattle.tfpg_graph.specs.Causes.{has_twice};
-ghost use Rattle.tfpg_graph.specs.inside.reading.LineCauses.{with_option};
+ghost use Rattle.tfpg_graph.specs.inside.reading.EdgeNames.{NameNewModes};
 
 use crate::declared::Declared;
 use crate::edge::all_modes;
@@ -24,8 +24,7 @@ pub(crate) fn listed_modes<'a>(alloc: Global, word: &'a [u8]) -> Result<Vec<&'a 
     parts_at_commas(alloc, word)
 }
 
-/// Whether a name stands twice. Takes time quadratic in their number, which is at most [`MAX_MODES`] in a text
-/// without a fault.
+/// Whether a name stands twice. Takes time quadratic in their number, and is called only for a line with a fault.
 pub(crate) fn has_twice(names: &[&[u8]]) -> bool
     ensures { result ≡ has_twice (map (λ name. name.now) names.now) }
 {
@@ -55,19 +54,43 @@ fn is_named_among(name: &[u8], names: &[&[u8]]) -> bool
     names.iter().any(|other| name == *other)
 }
 
-/// Whether a name is that of no mode. Takes one look-up for each.
-pub(crate) fn has_unknown_mode(declared: &Declared, names: &[&[u8]]) -> bool
-    ensures { result ≡ list_any (λ name. is_none (mode_named declared.now name.now)) names.now }
+/// The bits of the modes of these names, where each name is that of a mode and none stands twice. Takes one look-up for
+/// each name, up to the first for which that is not so.
+pub(crate) fn bits_of_names(declared: &Declared, names: &[&[u8]]) -> Option<u64>
+    requires few { length declared.now.modes ≤ MAX_MODES }
+    ensures found { IfSome result (λ _. NameNewModes declared.now [] (map (λ name. name.now) names.now)) }
+    ensures bits { IfSome result (λ bits. bits
+        ≡ bits_of (filter_map (mode_named declared.now) (map (λ name. name.now) names.now))) }
+    ensures refused { IfNone result (NameNewModes declared.now [] (map (λ name. name.now) names.now) → ⊥) }
 {
-    names.iter().any(|name| declared.find_mode(name).is_none())
+    let modes = with_new_modes(declared, names, Set::empty())?;
+    Some(modes.bits())
 }
 
-/// The bits of the modes that the word says. Takes one look-up for each name.
-pub(crate) fn modes_of(declared: &Declared, word: &[u8], names: &[&[u8]]) -> u64
-    requires listed { map (λ name. name.now) names.now ≡ modes_listed word.now }
-    requires once { has_twice (map (λ name. name.now) names.now) ≡ false }
-    requires known { list_any (λ name. is_none (mode_named declared.now name))
-        (map (λ name. name.now) names.now) ≡ false }
+/// These modes and those of the names, where each name is that of another mode and none stands twice.
+fn with_new_modes(declared: &Declared, names: &[&[u8]], modes: Set) -> Option<Set>
+    requires few { length declared.now.modes ≤ MAX_MODES }
+    ensures found { IfSome result (λ _. NameNewModes declared.now modes (map (λ name. name.now) names.now)) }
+    ensures worth { IfSome result (λ all. bits_of all
+        ≡ bits_of modes + bits_of (filter_map (mode_named declared.now) (map (λ name. name.now) names.now))) }
+    ensures refused { IfNone result (NameNewModes declared.now modes (map (λ name. name.now) names.now) → ⊥) }
+{
+    match names.split_first() {
+        None => Some(modes),
+        Some((name, others)) => {
+            let mode = declared.find_mode(name)?;
+            if modes.has(mode) {
+                return None;
+            }
+            with_new_modes(declared, others, modes.with(mode))
+        }
+    }
+}
+
+/// The bits of the modes that the word says, where these are the bits of those that it lists.
+pub(crate) fn modes_of(declared: &Declared, word: &[u8], listed: u64) -> u64
+    requires listed { listed ≡ bits_of (filter_map (mode_named declared.now) (modes_listed word.now)) }
+    requires modes { NameNewModes declared.now [] (modes_listed word.now) }
     requires some_mode { bytes_eq word.now (codes "-") ≡ false }
     requires some { 0 < length declared.now.modes }
     requires few { length declared.now.modes ≤ MAX_MODES }
@@ -76,33 +99,8 @@ pub(crate) fn modes_of(declared: &Declared, word: &[u8], names: &[&[u8]]) -> u64
     ensures own { result < 2 ^ length declared.now.modes }
 {
     if word == b"*".as_slice() {
-        return all_modes(declared.mode_count());
-    }
-    named_modes(declared, names).bits()
-}
-
-/// The modes of these names, as the set of their numbers.
-fn named_modes(declared: &Declared, names: &[&[u8]]) -> Set
-    requires once { has_twice (map (λ name. name.now) names.now) ≡ false }
-    requires few { length declared.now.modes ≤ MAX_MODES }
-    ensures named { All (Contains (filter_map (mode_named declared.now) (map (λ name. name.now) names.now)))
-        result }
-    ensures worth { bits_of result
-        ≡ bits_of (filter_map (mode_named declared.now) (map (λ name. name.now) names.now)) }
-{
-    match names.split_first() {
-        None => Set::empty(),
-        Some((first, others)) => with_named(declared, first, named_modes(declared, others)),
-    }
-}
-
-/// The modes with the one of this name, where there is one.
-fn with_named(declared: &Declared, name: &[u8], modes: Set) -> Set
-    requires few { length declared.now.modes ≤ MAX_MODES }
-    ensures { result ≡ with_option (mode_named declared.now name.now) modes }
-{
-    match declared.find_mode(name) {
-        Some(mode) => modes.with(mode),
-        None => modes,
+        all_modes(declared.mode_count())
+    } else {
+        listed
     }
 }

@@ -98,8 +98,8 @@ impl Reader {
         }
     }
 
-    /// Reads one more line. Takes time linear in the length of the line, but for look-ups by name, and for an edge quadratic
-    /// in the number of modes that it lists, which is at most [`MAX_MODES`](crate::MAX_MODES), except in a line with a fault.
+    /// Reads one more line. Takes time linear in the length of the line, but for look-ups by name, and for an edge with a fault
+    /// quadratic in the number of modes that it lists.
     pub(crate) fn take(self, alloc: Global, line: &[u8]) -> Result<Reader, LineRefusal>
         ensures { IsTurnResult (turn self line.now) result }
     {

@@ -1,6 +1,8 @@
 -- Which cause a line has, and where it has none.
 pub mod Names
 pub mod NamedModes
+pub mod NewModes
+pub mod DeclaredNames
 pub mod NumberCauses
 pub mod WithoutCause
 pub mod NoCause

@@ -81,12 +81,7 @@ edge_name_causes graph source target modes =
     then_some (length graph.modes == 0) BadLine
     ∷ then_some (has_bad_name (edge_of_names source target modes)) BadName
     ∷ then_some (has_duplicate_name graph (edge_of_names source target modes)) DuplicateName
-    ∷ []
-
--- the test of whether its names are declared
-abbrev pub edge_unknown_causes : Tfpg → List ℕ → List ℕ → List ℕ → List (Option GraphCause)
-edge_unknown_causes graph source target modes =
-    then_some (has_unknown_name graph (edge_of_names source target modes)) UnknownName
+    ∷ then_some (has_unknown_name graph (edge_of_names source target modes)) UnknownName
     ∷ []
 
 -- the tests of its delays

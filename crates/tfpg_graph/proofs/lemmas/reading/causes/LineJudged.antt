@@ -11,7 +11,7 @@ use Rattle.tfpg_graph.specs.Statements.{NodeWords, FailureWords, OrWords, AndWor
 use Rattle.tfpg_graph.specs.Declares.{kind_of_words, lag_of_words}
 use Rattle.tfpg_base.specs.Choice.{first_of}
 use Rattle.tfpg_graph.specs.Causes.{causes, are_failure_words}
-use Rattle.tfpg_graph.specs.inside.reading.LineCauses.{node_number_causes, node_name_causes, node_room_causes, edge_name_causes, edge_unknown_causes, delay_causes, end_causes, edge_room_causes}
+use Rattle.tfpg_graph.specs.inside.reading.LineCauses.{node_number_causes, node_name_causes, node_room_causes, edge_name_causes, delay_causes, end_causes, edge_room_causes}
 use Rattle.tfpg_graph.specs.inside.reading.Turns.{is_misplaced}
 use Rattle.tfpg_base.proofs.lists.Choices.{first_of-append_some, first_of-append_none}
 
@@ -71,30 +71,22 @@ module _ (graph : Tfpg) (source target tmin tmax modes : List ℕ) where
   abbrev after_delays : List (Option GraphCause)
   after_delays = end_causes graph source target ++ after_ends
 
-  abbrev after_unknown : List (Option GraphCause)
-  after_unknown = delay_causes tmin tmax ++ after_delays
-
   abbrev after_names : List (Option GraphCause)
-  after_names = edge_unknown_causes graph source target modes ++ after_unknown
+  after_names = delay_causes tmin tmax ++ after_delays
 
   pub edge_cause-name : (cause : GraphCause) → first_of (edge_name_causes graph source target modes) ≡ Some cause → edge_cause ≡ Some cause
   edge_cause-name cause is = first_of-append_some (edge_name_causes graph source target modes) after_names cause is
 
   module _ (named : first_of (edge_name_causes graph source target modes) ≡ None) where
-    pub edge_cause-unknown : (cause : GraphCause) → first_of (edge_unknown_causes graph source target modes) ≡ Some cause → edge_cause ≡ Some cause
-    edge_cause-unknown cause is =
-        first_of-append_none (edge_name_causes graph source target modes) after_names named ∙ first_of-append_some (edge_unknown_causes graph source target modes) after_unknown cause is
+    to_delays : edge_cause ≡ first_of after_names
+    to_delays = first_of-append_none (edge_name_causes graph source target modes) after_names named
 
-    module _ (known : first_of (edge_unknown_causes graph source target modes) ≡ None) where
-      to_delays : edge_cause ≡ first_of after_unknown
-      to_delays = first_of-append_none (edge_name_causes graph source target modes) after_names named ∙ first_of-append_none (edge_unknown_causes graph source target modes) after_unknown known
+    pub edge_cause-delay : (cause : GraphCause) → first_of (delay_causes tmin tmax) ≡ Some cause → edge_cause ≡ Some cause
+    edge_cause-delay cause is = to_delays ∙ first_of-append_some (delay_causes tmin tmax) after_delays cause is
 
-      pub edge_cause-delay : (cause : GraphCause) → first_of (delay_causes tmin tmax) ≡ Some cause → edge_cause ≡ Some cause
-      edge_cause-delay cause is = to_delays ∙ first_of-append_some (delay_causes tmin tmax) after_delays cause is
+    module _ (delayed : first_of (delay_causes tmin tmax) ≡ None) where
+      pub edge_cause-end : (cause : GraphCause) → first_of (end_causes graph source target) ≡ Some cause → edge_cause ≡ Some cause
+      edge_cause-end cause is = to_delays ∙ first_of-append_none (delay_causes tmin tmax) after_delays delayed ∙ first_of-append_some (end_causes graph source target) after_ends cause is
 
-      module _ (delayed : first_of (delay_causes tmin tmax) ≡ None) where
-        pub edge_cause-end : (cause : GraphCause) → first_of (end_causes graph source target) ≡ Some cause → edge_cause ≡ Some cause
-        edge_cause-end cause is = to_delays ∙ first_of-append_none (delay_causes tmin tmax) after_delays delayed ∙ first_of-append_some (end_causes graph source target) after_ends cause is
-
-        pub edge_cause-room : first_of (end_causes graph source target) ≡ None → edge_cause ≡ first_of (edge_room_causes graph target modes)
-        edge_cause-room ended = to_delays ∙ first_of-append_none (delay_causes tmin tmax) after_delays delayed ∙ first_of-append_none (end_causes graph source target) after_ends ended
+      pub edge_cause-room : first_of (end_causes graph source target) ≡ None → edge_cause ≡ first_of (edge_room_causes graph target modes)
+      edge_cause-room ended = to_delays ∙ first_of-append_none (delay_causes tmin tmax) after_delays delayed ∙ first_of-append_none (end_causes graph source target) after_ends ended

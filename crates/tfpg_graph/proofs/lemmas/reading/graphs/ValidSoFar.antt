@@ -188,7 +188,7 @@ module _ (graph : Tfpg) (word : List ℕ) (once : has_twice (modes_listed word) 
     (known : list_any (λ name. is_none (mode_named graph name)) (modes_listed word) ≡ false)
     (some_mode : bytes_eq word (codes "-") ≡ false) (some : 0 < length graph.modes) where
   -- the modes that a word says are some of the graph's
-  modes_some : (0 < modes_of_word graph word) × (modes_of_word graph word < 2 ^ length graph.modes)
+  pub modes_some : (0 < modes_of_word graph word) × (modes_of_word graph word < 2 ^ length graph.modes)
   modes_some = by (bytes_eq word (codes "*")) refl
     where
       named : bytes_eq word (codes "*") ≡ false
