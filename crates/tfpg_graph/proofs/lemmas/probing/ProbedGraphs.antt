@@ -1,23 +1,21 @@
 -- A valid graph with a probe is valid.
-use Rattle.std.proofs.Common.{◌≡◌, ◌≢◌, ℕ, zero, suc, ◌+◌, ◌-◌, ◌^◌, ◌<◌, ◌≤◌, ◌==◌, ◌&&◌, ⊎_elim, inl, inr, ◌⊎◌, Bool, true, false, cond, not, List, [], ◌∷◌, ◌++◌, length, All, Contains, Option, Some, None, IsTrue, refl, sym, ap, ◌∙◌, subst, arith}
+use Rattle.std.proofs.Common.{◌≡◌, ◌≢◌, ℕ, zero, suc, ◌-◌, ◌^◌, ◌<◌, ◌==◌, ◌&&◌, ⊎_elim, inl, inr, ◌⊎◌, Bool, true, false, cond, not, List, [], ◌∷◌, ◌++◌, length, Contains, Option, Some, None, refl, sym, ap, ◌∙◌, subst, arith}
 use Rattle.std.specs.Option.{option_map, option_map_or}
-use Rattle.std.proofs.lemmas.Bool.{cases_lt, cases_eq, eq-eqb, ne_eqb, and_from, false≢true}
+use Rattle.std.proofs.lemmas.Bool.{cases_lt, cases_eq, eq-eqb, ne_eqb, false≢true}
 use Rattle.std.proofs.lemmas.List.{length_push}
 use Rattle.std.proofs.lemmas.List.Elements.{All-weaker, All-contains, Contains-push_cases}
 use Rattle.std.proofs.lemmas.Nat.{pow_below}
 use Rattle.tfpg_base.proofs.lists.Positions.{position-All_fail}
 use Rattle.tfpg_base.proofs.lists.Written.{slice_get-push_at}
-use Rattle.tfpg_graph.specs.declared.kind.Kind.{Kind}
 use Rattle.tfpg_graph.specs.declared.kind.Kind.TheVariants.{Or}
 use Rattle.tfpg_graph.specs.declared.kind.Lag.{Lag}
 use Rattle.tfpg_graph.specs.declared.edge.Edge.{Edge}
 use Rattle.tfpg_graph.specs.declared.limits.TheConstants.{MAX_INCOMING}
-use Rattle.tfpg_graph.specs.Graph.{Tfpg, Node, is_failure, is_discrepancy, is_kind_at, failures, incoming, edge_from_to}
-use Rattle.tfpg_graph.specs.Text.{all_modes}
+use Rattle.tfpg_graph.specs.Graph.{Tfpg, Node, is_failure, incoming, edge_from_to}
 use Rattle.tfpg_graph.specs.Valid.{IsValid, IsValidSoFar, IsValidEdge, HasIncomingBefore, HasNoZeroCycle, WalksInNoTime}
 use Rattle.tfpg_graph.specs.Probe.{TakesProbe, probe_edge, with_probe}
-use Rattle.tfpg_graph.specs.inside.declaring.Indexes.{with_node, with_edge}
-use Rattle.tfpg_graph.proofs.lemmas.declaring.MoreDeclared.{is_kind_at-with_node, incoming-with_edge, incoming-target, no_edge_into, IsValidSoFar-with_node, IsValidSoFar-with_edge}
+use Rattle.tfpg_graph.specs.inside.declaring.Indexes.{with_node}
+use Rattle.tfpg_graph.proofs.lemmas.declaring.MoreDeclared.{is_kind_at-with_node, incoming-with_edge, no_edge_into, IsValidSoFar-with_node, IsValidSoFar-with_edge}
 
 -- a list with a first item is not empty
 cons_not_nil : (first : ℕ) (others : List ℕ) → first ∷ others ≢ []

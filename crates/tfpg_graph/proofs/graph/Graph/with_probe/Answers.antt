@@ -1,10 +1,7 @@
-use Rattle.std.proofs.Common.{◌≡◌, ◌<◌, Some, ap, sym, subst, ◌∙◌, arith, length}
+use Rattle.std.proofs.Common.{◌≡◌, Some, ap, ◌∙◌, arith, length}
 use Rattle.tfpg_graph.specs.declared.kind.Kind.TheVariants.{Or}
-use Rattle.tfpg_graph.specs.declared.edge.Edge.{Edge}
-use Rattle.tfpg_graph.specs.declared.limits.TheConstants.{MAX_INCOMING}
-use Rattle.tfpg_graph.specs.Graph.{Tfpg, incoming}
-use Rattle.tfpg_graph.specs.Valid.{IsValid}
-use Rattle.tfpg_graph.specs.inside.declaring.Indexes.{with_node, with_edge}
+use Rattle.tfpg_graph.specs.Graph.{Tfpg}
+use Rattle.tfpg_graph.specs.inside.declaring.Indexes.{with_node}
 use Rattle.tfpg_graph.proofs.lemmas.probing.ProbedGraphs.{edge_valid, edge_new, incoming_new, probed_valid}
 use Rattle.tfpg_graph.proofs.graph.Graph.with_probe.Goals as goal
 use Rattle.tfpg_graph.proofs.graph.Graph.with_probe.Goals.{In_ok-with_node}
