@@ -84,20 +84,22 @@ impl BlockReader {
         if let Some(refusal) = self.refused {
             return Err(refusal);
         }
-        match next_line(self.alloc, graph, self.stand, number, line) {
-            Ok(next) => match self.draft.take(self.alloc, number, next.stand, &next.line) {
-                Ok(fed) => {
+        match &next_line(self.alloc, graph, self.stand, number, line) {
+            Ok(next) => match self.draft.add(self.alloc, number, next.stand, &next.line) {
+                Ok(()) => {
                     self.stand = next.stand;
-                    Ok(fed)
+                    Ok(self.draft.complete(self.alloc, number, &next.line))
                 }
                 Err(NoMemory) => {
-                    *self = BlockReader::ended(self.alloc, ReadRefusal::NoMemory);
+                    self.stand = Stand::Nothing;
+                    self.refused = Some(ReadRefusal::NoMemory);
                     Err(ReadRefusal::NoMemory)
                 }
             },
             Err(refusal) => {
-                *self = BlockReader::ended(self.alloc, refusal);
-                Err(refusal)
+                self.stand = Stand::Nothing;
+                self.refused = Some(*refusal);
+                Err(*refusal)
             }
         }
     }
@@ -107,18 +109,6 @@ impl BlockReader {
         ensures { result ≡ may_begin_block self.now.stand }
     {
         self.stand.may_begin_block()
-    }
-
-    /// A reader that has refused a line. Takes no memory.
-    fn ended(alloc: Global, refusal: ReadRefusal) -> BlockReader
-        ensures { result.refused ≡ Some refusal }
-    {
-        BlockReader {
-            alloc,
-            refused: Some(refusal),
-            stand: Stand::Nothing,
-            draft: Draft::empty(alloc),
-        }
     }
 }
 

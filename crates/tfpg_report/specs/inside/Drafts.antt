@@ -181,11 +181,21 @@ draft_after at next (Rejected number set doubts) draft = with_hypothesis at (Rej
 draft_after at next (Counts counts) draft = opened 0 0 0 0
 draft_after at next (Panel panel no_memory) draft = draft
 
--- what the line with this number completes
+-- the draft to which the line with this number was added, after which the reader has this stand
+abbrev pub draft_with : ℕ → Stand → ReportLine → Draft → Draft
+draft_with at next (Counts counts) draft = settled draft
+draft_with at next line draft = draft_after at next line draft
+
+-- what is left of the draft to which the line was added, once it was said what that completes
+abbrev pub left_after : ReportLine → Draft → Draft
+left_after (Counts counts) draft = opened 0 0 0 0
+left_after _ draft = draft
+
+-- what the line with this number completes, by the draft to which it was added
 abbrev pub completed : ℕ → ReportLine → Draft → Fed
 completed at (Head terms) draft = fed.Head terms.k terms.doubt terms.budget
 completed at (OldHead k budget) draft = fed.Head k 0 budget
 completed at (Refused line cause) draft = fed.Refused line cause
-completed at (Counts counts) draft = fed.Round (round_of counts at (settled draft))
+completed at (Counts counts) draft = fed.Round (round_of counts at draft)
 completed at (Panel panel no_memory) draft = fed.Lost panel no_memory
 completed at _ draft = fed.More

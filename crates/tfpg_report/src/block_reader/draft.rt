@@ -1,7 +1,7 @@
 //! What a reader of reports keeps of a round that has not ended.
 
-ghost use Rattle.std.specs.Prelude.{◌≡◌, true, IfOk, OnOk, IsOk};
-ghost use Rattle.tfpg_report.specs.inside.Drafts.{part_with, ranked_with, has_part, has_ranked, lets, says_set, with_hypothesis, with_step, with_activation, settled, with_begun, with_open, with_rejected, with_cycle_ended, with_cycle, with_reason, opened, round_of, new_part, draft_after, completed};
+ghost use Rattle.std.specs.Prelude.{◌≡◌, true, OnOk};
+ghost use Rattle.tfpg_report.specs.inside.Drafts.{part_with, ranked_with, has_part, has_ranked, lets, says_set, with_hypothesis, with_step, with_activation, settled, with_begun, with_open, with_rejected, with_cycle_ended, with_cycle, with_reason, opened, round_of, new_part, draft_with, left_after, completed};
 
 use crate::{
     Fed, NamedSet, NamedSetList, Part, PartList, RankedLine, RankedLineList, ReadRound, ReportLine,
@@ -71,51 +71,65 @@ impl Draft {
         Draft::opened(alloc, 0, 0, 0, 0)
     }
 
-    /// Takes the line with this number, after which the reader has this stand. Costs amortized constant time.
-    pub(crate) fn take(
+    /// Adds the line with this number, after which the reader has this stand. Costs amortized constant time.
+    pub(crate) fn add(
         &mut self,
         alloc: Global,
         at: u64,
         next: Stand,
         line: &ReportLine,
-    ) -> Result<Fed, NoMemory>
+    ) -> Result<(), NoMemory>
         requires { lets self.old.under_way line.now ≡ true }
-        ensures fed { IfOk result (λ fed. fed ≡ completed at line.now self.old) }
-        ensures draft { OnOk result (self.new ≡ draft_after at next line.now self.old) }
+        ensures { OnOk result (self.new ≡ draft_with at next line.now self.old) }
     {
         match line {
-            ReportLine::Head(terms) => Ok(Fed::Head {
+            ReportLine::Head(_) => Ok(()),
+            ReportLine::OldHead { .. } => Ok(()),
+            ReportLine::Refused { .. } => Ok(()),
+            ReportLine::Round { number, line, now } => {
+                *self = Draft::opened(alloc, at, *number, *line, *now);
+                Ok(())
+            }
+            ReportLine::Hyp { number } => self.begin(part_at(alloc, at, *number)),
+            ReportLine::Split(name) => self.add_step(at, Step::Split(*name)),
+            ReportLine::Cycle { .. } => self.begin_cycle(alloc, at, next),
+            ReportLine::Why(reason) => self.add_reason(alloc, *reason, next),
+            ReportLine::Again => self.add_step(at, Step::Again),
+            ReportLine::Ranked { .. } => self.add_hypothesis(alloc, at, line),
+            ReportLine::At(activation) => self.add_activation(*activation),
+            ReportLine::Open { .. } => self.add_hypothesis(alloc, at, line),
+            ReportLine::Rejected { .. } => self.add_hypothesis(alloc, at, line),
+            ReportLine::Counts(_) => self.settle(),
+            ReportLine::Panel { .. } => Ok(()),
+        }
+    }
+
+    /// What the line with this number, which was added, completes. If that is the round, the draft of no round is left.
+    pub(crate) fn complete(&mut self, alloc: Global, at: u64, line: &ReportLine) -> Fed
+        ensures fed { result ≡ completed at line.now self.old }
+        ensures draft { self.new ≡ left_after line.now self.old }
+    {
+        match line {
+            ReportLine::Head(terms) => Fed::Head {
                 k: terms.k,
                 doubt: terms.doubt,
                 budget: terms.budget,
-            }),
-            ReportLine::OldHead { k, budget } => Ok(Fed::Head {
+            },
+            ReportLine::OldHead { k, budget } => Fed::Head {
                 k: *k,
                 doubt: 0,
                 budget: *budget,
-            }),
-            ReportLine::Refused { line, cause } => Ok(Fed::Refused {
+            },
+            ReportLine::Refused { line, cause } => Fed::Refused {
                 line: *line,
                 cause: *cause,
-            }),
-            ReportLine::Round { number, line, now } => {
-                *self = Draft::opened(alloc, at, *number, *line, *now);
-                Ok(Fed::More)
-            }
-            ReportLine::Hyp { number } => more(self.begin(part_at(alloc, at, *number))),
-            ReportLine::Split(name) => more(self.add_step(at, Step::Split(*name))),
-            ReportLine::Cycle { .. } => more(self.begin_cycle(alloc, at, next)),
-            ReportLine::Why(reason) => more(self.add_reason(alloc, *reason, next)),
-            ReportLine::Again => more(self.add_step(at, Step::Again)),
-            ReportLine::Ranked { .. } => more(self.add_hypothesis(alloc, at, line)),
-            ReportLine::At(activation) => more(self.add_activation(*activation)),
-            ReportLine::Open { .. } => more(self.add_hypothesis(alloc, at, line)),
-            ReportLine::Rejected { .. } => more(self.add_hypothesis(alloc, at, line)),
-            ReportLine::Counts(counts) => Ok(Fed::Round(self.end(alloc, *counts, at)?)),
-            ReportLine::Panel { panel, no_memory } => Ok(Fed::Lost {
+            },
+            ReportLine::Counts(counts) => Fed::Round(self.end(alloc, *counts, at)),
+            ReportLine::Panel { panel, no_memory } => Fed::Lost {
                 panel: *panel,
                 no_memory: *no_memory,
-            }),
+            },
+            _ => Fed::More,
         }
     }
 
@@ -263,19 +277,14 @@ impl Draft {
         self.rejected.push(named)
     }
 
-    /// The round, which ends with these counts on this line. Leaves the draft of no round.
-    fn end(
-        &mut self,
-        alloc: Global,
-        counts: Counts,
-        counts_line: u64,
-    ) -> Result<ReadRound, NoMemory>
-        ensures round { IfOk result (λ round. round ≡ round_of counts counts_line (settled self.old)) }
-        ensures draft { OnOk result (self.new ≡ opened 0 0 0 0) }
+    /// The round, which ends with these counts on this line, if nothing is under way. Leaves the draft of no round.
+    #[inline(never)]
+    fn end(&mut self, alloc: Global, counts: Counts, counts_line: u64) -> ReadRound
+        ensures round { result ≡ round_of counts counts_line self.old }
+        ensures draft { self.new ≡ opened 0 0 0 0 }
     {
-        self.settle()?;
         let whole = mem::replace(self, Draft::empty(alloc));
-        Ok(whole.into_round(counts, counts_line))
+        whole.into_round(counts, counts_line)
     }
 
     /// The round of a draft in which nothing is under way, with these counts on this line.
@@ -307,15 +316,6 @@ fn part_at(alloc: Global, first_line: u64, number: u32) -> UnderWay
         steps: StepList::new(alloc),
         step_lines: LineList::new(alloc),
     })
-}
-
-/// Says that a line which was added completes nothing.
-fn more(added: Result<(), NoMemory>) -> Result<Fed, NoMemory>
-    ensures fed { IfOk result (λ fed. fed ≡ Fed.More) }
-    ensures same { IsOk result → IsOk added }
-{
-    added?;
-    Ok(Fed::More)
 }
 
 impl Part {

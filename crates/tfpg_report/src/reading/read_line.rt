@@ -38,10 +38,10 @@ pub fn read_report_line(
     if line.len() > LONGEST_LINE {
         return Err(LineRefusal::NotALine);
     }
-    let Some(words) = Words::of(line) else {
-        return Err(LineRefusal::NotALine);
-    };
-    line_in(alloc, graph, words.as_slice())
+    match &Words::of(line) {
+        Some(words) => line_in(alloc, graph, words.as_slice()),
+        None => Err(LineRefusal::NotALine),
+    }
 }
 
 impl From<NoMemory> for LineRefusal {

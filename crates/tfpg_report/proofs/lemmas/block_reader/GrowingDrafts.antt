@@ -16,7 +16,7 @@ use Rattle.tfpg_report.specs.declared.block_reader.draft.UnderWay.{UnderWay}
 use Rattle.tfpg_report.specs.declared.block_reader.draft.UnderWay.TheVariants as under_way
 use Rattle.tfpg_report.specs.Stands.{may_begin, may_begin_block, may_begin_steps, may_step, may_rank, may_open, may_reject, after_reasons, is_later, stand_after}
 use Rattle.tfpg_report.specs.ReadRounds.{NumberedLine, numbered_from, step_lines, lines_of_ranked}
-use Rattle.tfpg_report.specs.inside.Drafts.{ranked_with, under_way_with_step, under_way_with_activation, with_step, with_cycle, with_reason, with_open, with_rejected, settled, named_at, draft_after, completed}
+use Rattle.tfpg_report.specs.inside.Drafts.{ranked_with, under_way_with_step, under_way_with_activation, with_step, with_cycle, with_reason, with_open, with_rejected, settled, named_at, draft_with, draft_after, completed}
 use Rattle.tfpg_report.specs.inside.Fitting.{whole_lines, lines_under_way, lines_so_far, cycle_lines, begun_lines, IsPart, IsRankedUpTo, HasSteps, Fits, Feeds}
 use Rattle.tfpg_report.proofs.lemmas.block_reader.NumberedLines.{numbered, numbered_from_more, numbers_end, lines_of_part_with, with_time_at_end}
 use Rattle.tfpg_report.proofs.lemmas.block_reader.SettledDrafts.{is_settled, lines_when_settled, none_rejected, open_more, rejected_more}
@@ -148,7 +148,8 @@ begun_nothing stand.Rejected draft may = cc
 -- what a line does, as a type by the stand after it
 abbrev FeedsAfter : Stand → Draft → ℕ → ReportLine → Stand → Type 0
 FeedsAfter before draft at line next =
-    Feeds (begun_lines before draft) (begun_lines next (draft_after at next line draft)) (numbered at line) (completed at line draft)
+    Feeds (begun_lines before draft) (begun_lines next (draft_after at next line draft)) (numbered at line)
+    (completed at line (draft_with at next line draft))
 
 -- Each line that may come is one line more, or ends what it belongs to.
 pub feeds_after : (before : Stand) (draft : Draft) (at : ℕ) (line : ReportLine) (next : Stand) → Fits before draft → IsNumberAfter (begun_lines before draft) at → stand_after before line ≡ Some next → FeedsAfter before draft at line next

@@ -1,18 +1,19 @@
 -- A reader that represents lines takes the next one.
-use Rattle.std.proofs.Common.{◌≡◌, ℕ, ◌+◌, ◌-◌, List, [], ◌∷◌, ◌++◌, length, true, Some, None, sym, ap, subst, ◌∙◌, ⊎_elim, length-append, arith}
+use Rattle.std.proofs.Common.{◌≡◌, ℕ, ◌+◌, ◌-◌, List, [], ◌∷◌, ◌++◌, length, refl, true, Some, None, sym, ap, subst, ◌∙◌, ⊎_elim, length-append, arith}
 use Rattle.tfpg_base.specs.declared.terms.Terms.{Terms}
 use Rattle.tfpg_graph.specs.Graph.{Tfpg}
 use Rattle.tfpg_report.specs.declared.fed.Fed.{Fed}
 use Rattle.tfpg_report.specs.declared.fed.Fed.TheVariants as fed
 use Rattle.tfpg_report.specs.declared.stand.Stand.{Stand}
 use Rattle.tfpg_report.specs.declared.report_line.ReportLine.{ReportLine}
+use Rattle.tfpg_report.specs.declared.report_line.ReportLine.TheVariants.{Head, OldHead, Refused, Round, Hyp, Split, Cycle, Why, Again, Ranked, At, Open, Rejected, Counts, Panel}
 use Rattle.tfpg_report.specs.declared.block_reader.draft.Draft.{Draft}
 use Rattle.tfpg_report.specs.ReportLines.{Says}
 use Rattle.tfpg_report.specs.Stands.{stand_after, stand_of}
 use Rattle.tfpg_report.specs.ReadRounds.{NumberedLine, numbered_from}
 use Rattle.tfpg_report.specs.Reading.{is_last, begun_in, IsHead, Completes}
 use Rattle.tfpg_report.specs.Represents.{ReaderState, ReaderRepresents, Takes}
-use Rattle.tfpg_report.specs.inside.Drafts.{draft_after, completed}
+use Rattle.tfpg_report.specs.inside.Drafts.{draft_with, draft_after, left_after, completed}
 use Rattle.tfpg_report.specs.inside.Fitting.{begun_lines, Fits, Feeds}
 use Rattle.tfpg_report.proofs.lemmas.block_reader.NumberedLines.{numbered, numbered_from_more}
 use Rattle.tfpg_report.proofs.lemmas.block_reader.GrowingDrafts.{feeds_after}
@@ -77,19 +78,37 @@ module _ (lines : List ReportLine) (read : ReportLine) (number : ℕ) (next_is :
 abbrev pub reading_at : Stand → Draft → ReaderState
 reading_at stand draft = record { refused = None; stand = stand; begun = begun_lines stand draft }
 
+-- What is left of a draft to which a line was added is the draft after it.
+pub left_with : (at : ℕ) (next : Stand) (line : ReportLine) (draft : Draft) → left_after line (draft_with at next line draft) ≡ draft_after at next line draft
+left_with at next (Head terms) draft = refl
+left_with at next (OldHead k budget) draft = refl
+left_with at next (Refused line cause) draft = refl
+left_with at next (Round number line now) draft = refl
+left_with at next (Hyp number) draft = refl
+left_with at next (Split name) draft = refl
+left_with at next (Cycle count) draft = refl
+left_with at next (Why reason) draft = refl
+left_with at next Again draft = refl
+left_with at next (Ranked number cost alarmed monitored set doubts) draft = refl
+left_with at next (At activation) draft = refl
+left_with at next (Open number set doubts) draft = refl
+left_with at next (Rejected number set doubts) draft = refl
+left_with at next (Counts counts) draft = refl
+left_with at next (Panel panel no_memory) draft = refl
+
 -- A line that may come is taken.
 pub takes : (graph : Tfpg) (lines : List ReportLine) (bytes : List ℕ) (old new : ReaderState) (before next : Stand) (draft after : Draft) (number : ℕ) (read : ReportLine) (completes : Fed)
     → old.stand ≡ before → old.begun ≡ begun_lines before draft → new.stand ≡ next → new.begun ≡ begun_lines next after
     → ReaderRepresents old lines → number ≡ length lines + 1 → Fits before draft → Says graph read bytes → stand_after before read ≡ Some next
-    → after ≡ draft_after number next read draft → completes ≡ completed number read draft → Takes graph lines bytes new completes
+    → after ≡ draft_after number next read draft → completes ≡ completed number read (draft_with number next read draft) → Takes graph lines bytes new completes
 takes graph lines bytes old new before next draft after number read completes old_stand old_begun new_stand new_begun represents next_is fits says steps after_is completes_is =
     let are : begun_lines before draft ≡ numbered_from (first_begun lines) (begun_in lines) = sym old_begun ∙ represents.begun in
     let stands : stand_of (lines ++ read ∷ []) ≡ Some next = stand_of_more lines read before (represents.stands ∙ ap Some old_stand) ∙ steps in
-    let feeds : Feeds (begun_lines before draft) (begun_lines next (draft_after number next read draft)) (numbered number read) (completed number read draft) =
+    let feeds : Feeds (begun_lines before draft) (begun_lines next (draft_after number next read draft)) (numbered number read) (completed number read (draft_with number next read draft)) =
     feeds_after before draft number read next fits
     (record { first = first_begun lines; said = begun_in lines; are = are; next_is = sym (number_is lines read number next_is) }) steps in
-    let gone : Goes lines read (begun_lines next (draft_after number next read draft)) (completed number read draft) =
-    goes lines read number next_is (begun_lines before draft) _ (completed number read draft) feeds are in
+    let gone : Goes lines read (begun_lines next (draft_after number next read draft)) (completed number read (draft_with number next read draft)) =
+    goes lines read number next_is (begun_lines before draft) _ (completed number read (draft_with number next read draft)) feeds are in
     record {
       read = read;
       may_come = record { says = says; stand = next; stands = stands };

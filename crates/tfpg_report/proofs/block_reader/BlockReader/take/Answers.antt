@@ -1,23 +1,44 @@
 -- A line that may come goes into the draft, which then fits the stand after it.
-use Rattle.std.proofs.Common.{ap, refl, subst, sym}
+use Rattle.std.proofs.Common.{ap, refl, subst, sym, ◌≡◌, ◌∙◌, Some}
+use Rattle.std.proofs.lemmas.Result.{IfOk-at_ok}
+use Rattle.tfpg_report.specs.ReportLines.{Says}
 use Rattle.tfpg_report.specs.Represents.{ReaderState}
+use Rattle.tfpg_report.specs.Stands.{stand_after}
+use Rattle.tfpg_report.specs.declared.block_reader.Next.{Next}
+use Rattle.tfpg_report.specs.inside.Drafts.{completed, draft_after, left_after}
 use Rattle.tfpg_report.specs.inside.Fitting.{Fits}
 use Rattle.tfpg_report.proofs.lemmas.block_reader.FittingDrafts.{fits_after, lets_fit}
-use Rattle.tfpg_report.proofs.lemmas.block_reader.ReaderSteps.{takes}
+use Rattle.tfpg_report.proofs.lemmas.block_reader.ReaderSteps.{left_with, takes}
 use Rattle.tfpg_report.proofs.block_reader.BlockReader.take.Goals as goal
 
-pub take-requires : goal.take-requires
-take-requires c =
-    lets_fit c.self.inside.stand c.self.inside.draft c.in-Ok.next.line c.in-Ok.next.stand c.self.invariant c.in-Ok.ensures.stand
+pub add-requires : goal.add-requires
+add-requires c =
+    let before = c.self.inside.stand in
+    let next : Next = c.in-Ok.next in
+    lets_fit before c.self.inside.draft next.line next.stand c.self.invariant
+    (IfOk-at_ok (λ (n : Next). stand_after before n.line ≡ Some n.stand) c.in-Ok.is c.next_line.ensures.stand)
 
 pub invariant_of-self : goal.invariant_of-self
 invariant_of-self c =
-    subst (Fits c.in-Ok.next.stand) (sym c.in-Ok-take.ensures.draft)
-    (fits_after c.self.inside.stand c.self.inside.draft c.args.number c.in-Ok.next.line c.in-Ok.next.stand c.self.invariant c.in-Ok.ensures.stand)
+    let before = c.self.inside.stand in
+    let draft = c.self.inside.draft in
+    let next : Next = c.in-Ok.next in
+    let after : c.complete.new.self ≡ draft_after c.args.number next.stand next.line draft =
+    c.complete.ensures.draft ∙ ap (left_after next.line) c.in-Ok-add.ensures ∙ left_with c.args.number next.stand next.line draft in
+    subst (Fits next.stand) (sym after)
+    (fits_after before draft c.args.number next.line next.stand c.self.invariant
+    (IfOk-at_ok (λ (n : Next). stand_after before n.line ≡ Some n.stand) c.in-Ok.is c.next_line.ensures.stand))
 
-pub returns-in-Ok-take-clause-fed : goal.returns-in-Ok-take-clause-fed
-returns-in-Ok-take-clause-fed c = λ lines represents number accepted.
-    takes c.args.graph.now lines c.args.line.now c.args.self.now _ c.self.inside.stand c.in-Ok.next.stand c.self.inside.draft c.take.new.self
-    c.args.number c.in-Ok.next.line c.in-Ok-take.fed
+pub returns-in-Ok-add-clause-fed : goal.returns-in-Ok-add-clause-fed
+returns-in-Ok-add-clause-fed c = λ lines represents number accepted.
+    let before = c.self.inside.stand in
+    let draft = c.self.inside.draft in
+    let next : Next = c.in-Ok.next in
+    takes c.args.graph.now lines c.args.line.now c.args.self.now _ before next.stand draft c.complete.new.self
+    c.args.number next.line c.complete.result
     (sym (ap (λ (r : ReaderState). r.stand) c.self.view_is)) (sym (ap (λ (r : ReaderState). r.begun) c.self.view_is)) refl refl
-    represents number c.self.invariant c.in-Ok.ensures.says c.in-Ok.ensures.stand c.in-Ok-take.ensures.draft c.in-Ok-take.ensures.fed
+    represents number c.self.invariant
+    (IfOk-at_ok (λ (n : Next). Says c.args.graph.now n.line c.args.line.now) c.in-Ok.is c.next_line.ensures.says)
+    (IfOk-at_ok (λ (n : Next). stand_after before n.line ≡ Some n.stand) c.in-Ok.is c.next_line.ensures.stand)
+    (c.complete.ensures.draft ∙ ap (left_after next.line) c.in-Ok-add.ensures ∙ left_with c.args.number next.stand next.line draft)
+    (c.complete.ensures.fed ∙ ap (completed c.args.number next.line) c.in-Ok-add.ensures)
