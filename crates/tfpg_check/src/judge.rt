@@ -145,6 +145,8 @@ fn take_line(
         IsLineJudged reads line.now reader.new blocks.old blocks.new result }
     ensures ready { OnOk result (reader.new.refused ≡ None) }
 {
-    let fed = reader.take(blocks.graph(), number, line)?;
-    blocks.judge(number, &fed)
+    match &reader.take(blocks.graph(), number, line) {
+        Ok(fed) => blocks.judge(number, fed),
+        Err(refusal) => Err(JudgeFault::from(*refusal)),
+    }
 }
