@@ -2,6 +2,7 @@
 -- Which elements a list has, and what holds of them.
 pub mod Elements
 pub mod Ordered
+pub mod Inserted
 pub mod Distinct
 pub mod Below
 pub mod Pigeons

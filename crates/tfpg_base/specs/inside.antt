@@ -4,3 +4,4 @@ pub mod Buffer
 pub mod BitsOfMembers
 pub mod NodeWords
 pub mod TraceSearch
+pub mod Insertion
