@@ -8,3 +8,4 @@ pub mod TreeSteps
 pub mod LeafSteps
 pub mod TreeFronts
 pub mod TreesStay
+pub mod NamedSteps

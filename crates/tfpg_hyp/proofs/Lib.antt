@@ -11,6 +11,4 @@ mod Fractions
 pub mod FindingsOfRound
 mod IgnoredMore
 mod FittingSets
-mod Named
-mod NamedSteps
 mod RoundOfGraph

@@ -17,6 +17,7 @@ use Rattle.tfpg_base.specs.Hypothesis.{Hypothesis}
 use Rattle.tfpg_base.specs.Choice.{each_of}
 use Rattle.tfpg_clause.specs.Case.{Case}
 use Rattle.tfpg_clause.specs.Trees.{Judged}
+use Rattle.tfpg_clause.proofs.trees.NamedSteps.{AreStepsOfGraph, partial_named, refutation_named}
 use Rattle.tfpg_base.proofs.lists.Choices.{Contains-each_of, each_of-some}
 use Rattle.tfpg_evidence.proofs.FindingsByNumber.{finding_numbered-first}
 use Rattle.tfpg_base.proofs.lists.Images.{All-unmap}
@@ -27,9 +28,16 @@ use Rattle.tfpg_hyp.specs.Rounds.{IsRound, HasEvidence, key_at, key_of_status, s
 use Rattle.tfpg_hyp.specs.declared.ranking_key.RankingKey.{RankingKey}
 use Rattle.tfpg_hyp.proofs.FittingSets.{of_view}
 use Rattle.tfpg_hyp.proofs.FindingsOfRound.{HasFindingAt, evidence, steps_so_far-push}
-use Rattle.tfpg_hyp.proofs.NamedSteps.{AreStepsOfGraph, evidence_named}
 
 -- ---- the steps of this round
+
+-- the steps of a finding, whatever its status
+evidence_named : (case : Case) (of : IsLogOf case.graph case.log) (budget : ℕ) (findings : List Finding) (steps : List Judged) (finding : Finding) (status : Status)
+    → HasEvidence case budget findings steps finding status → AreStepsOfGraph case.graph steps
+evidence_named case of budget findings steps finding (Ranked trace cost alarmed monitored) own = partial_named case of steps own.0
+evidence_named case of budget findings steps finding (Covered by) own = partial_named case of steps own.0
+evidence_named case of budget findings steps finding Rejected own = refutation_named case of steps own
+evidence_named case of budget findings steps finding Open own = partial_named case of steps own.0
 
 last_named : (graph : Tfpg) (number : ℕ) (rounds : List Round) (round : Round) (finding : Finding) → slice_get round.findings number ≡ Some finding
     → AreStepsOfGraph graph (steps_so_far number (rounds ++ round ∷ [])) → All (IsStepOf (sizes_of graph)) finding.steps

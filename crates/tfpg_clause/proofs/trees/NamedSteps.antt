@@ -1,9 +1,11 @@
--- What is right at a log of a graph names only nodes and edges of the graph.
-use Rattle.std.proofs.Common.{◌≡◌, ℕ, ltb, List, length, Some}
-use Rattle.std.specs.Prelude.{slice_get}
+-- The steps of a tree whose places are right name only what the graph has.
+use Rattle.std.proofs.Common.{◌≡◌, ℕ, ltb, List, length, Some, take, sym, ap, ◌∙◌}
+use Rattle.std.specs.Prelude.{slice_get, All, map}
+use Rattle.std.proofs.Math.Seq.{take-append_seam}
 use Rattle.std.proofs.lemmas.Bool.{ltb-true, and_parts}
 use Rattle.std.proofs.lemmas.Option.{slice_get_within, option_and_then_some}
-use Rattle.std.proofs.lemmas.List.Elements.{All-take}
+use Rattle.std.proofs.lemmas.List.{take-map}
+use Rattle.std.proofs.lemmas.List.Elements.{All-take, All-same, All-map, All-weaker}
 use Rattle.tfpg_base.proofs.lists.Choices.{Contains-each_of, option_map-some, then_some-true}
 use Rattle.tfpg_base.proofs.lists.Elements.{All-from_members}
 use Rattle.tfpg_base.specs.declared.constraint.Constraint.{Constraint}
@@ -22,8 +24,8 @@ use Rattle.tfpg_evidence.specs.declared.step.Step.TheVariants.{Split, Cycle, Aga
 use Rattle.tfpg_evidence.specs.RoundOf.{IsReasonOf, IsClauseOf, IsStepOf}
 use Rattle.tfpg_clause.specs.Clauses.{alternatives, and_may, or_must}
 use Rattle.tfpg_clause.proofs.rules.RulesMet.{may_holds, must_holds}
-use Rattle.tfpg_clause.specs.Case.{Case}
-use Rattle.tfpg_clause.specs.Trees.{stated, IsRightStep}
+use Rattle.tfpg_clause.specs.Case.{Case, case_at}
+use Rattle.tfpg_clause.specs.Trees.{stated, IsRightStep, Judged, StepPlace, IsRight, IsRefutation, IsPartial, places_of}
 use Rattle.tfpg_clause.specs.declared.path.PathSplit.{PathSplit}
 
 -- ---- clauses
@@ -40,12 +42,11 @@ allowed_named graph log (AndMust node number horizon) clause is =
     kind_within graph is_and node
     (must_holds log (is_kind_at is_and graph node) node (edges_into graph node) (joint_of graph log node number horizon) number horizon clause is)
 
--- ---- silences
-
-pub first_events_of : (graph : Tfpg) (log : Logbook) (seen : ℕ) → IsLogOf graph log → IsLogOf graph (first_events log seen)
+-- the first events of a log of the graph are one
+first_events_of : (graph : Tfpg) (log : Logbook) (seen : ℕ) → IsLogOf graph log → IsLogOf graph (first_events log seen)
 first_events_of graph log seen of = record { own = All-take (IsEventOf graph) seen log.events of.own; ignored = of.ignored }
 
--- ---- steps
+-- ---- reasons and steps
 
 -- a reason that states a constraint names no node but those of the graph
 stated_named : (case : Case) (path : List PathSplit) → IsLogOf case.graph case.log → (reason : Reason) (constraint : Constraint)
@@ -62,7 +63,7 @@ stated_named case path of (Quiet event node) constraint is =
 stated_named case path of (Pick split index) constraint is = tt
 
 -- a right step names only what the graph has
-pub right_named : (case : Case) (path : List PathSplit) (subtrees : ℕ) → IsLogOf case.graph case.log → (step : Step) → IsRightStep case path subtrees step
+right_named : (case : Case) (path : List PathSplit) (subtrees : ℕ) → IsLogOf case.graph case.log → (step : Step) → IsRightStep case path subtrees step
     → IsStepOf (sizes_of case.graph) step
 right_named case path subtrees of (Split name) right =
     let clause = option_map-some length (alternatives case.graph case.log name) subtrees right in
@@ -73,3 +74,32 @@ right_named case path subtrees of (Cycle reasons) right =
     let states = Contains-each_of (stated case path) reasons right.constraints reason right.hold has in
     stated_named case path of reason states.0 states.2)
 right_named case path subtrees of Again right = tt
+
+-- ---- trees
+
+-- The judged steps name only what the graph has.
+abbrev pub AreStepsOfGraph : Tfpg → List Judged → Type 0
+AreStepsOfGraph graph steps = All (λ (judged : Judged). IsStepOf (sizes_of graph) judged.step) steps
+
+-- The steps of a tree whose log is one of its graph.
+module _ (case : Case) (of : IsLogOf case.graph case.log) where
+  places_named : (places : List StepPlace) → All (IsRight case) places → AreStepsOfGraph case.graph (map (λ (place : StepPlace). place.step) places)
+  places_named places right =
+      All-map (λ (judged : Judged). IsStepOf (sizes_of case.graph) judged.step) (λ (place : StepPlace). place.step) places
+      (All-weaker (IsRight case) (λ (place : StepPlace). IsStepOf (sizes_of case.graph) place.step.step)
+      (λ place is. right_named (case_at case place.step.seen) place.path place.subtrees (first_events_of case.graph case.log place.step.seen of) place.step.step is) places right)
+
+  -- those of a refutation
+  pub refutation_named : (steps : List Judged) → IsRefutation case steps → AreStepsOfGraph case.graph steps
+  refutation_named steps is =
+      All-same (λ (judged : Judged). IsStepOf (sizes_of case.graph) judged.step) steps (map (λ (place : StepPlace). place.step) (places_of is.tree)) is.steps_are
+      (places_named (places_of is.tree) is.right)
+
+  -- those of a partial tree
+  pub partial_named : (steps : List Judged) → IsPartial case steps → AreStepsOfGraph case.graph steps
+  partial_named steps is =
+      let front : steps ≡ take (length steps) (map (λ (place : StepPlace). place.step) (places_of is.tree)) =
+      sym (take-append_seam steps is.more) ∙ ap (take (length steps)) is.steps_are
+      in
+      All-same (λ (judged : Judged). IsStepOf (sizes_of case.graph) judged.step) steps (map (λ (place : StepPlace). place.step) (take (length steps) (places_of is.tree)))
+      (front ∙ take-map (λ (place : StepPlace). place.step) (length steps) (places_of is.tree)) (places_named (take (length steps) (places_of is.tree)) is.right)
