@@ -71,7 +71,7 @@ pub use last_line_end::without_last_line_end;
 pub use limits::{
     BUFFER_SIZE, LONGEST_FILE, LONGEST_LINE, LONGEST_NAME, MAX_BUDGET, MAX_BYTES, MAX_CASE_SIZE,
     MAX_DOUBT, MAX_K, MAX_LINE_NUMBER, MAX_MEMBERS, MAX_NODE_NUMBERS, MAX_PANEL_NUMBER, MAX_TIME,
-    MAX_WORDS, NEVER,
+    MAX_VEHICLES, MAX_WORDS, NEVER,
 };
 pub use line::{Line, LineFault};
 pub use lines::Lines;

@@ -36,6 +36,9 @@ pub const MAX_PANEL_NUMBER: u64 = MAX_LINE_NUMBER;
 /// How many numbers a set of nodes has at most: each is below this.
 pub const MAX_NODE_NUMBERS: u32 = 512;
 
+/// How many vehicles share one stream at most.
+pub const MAX_VEHICLES: usize = 64;
+
 /// How many words a line of any text format has at most.
 pub const MAX_WORDS: usize = 9;
 

@@ -4,8 +4,7 @@ use Rattle.std.specs.Bool.{then_some}
 use Rattle.std.specs.List.{filter_map}
 use Rattle.tfpg_base.specs.Lines.{is_too_long}
 use Rattle.tfpg_base.specs.Words.{is_name}
-use Rattle.tfpg_base.specs.declared.limits.TheConstants.{LONGEST_LINE}
-use Rattle.tfpg_fleet.specs.declared.limits.TheConstants.{MAX_VEHICLES}
+use Rattle.tfpg_base.specs.declared.limits.TheConstants.{LONGEST_LINE, MAX_VEHICLES}
 
 -- Names that the vehicles of a fleet can have: 1 to 64, each of the form of a name, and no two alike.
 pub record AreVehicleNames (names : List (List ℕ)) : Type 0 where

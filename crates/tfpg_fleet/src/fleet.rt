@@ -1,7 +1,7 @@
 //! Many vehicles on one stream.
 
 ghost use Rattle.std.specs.Prelude.{◌≡◌, ◌≤◌, ◌<◌, ◌*◌, ◌↔◌, ◌++◌, ◌∷◌, [], ℕ, List, length, map, All, IfOk, IfSome, MatchOption, Ok, Err, Some, None, slice_get, option_map};
-ghost use Rattle.tfpg_base.specs.declared.limits.TheConstants.{MAX_DOUBT};
+ghost use Rattle.tfpg_base.specs.declared.limits.TheConstants.{MAX_DOUBT, MAX_VEHICLES};
 ghost use Rattle.tfpg_base.specs.declared.terms.Terms.{Terms};
 ghost use Rattle.tfpg_graph.specs.Graph.{Tfpg};
 ghost use Rattle.tfpg_hyp.specs.Hypotheses.{HasHypotheses};
@@ -17,7 +17,7 @@ ghost use Rattle.tfpg_fleet.specs.TooMany.{IsExcess, IsTooMany};
 
 use crate::belonging::addressee;
 use crate::fleet_told::FleetTold;
-use crate::limits::{MAX_FLEET_HYPOTHESES, MAX_VEHICLES};
+use crate::limits::MAX_FLEET_HYPOTHESES;
 use crate::vehicle::Vehicle;
 use std::alloc::Global;
 use std::marker::Model;

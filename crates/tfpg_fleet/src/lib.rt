@@ -1,6 +1,6 @@
 //! Many vehicles on one stream: the fleet of a diagnosis.
 //!
-//! - [`Fleet`] has up to [`MAX_VEHICLES`] vehicles of one graph, each with its own engine. [`Fleet::line`] takes a line of the stream.
+//! - [`Fleet`] has up to [`MAX_VEHICLES`](tfpg_base::MAX_VEHICLES) vehicles of one graph, each with its own engine. [`Fleet::line`] takes a line of the stream.
 //! - [`FleetTold`] is what a line brings: nothing where it is stray, or what it brings to the engine of its vehicle.
 //! - [`NameList`] has the names of the vehicles. All vehicles together have at most [`MAX_FLEET_HYPOTHESES`] hypotheses.
 //! - [`laws`] says what the definitions come to.
@@ -23,4 +23,4 @@ mod vehicle;
 
 pub use fleet::{Fleet, NameList};
 pub use fleet_told::FleetTold;
-pub use limits::{MAX_FLEET_HYPOTHESES, MAX_VEHICLES};
+pub use limits::MAX_FLEET_HYPOTHESES;

@@ -8,7 +8,7 @@ use Rattle.std.proofs.lemmas.Bool.{and_parts, leb-true}
 use Rattle.std.proofs.lemmas.List.{length-map}
 use Rattle.std.proofs.lemmas.List.Folds.{list_all-map}
 use Rattle.tfpg_base.specs.Words.{is_name}
-use Rattle.tfpg_words.specs.declared.limits.TheConstants.{MAX_NAMES}
+use Rattle.tfpg_base.specs.declared.limits.TheConstants.{MAX_VEHICLES}
 use Rattle.tfpg_words.specs.Names.{AreNames, are_distinct, are_few, are_names}
 use Rattle.tfpg_words.specs.Words.{Word, is_word_among}
 use Rattle.std.proofs.lemmas.Bool.{not-true}
@@ -32,11 +32,11 @@ no_two (word ∷ others) is =
 pub names_tested : (names : List Word) → are_names names ≡ true → AreNames names
 names_tested names is =
     let first = and_parts (are_few (length names)) (list_all is_name names && are_distinct names) is in
-    let second = and_parts (nat_le 1 (length names)) (nat_le (length names) MAX_NAMES) first.0 in
+    let second = and_parts (nat_le 1 (length names)) (nat_le (length names) MAX_VEHICLES) first.0 in
     let third = and_parts (list_all is_name names) (are_distinct names) first.1 in
     record {
       some = leb-true 1 (length names) second.0;
-      few = leb-true (length names) MAX_NAMES second.1;
+      few = leb-true (length names) MAX_VEHICLES second.1;
       each = AllPass-from_list_all is_name names third.0;
       distinct = no_two names third.1;
     }

@@ -60,7 +60,7 @@ pub enum Command {
     },
     /// `fleet [--k N] [--doubt N] [--budget N] GRAPH NAMES`: reports on the logs of many vehicles of one graph, whose lines come on
     /// one stream. The numbers are those of `diagnose`. `names` has the names of the vehicles with commas between: 1 to
-    /// [`MAX_NAMES`](crate::MAX_NAMES), no two alike.
+    /// [`MAX_VEHICLES`](tfpg_base::MAX_VEHICLES), no two alike.
     Fleet {
         k: u32,
         doubt: u32,

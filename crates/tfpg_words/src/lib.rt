@@ -30,7 +30,6 @@ mod usage_cause;
 pub use command::{Command, Planned};
 pub use limits::{
     DEFAULT_AHEAD, DEFAULT_BUDGET, DEFAULT_DOUBT, DEFAULT_DRAW, DEFAULT_K, DEFAULT_SIZE, MAX_DRAW,
-    MAX_NAMES,
 };
 pub use panel_word::{PanelKind, PanelWord, PanelWordList};
 pub use plan_fault::PlanFault;

@@ -3,9 +3,6 @@
 /// The greatest number of a draw.
 pub const MAX_DRAW: u64 = 1_000_000_000_000;
 
-/// How many names of vehicles the words give at most.
-pub const MAX_NAMES: usize = 64;
-
 /// The `k` where the words give none.
 pub const DEFAULT_K: u64 = 2;
 

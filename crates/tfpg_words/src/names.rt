@@ -5,11 +5,10 @@ ghost use Rattle.std.specs.List.{list_all, list_any};
 ghost use Rattle.tfpg_base.specs.Words.{comma_parts, is_name};
 ghost use Rattle.tfpg_words.specs.Names.{are_distinct, are_few, are_names};
 
-use crate::limits::MAX_NAMES;
 use std::alloc::Global;
-use tfpg_base::{NoMemory, parts_at_commas, read_name};
+use tfpg_base::{MAX_VEHICLES, NoMemory, parts_at_commas, read_name};
 
-/// Whether the word has the names of vehicles, with commas between: 1 to [`MAX_NAMES`], each of the form of a name, and no two
+/// Whether the word has the names of vehicles, with commas between: 1 to [`MAX_VEHICLES`], each of the form of a name, and no two
 /// alike. Takes memory for its parts.
 pub(crate) fn has_names(alloc: Global, word: &str) -> Result<bool, NoMemory>
     ensures { IfOk result (λ has. has ≡ are_names (comma_parts word.now)) }
@@ -35,7 +34,7 @@ fn are_names(names: &[&[u8]]) -> bool
 fn are_few(count: usize) -> bool
     ensures { result ≡ are_few count }
 {
-    count >= 1 && count <= MAX_NAMES
+    count >= 1 && count <= MAX_VEHICLES
 }
 
 /// Whether each is of the form of a name.

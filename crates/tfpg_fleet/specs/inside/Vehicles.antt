@@ -1,6 +1,6 @@
 -- What a vehicle and a fleet keep between lines.
 use Rattle.std.specs.Prelude.{◌≡◌, ◌≤◌, length, false}
-use Rattle.tfpg_fleet.specs.declared.limits.TheConstants.{MAX_VEHICLES}
+use Rattle.tfpg_base.specs.declared.limits.TheConstants.{MAX_VEHICLES}
 use Rattle.tfpg_fleet.specs.FleetState.{FleetState, VehicleState, has_ended}
 
 -- The engine of a vehicle that has not ended runs.
