@@ -1,5 +1,5 @@
 -- What is allowed at a log stays allowed at each log that goes on from it.
-use Rattle.std.proofs.Common.{◌-◌, not, ltb, ◌≡◌, ℕ, zero, suc, ◌+◌, ◌≤◌, Bool, true, false, ◌&&◌, cond, eqb, leb, List, [], ◌∷◌, ◌++◌, length, max, Option, Some, None, refl, sym, ap, ◌∙◌, arith, pos}
+use Rattle.std.proofs.Common.{not, ltb, ◌≡◌, ℕ, ◌+◌, ◌≤◌, Bool, true, false, ◌&&◌, cond, eqb, leb, List, [], ◌∷◌, ◌++◌, length, max, Option, Some, None, refl, sym, ap, ◌∙◌, arith, pos}
 use Rattle.std.specs.Prelude.{nat_le, slice_get, map, filter_map, option_map, option_and_then}
 use Rattle.std.specs.Bool.{then_some}
 use Rattle.std.specs.List.{list_all}
