@@ -1,10 +1,9 @@
 -- An outlook names only what the graph and the probed graph have.
-use Rattle.std.proofs.Common.{◌≡◌, ℕ, ◌-◌, ◌<◌, ◌≤◌, List, [], ◌∷◌, ◌++◌, length, take, ⊎_elim, refl, sym, ap, subst, ◌∙◌, arith}
-use Rattle.std.specs.Prelude.{All, map}
-use Rattle.std.proofs.Math.Seq.{take-append_seam}
+use Rattle.std.proofs.Common.{◌≡◌, ℕ, ◌-◌, ◌<◌, ◌≤◌, List, [], ◌∷◌, ◌++◌, length, ⊎_elim, refl, sym, ap, subst, ◌∙◌, arith}
+use Rattle.std.specs.Prelude.{All}
 use Rattle.std.proofs.lemmas.Bool.{cases_lt}
-use Rattle.std.proofs.lemmas.List.{take-map, length_push}
-use Rattle.std.proofs.lemmas.List.Elements.{All-same, All-map, All-nil, All-weaker}
+use Rattle.std.proofs.lemmas.List.{length_push}
+use Rattle.std.proofs.lemmas.List.Elements.{All-nil}
 use Rattle.tfpg_base.proofs.lists.Images.{All-unmap}
 use Rattle.tfpg_graph.specs.declared.kind.Lag.{Lag}
 use Rattle.tfpg_graph.specs.Graph.{Tfpg, Sizes, sizes_of}
@@ -14,9 +13,10 @@ use Rattle.tfpg_log.specs.Log.{IsLogOf, IsOrdered, ignoring}
 use Rattle.tfpg_evidence.specs.declared.finding.Finding.{Finding}
 use Rattle.tfpg_evidence.specs.declared.step.Step.{Step}
 use Rattle.tfpg_evidence.specs.RoundOf.{IsStepOf}
-use Rattle.tfpg_clause.specs.Case.{Case, case_at}
+use Rattle.tfpg_clause.specs.Case.{Case}
 use Rattle.tfpg_clause.specs.Paths.{judged_by, with_steps}
-use Rattle.tfpg_clause.specs.Trees.{Judged, StepPlace, IsRight, IsRefutation, IsPartial, places_of}
+use Rattle.tfpg_clause.specs.Trees.{Judged}
+use Rattle.tfpg_clause.proofs.trees.NamedSteps.{AreStepsOfGraph, partial_named, refutation_named}
 use Rattle.tfpg_predict.specs.declared.outlook.Outlook.{Outlook}
 use Rattle.tfpg_predict.specs.declared.outlook.Outlook.TheVariants.{Earliest, Never, Unsettled}
 use Rattle.tfpg_predict.specs.LeastTime.{Question, question_of}
@@ -24,40 +24,15 @@ use Rattle.tfpg_predict.specs.Outlooks.{IsOutlook, IsProbeCase, IsRefutedAt, IsS
 use Rattle.tfpg_predict.specs.Probed.{IsProbeable, probe_lag, probe_word}
 use Rattle.tfpg_predict.proofs.AsProbed.{able_ignoring, by_its_end, of_probed}
 use Rattle.tfpg_predict.proofs.explained.ProbeParts.{failures_same}
-use Rattle.tfpg_run.proofs.lemmas.predict.RightSteps.{first_events_of, right_named}
 use Rattle.tfpg_run.specs.declared.predict.query.Query.{Query}
 use Rattle.tfpg_run.specs.inside.predict.Forecasting.{IsAskable, IsOutlookOf, IsQuery}
 use Rattle.tfpg_run.specs.predict.Forecasts.{probed_names}
 
--- ---- the steps of a tree
+-- ---- the steps of a search
 
--- The judged steps name only what the graph has.
-abbrev AreStepsOfGraph : Tfpg → List Judged → Type 0
-AreStepsOfGraph graph steps = All (λ (judged : Judged). IsStepOf (sizes_of graph) judged.step) steps
-
-module _ (case : Case) (of : IsLogOf case.graph case.log) where
-  places_named : (places : List StepPlace) → All (IsRight case) places → AreStepsOfGraph case.graph (map (λ (place : StepPlace). place.step) places)
-  places_named places right =
-      All-map (λ (judged : Judged). IsStepOf (sizes_of case.graph) judged.step) (λ (place : StepPlace). place.step) places
-      (All-weaker (IsRight case) (λ (place : StepPlace). IsStepOf (sizes_of case.graph) place.step.step)
-      (λ place is. right_named (case_at case place.step.seen) place.path place.subtrees (first_events_of case.graph case.log place.step.seen of) place.step.step is) places right)
-
-  refuted_named : (steps : List Judged) → IsRefutation case steps → AreStepsOfGraph case.graph steps
-  refuted_named steps is =
-      All-same (λ (judged : Judged). IsStepOf (sizes_of case.graph) judged.step) steps (map (λ (place : StepPlace). place.step) (places_of is.tree)) is.steps_are
-      (places_named (places_of is.tree) is.right)
-
-  begun_named : (steps : List Judged) → IsPartial case steps → AreStepsOfGraph case.graph steps
-  begun_named steps is =
-      let front : steps ≡ take (length steps) (map (λ (place : StepPlace). place.step) (places_of is.tree)) =
-      sym (take-append_seam steps is.more) ∙ ap (take (length steps)) is.steps_are
-      in
-      All-same (λ (judged : Judged). IsStepOf (sizes_of case.graph) judged.step) steps (map (λ (place : StepPlace). place.step) (take (length steps) (places_of is.tree)))
-      (front ∙ take-map (λ (place : StepPlace). place.step) (length steps) (places_of is.tree)) (places_named (take (length steps) (places_of is.tree)) is.right)
-
-  -- the steps of one search
-  searched_named : (steps : List Step) → AreStepsOfGraph case.graph (with_steps [] case.log steps) → All (IsStepOf (sizes_of case.graph)) steps
-  searched_named steps named = All-unmap (λ (judged : Judged). IsStepOf (sizes_of case.graph) judged.step) (judged_by case.log) steps named
+-- The steps of one search name only what the graph has, where they do so as judged steps.
+searched_named : (case : Case) (steps : List Step) → AreStepsOfGraph case.graph (with_steps [] case.log steps) → All (IsStepOf (sizes_of case.graph)) steps
+searched_named case steps named = All-unmap (λ (judged : Judged). IsStepOf (sizes_of case.graph) judged.step) (judged_by case.log) steps named
 
 -- all probes of a node give the graph the same sizes
 same_sizes : (graph : Tfpg) (name other : List ℕ) (node : ℕ) (lag late : Lag) → sizes_of (with_probe graph name node lag) ≡ sizes_of (with_probe graph other node late)
@@ -87,13 +62,13 @@ module _ (asked : Question) (set : List ℕ) (valid : IsValid asked.graph) (able
     named_when_refuted steps is =
         let of = case_log is.case is.probe in
         subst (λ (sizes : Sizes). All (IsStepOf sizes) steps) (case_sizes is.case is.probe)
-        (searched_named is.case of steps (refuted_named is.case of (with_steps [] is.case.log steps) is.refutation))
+        (searched_named is.case steps (refutation_named is.case of (with_steps [] is.case.log steps) is.refutation))
 
     named_when_spent : (budget : ℕ) (steps : List Step) → IsSpentAt asked set bound budget steps → All (IsStepOf Probed) steps
     named_when_spent budget steps is =
         let of = case_log is.case is.probe in
         subst (λ (sizes : Sizes). All (IsStepOf sizes) steps) (case_sizes is.case is.probe)
-        (searched_named is.case of steps (begun_named is.case of (with_steps [] is.case.log steps) is.unsettled.1.leaf.partial))
+        (searched_named is.case steps (partial_named is.case of (with_steps [] is.case.log steps) is.unsettled.1.leaf.partial))
 
   pub outlook_named : (budget : ℕ) (outlook : Outlook) → IsOutlook asked set budget outlook → IsOutlookOf (sizes_of asked.graph) Probed outlook
   outlook_named budget (Earliest time trace earlier) is =
