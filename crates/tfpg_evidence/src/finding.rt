@@ -1,7 +1,8 @@
 //! What a round says of one hypothesis.
 
-ghost use Rattle.std.specs.Prelude.{◌≡◌, IfOk};
-ghost use Rattle.tfpg_evidence.specs.RoundOf.{is_ranked};
+ghost use Rattle.std.specs.Prelude.{◌≡◌, ◌<◌, AllPairs, IfOk};
+ghost use Rattle.std.specs.Option.{option_copied};
+ghost use Rattle.tfpg_evidence.specs.RoundOf.{finding_numbered, is_ranked};
 
 use crate::StepList;
 use crate::step::copy_steps;
@@ -94,6 +95,17 @@ impl Finding {
             steps,
             status,
         })
+    }
+}
+
+/// The finding of a number, among findings whose numbers rise. Takes time logarithmic in their count.
+pub fn finding_numbered(findings: &[Finding], number: u32) -> Option<&Finding>
+    requires { AllPairs (λ earlier later. earlier.number < later.number) findings.now }
+    ensures { option_copied result ≡ finding_numbered findings.now number }
+{
+    match findings.binary_search_by_key(&number, |finding| finding.number) {
+        Ok(index) => Some(&findings[index]),
+        Err(_) => None,
     }
 }
 

@@ -2,7 +2,8 @@
 //!
 //! - [`Step`] is a step of a refutation: it splits on a clause, which a [`ClauseName`] names, or closes a leaf by a
 //!   cycle of [`Reason`]s.
-//! - [`Finding`] is what a round says of one hypothesis: its [`Status`] and its steps of this round.
+//! - [`Finding`] is what a round says of one hypothesis: its [`Status`] and its steps of this round. [`finding_numbered`] is the
+//!   one of a number.
 //! - [`Round`] is what one accepted line of the log brings: a finding for each hypothesis, their order and [`Counts`].
 //!   [`Round::copy`] makes an equal one.
 //!
@@ -21,7 +22,7 @@ mod round;
 mod step;
 
 pub use clause_name::ClauseName;
-pub use finding::{Finding, Findings, Status};
+pub use finding::{Finding, Findings, Status, finding_numbered};
 pub use reason::{Reason, Reasons};
 pub use round::{Counts, Round};
 pub use step::{Step, StepList};

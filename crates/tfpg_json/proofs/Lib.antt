@@ -4,7 +4,6 @@ pub mod DataLists
 pub mod TokensWritten
 pub mod ListsRead
 pub mod Refused
-pub mod FindingsByNumber
 pub mod LinesSaid
 pub mod StoodFor
 pub mod read_back

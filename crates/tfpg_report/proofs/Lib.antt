@@ -3,7 +3,6 @@ pub mod MemberWords
 pub mod SetWords
 pub mod WrittenLines
 pub mod CleanLines
-pub mod Findings
 pub mod SectionLines
 pub mod BlockLines
 pub mod ActivationLines

@@ -1,10 +1,9 @@
 //! The lines of the ranked hypotheses.
 
 ghost use Rattle.std.specs.Prelude.{◌≡◌, ◌<◌, All, AllPairs, flat_map, length};
-ghost use Rattle.std.specs.Option.{option_copied};
 ghost use Rattle.tfpg_base.specs.Append.{Appends};
 ghost use Rattle.tfpg_evidence.specs.Findings.{findings_at};
-ghost use Rattle.tfpg_evidence.specs.RoundOf.{IsFindingOf, finding_numbered};
+ghost use Rattle.tfpg_evidence.specs.RoundOf.{IsFindingOf};
 ghost use Rattle.tfpg_graph.specs.Graph.{sizes_of};
 ghost use Rattle.tfpg_report.specs.LineWords.{activation_text};
 ghost use Rattle.tfpg_report.specs.inside.Texts.{ranked_line, ranked_text};
@@ -13,7 +12,7 @@ ghost use Rattle.tfpg_report.specs.inside.Numbered.{numbered_text};
 use crate::set_line::append_set_line;
 use itoa::Buffer;
 use tfpg_base::{Activation, NoMemory, append_line};
-use tfpg_evidence::{Finding, Status};
+use tfpg_evidence::{Finding, Status, finding_numbered};
 use tfpg_graph::Graph;
 
 /// Appends the lines of the ranked hypotheses of these numbers, in their order. Costs for each the logarithm of the count of
@@ -47,20 +46,9 @@ fn append_numbered(
     requires rising { AllPairs (λ earlier later. earlier.number < later.number) findings.now }
     ensures { Appends result into.old.items into.new.items (numbered_text graph.now findings.now number) }
 {
-    match finding_of(findings, number) {
+    match finding_numbered(findings, number) {
         Some(finding) => append_ranked(graph, finding, into),
         None => Ok(()),
-    }
-}
-
-/// The finding of a number.
-fn finding_of(findings: &[Finding], number: u32) -> Option<&Finding>
-    requires { AllPairs (λ earlier later. earlier.number < later.number) findings.now }
-    ensures { option_copied result ≡ finding_numbered findings.now number }
-{
-    match findings.binary_search_by_key(&number, |finding| finding.number) {
-        Ok(index) => Some(&findings[index]),
-        Err(_) => None,
     }
 }
 

@@ -6,14 +6,14 @@ ghost use Rattle.tfpg_base.specs.Append.{Appends};
 ghost use Rattle.tfpg_base.specs.Lines.{with_line_end};
 ghost use Rattle.tfpg_base.specs.TextLine.{text_line};
 ghost use Rattle.tfpg_evidence.specs.Findings.{ranked_in_order};
-ghost use Rattle.tfpg_evidence.specs.RoundOf.{IsFindingOf, IsRoundOf, finding_numbered};
+ghost use Rattle.tfpg_evidence.specs.RoundOf.{IsFindingOf, IsRoundOf};
 ghost use Rattle.tfpg_graph.specs.Graph.{sizes_of};
 ghost use Rattle.tfpg_json.specs.RoundData.{round_json};
 ghost use Rattle.tfpg_run.specs.PanelLines.{best_words, count_line, none_words, panel_line, top_line};
 
 use itoa::Buffer;
 use tfpg_base::{NoMemory, append_line};
-use tfpg_evidence::{Finding, Round, Status};
+use tfpg_evidence::{Finding, Round, Status, finding_numbered};
 use tfpg_graph::Graph;
 use tfpg_json::write_round;
 use tfpg_report::{append_counts, append_set};
@@ -56,14 +56,7 @@ fn best_of<'a>(graph: &Graph, round: &'a Round) -> Option<&'a Finding>
     ensures of_graph { IfSome result (λ finding. IsFindingOf (sizes_of graph.now) finding.now) }
 {
     let number = round.order.as_slice().first()?;
-    finding_of(round.findings.as_slice(), *number)
-}
-
-/// The finding of a number.
-fn finding_of(findings: &[Finding], number: u32) -> Option<&Finding>
-    ensures { option_copied result ≡ finding_numbered findings.now number }
-{
-    findings.iter().find(|finding| finding.number == number)
+    finding_numbered(round.findings.as_slice(), *number)
 }
 
 /// Appends the line of this finding as the best, where it is ranked.

@@ -1,7 +1,6 @@
 //! A round as JSON, token by token.
 
 ghost use Rattle.std.specs.Prelude.{◌≡◌, ◌<◌, ◌++◌, All, AllPairs, OnOk, codes, filter, filter_map, length, map, option_and_then};
-ghost use Rattle.std.specs.Option.{option_copied};
 ghost use Rattle.serde_json.specs.Data.{array, string};
 ghost use Rattle.serde_json.specs.View.{items_of};
 ghost use Rattle.tfpg_evidence.specs.Findings.{findings_at, is_rejected_now};
@@ -16,7 +15,7 @@ use crate::writing::members::{append_count, append_number};
 use json::Writer;
 use std::alloc::Global;
 use tfpg_base::{Doubts, NoMemory, Set};
-use tfpg_evidence::{Counts, Finding, Round, Status};
+use tfpg_evidence::{Counts, Finding, Round, Status, finding_numbered};
 use tfpg_graph::Graph;
 
 /// Appends the round.
@@ -160,20 +159,9 @@ fn append_numbered(
         ++ found_tokens (option_and_then (λ finding. ranked_data graph.now finding finding.status)
         (finding_numbered findings.now number))) }
 {
-    match finding_of(findings, number) {
+    match finding_numbered(findings, number) {
         Some(finding) => append_finding(alloc, graph, finding, into),
         None => Ok(()),
-    }
-}
-
-/// The finding of a number.
-fn finding_of(findings: &[Finding], number: u32) -> Option<&Finding>
-    requires { AllPairs (λ earlier later. earlier.number < later.number) findings.now }
-    ensures { option_copied result ≡ finding_numbered findings.now number }
-{
-    match findings.binary_search_by_key(&number, |finding| finding.number) {
-        Ok(index) => Some(&findings[index]),
-        Err(_) => None,
     }
 }
 

@@ -1,12 +1,10 @@
 //! The text of a prediction: its line, and a forecast for each ranked hypothesis of the last round.
 
-ghost use Rattle.std.specs.Prelude.{◌≡◌, ◌≤◌, ◌∷◌, [], ℕ, List, All, IfOk, OnOk};
-ghost use Rattle.std.specs.Option.{option_copied};
+ghost use Rattle.std.specs.Prelude.{◌≡◌, ◌<◌, ◌≤◌, ◌∷◌, [], ℕ, List, All, AllPairs, IfOk, OnOk};
 ghost use Rattle.tfpg_base.specs.Append.{Appends};
 ghost use Rattle.tfpg_base.specs.Lines.{lines_of};
 ghost use Rattle.tfpg_base.specs.declared.limits.TheConstants.{MAX_TIME};
 ghost use Rattle.tfpg_evidence.specs.Findings.{findings_at, ranked_in_order};
-ghost use Rattle.tfpg_evidence.specs.RoundOf.{finding_numbered};
 ghost use Rattle.tfpg_predict.specs.LeastTime.{question_of};
 ghost use Rattle.tfpg_predict.specs.Probed.{IsProbeable};
 ghost use Rattle.tfpg_run.specs.predict.Forecasts.{HasForecasts, predict_line, prediction, time_ahead};
@@ -20,7 +18,8 @@ use itoa::Buffer;
 use std::alloc::Global;
 use std::sync::ledger::Ledger;
 use tfpg_base::{MAX_TIME, NoMemory, Steps, append_line};
-use tfpg_evidence::{Finding, Round};
+use tfpg_evidence::{Finding, Round, finding_numbered};
+use tfpg_hyp::laws::a_round_is_of_its_graph;
 use tfpg_predict::{forecast, probed};
 
 /// What is aimed at: the node by its name and its number, and how many milliseconds past the last event.
@@ -63,6 +62,7 @@ fn predicted_text<L: Ledger>(
         IfOk result (λ text. HasForecasts diagnosis.now.engine.graph
         (prediction diagnosis.now.engine.terms aim.now.ahead aim.now.name.now) aim.now.node lines text.items) }
 {
+    a_round_is_of_its_graph();
     let log = diagnosis.engine.log();
     log.is_always_ordered();
     let now = log.now();
@@ -119,6 +119,7 @@ fn append_forecasts<L: Ledger>(
     requires probeable { IsProbeable (question_of diagnosis.now.engine.graph diagnosis.now.engine.log node to) }
     requires budget { 1 ≤ diagnosis.now.engine.terms.budget }
     requires askable { All (IsAskable diagnosis.now.engine.graph) last.now.findings }
+    requires rising { AllPairs (λ earlier later. earlier.number < later.number) last.now.findings }
     ensures { OnOk result (ForecastsFollow (question_of diagnosis.now.engine.graph diagnosis.now.engine.log node to)
         diagnosis.now.engine.terms.budget (ranked_in_order last.entry.now) into.old.items into.new.items) }
 {
@@ -156,6 +157,7 @@ fn append_ranked<L: Ledger>(
 ) -> Result<(), NoMemory>
     requires query { IsQuery query.now }
     requires askable { All (IsAskable query.now.graph.now) findings.now }
+    requires rising { AllPairs (λ earlier later. earlier.number < later.number) findings.now }
     ensures { OnOk result (AddsForecasts query.now (findings_at findings.now order.now) into.old.items into.new.items) }
 {
     for number in order {
@@ -175,19 +177,13 @@ fn append_numbered<L: Ledger>(
 ) -> Result<(), NoMemory>
     requires query { IsQuery query.now }
     requires askable { All (IsAskable query.now.graph.now) findings.now }
+    requires rising { AllPairs (λ earlier later. earlier.number < later.number) findings.now }
     ensures { OnOk result (AddsForecasts query.now (findings_at findings.now (number ∷ [])) into.old.items into.new.items) }
 {
     match finding_numbered(findings, number) {
         Some(finding) => append_forecast(alloc, query, finding, into, work),
         None => Ok(()),
     }
-}
-
-/// The finding of this number.
-fn finding_numbered(findings: &[Finding], number: u32) -> Option<&Finding>
-    ensures { option_copied result ≡ finding_numbered findings.now number }
-{
-    findings.iter().find(|finding| finding.number == number)
 }
 
 /// Appends a forecast for the hypothesis of the finding.

@@ -7,7 +7,7 @@ use Rattle.tfpg_graph.specs.Graph.{Sizes}
 use Rattle.tfpg_evidence.specs.declared.finding.Finding.{Finding}
 use Rattle.tfpg_evidence.specs.declared.round.Round.{Round}
 use Rattle.tfpg_evidence.specs.RoundOf.{IsFindingOf, IsRankedIn, IsRoundOf, is_ranked}
-use Rattle.tfpg_report.proofs.Findings.{RiseByNumber, finding_numbered-at}
+use Rattle.tfpg_evidence.proofs.FindingsByNumber.{RiseByNumber, finding_numbered-at}
 use Rattle.tfpg_model_tests.proofs.report.round_of_alarm.Goals as goal
 
 -- three findings whose numbers rise

@@ -29,7 +29,7 @@ use Rattle.tfpg_report.specs.ReadRounds.{step_lines}
 use Rattle.tfpg_report.specs.Blocks.{lines_of_finding, lines_if_ranked, open_line, rejected_line, round_lines, Loss, loss_line, Block, RefusedBlock, RoundBlock, block_lines}
 use Rattle.tfpg_report.specs.Reading.{IsHead}
 use Rattle.tfpg_report.specs.InOrder.{HasRisingTrace, HasRisingTraces, RiseByPanel, IsInOrder}
-use Rattle.tfpg_report.proofs.Findings.{finding_numbered-all}
+use Rattle.tfpg_evidence.proofs.FindingsByNumber.{finding_numbered-all}
 use Rattle.tfpg_report.proofs.lemmas.block_reader.Turns.{steps_or_rank, rank_or_open, open_or_reject}
 
 -- ---- lines in a row

@@ -17,6 +17,7 @@ use Rattle.tfpg_log.proofs.events.Order.{last_upto}
 use Rattle.tfpg_evidence.specs.declared.finding.Finding.{Finding}
 use Rattle.tfpg_evidence.specs.declared.round.Round.{Round}
 use Rattle.tfpg_evidence.specs.Findings.{ranked_in_order}
+use Rattle.tfpg_evidence.proofs.FindingsByNumber.{RiseByNumber}
 use Rattle.tfpg_hyp.specs.Rounds.{IsRound}
 use Rattle.tfpg_hyp.proofs.FindingsOfRound.{HasFindingAt, evidence}
 use Rattle.tfpg_predict.specs.LeastTime.{Question, question_of}
@@ -28,6 +29,7 @@ use Rattle.tfpg_run.specs.inside.diagnosis.Diagnosed.{HasDiagnosed, HasLastOf}
 use Rattle.tfpg_run.specs.inside.predict.Forecasting.{ForecastsFollow, IsAimAt, IsAskable}
 use Rattle.tfpg_run.specs.predict.Forecasts.{AreForecastsAfter, AreForecastsOf, HasForecasts, predict_line, prediction, question_after, time_ahead}
 use Rattle.tfpg_run.specs.predict.Probing.{known_node, probed_node}
+use Rattle.tfpg_run.proofs.lemmas.diagnose.LineBlocks.{NamesOfRounds}
 use Rattle.tfpg_run.proofs.lemmas.diagnosis.Diagnosed.{last_diagnosed}
 
 -- ---- what may be asked
@@ -51,6 +53,13 @@ pub last_askable : (graph : Tfpg) (terms : Terms) (lines : List (List ℕ)) (d :
 last_askable graph terms lines d has round is =
     let last = subst (HasLastOf graph terms (log_of_lines graph lines) _) is has.last in
     all_askable graph terms last.line last.earlier (log_of_lines graph lines) round last.is_round
+
+-- the numbers of its findings rise
+pub last_rising : NamesOfRounds → (graph : Tfpg) (terms : Terms) (lines : List (List ℕ)) (d : Diagnosis) → HasDiagnosed graph terms lines d → IsLogOf graph (log_of_lines graph lines)
+    → (round : Round) → d.last ≡ Some round → RiseByNumber round.findings
+last_rising names graph terms lines d has of round is =
+    let last = subst (HasLastOf graph terms (log_of_lines graph lines) _) is has.last in
+    (names graph terms last.line last.earlier (log_of_lines graph lines) round of last.is_round).numbers_rise
 
 -- an ordered log has not come too far
 pub now_upto : (log : Logbook) → IsOrdered log → now_of log ≤ MAX_TIME

@@ -1,9 +1,10 @@
-use Rattle.std.proofs.Common.{List, sym, subst₂, arith}
+use Rattle.std.proofs.Common.{List, sym, subst, subst₂, arith}
 use Rattle.std.specs.Prelude.{All}
 use Rattle.tfpg_graph.specs.Graph.{Tfpg}
 use Rattle.tfpg_log.specs.Log.{Logbook}
 use Rattle.tfpg_evidence.specs.declared.finding.Finding.{Finding}
 use Rattle.tfpg_evidence.specs.Findings.{findings_at, ranked_in_order}
+use Rattle.tfpg_evidence.proofs.FindingsByNumber.{RiseByNumber}
 use Rattle.tfpg_predict.specs.LeastTime.{question_of}
 use Rattle.tfpg_predict.specs.Probed.{IsProbeable}
 use Rattle.tfpg_run.specs.inside.predict.Forecasting.{IsAskable}
@@ -28,6 +29,9 @@ append_ranked-requires-clause-query g c = record {
 pub append_ranked-requires-clause-askable : goal.append_ranked-requires-clause-askable
 append_ranked-requires-clause-askable g c =
     subst₂ (λ (graph : Tfpg) (findings : List Finding). All (IsAskable graph) findings) (sym c.graph-graph.ensures) (sym c.as_slice.ensures) c.requires.askable
+
+pub append_ranked-requires-clause-rising : goal.append_ranked-requires-clause-rising
+append_ranked-requires-clause-rising g c = subst RiseByNumber (sym c.as_slice.ensures) c.requires.rising
 
 pub returns : goal.returns
 returns g c =

@@ -1,9 +1,9 @@
 use Rattle.std.proofs.Common.{ℕ, List, ◌++◌, ap, subst, ◌∙◌, arith}
-use Rattle.tfpg_log.specs.Log.{Logbook}
+use Rattle.tfpg_log.specs.Log.{Logbook, IsLogOf}
 use Rattle.tfpg_predict.specs.LeastTime.{question_of}
 use Rattle.tfpg_predict.specs.Probed.{IsProbeable}
 use Rattle.tfpg_run.specs.predict.Forecasts.{predict_line, time_ahead}
-use Rattle.tfpg_run.proofs.lemmas.predict.Predictions.{last_askable, now_upto, predicted_last, probeable_aim}
+use Rattle.tfpg_run.proofs.lemmas.predict.Predictions.{last_askable, last_rising, now_upto, predicted_last, probeable_aim}
 use Rattle.tfpg_run.proofs.predict.forecasts.predicted_text.Goals as goal
 
 pub time_ahead-to-requires-clause-now : goal.time_ahead-to-requires-clause-now
@@ -18,6 +18,13 @@ append_forecasts-requires-clause-probeable g c =
 pub append_forecasts-requires-clause-askable : goal.append_forecasts-requires-clause-askable
 append_forecasts-requires-clause-askable g c =
     last_askable c.args.diagnosis.now.engine.graph c.args.diagnosis.now.engine.terms c.requires.diagnosed.0 c.args.diagnosis.now c.requires.diagnosed.1 _ c.in-Some.is
+
+pub append_forecasts-requires-clause-rising : goal.append_forecasts-requires-clause-rising
+append_forecasts-requires-clause-rising g c =
+    let graph = c.args.diagnosis.now.engine.graph in
+    let has = c.requires.diagnosed.1 in
+    last_rising c.a_round_is_of_its_graph.ensures graph c.args.diagnosis.now.engine.terms c.requires.diagnosed.0 c.args.diagnosis.now has
+    (subst (IsLogOf graph) (c.log-log.ensures.log ∙ has.reports.log_is) c.log-log.ensures.of) _ c.in-Some.is
 
 pub returns-in_ok-append_forecasts-in-Some : goal.returns-in_ok-append_forecasts-in-Some
 returns-in_ok-append_forecasts-in-Some g c = λ lines has.
