@@ -24,7 +24,7 @@ pub record GraphSaid : Type 0 where
   pub nodes : List Node
   pub edges : List EdgeSaid
 
--- what a further reader makes of what one read
+-- What a further reader makes of what one read: a `do` block puts this operator after what is read on each of its lines.
 infixl 10 ◌>>=◌
 abbrev ◌>>=◌ : {A B : Type 0} → Option A → (A → Option B) → Option B
 found >>= read = option_and_then read found

@@ -16,7 +16,7 @@ use Rattle.tfpg_run.specs.declared.end.End.TheVariants.{Done}
 use Rattle.tfpg_run.specs.declared.fault.FetchFault.{FetchFault}
 use Rattle.tfpg_run.specs.declared.fault.StreamFault.{StreamFault}
 use Rattle.tfpg_run.specs.declared.fault.StreamFault.TheVariants as faults
-use Rattle.tfpg_run.specs.inside.Faults.{end_of_table_fault}
+use Rattle.tfpg_run.specs.inside.Faults.{IsFetchFault, end_of_table_fault}
 use Rattle.tfpg_base.proofs.lists.Choices.{IfErr-from}
 use Rattle.tfpg_run.proofs.lemmas.diagnose.NextBlocks.{begins_without_memory}
 use Rattle.tfpg_base.proofs.lists.Sequences.{not_above}
@@ -25,7 +25,7 @@ use Rattle.tfpg_run.specs.declared.fault.FetchFault.TheVariants as fetch
 use Rattle.tfpg_run.specs.Outputs.{WorksToEnd}
 use Rattle.tfpg_run.specs.diagnose.Work.{IsReportWithin, RunsWithin}
 use Rattle.tfpg_words.specs.declared.usage_cause.UsageCause.{UsageCause}
-use Rattle.tfpg_run.specs.Fetch.{GivesGraph, IsFetchFault}
+use Rattle.tfpg_run.specs.Fetch.{GivesGraph}
 use Rattle.tfpg_run.specs.Run.{CommandEnds}
 use Rattle.tfpg_run.specs.diagnose.Diagnosing.{Diagnoses, DiagnoseEnds}
 use Rattle.tfpg_run.specs.explain.Explaining.{ExplainEnds}

@@ -69,10 +69,6 @@ IsFetchFaultBy IsFirst before now name TooLong = IsTooLong before name × (now.f
 IsFetchFaultBy IsFirst before now name (Graph fault) = HasFaultyGraphBy IsFirst before name fault × (now.faults ≡ before.faults)
 IsFetchFaultBy IsFirst before now name NoMemory = now.faults ≡ before.faults
 
--- Why there is no graph of the file of this name that is read as a graph text.
-abbrev pub IsFetchFault : ShelfState → ShelfState → List ℕ → FetchFault → Type 0
-IsFetchFault = IsFetchFaultBy IsFirstFault
-
 -- Why there is no graph and no text of the files of these names, of which the graph file comes first.
 abbrev pub IsFilesFault : ShelfState → ShelfState → List ℕ → List ℕ → FetchFault → Type 0
 -- The shelf failed: at the graph file, and the other was not asked for; or at the other, and the graph file was fetched.

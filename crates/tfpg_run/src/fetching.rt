@@ -6,8 +6,8 @@ ghost use Rattle.tfpg_base.specs.Outside.{NotesName};
 ghost use Rattle.tfpg_graph.specs.Valid.{IsValid};
 ghost use Rattle.tfpg_log.specs.Log.{IsLogOf};
 ghost use Rattle.tfpg_log.specs.LogOfLines.{log_after, log_of_lines};
-ghost use Rattle.tfpg_run.specs.Fetch.{HasFile, GivesGraph, GivesGraphAndLog, GivesGraphAndText, IsFetchFault, IsFilesFault, AsksFor, AsksInOrder};
-ghost use Rattle.tfpg_run.specs.inside.Faults.{IsFileFault};
+ghost use Rattle.tfpg_run.specs.Fetch.{HasFile, GivesGraph, GivesGraphAndLog, GivesGraphAndText, IsFilesFault, AsksFor, AsksInOrder};
+ghost use Rattle.tfpg_run.specs.inside.Faults.{IsFetchFault, IsFileFault};
 
 use crate::fault::FetchFault;
 use std::alloc::Global;

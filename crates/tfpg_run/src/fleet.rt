@@ -5,9 +5,10 @@ ghost use Rattle.tfpg_base.specs.Terms.{AreReportTerms};
 ghost use Rattle.tfpg_base.specs.Words.{comma_parts};
 ghost use Rattle.tfpg_panel.specs.Desk.{DeskState};
 ghost use Rattle.tfpg_words.specs.Names.{AreNames};
-ghost use Rattle.tfpg_run.specs.Fetch.{AsksFor, GivesGraph, IsFetchFault};
+ghost use Rattle.tfpg_run.specs.Fetch.{AsksFor, GivesGraph};
 ghost use Rattle.tfpg_run.specs.World.{world};
 ghost use Rattle.tfpg_run.specs.fleet.FleetEnds.{FleetEnds};
+ghost use Rattle.tfpg_run.specs.inside.Faults.{IsFetchFault};
 ghost use Rattle.tfpg_run.specs.inside.fleet.UnderWay.{said_by};
 
 mod answering;

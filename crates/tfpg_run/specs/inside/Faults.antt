@@ -7,6 +7,7 @@ use Rattle.tfpg_base.specs.declared.outside.ShelfFault.{ShelfFault}
 use Rattle.tfpg_base.specs.declared.outside.ShelfFault.TheVariants as shelf
 use Rattle.tfpg_graph.specs.declared.cause.GraphRefusal.{GraphRefusal}
 use Rattle.tfpg_graph.specs.declared.cause.GraphRefusal.TheVariants as refusal
+use Rattle.tfpg_graph.specs.Faults.{IsFirstFault}
 use Rattle.tfpg_words.specs.declared.plan_fault.PlanFault.{PlanFault}
 use Rattle.tfpg_words.specs.declared.plan_fault.PlanFault.TheVariants as plan
 use Rattle.tfpg_hyp.specs.declared.table.TableFault.{TableFault}
@@ -17,7 +18,7 @@ use Rattle.tfpg_run.specs.declared.fault.StreamFault.{StreamFault}
 use Rattle.tfpg_run.specs.declared.fault.StreamFault.TheVariants as streams
 use Rattle.tfpg_run.specs.declared.fault.OutputFault.{OutputFault}
 use Rattle.tfpg_run.specs.declared.fault.OutputFault.TheVariants as output
-use Rattle.tfpg_run.specs.Fetch.{IsTooLong}
+use Rattle.tfpg_run.specs.Fetch.{IsFetchFaultBy, IsTooLong}
 use Rattle.tfpg_sim.specs.declared.fault.SimFault.{SimFault}
 use Rattle.tfpg_sim.specs.declared.fault.SimFault.TheVariants as sim
 use Rattle.tfpg_run.specs.declared.fault.ExplainFault.{ExplainFault}
@@ -91,3 +92,7 @@ abbrev pub IsFileFault : ShelfState → ShelfState → List ℕ → ShelfFault �
 IsFileFault before now name shelf.Failed = Rose before.faults now.faults × NotesName before now name
 IsFileFault before now name shelf.TooLong = IsTooLong before name × (now.faults ≡ before.faults)
 IsFileFault before now name shelf.NoMemory = now.faults ≡ before.faults
+
+-- Why there is no graph of the file of this name that is read as a graph text.
+abbrev pub IsFetchFault : ShelfState → ShelfState → List ℕ → FetchFault → Type 0
+IsFetchFault = IsFetchFaultBy IsFirstFault
