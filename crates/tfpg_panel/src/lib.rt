@@ -4,7 +4,7 @@
 //! - [`Desk`] has panels, which are numbered from 1. It tells each of its kept panels a round. One that fails is put aside as a
 //!   [`LostPanel`], and told nothing more.
 //! - [`laws`] says what telling one round after another comes to.
-//! - [`MemoryPanel`] keeps the rounds that it is told, and fails at chosen calls.
+//! - [`SteadyPanel`] keeps the rounds that it is told, and never fails. [`MemoryPanel`] keeps them too, and fails at chosen calls.
 //!
 //! ```
 //! desk.tell(&graph, &round);
@@ -19,8 +19,10 @@ pub mod laws;
 mod lost_panel;
 mod memory_panel;
 mod panel;
+mod steady_panel;
 
 pub use desk::Desk;
 pub use lost_panel::LostPanel;
 pub use memory_panel::MemoryPanel;
 pub use panel::{Panel, PanelFault};
+pub use steady_panel::SteadyPanel;
