@@ -1,26 +1,40 @@
 -- How `fleet` ends: it reads a graph, and answers the lines of the stream one by one.
-use Rattle.std.specs.Prelude.{◌≡◌, ◌⊎◌, ℕ, List, length, Result, Ok, Err}
+use Rattle.std.specs.Prelude.{◌≡◌, ◌⊎◌, ◌++◌, ℕ, List, length, Result, Ok, Err}
 use Rattle.tfpg_base.specs.declared.terms.Terms.{Terms}
-use Rattle.tfpg_base.specs.Outside.{Takes, Puts}
+use Rattle.tfpg_base.specs.Lines.{lines_of}
+use Rattle.tfpg_base.specs.Outside.{SourceState, Takes, Puts, IsAtEnd}
 use Rattle.tfpg_graph.specs.Graph.{Tfpg}
 use Rattle.tfpg_fleet.specs.TooMany.{IsTooMany}
 use Rattle.tfpg_run.specs.declared.end.End.{End}
 use Rattle.tfpg_run.specs.declared.end.End.TheVariants as ends
 use Rattle.tfpg_run.specs.declared.fault.StreamFault.{StreamFault}
+use Rattle.tfpg_run.specs.declared.fault.StreamFault.TheVariants.{WriteFault}
 use Rattle.tfpg_run.specs.EndsOf.{EndsBy, end_of_stream_fault}
 use Rattle.tfpg_run.specs.Fetch.{GivesGraph, LacksGraph}
-use Rattle.tfpg_run.specs.Outputs.{IsStreamFault, IsWrittenBefore, WritesOutput}
+use Rattle.tfpg_run.specs.Outputs.{BeginsOutputOfInput, IsStreamFault, IsWrittenBefore, WritesOutput}
 use Rattle.tfpg_run.specs.Streams.{Streams}
 use Rattle.tfpg_run.specs.World.{World, streams_of, watched_of}
 use Rattle.tfpg_run.specs.fleet.FleetOutput.{FleetMatter, BeginsFleetOutput, IsFleetOutput, IsFleetOutputSoFar, fleet_matter}
 
+-- What a failed write has cut begins the answers to the first lines of the input; or, once the input has ended, the whole output for it. So
+-- no line of a failure mode is written before that end.
+abbrev pub IsCutOutput : FleetMatter → SourceState → List ℕ → List ℕ → Type 0
+IsCutOutput fleet input taken written =
+    BeginsOutputOfInput (BeginsFleetOutput fleet) input taken written
+    ⊎ (IsAtEnd input × (more : List ℕ) × IsFleetOutput fleet (lines_of taken) (written ++ more))
+
+-- What was written by then. A failed write alone may cut it; else it is what is right so far, or, without memory, nothing.
+abbrev pub IsAnsweredBefore : FleetMatter → SourceState → List ℕ → List ℕ → StreamFault → Type 0
+IsAnsweredBefore fleet input taken written WriteFault = IsCutOutput fleet input taken written
+IsAnsweredBefore fleet input taken written fault =
+    IsWrittenBefore (IsFleetOutputSoFar fleet) (BeginsFleetOutput fleet) input taken written fault
+
 -- How it ends where these bytes were taken, and these were written: with the whole output for the whole input; or with its cause, and
--- what is right so far, or what begins it.
+-- what was written by then.
 abbrev pub AnsweringEnds : FleetMatter → Streams → Streams → (List ℕ × List ℕ) → Result (Unit {0}) StreamFault → Type 0
 AnsweringEnds fleet before now (taken, written) (Ok done) = WritesOutput (IsFleetOutput fleet) before now taken written
 AnsweringEnds fleet before now (taken, written) (Err fault) =
-    IsStreamFault before now taken fault
-    × IsWrittenBefore (IsFleetOutputSoFar fleet) (BeginsFleetOutput fleet) now.input taken written fault
+    IsStreamFault before now taken fault × IsAnsweredBefore fleet now.input taken written fault
 
 -- A diagnosis of the fleet took bytes from the input and wrote its answers, with this result.
 pub record AnswersStream (fleet : FleetMatter) (before now : Streams) (result : Result (Unit {0}) StreamFault) : Type 0 where

@@ -62,6 +62,6 @@ pub record IsFleetOutputSoFar (fleet : FleetMatter) (lines : List (List ℕ)) (b
   pub are : AreAnswers fleet lines answers
   pub text : bytes ≡ answered_text fleet answers
 
--- The bytes, and what is to follow them, are what it writes for these lines.
+-- The bytes, and what is to follow them, are what it has written after these lines.
 abbrev pub BeginsFleetOutput : FleetMatter → List (List ℕ) → List ℕ → List ℕ → Type 0
-BeginsFleetOutput fleet lines bytes more = IsFleetOutput fleet lines (bytes ++ more)
+BeginsFleetOutput fleet lines bytes more = IsFleetOutputSoFar fleet lines (bytes ++ more)

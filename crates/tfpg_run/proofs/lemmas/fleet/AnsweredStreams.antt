@@ -107,9 +107,9 @@ module _ (fleet : FleetMatter) where
     right = so_far_right (take (length given) (lines_of (taken ++ rest_of input))) given answers front are;
   }
 
-  -- a front of what is right for the first lines
+  -- a front of what is right so far for the first lines
   begins_first : (input : SourceState) (taken : List ℕ) (given : List (List ℕ)) (answers : List Answer) (written more : List ℕ) → take (length given) (lines_of (taken ++ rest_of input)) ≡ given → AreAnswers fleet given answers
-      → written ++ more ≡ answered_text fleet answers ++ counts_text fleet answers → BeginsOutputOfInput (BeginsFleetOutput fleet) input taken written
+      → written ++ more ≡ answered_text fleet answers → BeginsOutputOfInput (BeginsFleetOutput fleet) input taken written
   begins_first input taken given answers written more front are parts = record {
     more = more;
     begins = record {
@@ -133,7 +133,7 @@ module _ (fleet : FleetMatter) where
       writes = Puts-same_held before.output before.output refl;
       ends = (
         record { input = refl; output = refl },
-        inl (refl, begins_first before.input [] [] [] [] (answered_text fleet [] ++ counts_text fleet []) refl (no_answers has_reports) refl),
+        inl (refl, begins_first before.input [] [] [] [] (answered_text fleet []) refl (no_answers has_reports) refl),
       );
     }
 
@@ -147,8 +147,7 @@ module _ (fleet : FleetMatter) where
       writes = puts;
       ends = (
         (rose, refl),
-        begins_first before.input [] [] [] front (rest ++ counts_text fleet []) refl (no_answers has_reports)
-            (sym (append_assoc front rest (counts_text fleet [])) ∙ ap (λ (t : List ℕ). t ++ counts_text fleet []) (sym parts ∙ is ∙ sym (append-nil (opening_text fleet.names fleet.terms)))),
+        inl (begins_first before.input [] [] [] front rest refl (no_answers has_reports) (sym parts ∙ is ∙ sym (append-nil (opening_text fleet.names fleet.terms)))),
       );
     }
 
@@ -297,10 +296,8 @@ module _ (fleet : FleetMatter) where
             → AnswersStream fleet before (streams input output) (Err faults.WriteFault)
         gave_front front rest parts puts rose =
             let written = answered_text fleet under.answers ++ front in
-            let counts = counts_text fleet all_answers in
-            let whole : written ++ (rest ++ counts) ≡ answered_text fleet all_answers ++ counts =
-            sym (append_assoc written rest counts)
-            ∙ ap (λ (t : List ℕ). t ++ counts) (append_assoc (answered_text fleet under.answers) front rest ∙ ap (λ (t : List ℕ). answered_text fleet under.answers ++ t) (sym parts) ∙ text_now) in
+            let whole : written ++ rest ≡ answered_text fleet all_answers =
+            append_assoc (answered_text fleet under.answers) front rest ∙ ap (λ (t : List ℕ). answered_text fleet under.answers ++ t) (sym parts) ∙ text_now in
             record {
               taken = all_taken;
               takes = takes_now;
@@ -308,11 +305,11 @@ module _ (fleet : FleetMatter) where
               writes = Puts-append before.output now.output output (answered_text fleet under.answers) front under.writes puts;
               ends = (
                 (subst (λ (count : ℕ). Rose count output.faults) under.no_fault.output rose, gave.no_fault ∙ under.no_fault.input),
-                begins_first input all_taken (under.reading.given ++ gave.first ∷ []) all_answers written (rest ++ counts)
+                inl (begins_first input all_taken (under.reading.given ++ gave.first ∷ []) all_answers written rest
                     (front_with (lines_of (all_taken ++ rest_of input)) under.reading.given gave.first (front_of_input (with_bytes under.reading gave.more) gave.first input gave.next))
                     (right_answers (under.reading.given ++ gave.first ∷ []) all_answers answers.answered.addressed answers.answered.blocks under.has_reports
                     (few_numbered all_taken (under.reading.given ++ gave.first ∷ []) (front_with (lines_of all_taken) under.reading.given gave.first gave.next.front) gave.next.few))
-                    whole,
+                    whole),
               );
             }
 
@@ -371,8 +368,11 @@ module _ (fleet : FleetMatter) where
       writes = Puts-append before.output now.output output (answered_text fleet all.answers) begun.front all.writes begun.writes;
       ends = (
         (subst (λ (count : ℕ). Rose count output.faults) all.no_fault.output begun.rose, all.no_fault.input),
-        begins_first now.input all.taken (lines_of all.taken) all.answers (answered_text fleet all.answers ++ begun.front) begun.rest all_lines all_answered
-            (append_assoc (answered_text fleet all.answers) begun.front begun.rest ∙ ap (λ (t : List ℕ). answered_text fleet all.answers ++ t) (begun.right ∙ counts_are)),
+        inr (all.at_end, begun.rest, record {
+          answers = all.answers;
+          are = all_answered;
+          text = append_assoc (answered_text fleet all.answers) begun.front begun.rest ∙ ap (λ (t : List ℕ). answered_text fleet all.answers ++ t) (begun.right ∙ counts_are);
+        }),
       );
     }
     not_counted output_fault.NoMemory same = record {
