@@ -1,4 +1,4 @@
--- That a vehicle is diagnosed as if it were alone.
+-- What a round of some lines alone is, and when two rounds find the same.
 use Rattle.std.specs.Prelude.{◌≡◌, ℕ, List, length, Some, slice_get}
 use Rattle.tfpg_base.specs.declared.terms.Terms.{Terms}
 use Rattle.tfpg_graph.specs.Graph.{Tfpg}

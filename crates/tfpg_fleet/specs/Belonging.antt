@@ -40,9 +40,13 @@ addressed names line space =
 abbrev pub belongs : List (List ℕ) → List ℕ → Option VehicleLine
 belongs names line = if is_too_long line then None else option_and_then (addressed names line) (first_space line)
 
+-- the vehicle that a line belongs to
+abbrev pub addressee : List (List ℕ) → List ℕ → Option ℕ
+addressee names line = option_map (λ found. found.vehicle) (belongs names line)
+
 -- The line belongs to the vehicle of this number.
 abbrev pub IsFor : List (List ℕ) → ℕ → List ℕ → Type 0
-IsFor names number line = option_map (λ found. found.vehicle) (belongs names line) ≡ Some number
+IsFor names number line = addressee names line ≡ Some number
 
 -- the own line of the vehicle of this number, where a line belongs to it
 abbrev pub line_for : List (List ℕ) → ℕ → List ℕ → Option (List ℕ)

@@ -48,13 +48,12 @@ pub fn a_vehicle_goes_by_its_own_lines()
     a_log_of_lines_is_of_its_graph();
 }
 
-/// A vehicle is diagnosed as if it were alone: where a round of its lines, and one of a diagnosis of the same lines alone with the same
-/// `k` and `doubt`, both have no open hypothesis, each hypothesis has the same status in both.
-pub fn a_vehicle_is_diagnosed_as_if_alone()
-    ensures { (graph : Tfpg) (terms alone : Terms) (names : List (List ℕ)) (number : ℕ) (stream lines : List (List ℕ))
-        (round other : Round) →
-        IsValid graph → terms.k ≡ alone.k → terms.doubt ≡ alone.doubt → lines_for names number stream ≡ lines →
-        IsSettledRound graph terms (lines_for names number stream) round → IsSettledRound graph alone lines other →
+/// Two rounds of the same lines, in diagnoses with the same `k` and `doubt`, find the same where no hypothesis is open in either: each
+/// hypothesis has the same status in both.
+pub fn rounds_of_the_same_lines_find_the_same()
+    ensures { (graph : Tfpg) (terms alone : Terms) (lines : List (List ℕ)) (round other : Round) →
+        IsValid graph → terms.k ≡ alone.k → terms.doubt ≡ alone.doubt →
+        IsSettledRound graph terms lines round → IsSettledRound graph alone lines other →
         RoundsFindTheSame round other }
 {
     the_table_is_one();

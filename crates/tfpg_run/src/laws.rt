@@ -1,5 +1,5 @@
-//! What the definitions of maps, of reports, of runs and of conversions come to, as functions that do nothing: each says its laws in its
-//! clauses.
+//! What the definitions of maps, of reports, of fleets, of runs and of conversions come to, as functions that do nothing: each says its
+//! laws in its clauses.
 
 ghost use Rattle.std.specs.Prelude.{◌≡◌, ◌<◌, ◌≤◌, ℕ, List, length, [], All, Contains, Some, Ok, true, false, slice_get};
 ghost use Rattle.tfpg_base.specs.declared.activation.Activation.{Activation};
@@ -25,7 +25,11 @@ ghost use Rattle.tfpg_run.specs.declared.end.End.TheVariants.{Done};
 ghost use Rattle.tfpg_run.specs.Fetch.{GivesGraph};
 ghost use Rattle.tfpg_run.specs.World.{World};
 ghost use Rattle.tfpg_run.specs.convert.Converting.{ConvertEnds};
-ghost use Rattle.tfpg_run.specs.diagnose.BlockFindings.{HasFindingInBlock};
+ghost use Rattle.tfpg_fleet.specs.Alone.{RoundsFindTheSame};
+ghost use Rattle.tfpg_fleet.specs.Belonging.{lines_for};
+ghost use Rattle.tfpg_run.specs.diagnose.BlockFindings.{HasFindingInBlock, HasSettledRoundInBlock};
+ghost use Rattle.tfpg_run.specs.fleet.Answers.{Answer, blocks_for};
+ghost use Rattle.tfpg_run.specs.fleet.FleetOutput.{AreAnswers, FleetMatter};
 ghost use Rattle.tfpg_report.specs.SetText.{IsHypothesisOf};
 ghost use Rattle.tfpg_run.specs.map.Spelling.{IsActivationOf, SpellsMap, set_line};
 ghost use Rattle.tfpg_run.specs.map.MapText.{map_text};
@@ -43,6 +47,7 @@ use tfpg_clause::laws::{
     a_refutation_is_finished, a_refutation_leaves_no_trace, a_tree_stays,
     the_front_of_a_tree_is_a_partial_tree,
 };
+use tfpg_fleet::laws::rounds_of_the_same_lines_find_the_same;
 use tfpg_graph::laws::a_text_has_at_most_one_first_fault;
 use tfpg_json::laws::{a_text_has_at_most_one_first_fault_as_json, a_written_graph_is_read_back};
 use tfpg_report::laws::a_report_line_says_one_thing;
@@ -98,6 +103,21 @@ pub fn a_rejected_set_stays_rejected()
     a_refutation_is_finished();
     the_front_of_a_tree_is_a_partial_tree();
     a_tree_stays();
+}
+
+/// A vehicle is diagnosed as if it were alone. Take the answers of `fleet` to a stream, and the blocks of a diagnosis of the own lines of one
+/// of its vehicles alone, with the same `k` and `doubt`. Where the blocks of the same own line are rounds, and no hypothesis is open in either,
+/// each hypothesis has the same status in both.
+pub fn a_vehicle_is_diagnosed_as_if_alone()
+    ensures { (fleet : FleetMatter) (alone : Terms) (stream : List (List ℕ)) (answers : List Answer) (number : ℕ)
+        (blocks : List Block) →
+        IsValid fleet.graph → fleet.terms.k ≡ alone.k → fleet.terms.doubt ≡ alone.doubt →
+        AreAnswers fleet stream answers → AreBlocks fleet.graph alone (lines_for fleet.names number stream) blocks →
+        (index : ℕ) (round other : Round) →
+        HasSettledRoundInBlock (blocks_for number answers) index round → HasSettledRoundInBlock blocks index other →
+        RoundsFindTheSame round other }
+{
+    rounds_of_the_same_lines_find_the_same();
 }
 
 /// What a diagnosis has written that is done is accepted by `check`, with the same graph file, and with a log file that has the lines of the

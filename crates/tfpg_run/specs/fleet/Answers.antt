@@ -1,11 +1,10 @@
 -- What each line of a stream of many vehicles is answered by.
-use Rattle.std.specs.Prelude.{ℕ, ◌+◌, ◌==◌, List, [], ◌∷◌, ◌++◌, flat_map, Option, Some, None, option_map, codes, decimal, slice_index_or}
+use Rattle.std.specs.Prelude.{ℕ, ◌+◌, ◌==◌, List, [], ◌∷◌, ◌++◌, flat_map, Option, Some, None, codes, decimal, slice_index_or}
 use Rattle.std.specs.Bool.{then_some}
 use Rattle.std.specs.List.{filter_map}
 use Rattle.tfpg_base.specs.declared.terms.Terms.{Terms}
 use Rattle.tfpg_base.specs.TextLine.{text_line}
 use Rattle.tfpg_graph.specs.Graph.{Tfpg}
-use Rattle.tfpg_fleet.specs.Belonging.{belongs}
 use Rattle.tfpg_report.specs.Blocks.{Block, block_text, head_text}
 
 -- The answer to a line: it is stray; or it has this block, of the vehicle of this number.
@@ -17,10 +16,6 @@ pub data Answer : Type 0 where
 abbrev pub vehicle_of : Answer → Option ℕ
 vehicle_of StrayLine = None
 vehicle_of (OwnBlock vehicle block) = Some vehicle
-
--- the vehicle that a line belongs to
-abbrev pub addressee : List (List ℕ) → List ℕ → Option ℕ
-addressee names line = option_map (λ found. found.vehicle) (belongs names line)
 
 -- the block of an answer, where it is of the vehicle of this number
 abbrev pub block_for : ℕ → Answer → Option Block

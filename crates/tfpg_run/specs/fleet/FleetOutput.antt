@@ -1,14 +1,15 @@
 -- What a diagnosis of many vehicles on one stream writes.
-use Rattle.std.specs.Prelude.{◌≡◌, ℕ, List, [], ◌++◌, length, map, flat_map}
+use Rattle.std.specs.Prelude.{◌≡◌, ◌≤◌, ℕ, List, [], ◌++◌, length, map, flat_map}
+use Rattle.tfpg_base.specs.declared.limits.TheConstants.{MAX_LINE_NUMBER}
 use Rattle.tfpg_base.specs.declared.terms.Terms.{Terms}
 use Rattle.tfpg_graph.specs.Graph.{Tfpg, failures}
-use Rattle.tfpg_fleet.specs.Belonging.{lines_for}
+use Rattle.tfpg_fleet.specs.Belonging.{addressee, lines_for}
 use Rattle.tfpg_evidence.specs.declared.round.Round.{Round}
 use Rattle.tfpg_report.specs.Blocks.{Block}
-use Rattle.tfpg_check.specs.Report.{IsReport, report_text, rounds_of}
+use Rattle.tfpg_check.specs.Report.{AreBlocks, HasReports, rounds_of}
 use Rattle.tfpg_run.specs.diagnose.RightReport.{RoundsSay}
 use Rattle.tfpg_run.specs.diagnose.TellsPanels.{losses_in}
-use Rattle.tfpg_run.specs.fleet.Answers.{Answer, addressee, answers_text, blocks_for, opening_text, vehicle_of}
+use Rattle.tfpg_run.specs.fleet.Answers.{Answer, answers_text, blocks_for, opening_text, vehicle_of}
 use Rattle.tfpg_run.specs.fleet.Counting.{last_ranks, modes_text, vehicles_that}
 
 -- What is diagnosed: vehicles of these names, each of this graph, on these terms.
@@ -23,7 +24,9 @@ fleet_matter graph terms names = record { graph = graph; terms = terms; names = 
 
 -- The blocks of a vehicle are those of a report of its lines alone, each of whose rounds says what a round says. No panel is lost.
 pub record IsVehicleReport (graph : Tfpg) (terms : Terms) (lines : List (List ℕ)) (blocks : List Block) : Type 0 where
-  pub report : IsReport graph terms lines blocks (report_text graph terms blocks)
+  pub has_reports : HasReports graph terms
+  pub few_lines : length lines ≤ MAX_LINE_NUMBER
+  pub are_blocks : AreBlocks graph terms lines blocks
   pub say : RoundsSay graph terms lines blocks
   pub none_lost : flat_map losses_in blocks ≡ []
 

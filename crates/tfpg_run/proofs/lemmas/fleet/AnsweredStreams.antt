@@ -14,7 +14,7 @@ use Rattle.tfpg_base.proofs.lists.Cuts.{front_is_within, front_before, front_wit
 use Rattle.tfpg_base.proofs.lists.Passing.{length-filter_map}
 use Rattle.tfpg_graph.specs.Graph.{Tfpg}
 use Rattle.tfpg_check.specs.Report.{HasReports}
-use Rattle.tfpg_fleet.specs.Belonging.{line_for, lines_for}
+use Rattle.tfpg_fleet.specs.Belonging.{addressee, line_for, lines_for}
 use Rattle.tfpg_run.specs.declared.fault.OutputFault.{OutputFault}
 use Rattle.tfpg_run.specs.declared.fault.OutputFault.TheVariants as output_fault
 use Rattle.tfpg_run.specs.declared.fault.StreamFault.{StreamFault}
@@ -24,7 +24,7 @@ use Rattle.tfpg_run.specs.declared.fleet.watch.Watch.{Watch}
 use Rattle.tfpg_run.specs.inside.Faults.{stream_fault_of_lines, stream_fault_of_output}
 use Rattle.tfpg_run.specs.Outputs.{BeginsOutputOfInput, HasOutputOfFirstLines, TextEnds}
 use Rattle.tfpg_run.specs.Streams.{Streams, streams}
-use Rattle.tfpg_run.specs.fleet.Answers.{Answer, addressee, answer_text, answers_text, blocks_for, opening_text, vehicle_of}
+use Rattle.tfpg_run.specs.fleet.Answers.{Answer, answer_text, answers_text, blocks_for, opening_text, vehicle_of}
 use Rattle.tfpg_run.specs.fleet.FleetOutput.{AreAnswers, BeginsFleetOutput, FleetMatter, IsFleetOutputSoFar, answered_text, counts_text}
 use Rattle.tfpg_run.specs.fleet.FleetEnds.{AnswersStream}
 use Rattle.tfpg_run.specs.inside.fleet.UnderWay.{Answers, AreOwnBlocks, ComesTo, HasAnswered, HasAnsweredAll, IsAnswering, WritesAnswer, answering_at, kept_text}
@@ -77,12 +77,9 @@ module _ (fleet : FleetMatter) where
   right_answers lines answers addressed blocks has_reports few = record {
     addressed = addressed;
     reports = λ number. record {
-      report = record {
-        has_reports = has_reports;
-        few_lines = omega (arith, few, length-filter_map (line_for fleet.names number) lines);
-        are_blocks = (blocks number).are;
-        text = refl;
-      };
+      has_reports = has_reports;
+      few_lines = omega (arith, few, length-filter_map (line_for fleet.names number) lines);
+      are_blocks = (blocks number).are;
       say = (blocks number).say;
       none_lost = (blocks number).none_lost;
     };
@@ -368,11 +365,15 @@ module _ (fleet : FleetMatter) where
       writes = Puts-append before.output now.output output (answered_text fleet all.answers) begun.front all.writes begun.writes;
       ends = (
         (subst (λ (count : ℕ). Rose count output.faults) all.no_fault.output begun.rose, all.no_fault.input),
-        inr (all.at_end, begun.rest, record {
-          answers = all.answers;
-          are = all_answered;
-          text = append_assoc (answered_text fleet all.answers) begun.front begun.rest ∙ ap (λ (t : List ℕ). answered_text fleet all.answers ++ t) (begun.right ∙ counts_are);
-        }),
+        inr (
+          all.at_end,
+          begun.rest,
+          record {
+            answers = all.answers;
+            are = all_answered;
+            text = append_assoc (answered_text fleet all.answers) begun.front begun.rest ∙ ap (λ (t : List ℕ). answered_text fleet all.answers ++ t) (begun.right ∙ counts_are);
+          },
+        ),
       );
     }
     not_counted output_fault.NoMemory same = record {

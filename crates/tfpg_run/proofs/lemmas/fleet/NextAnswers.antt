@@ -21,7 +21,7 @@ use Rattle.tfpg_engine.specs.declared.told.Told.{Told}
 use Rattle.tfpg_engine.specs.declared.told.Told.TheVariants as told
 use Rattle.tfpg_fleet.specs.declared.fleet_told.FleetTold.{FleetTold}
 use Rattle.tfpg_fleet.specs.declared.fleet_told.FleetTold.TheVariants.{Stray, Of}
-use Rattle.tfpg_fleet.specs.Belonging.{belongs, lines_for, vehicle_line}
+use Rattle.tfpg_fleet.specs.Belonging.{addressee, belongs, lines_for, vehicle_line}
 use Rattle.tfpg_fleet.specs.FleetState.{FleetBrings, FleetRepresents, FleetState, IsToldTo, names_of, rounds_after, rounds_with}
 use Rattle.tfpg_fleet.proofs.FleetTells.{represents_stray}
 use Rattle.tfpg_fleet.proofs.LinesFor.{lines-other, lines-own, lines-stray}
@@ -30,7 +30,7 @@ use Rattle.tfpg_check.specs.Report.{IsBlock, progress_of, rounds_of}
 use Rattle.tfpg_run.specs.declared.fleet.watch.Watch.{Watch}
 use Rattle.tfpg_run.specs.diagnose.RightReport.{BlockSays}
 use Rattle.tfpg_run.specs.diagnose.TellsPanels.{losses_in}
-use Rattle.tfpg_run.specs.fleet.Answers.{Answer, OwnBlock, StrayLine, addressee, block_for, blocks_for, naming_text, stray_text, vehicle_of}
+use Rattle.tfpg_run.specs.fleet.Answers.{Answer, OwnBlock, StrayLine, block_for, blocks_for, naming_text, stray_text, vehicle_of}
 use Rattle.tfpg_run.specs.fleet.Counting.{is_in, ranks}
 use Rattle.tfpg_run.specs.fleet.FleetOutput.{FleetMatter, rounds_for}
 use Rattle.tfpg_run.specs.inside.fleet.UnderWay.{Answers, AreOwnBlocks, HasAnswered, IsKept, KeepsLast, told_text}

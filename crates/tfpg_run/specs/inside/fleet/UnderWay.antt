@@ -11,7 +11,7 @@ use Rattle.tfpg_evidence.specs.RoundOf.{IsRoundOf}
 use Rattle.tfpg_evidence.specs.declared.round.Round.{Round}
 use Rattle.tfpg_engine.specs.declared.told.Told.{Told}
 use Rattle.tfpg_engine.specs.declared.told.Told.TheVariants as told
-use Rattle.tfpg_fleet.specs.Belonging.{lines_for}
+use Rattle.tfpg_fleet.specs.Belonging.{addressee, lines_for}
 use Rattle.tfpg_fleet.specs.FleetState.{FleetRepresents, names_of}
 use Rattle.tfpg_report.specs.declared.refused_line.RefusedLine.TheVariants.{Offer}
 use Rattle.tfpg_report.specs.Blocks.{Block, refused_text, round_text}
@@ -26,7 +26,7 @@ use Rattle.tfpg_run.specs.declared.fleet.watch.Watch.{Watch}
 use Rattle.tfpg_run.specs.Streams.{Streams, CountsUnchanged}
 use Rattle.tfpg_run.specs.diagnose.RightReport.{RoundsSay}
 use Rattle.tfpg_run.specs.diagnose.TellsPanels.{losses_in}
-use Rattle.tfpg_run.specs.fleet.Answers.{Answer, addressee, answer_text, blocks_for, vehicle_of}
+use Rattle.tfpg_run.specs.fleet.Answers.{Answer, answer_text, blocks_for, vehicle_of}
 use Rattle.tfpg_run.specs.fleet.Counting.{is_in, last_ranks, modes_text, ranks, vehicles_that}
 use Rattle.tfpg_run.specs.fleet.FleetEnds.{FleetWords, fleet_words}
 use Rattle.tfpg_run.specs.fleet.FleetOutput.{FleetMatter, answered_text, fleet_matter, rounds_for}
