@@ -9,6 +9,8 @@
 #![tactic(auto)]
 
 ghost use Rattle.std.specs.Prelude.{◌≡◌, ◌<◌, map, IfOk};
+ghost use Rattle.tfpg_words.specs.Meaning.{panels_of_meaning};
+ghost use Rattle.tfpg_words.specs.Plans.{meaning_of};
 
 mod real;
 #[cfg(test)]
@@ -87,10 +89,19 @@ fn run_on_files<R: Files, S: Source, K: Sink>(
 }
 
 /// The panels that a command names.
-fn panels_in(command: &Command) -> &[PanelWord] {
+fn panels_in(command: &Command) -> &[PanelWord]
+    ensures { result.now ≡ panels_of_meaning (meaning_of command.now) }
+{
     match command {
         Command::Diagnose { panels, .. } => panels.as_slice(),
-        _ => &[],
+        Command::Explain { .. } => &[],
+        Command::Check { .. } => &[],
+        Command::Simulate { .. } => &[],
+        Command::Generate { .. } => &[],
+        Command::Convert { .. } => &[],
+        Command::Ask { .. } => &[],
+        Command::Fleet { .. } => &[],
+        Command::Predict { .. } => &[],
     }
 }
 

@@ -7,6 +7,7 @@ use tfpg_base::{
     MAX_WORDS, NEVER,
 };
 use tfpg_clause::MAX_CONSTRAINTS;
+use tfpg_fleet::{MAX_FLEET_HYPOTHESES, MAX_VEHICLES};
 use tfpg_graph::{MAX_EDGES, MAX_FAILURES, MAX_INCOMING, MAX_MODES, MAX_NODES, MAX_RARITY};
 use tfpg_hyp::{DOUBT_COST, MAX_HYPOTHESES};
 use tfpg_log::{MAX_EVENTS, MAX_MODE_CHANGES};
@@ -14,10 +15,13 @@ use tfpg_run::{GENERATED_BUDGET, GENERATED_K};
 use tfpg_sim::{
     DELAY_STREAM, FAILURE_COUNT, GENERATED_DELAYS, GRAPH_STREAM, MAX_ENTRIES, OPEN_DELAYS,
 };
-use tfpg_words::{DEFAULT_BUDGET, DEFAULT_DOUBT, DEFAULT_DRAW, DEFAULT_K, DEFAULT_SIZE, MAX_DRAW};
+use tfpg_words::{
+    DEFAULT_AHEAD, DEFAULT_BUDGET, DEFAULT_DOUBT, DEFAULT_DRAW, DEFAULT_K, DEFAULT_SIZE, MAX_DRAW,
+    MAX_NAMES,
+};
 
 /// A name, the constant, and the number that is promised.
-const LIMITS: [(&str, u64, u64); 41] = [
+const LIMITS: [(&str, u64, u64); 45] = [
     ("bytes of a file", LONGEST_FILE as u64, 16_777_216),
     ("bytes of a line", LONGEST_LINE as u64, 4_096),
     ("bytes of a name", LONGEST_NAME as u64, 32),
@@ -38,6 +42,9 @@ const LIMITS: [(&str, u64, u64); 41] = [
     ("changes of mode of a log", MAX_MODE_CHANGES as u64, 1_024),
     ("constraints of an alternative", MAX_CONSTRAINTS as u64, 3),
     ("hypotheses", MAX_HYPOTHESES as u64, 4_096),
+    ("hypotheses of a fleet", MAX_FLEET_HYPOTHESES as u64, 8_192),
+    ("vehicles of a fleet", MAX_VEHICLES as u64, 64),
+    ("names of vehicles", MAX_NAMES as u64, 64),
     ("entries of a script", MAX_ENTRIES as u64, 8_192),
     (
         "delays of an edge without a greatest one",
@@ -71,6 +78,7 @@ const LIMITS: [(&str, u64, u64); 41] = [
     ("k by default", DEFAULT_K, 2),
     ("doubt by default", DEFAULT_DOUBT, 0),
     ("budget by default", DEFAULT_BUDGET, 1_000),
+    ("milliseconds ahead by default", DEFAULT_AHEAD, 1_000),
     ("draw by default", DEFAULT_DRAW, 1),
     ("size by default", DEFAULT_SIZE, 10),
     ("k of a generated diagnosis", GENERATED_K as u64, 2),

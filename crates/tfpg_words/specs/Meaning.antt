@@ -24,6 +24,18 @@ pub data Meaning : Type 0 where
   Fleet : (terms : Terms) (graph : Word) (names : List Word) → Meaning
   Predict : (terms : Terms) (ahead : ℕ) (graph log node : Word) → Meaning
 
+-- the panels that a command names: a diagnosis those of its words, and no other command any
+abbrev pub panels_of_meaning : Meaning → List PanelWord
+panels_of_meaning (Diagnose terms graph panels) = panels
+panels_of_meaning (Explain graph log) = []
+panels_of_meaning (Check graph log) = []
+panels_of_meaning (Simulate draw trace graph script) = []
+panels_of_meaning (Generate draw size) = []
+panels_of_meaning (Convert json graph) = []
+panels_of_meaning (Ask terms graph log) = []
+panels_of_meaning (Fleet terms graph names) = []
+panels_of_meaning (Predict terms ahead graph log node) = []
+
 -- The first use of this name.
 abbrev pub use_of : Word → List Use → Option Use
 use_of name uses = find (λ used. bytes_eq used.name name) uses

@@ -1,12 +1,15 @@
 //! Files as panels.
 
-ghost use Rattle.std.specs.Prelude.{◌≡◌};
+ghost use Rattle.std.specs.Prelude.{◌≡◌, IfOk};
+ghost use Rattle.tfpg_evidence.specs.RoundOf.{IsRoundOf};
+ghost use Rattle.tfpg_graph.specs.Graph.{sizes_of};
+ghost use Rattle.tfpg_run.specs.PanelLines.{panel_line};
 
 use std::alloc::Global;
 use std::io::Write;
 use std::rt::Files;
 use std::{fs, io};
-use tfpg_base::FaultCount;
+use tfpg_base::{FaultCount, NoMemory};
 use tfpg_evidence::Round;
 use tfpg_graph::Graph;
 use tfpg_panel::{Panel, PanelFault};
@@ -38,6 +41,16 @@ impl<'a, R: Files> FilePanel<'a, R> {
         }
     }
 
+    /// The line of the round, of the kind that the words name.
+    fn line_of(&self, graph: &Graph, round: &Round) -> Result<Vec<u8>, NoMemory>
+        requires { IsRoundOf (sizes_of graph.now) round.now }
+        ensures { IfOk result (λ line. line.items ≡ panel_line self.now.word.now.kind graph.now round.entry.now) }
+    {
+        let mut line = Vec::new(self.alloc);
+        panel_line(self.word.kind, graph, round, &mut line)?;
+        Ok(line)
+    }
+
     /// Writes the line to the file, which it makes first where it has not yet.
     fn write(&mut self, line: &[u8]) -> io::Result<()>
         ensures { self.new.faults ≡ self.old.faults }
@@ -58,8 +71,7 @@ impl<'a, R: Files> Panel for FilePanel<'a, R> {
     ghost state = { λ panel. record { told = None; faults = panel.faults.count } };
 
     fn tell(&mut self, graph: &Graph, round: &Round) -> Result<(), PanelFault> {
-        let mut line = Vec::new(self.alloc);
-        panel_line(self.word.kind, graph, round, &mut line)?;
+        let line = self.line_of(graph, round)?;
         match self.write(&line) {
             Ok(()) => Ok(()),
             Err(_) => {

@@ -266,6 +266,11 @@ const PANEL_WORDS: [&str; 8] = [
     "json:json.file_panel",
 ];
 
+/// Whether one of the lines of the text is this one.
+fn has_line(text: &[u8], line: &[u8]) -> bool {
+    text.split(|byte| *byte == b'\n').any(|found| found == line)
+}
+
 #[test]
 fn panels_write_a_line_for_each_round(rt: HostRuntime) -> Result<(), Fail> {
     fs::write(&rt, "graph.file_panel", TWO_CAUSES)?;
@@ -276,6 +281,7 @@ fn panels_write_a_line_for_each_round(rt: HostRuntime) -> Result<(), Fail> {
     let mut output = StandardOutput::new(room.as_mut_slice());
     let end = run_on_files(&rt, rt.alloc(), &words, &mut input, &mut output);
     assert_eq!(rt; end, End::Done);
+    assert!(rt; has_line(&room, b"panel 3 lost"));
     for (name, text) in &PANEL_FILES {
         let written = fs::read(&rt, *name)?;
         assert_eq!(rt; written.as_slice(), text.as_bytes(), "{name}");
