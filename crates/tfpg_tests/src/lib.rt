@@ -1,5 +1,5 @@
-//! Tests of what no command shows: public calls of the crates of evidence and of the simulator. There is a file for each
-//! crate.
+//! Tests of what no command shows: public calls of the crates of evidence, of the simulator, of panels and of fleets. There is a
+//! file for each crate.
 //!
 //! A crate with tests is proved again together with them. So tests stand apart, and the crates that they call are proved
 //! once. Those of the crates of the model stand in `tfpg_model_tests`: the two are proved side by side.
@@ -12,11 +12,15 @@ mod clause;
 #[cfg(test)]
 mod evidence;
 #[cfg(test)]
+mod fleet;
+#[cfg(test)]
 mod given;
 #[cfg(test)]
 mod hyp;
 #[cfg(test)]
 mod kernel;
+#[cfg(test)]
+mod panel;
 #[cfg(test)]
 mod search;
 #[cfg(test)]
