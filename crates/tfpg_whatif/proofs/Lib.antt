@@ -5,4 +5,5 @@ mod LastEvents
 mod Rounds
 mod Asked
 mod Questioned
+mod OnceAsked
 mod Inserted
