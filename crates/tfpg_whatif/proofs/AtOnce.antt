@@ -33,13 +33,13 @@ use Rattle.tfpg_evidence.specs.declared.step.Step.{Step}
 use Rattle.tfpg_evidence.specs.declared.step.Step.TheVariants.{Cycle}
 use Rattle.tfpg_clause.specs.Case.{Case, case_of, case_at}
 use Rattle.tfpg_clause.specs.Facts.{fact, upto_alarm}
-use Rattle.tfpg_clause.specs.Trees.{Leaf, IsClosedLeaf, IsRefutation, IsRight, StepPlace, leaf_place, stated}
+use Rattle.tfpg_clause.specs.Trees.{Leaf, IsClosedLeaf, IsRefutation, IsRight, StepPlace, leaf_place, split_count, stated}
 use Rattle.tfpg_clause.proofs.trees.LeafSteps.{leaf_begins, leaf_ends}
 use Rattle.tfpg_whatif.specs.declared.asking.Asking.{Asking}
 use Rattle.tfpg_whatif.specs.declared.asking.LastEvent.{LastEvent}
 use Rattle.tfpg_whatif.specs.declared.outcome.Outcome.{Outcome}
 use Rattle.tfpg_whatif.specs.declared.outcome.Outcome.TheVariants.{Fits, Out}
-use Rattle.tfpg_whatif.specs.Outcomes.{all_judged}
+use Rattle.tfpg_whatif.specs.Outcomes.{HasEvidence, all_judged}
 use Rattle.tfpg_whatif.specs.inside.Asking.{IsLastEvent, IsShown}
 use Rattle.tfpg_whatif.specs.inside.AtOnce.{ExplainsBefore, IsKept, IsLatestUnreached, ShowsAnswer, unreached_steps}
 use Rattle.tfpg_whatif.proofs.SameRules.{same_rules}
@@ -104,13 +104,20 @@ module _ (graph : Tfpg) (log earlier : Logbook) (reach : List ℕ) (event : Even
   refutation : IsRefutation case (all_judged case (unreached_steps node latest count))
   refutation = leaf_ends case [] [] (Cycle (Unreached node latest ∷ Upto count ∷ [])) (leaf_begins case) (closed, refl)
 
-  -- These steps refute.
-  pub refutes : (steps : List Step) → steps ≡ unreached_steps node latest count → IsRefutation (case_of graph log reach) (all_judged (case_of graph log reach) steps)
-  refutes steps are = subst (λ (all : List Step). IsRefutation case (all_judged case all)) (sym are) refutation
+  no_splits : split_count (unreached_steps node latest count) ≡ 0
+  no_splits = refl
 
--- A refutation is an outcome.
-pub refuted : (case : Case) (set : List ℕ) (budget : ℕ) (steps : List Step) → IsRefutation case (all_judged case steps) → IsShown case set budget (Out steps)
-refuted case set budget steps refutation = record { evidence = refutation; known = λ enough. refl }
+  -- These steps refute, with no split.
+  pub refutes : (set : List ℕ) (budget : ℕ) (steps : List Step) → steps ≡ unreached_steps node latest count → HasEvidence (case_of graph log reach) set budget (Out steps)
+  refutes set budget steps are = subst (λ (all : List Step). HasEvidence case set budget (Out all)) (sym are) (refutation, omega (arith, no_splits))
+
+-- A refutation with so few splits is an outcome.
+pub refuted : (case : Case) (set : List ℕ) (budget : ℕ) (found : Option (List Step)) (steps : List Step) → found ≡ Some steps
+    → IfSome found (λ (s : List Step). HasEvidence case set budget (Out s)) → IsShown case set budget (Out steps)
+refuted case set budget found steps is refutes = record {
+  evidence = subst (λ (f : Option (List Step)). IfSome f (λ (s : List Step). HasEvidence case set budget (Out s))) is refutes;
+  known = λ enough. refl;
+}
 
 -- ---- a trace that shows the event
 

@@ -75,7 +75,7 @@ module _ (leaves_none : LeavesNoTrace) (which_fit : RoundsSayWhichFit) (one_tabl
       → FitsNoLaterLog asked.graph asked.log hypothesis
   out_forever hypothesis steps is outcome later of ordered goes_on fits =
       leaves_none asked.graph (log_for asked.log hypothesis) (log_for later hypothesis) hypothesis.set outcome.reach _ well.valid (record { own = of.own; ignored = is.doubts_of_graph.monitored })
-      (ordered_for later hypothesis.doubts ordered) outcome.reach_is (record { more = goes_on.more; events = goes_on.events; ignored = refl }) outcome.evidence fits
+      (ordered_for later hypothesis.doubts ordered) outcome.reach_is (record { more = goes_on.more; events = goes_on.events; ignored = refl }) outcome.evidence.0 fits
 
   -- one that is out does not fit the log itself
   out_now : (hypothesis : Hypothesis) (steps : List Step) → IsHypothesis asked.graph asked.terms hypothesis → IsOutcome asked.graph asked.log hypothesis asked.budget (Out steps)

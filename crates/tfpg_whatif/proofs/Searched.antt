@@ -1,11 +1,12 @@
 -- What a new search shows.
-use Rattle.std.proofs.Common.{◌≡◌, ℕ, List, [], ◌++◌, false, refl, sym, ap, subst, ◌∙◌}
+use Rattle.std.proofs.Common.{◌≡◌, ℕ, ◌≤◌, List, [], ◌++◌, false, refl, sym, ap, subst, ◌∙◌}
 use Rattle.std.specs.Prelude.{Ok, Result}
 use Rattle.tfpg_base.specs.declared.no_memory.NoMemory.{NoMemory}
 use Rattle.tfpg_graph.specs.Graph.{Tfpg}
 use Rattle.tfpg_log.specs.Log.{Logbook, first_events}
 use Rattle.tfpg_evidence.specs.declared.step.Step.{Step}
 use Rattle.tfpg_clause.specs.Case.{Case, case_of}
+use Rattle.tfpg_clause.specs.Trees.{split_count}
 use Rattle.tfpg_search.specs.declared.found.Found.{Found}
 use Rattle.tfpg_search.specs.declared.found.Found.TheVariants.{Shown, Closed, Spent}
 use Rattle.tfpg_search.specs.Enough.{IsEnough}
@@ -18,10 +19,10 @@ use Rattle.tfpg_whatif.specs.inside.Asking.{IsShown, outcome_by}
 
 -- what was found is shown by its evidence
 evidence_by : (case : Case) (budget : ℕ) (steps : List Step) (search : SearchState) (found : Found) → AreSearchSteps case [] steps
-    → Finds case budget steps (with_steps [] case.log steps) search found → HasEvidence case search.set budget (outcome_by found steps)
-evidence_by case budget steps search (Shown trace) right finds = finds.0
-evidence_by case budget steps search Closed right finds = finds
-evidence_by case budget steps search Spent right finds = record { right = right; spent = finds.0; unsettled = finds.1 }
+    → split_count steps ≤ budget → Finds case budget steps (with_steps [] case.log steps) search found → HasEvidence case search.set budget (outcome_by found steps)
+evidence_by case budget steps search (Shown trace) right within finds = finds.0
+evidence_by case budget steps search Closed right within finds = (finds, within)
+evidence_by case budget steps search Spent right within finds = record { right = right; spent = finds.0; unsettled = finds.1 }
 
 -- what was found and is not that the budget was spent, is not unknown
 known_by : (found : Found) (steps : List Step) → (found ≡ Spent → ⊥) → is_unknown (outcome_by found steps) ≡ false
@@ -44,7 +45,7 @@ module _ (graph : Tfpg) (log : Logbook) (search : SearchState) (unseen : search.
 
     evidence_added : HasEvidence (case_of graph log after.reach) after.set budget (outcome_by found searched.added)
     evidence_added = evidence_by (case_of graph log after.reach) budget searched.added after found
-        (subst (λ (nodes : List ℕ). AreSearchSteps (case_of graph log nodes) [] searched.added) (sym same_reach) (searched.right [] represents_none)) (searched.found [] represents_none)
+        (subst (λ (nodes : List ℕ). AreSearchSteps (case_of graph log nodes) [] searched.added) (sym same_reach) (searched.right [] represents_none)) searched.within (searched.found [] represents_none)
 
     evidence : HasEvidence (case_of graph log reach) set budget (outcome_by found steps)
     evidence = subst (λ (all : List Step). HasEvidence (case_of graph log reach) set budget (outcome_by found all)) all_added

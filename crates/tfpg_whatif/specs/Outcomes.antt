@@ -1,5 +1,5 @@
 -- What a further line would show of hypotheses.
-use Rattle.std.specs.Prelude.{◌≡◌, ℕ, List, [], length, Bool, true, false, Some, slice_get}
+use Rattle.std.specs.Prelude.{◌≡◌, ℕ, ◌≤◌, List, [], length, Bool, true, false, Some, slice_get}
 use Rattle.std.specs.List.{list_any}
 use Rattle.tfpg_base.specs.declared.terms.Terms.{Terms}
 use Rattle.tfpg_base.specs.Hypothesis.{Hypothesis}
@@ -42,11 +42,11 @@ pub record AreSpent (case : Case) (budget : ℕ) (steps : List Step) : Type 0 wh
   pub spent : split_count steps ≡ budget
   pub unsettled : IsUnsettled case (all_judged case steps)
 
--- What an outcome shows of a set of failure modes: a trace that explains the log from the set; steps that are a refutation; or
--- that the budget was spent.
+-- What an outcome shows of a set of failure modes: a trace that explains the log from the set; steps that are a refutation with no
+-- more splits than the budget; or that the budget was spent.
 abbrev pub HasEvidence : Case → List ℕ → ℕ → Outcome → Type 0
 HasEvidence case set budget (Fits trace) = Explains case.graph case.log set trace
-HasEvidence case set budget (Out steps) = IsRefutation case (all_judged case steps)
+HasEvidence case set budget (Out steps) = IsRefutation case (all_judged case steps) × (split_count steps ≤ budget)
 HasEvidence case set budget (Unknown steps) = AreSpent case budget steps
 
 -- An outcome of a hypothesis at a log. It is shown by the log as the hypothesis sees it.

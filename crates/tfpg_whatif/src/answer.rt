@@ -20,8 +20,9 @@ use tfpg_base::{NumberList, Steps};
 use tfpg_engine::Engine;
 use tfpg_log::Offered;
 
-/// What the line would show of the hypotheses of these numbers: one outcome for each, in order, with at most `budget` splits
-/// each. The engine does not change. It costs a copy of the log, and a new search of each hypothesis on it.
+/// What the line would show of the hypotheses of these numbers: one outcome for each, in order. The steps of one that is out or
+/// unknown have at most `budget` splits. The engine does not change. It costs a copy of the log, and a new search of each
+/// hypothesis on it.
 ///
 /// - `outcomes`: each outcome is shown by its evidence at the lengthened log.
 /// - `keeps`, `foresee`: what the outcomes say of that log, of later logs and of the rounds to come.

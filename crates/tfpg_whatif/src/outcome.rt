@@ -11,9 +11,9 @@ use tfpg_evidence::StepList;
 pub enum Outcome {
     /// It keeps: this trace explains the lengthened log.
     Fits(Trace),
-    /// It falls: these steps are a refutation at the lengthened log.
+    /// It is shown to fall: these steps are a refutation at the lengthened log. They have no more splits than the budget.
     Out(StepList),
-    /// The budget was spent on the splits among these steps, and the tree is unsettled.
+    /// The budget was spent on these steps: they have as many splits as the budget, and the tree is unsettled.
     Unknown(StepList),
 }
 
