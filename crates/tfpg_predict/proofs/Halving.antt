@@ -7,13 +7,15 @@ use Rattle.tfpg_base.proofs.lists.Sequences.{middle-between}
 use Rattle.tfpg_evidence.specs.declared.step.Step.{Step}
 use Rattle.tfpg_predict.specs.LeastTime.{Question, IsOutcome}
 use Rattle.tfpg_predict.specs.Outlooks.{IsEarliest, IsNever, IsRefutedAt}
+use Rattle.tfpg_predict.specs.inside.Quests.{asked_by}
 use Rattle.tfpg_predict.specs.inside.Tried.{FitsBy, IsOutBy, IsHalved}
+use Rattle.tfpg_predict.specs.declared.quest.Quest.{Quest}
 use Rattle.tfpg_predict.proofs.AsProbed.{by_its_end}
 
-module _ (asked : Question) (set : List ℕ) where
+module _ (quest : Quest) where
   -- at the beginning nothing is excluded
-  pub halved_none : (high : ℕ) (trace : List Activation) (earlier : List Step) → FitsBy asked set asked.to trace → time_of trace asked.node ≡ Some high → high ≤ asked.to
-      → earlier ≡ [] → IsHalved asked set 0 high trace earlier
+  pub halved_none : (high : ℕ) (trace : List Activation) (earlier : List Step) → FitsBy (asked_by quest) quest.set quest.to trace → time_of trace quest.node ≡ Some high → high ≤ quest.to
+      → earlier ≡ [] → IsHalved quest 0 high trace earlier
   halved_none high trace earlier fits at within none = record {
     in_order = omega arith;
     within = within;
@@ -23,14 +25,14 @@ module _ (asked : Question) (set : List ℕ) where
     at_zero = λ zero. none;
   }
 
-  module _ (low high bound : ℕ) (trace : List Activation) (earlier : List Step) (halved : IsHalved asked set low high trace earlier) (open_yet : low < high)
+  module _ (low high bound : ℕ) (trace : List Activation) (earlier : List Step) (halved : IsHalved quest low high trace earlier) (open_yet : low < high)
       (middle : bound ≡ low + (high - low) / 2) where
     pub bound_within : (low ≤ bound) × (bound < high)
     bound_within = let between = middle-between low high open_yet in (omega (arith, middle, between.0), omega (arith, middle, between.1))
 
     -- a trace leaves the lower half
-    pub halved_lower : (other : List Activation) (time : ℕ) → FitsBy asked set bound other → time_of other asked.node ≡ Some time → time ≤ bound → low ≤ time
-        → IsHalved asked set low time other earlier
+    pub halved_lower : (other : List Activation) (time : ℕ) → FitsBy (asked_by quest) quest.set bound other → time_of other quest.node ≡ Some time → time ≤ bound → low ≤ time
+        → IsHalved quest low time other earlier
     halved_lower other time fits at early from = record {
       in_order = from;
       within = let within = halved.within in let between = bound_within.1 in omega (arith, early, within, between);
@@ -41,25 +43,26 @@ module _ (asked : Question) (set : List ℕ) where
     }
 
     -- no trace has a time below the range
-    pub not_below : (other : List Activation) (time : ℕ) → IsOutcome asked set other → time_of other asked.node ≡ Some time → low ≤ time
+    pub not_below : (other : List Activation) (time : ℕ) → IsOutcome (asked_by quest) quest.set other → time_of other quest.node ≡ Some time → low ≤ time
     not_below other time outcome at = ⊎_elim
         (λ less. absurd ((halved.none_before (omega (arith, less))).none other time outcome at (omega (arith, less))))
         (λ from. from)
         (cases_lt time low)
 
     -- a refutation leaves the upper half
-    pub halved_upper : (steps : List Step) → IsOutBy asked set bound steps → IsHalved asked set (bound + 1) high trace steps
+    pub halved_upper : (steps : List Step) → IsOutBy (asked_by quest) quest.set bound quest.budget steps → IsHalved quest (bound + 1) high trace steps
     halved_upper steps none = record {
       in_order = let between = bound_within.1 in omega (arith, between);
       within = halved.within;
       outcome = halved.outcome;
       attained = halved.attained;
-      none_before = λ some. let same : bound ≡ bound + 1 - 1 = omega arith in subst (λ (n : ℕ). IsOutBy asked set n steps) same none;
+      none_before = λ some. let same : bound ≡ bound + 1 - 1 = omega arith in subst (λ (n : ℕ). IsOutBy (asked_by quest) quest.set n quest.budget steps) same none;
       at_zero = λ zero. absurd (omega (arith, zero));
     }
 
   -- At the end the time is the least.
-  pub halved_all : (low high : ℕ) (trace : List Activation) (earlier : List Step) → IsHalved asked set low high trace earlier → high ≤ low → IsEarliest asked set high trace earlier
+  pub halved_all : (low high : ℕ) (trace : List Activation) (earlier : List Step) → IsHalved quest low high trace earlier → high ≤ low
+      → IsEarliest (asked_by quest) quest.set quest.budget high trace earlier
   halved_all low high trace earlier halved done =
       let same : low ≡ high = (let upto = halved.in_order in omega (arith, upto, done)) in
       record {
@@ -71,13 +74,13 @@ module _ (asked : Question) (set : List ℕ) where
               (λ from. from)
               (cases_lt at high);
         };
-        refuted = λ some. subst (λ (n : ℕ). IsRefutedAt asked set n earlier) (omega (arith, same)) (halved.none_before (omega (arith, some, same))).refuted;
+        refuted = λ some. subst (λ (n : ℕ). IsRefutedAt (asked_by quest) quest.set n quest.budget earlier) (omega (arith, same)) (halved.none_before (omega (arith, some, same))).refuted;
         at_zero = λ zero. halved.at_zero (omega (arith, zero, same));
       }
 
-  -- Where no trace has a time by the end, none has any.
-  pub never_by_its_end : (steps : List Step) → IsOutBy asked set asked.to steps → IsNever asked set steps
-  never_by_its_end steps none = record {
-    none = λ trace time outcome at. none.none trace time outcome at (by_its_end asked set trace asked.node time outcome at);
-    refuted = none.refuted;
-  }
+-- Where no trace has a time by the end, none has any.
+pub never_by_its_end : (asked : Question) (set : List ℕ) (budget : ℕ) (steps : List Step) → IsOutBy asked set asked.to budget steps → IsNever asked set budget steps
+never_by_its_end asked set budget steps none = record {
+  none = λ trace time outcome at. none.none trace time outcome at (by_its_end asked set trace asked.node time outcome at);
+  refuted = none.refuted;
+}

@@ -19,11 +19,12 @@ pub record IsProbeCase (asked : Question) (set : List ℕ) (bound : ℕ) (case :
   pub probed : IsProbed asked bound case.graph case.log
   pub reach : IsReach case.graph set case.reach
 
--- The steps are a refutation for the probe with this bound.
-pub record IsRefutedAt (asked : Question) (set : List ℕ) (bound : ℕ) (steps : List Step) : Type 0 where
+-- The steps are a refutation for the probe with this bound, with no more splits than the budget.
+pub record IsRefutedAt (asked : Question) (set : List ℕ) (bound budget : ℕ) (steps : List Step) : Type 0 where
   pub case : Case
   pub probe : IsProbeCase asked set bound case
   pub refutation : IsRefutation case (with_steps [] case.log steps)
+  pub within : split_count steps ≤ budget
 
 -- The steps are those of a search for the probe with this bound, which spent its budget: they have as many live splits as the
 -- budget says, and their tree is unsettled. The budget is not one that is always enough.
@@ -37,15 +38,15 @@ pub record IsSpentAt (asked : Question) (set : List ℕ) (bound budget : ℕ) (s
 
 -- The time is the least one, attained by the trace. The steps are a refutation for the probe with the bound before it; at time 0
 -- there are none.
-pub record IsEarliest (asked : Question) (set : List ℕ) (time : ℕ) (trace : List Activation) (earlier : List Step) : Type 0 where
+pub record IsEarliest (asked : Question) (set : List ℕ) (budget time : ℕ) (trace : List Activation) (earlier : List Step) : Type 0 where
   pub least : IsLeastTime asked set time trace
-  pub refuted : 0 < time → IsRefutedAt asked set (time - 1) earlier
+  pub refuted : 0 < time → IsRefutedAt asked set (time - 1) budget earlier
   pub at_zero : time ≡ 0 → earlier ≡ []
 
 -- No trace activates the node, and the steps are a refutation for the probe with the time of the question as its bound.
-pub record IsNever (asked : Question) (set : List ℕ) (steps : List Step) : Type 0 where
+pub record IsNever (asked : Question) (set : List ℕ) (budget : ℕ) (steps : List Step) : Type 0 where
   pub none : HasNoTime asked set
-  pub refuted : IsRefutedAt asked set asked.to steps
+  pub refuted : IsRefutedAt asked set asked.to budget steps
 
 -- The search for the probe with this bound, which is not after the time of the question, spent its budget.
 pub record IsUnsettledAt (asked : Question) (set : List ℕ) (budget bound : ℕ) (steps : List Step) : Type 0 where
@@ -54,6 +55,6 @@ pub record IsUnsettledAt (asked : Question) (set : List ℕ) (budget bound : ℕ
 
 -- The outlook answers the question for a set, where each search has this budget.
 abbrev pub IsOutlook : Question → List ℕ → ℕ → Outlook → Type 0
-IsOutlook asked set budget (Earliest time trace earlier) = IsEarliest asked set time trace earlier
-IsOutlook asked set budget (Never steps) = IsNever asked set steps
+IsOutlook asked set budget (Earliest time trace earlier) = IsEarliest asked set budget time trace earlier
+IsOutlook asked set budget (Never steps) = IsNever asked set budget steps
 IsOutlook asked set budget (Unsettled bound steps) = IsUnsettledAt asked set budget bound steps

@@ -22,7 +22,7 @@ use tfpg_graph::Graph;
 use tfpg_log::Log;
 
 /// When at the earliest the node becomes active, by the traces that explain the log, continued to a time, from the set, where the
-/// doubted monitors are ignored. The time is in milliseconds, and `budget` says how many splits each search may make.
+/// doubted monitors are ignored. The time is in milliseconds. No refutation has more than `budget` splits.
 ///
 /// It halves the range up to that time, with one search for each bound. After a trace the range ends at the time that the trace
 /// gives the node, so few searches are needed: at most 41.
@@ -73,7 +73,7 @@ fn halve<L: Ledger>(
     work: &mut Steps<L>,
 ) -> Result<Outlook, NoMemory>
     requires quest { IsQuest quest.now }
-    requires halved { IsHalved (asked_by quest.now) quest.now.set low high trace earlier }
+    requires halved { IsHalved quest.now low high trace earlier }
     ensures { IfOk result (IsOutlook (asked_by quest.now) quest.now.set quest.now.budget) }
 {
     if low >= high {

@@ -3,7 +3,8 @@
 use tfpg_base::Trace;
 use tfpg_evidence::StepList;
 
-/// When at the earliest a node becomes active, with its evidence. Times are in milliseconds.
+/// When at the earliest a node becomes active, with its evidence. Times are in milliseconds. No refutation has more splits than the
+/// budget of each search.
 #[derive(Drop)]
 pub enum Outlook {
     /// At this time, which the trace attains. The steps are a refutation for the probe with the bound before it. At time 0

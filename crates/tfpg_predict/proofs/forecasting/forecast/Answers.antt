@@ -8,7 +8,7 @@ use Rattle.tfpg_predict.proofs.forecasting.forecast.Goals as goal
 
 pub returns-in-Out : goal.returns-in-Out
 returns-in-Out g c =
-    never_by_its_end (question_of c.args.graph.now (ignoring c.args.log.now c.args.doubts) c.args.node c.args.to) c.args.set c.in-Out.steps
+    never_by_its_end (question_of c.args.graph.now (ignoring c.args.log.now c.args.doubts) c.args.node c.args.to) c.args.set c.args.budget c.in-Out.steps
     (subst (λ (tried : Tried). IsTried (question_of c.args.graph.now (ignoring c.args.log.now c.args.doubts) c.args.node c.args.to) c.args.set c.args.budget c.args.to tried) c.in-Out.is
     c.in_ok-trace.ensures)
 
@@ -21,7 +21,7 @@ returns-in-Spent g c = record {
 
 pub halve-requires-clause-halved : goal.halve-requires-clause-halved
 halve-requires-clause-halved g c =
-    halved_none (question_of c.args.graph.now (ignoring c.args.log.now c.args.doubts) c.args.node c.args.to) c.args.set c.time_in-high.result c.in-Fits.trace c.new.result
+    halved_none _ c.time_in-high.result c.in-Fits.trace c.new.result
     (subst (λ (tried : Tried). IsTried (question_of c.args.graph.now (ignoring c.args.log.now c.args.doubts) c.args.node c.args.to) c.args.set c.args.budget c.args.to tried) c.in-Fits.is
     c.in_ok-trace.ensures)
     c.time_in-high.ensures.at c.time_in-high.ensures.by_bound c.new.ensures

@@ -58,8 +58,8 @@ module _ (asked : Question) (set : List ℕ) (valid : IsValid asked.graph) (able
     case_log : (case : Case) → IsProbeCase asked set bound case → IsLogOf case.graph case.log
     case_log case probe = of_probed asked bound valid able ordered upto case.graph case.log probe.probed
 
-    named_when_refuted : (steps : List Step) → IsRefutedAt asked set bound steps → All (IsStepOf Probed) steps
-    named_when_refuted steps is =
+    named_when_refuted : (budget : ℕ) (steps : List Step) → IsRefutedAt asked set bound budget steps → All (IsStepOf Probed) steps
+    named_when_refuted budget steps is =
         let of = case_log is.case is.probe in
         subst (λ (sizes : Sizes). All (IsStepOf sizes) steps) (case_sizes is.case is.probe)
         (searched_named is.case steps (refutation_named is.case of (with_steps [] is.case.log steps) is.refutation))
@@ -75,11 +75,11 @@ module _ (asked : Question) (set : List ℕ) (valid : IsValid asked.graph) (able
       let by_end : time ≤ asked.to = by_its_end asked set trace asked.node time is.least.outcome is.least.attained in (
         is.least.outcome.trace_of.1,
         ⊎_elim
-            (λ later. named_when_refuted (time - 1) (omega (arith, by_end)) earlier (is.refuted later))
+            (λ later. named_when_refuted (time - 1) (omega (arith, by_end)) budget earlier (is.refuted later))
             (λ zero. subst (All (IsStepOf Probed)) (sym (is.at_zero (omega (arith, zero)))) (All-nil (IsStepOf Probed)))
             (cases_lt 0 time),
       )
-  outlook_named budget (Never steps) is = named_when_refuted asked.to (omega arith) steps is.refuted
+  outlook_named budget (Never steps) is = named_when_refuted asked.to (omega arith) budget steps is.refuted
   outlook_named budget (Unsettled bound steps) is = named_when_spent bound is.within budget steps is.spent
 
 -- so does one that answers what the code asks of a finding
