@@ -57,6 +57,7 @@ module _ (asked : Question) (bound : ℕ) (valid : IsValid asked.graph) (able : 
       live = live;
       spent = finds.0;
       unsettled = finds.1;
+      none_reusable = finds.3;
       not_enough = λ is_enough. enough is_enough refl;
     }
 

@@ -6,7 +6,7 @@ use Rattle.tfpg_evidence.specs.declared.step.Step.{Step}
 use Rattle.tfpg_clause.specs.Case.{Case}
 use Rattle.tfpg_clause.specs.Trees.{IsRefutation, split_count}
 use Rattle.tfpg_clause.specs.Paths.{with_steps}
-use Rattle.tfpg_search.specs.Live.{IsUnsettled}
+use Rattle.tfpg_search.specs.Live.{AllowsReuse, IsUnsettled}
 use Rattle.tfpg_search.specs.Searched.{AreSearchSteps}
 use Rattle.tfpg_search.specs.Enough.{IsEnough}
 use Rattle.tfpg_predict.specs.LeastTime.{Question, IsLeastTime, HasNoTime}
@@ -27,13 +27,14 @@ pub record IsRefutedAt (asked : Question) (set : List ℕ) (bound budget : ℕ) 
   pub within : split_count steps ≤ budget
 
 -- The steps are those of a search for the probe with this bound, which spent its budget: they have as many live splits as the
--- budget says, and their tree is unsettled. The budget is not one that is always enough.
+-- budget says, their tree is unsettled, and no subtree is reusable after them. The budget is not one that is always enough.
 pub record IsSpentAt (asked : Question) (set : List ℕ) (bound budget : ℕ) (steps : List Step) : Type 0 where
   pub case : Case
   pub probe : IsProbeCase asked set bound case
   pub live : AreSearchSteps case [] steps
   pub spent : split_count steps ≡ budget
   pub unsettled : IsUnsettled case (with_steps [] case.log steps)
+  pub none_reusable : AllowsReuse case (with_steps [] case.log steps) → ⊥
   pub not_enough : IsEnough case.graph case.log budget → ⊥
 
 -- The time is the least one, attained by the trace. The steps are a refutation for the probe with the bound before it; at time 0

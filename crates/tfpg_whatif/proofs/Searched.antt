@@ -22,7 +22,7 @@ evidence_by : (case : Case) (budget : ℕ) (steps : List Step) (search : SearchS
     → split_count steps ≤ budget → Finds case budget steps (with_steps [] case.log steps) search found → HasEvidence case search.set budget (outcome_by found steps)
 evidence_by case budget steps search (Shown trace) right within finds = finds.0
 evidence_by case budget steps search Closed right within finds = (finds, within)
-evidence_by case budget steps search Spent right within finds = record { right = right; spent = finds.0; unsettled = finds.1 }
+evidence_by case budget steps search Spent right within finds = record { right = right; spent = finds.0; unsettled = finds.1; none_reusable = finds.3 }
 
 -- what was found and is not that the budget was spent, is not unknown
 known_by : (found : Found) (steps : List Step) → (found ≡ Spent → ⊥) → is_unknown (outcome_by found steps) ≡ false

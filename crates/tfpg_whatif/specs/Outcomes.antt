@@ -14,7 +14,7 @@ use Rattle.tfpg_clause.specs.Case.{Case}
 use Rattle.tfpg_clause.specs.Trees.{Judged, IsRefutation, split_count}
 use Rattle.tfpg_clause.specs.Paths.{with_steps}
 use Rattle.tfpg_hyp.specs.Views.{IsReachOf, case_for, HypothesisFits}
-use Rattle.tfpg_search.specs.Live.{IsUnsettled}
+use Rattle.tfpg_search.specs.Live.{AllowsReuse, IsUnsettled}
 use Rattle.tfpg_search.specs.Searched.{AreSearchSteps}
 use Rattle.tfpg_engine.specs.EngineState.{EngineState}
 use Rattle.tfpg_whatif.specs.declared.outcome.Outcome.{Outcome}
@@ -36,11 +36,13 @@ pub record Keeps (graph : Tfpg) (log : Logbook) (line : List ℕ) (hypothesis : 
 abbrev pub all_judged : Case → List Step → List Judged
 all_judged case steps = with_steps [] case.log steps
 
--- The budget was spent on these steps: each split is live, there are as many as the budget, and the tree is unsettled.
+-- The budget was spent on these steps: each split is live, there are as many as the budget, the tree is unsettled, and no subtree is
+-- reusable after them.
 pub record AreSpent (case : Case) (budget : ℕ) (steps : List Step) : Type 0 where
   pub right : AreSearchSteps case [] steps
   pub spent : split_count steps ≡ budget
   pub unsettled : IsUnsettled case (all_judged case steps)
+  pub none_reusable : AllowsReuse case (all_judged case steps) → ⊥
 
 -- What an outcome shows of a set of failure modes: a trace that explains the log from the set; steps that are a refutation with no
 -- more splits than the budget; or that the budget was spent.

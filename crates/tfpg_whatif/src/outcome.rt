@@ -13,7 +13,8 @@ pub enum Outcome {
     Fits(Trace),
     /// It is shown to fall: these steps are a refutation at the lengthened log. They have no more splits than the budget.
     Out(StepList),
-    /// The budget was spent on these steps: they have as many splits as the budget, and the tree is unsettled.
+    /// The budget was spent on these steps: they have as many splits as the budget, the tree is unsettled, and no subtree is
+    /// reusable.
     Unknown(StepList),
 }
 
