@@ -17,7 +17,7 @@ use Rattle.tfpg_log.specs.Explains.{Explains, Fits}
 use Rattle.tfpg_log.proofs.events.Events.{now-with_event}
 use Rattle.tfpg_log.proofs.events.SilentNodes.{event_own, silent_monitored}
 use Rattle.tfpg_predict.specs.Kept.{kept_events}
-use Rattle.tfpg_predict.specs.LeastTime.{Question, continued, question_of, IsOutcome}
+use Rattle.tfpg_predict.specs.LeastTime.{Lookahead, continued, lookahead_of, ExplainsContinued}
 use Rattle.tfpg_predict.specs.Probed.{probe_word, probe_lag, probed_log, without_probe, IsProbed, IsProbeable, ExplainsAsProbed}
 use Rattle.tfpg_predict.specs.inside.Tried.{FitsBy, IsNotBy}
 use Rattle.tfpg_predict.proofs.explained.ProbeParts.{monitored_before, monitored_probe, failures_same}
@@ -26,7 +26,7 @@ use Rattle.tfpg_predict.proofs.explained.KeptFacts.{IsSaidBy}
 use Rattle.tfpg_predict.proofs.explained.Equivalence.{from_probed, to_probed}
 use Rattle.tfpg_predict.proofs.keeping.KeptEventsKeep.{keeps}
 
-module _ (asked : Question) (bound : ℕ) (valid : IsValid asked.graph) (able : IsProbeable asked) (ordered : IsOrdered asked.log) (upto : bound ≤ asked.to) where
+module _ (asked : Lookahead) (bound : ℕ) (valid : IsValid asked.graph) (able : IsProbeable asked) (ordered : IsOrdered asked.log) (upto : bound ≤ asked.to) where
   abbrev probe : ℕ
   probe = length asked.graph.nodes
 
@@ -92,44 +92,44 @@ module _ (asked : Question) (bound : ℕ) (valid : IsValid asked.graph) (able : 
       -- a trace that explains it
       pub fits : (trace : List Activation) → Explains graph log set trace → FitsBy asked set bound (without_probe probe trace)
       fits trace explains =
-          let outcome = (as_probed set trace explains.trace_of).0 explains in
+          let explained = (as_probed set trace explains.trace_of).0 explains in
           record {
-            outcome = outcome.outcome;
-            by_bound = (outcome.time, time_without probe trace asked.node other_node ∙ outcome.active, outcome.by_bound);
+            explains = explained.explains;
+            by_bound = (explained.time, time_without probe trace asked.node other_node ∙ explained.active, explained.by_bound);
           }
 
       -- or none does
       pub not_by : (Fits graph log set → ⊥) → IsNotBy asked set bound
-      not_by none trace time outcome at early =
-          let below : All (λ (a : Activation). a.node < probe) trace = outcome.trace_of.1 in
+      not_by none trace time explained at early =
+          let below : All (λ (a : Activation). a.node < probe) trace = explained.trace_of.1 in
           let longer : List Activation = trace ++ record { node = probe; time = time } ∷ [] in
           let count : length graph.nodes ≡ probe + 1 =
           ap (λ (g : Tfpg). length g.nodes) is.graph_is ∙ length_push asked.graph.nodes (probe_node (probe_word is.number) (probe_lag asked.to bound)) in
           let trace_of : IsTraceOf graph longer = (
-            rising_with probe trace below time outcome.trace_of.0,
+            rising_with probe trace below time explained.trace_of.0,
             All-push (λ (a : Activation). a.node < length graph.nodes) trace (record { node = probe; time = time })
                 (All-weaker (λ (a : Activation). a.node < probe) (λ (a : Activation). a.node < length graph.nodes) (λ a less. omega (arith, less, count)) trace below) (omega (arith, count)),
           ) in
           none (
             longer,
             (as_probed set longer trace_of).1 (record {
-              outcome = subst (IsOutcome asked set) (sym (without_with probe trace below time)) outcome;
+              explains = subst (ExplainsContinued asked set) (sym (without_with probe trace below time)) explained;
               time = time;
               active = time_other probe trace below time asked.node other_node ∙ at;
               by_bound = early;
-              probe = time_probe probe trace below time outcome.trace_of.0;
+              probe = time_probe probe trace below time explained.trace_of.0;
             }),
           )
 
--- By the time of the question each activation has come.
-pub by_its_end : (asked : Question) (set : List ℕ) (trace : List Activation) (node time : ℕ) → IsOutcome asked set trace → time_of trace node ≡ Some time → time ≤ asked.to
-by_its_end asked set trace node time outcome at =
-    let by_now : time ≤ now_of (continued asked.log asked.to) = time_holds (λ (a : Activation). a.time ≤ now_of (continued asked.log asked.to)) trace node time outcome.by_now at in
+-- By the time up to which is looked each activation has come.
+pub by_its_end : (asked : Lookahead) (set : List ℕ) (trace : List Activation) (node time : ℕ) → ExplainsContinued asked set trace → time_of trace node ≡ Some time → time ≤ asked.to
+by_its_end asked set trace node time explained at =
+    let by_now : time ≤ now_of (continued asked.log asked.to) = time_holds (λ (a : Activation). a.time ≤ now_of (continued asked.log asked.to)) trace node time explained.by_now at in
     omega (arith, by_now, now-with_event asked.log (Tick asked.to))
 
--- A question by the log that ignores others allows a probe as well.
-pub able_ignoring : (graph : Tfpg) (log : Logbook) (node to : ℕ) (doubts : List ℕ) → IsProbeable (question_of graph log node to) → All (λ n. IsTrue (is_monitored graph n)) doubts
-    → IsProbeable (question_of graph (ignoring log doubts) node to)
+-- A look ahead by the log that ignores others allows a probe as well.
+pub able_ignoring : (graph : Tfpg) (log : Logbook) (node to : ℕ) (doubts : List ℕ) → IsProbeable (lookahead_of graph log node to) → All (λ n. IsTrue (is_monitored graph n)) doubts
+    → IsProbeable (lookahead_of graph (ignoring log doubts) node to)
 able_ignoring graph log node to doubts able own = record {
   of = record { own = able.of.own; ignored = own };
   node = able.node;
@@ -144,7 +144,7 @@ ordered_ignoring log doubts ordered = record { in_order = ordered.in_order; in_r
 
 -- What is probed by a log is probed by the log that ignores others, where the probed log does so too.
 pub probed_ignoring : (graph : Tfpg) (log : Logbook) (node to : ℕ) (doubts : List ℕ) (bound : ℕ) (next : Tfpg) (later : Logbook)
-    → IsProbed (question_of graph log node to) bound next later → IsProbed (question_of graph (ignoring log doubts) node to) bound next (ignoring later doubts)
+    → IsProbed (lookahead_of graph log node to) bound next later → IsProbed (lookahead_of graph (ignoring log doubts) node to) bound next (ignoring later doubts)
 probed_ignoring graph log node to doubts bound next later is = record {
   number = is.number;
   named = record { new = is.named.new; taken = is.named.taken };

@@ -5,7 +5,7 @@ use Rattle.tfpg_base.specs.declared.activation.Activation.{Activation}
 use Rattle.tfpg_base.specs.Trace.{time_of}
 use Rattle.tfpg_base.proofs.lists.Sequences.{middle-between}
 use Rattle.tfpg_evidence.specs.declared.step.Step.{Step}
-use Rattle.tfpg_predict.specs.LeastTime.{Question, IsOutcome}
+use Rattle.tfpg_predict.specs.LeastTime.{Lookahead, ExplainsContinued}
 use Rattle.tfpg_predict.specs.Outlooks.{IsEarliest, IsNever, IsRefutedAt}
 use Rattle.tfpg_predict.specs.inside.Quests.{asked_by}
 use Rattle.tfpg_predict.specs.inside.Tried.{FitsBy, IsOutBy, IsHalved}
@@ -19,7 +19,7 @@ module _ (quest : Quest) where
   halved_none high trace earlier fits at within none = record {
     in_order = omega arith;
     within = within;
-    outcome = fits.outcome;
+    explains = fits.explains;
     attained = at;
     none_before = λ some. absurd (omega (arith, some));
     at_zero = λ zero. none;
@@ -36,16 +36,16 @@ module _ (quest : Quest) where
     halved_lower other time fits at early from = record {
       in_order = from;
       within = let within = halved.within in let between = bound_within.1 in omega (arith, early, within, between);
-      outcome = fits.outcome;
+      explains = fits.explains;
       attained = at;
       none_before = halved.none_before;
       at_zero = halved.at_zero;
     }
 
     -- no trace has a time below the range
-    pub not_below : (other : List Activation) (time : ℕ) → IsOutcome (asked_by quest) quest.set other → time_of other quest.node ≡ Some time → low ≤ time
-    not_below other time outcome at = ⊎_elim
-        (λ less. absurd ((halved.none_before (omega (arith, less))).none other time outcome at (omega (arith, less))))
+    pub not_below : (other : List Activation) (time : ℕ) → ExplainsContinued (asked_by quest) quest.set other → time_of other quest.node ≡ Some time → low ≤ time
+    not_below other time explained at = ⊎_elim
+        (λ less. absurd ((halved.none_before (omega (arith, less))).none other time explained at (omega (arith, less))))
         (λ from. from)
         (cases_lt time low)
 
@@ -54,7 +54,7 @@ module _ (quest : Quest) where
     halved_upper steps none = record {
       in_order = let between = bound_within.1 in omega (arith, between);
       within = halved.within;
-      outcome = halved.outcome;
+      explains = halved.explains;
       attained = halved.attained;
       none_before = λ some. let same : bound ≡ bound + 1 - 1 = omega arith in subst (λ (n : ℕ). IsOutBy (asked_by quest) quest.set n quest.budget steps) same none;
       at_zero = λ zero. absurd (omega (arith, zero));
@@ -67,10 +67,10 @@ module _ (quest : Quest) where
       let same : low ≡ high = (let upto = halved.in_order in omega (arith, upto, done)) in
       record {
         least = record {
-          outcome = halved.outcome;
+          explains = halved.explains;
           attained = halved.attained;
-          least = λ other at outcome is. ⊎_elim
-              (λ less. absurd ((halved.none_before (omega (arith, less, same))).none other at outcome is (omega (arith, less, same))))
+          least = λ other at explained is. ⊎_elim
+              (λ less. absurd ((halved.none_before (omega (arith, less, same))).none other at explained is (omega (arith, less, same))))
               (λ from. from)
               (cases_lt at high);
         };
@@ -79,8 +79,8 @@ module _ (quest : Quest) where
       }
 
 -- Where no trace has a time by the end, none has any.
-pub never_by_its_end : (asked : Question) (set : List ℕ) (budget : ℕ) (steps : List Step) → IsOutBy asked set asked.to budget steps → IsNever asked set budget steps
+pub never_by_its_end : (asked : Lookahead) (set : List ℕ) (budget : ℕ) (steps : List Step) → IsOutBy asked set asked.to budget steps → IsNever asked set budget steps
 never_by_its_end asked set budget steps none = record {
-  none = λ trace time outcome at. none.none trace time outcome at (by_its_end asked set trace asked.node time outcome at);
+  none = λ trace time explained at. none.none trace time explained at (by_its_end asked set trace asked.node time explained at);
   refuted = none.refuted;
 }

@@ -18,7 +18,7 @@ use Rattle.tfpg_log.specs.Log.{IsOrdered, time_of_event, is_mode_change}
 use Rattle.tfpg_log.specs.EventLines.{AreNextEvents}
 use Rattle.tfpg_log.proofs.events.Order.{event_by_now}
 use Rattle.tfpg_predict.specs.Kept.{kept_events}
-use Rattle.tfpg_predict.specs.LeastTime.{Question}
+use Rattle.tfpg_predict.specs.LeastTime.{Lookahead}
 use Rattle.tfpg_predict.specs.Probed.{IsProbeable, IsProbed, probe_lag, probed_log}
 use Rattle.tfpg_predict.specs.inside.ProbeNames.{IsProbeName}
 use Rattle.tfpg_predict.proofs.AsProbed.{of_probed}
@@ -27,7 +27,7 @@ use Rattle.tfpg_predict.proofs.keeping.KeptOrder.{kept_in_order, kept_in_range, 
 use Rattle.tfpg_predict.proofs.keeping.KeptCount.{kept_few}
 use Rattle.tfpg_predict.proofs.keeping.NextEvents.{AreInOrder, are_next}
 
-module _ (asked : Question) (bound : ℕ) (valid : IsValid asked.graph) (able : IsProbeable asked) (ordered : IsOrdered asked.log) (upto : bound ≤ asked.to)
+module _ (asked : Lookahead) (bound : ℕ) (valid : IsValid asked.graph) (able : IsProbeable asked) (ordered : IsOrdered asked.log) (upto : bound ≤ asked.to)
     (name : List ℕ) (named : IsProbeName asked.graph name) where
   abbrev kept : List Event
   kept = kept_events asked.graph asked.log
@@ -58,7 +58,7 @@ module _ (asked : Question) (bound : ℕ) (valid : IsValid asked.graph) (able : 
     log_is = refl;
   }
 
-  -- each kept event has come by the time of the question
+  -- each kept event has come by the time up to which is looked
   by_end : All (λ event. time_of_event event ≤ asked.to) kept
   by_end = kept_by asked.graph asked.log asked.to (All-from_indexes (λ event. time_of_event event ≤ asked.to) asked.log.events
       (λ index event at. let upto_now = event_by_now asked.log index event ordered at in let later = able.not_back in omega (arith, upto_now, later)))

@@ -18,7 +18,7 @@ use Rattle.tfpg_search.specs.Enough.{IsEnough}
 use Rattle.tfpg_search.specs.Represents.{SearchRepresents, RepresentsSome}
 use Rattle.tfpg_search.specs.Searched.{IsSearched, AreSearchSteps, Finds, call_of}
 use Rattle.tfpg_search.specs.SearchState.{SearchState}
-use Rattle.tfpg_predict.specs.LeastTime.{Question}
+use Rattle.tfpg_predict.specs.LeastTime.{Lookahead}
 use Rattle.tfpg_predict.specs.Probed.{IsProbed, IsProbeable}
 use Rattle.tfpg_predict.specs.Outlooks.{IsProbeCase}
 use Rattle.tfpg_predict.specs.inside.Tried.{IsOutBy, IsFoundAs}
@@ -30,7 +30,7 @@ pub represents_none : (graph : Tfpg) (log : Logbook) (search : SearchState) → 
 represents_none graph log search seen represents =
     ([], subst (λ (n : ℕ). SearchRepresents graph (first_events log n) search []) (sym seen) (represents log))
 
-module _ (asked : Question) (bound : ℕ) (valid : IsValid asked.graph) (able : IsProbeable asked) (ordered : IsOrdered asked.log) (upto : bound ≤ asked.to)
+module _ (asked : Lookahead) (bound : ℕ) (valid : IsValid asked.graph) (able : IsProbeable asked) (ordered : IsOrdered asked.log) (upto : bound ≤ asked.to)
     (graph : Tfpg) (log : Logbook) (is : IsProbed asked bound graph log) (graph_valid : IsValid graph) (log_ordered : IsOrdered log)
     (set reach : List ℕ) (is_reach : IsReach graph set reach) where
   probe_case : IsProbeCase asked set bound (case_of graph log reach)

@@ -1,4 +1,4 @@
--- What is owed with each answer to the question when a node becomes active.
+-- What is owed with each answer to when a node becomes active.
 use Rattle.std.specs.Prelude.{◌≡◌, ℕ, ◌-◌, ◌<◌, ◌≤◌, List, []}
 use Rattle.tfpg_base.specs.declared.activation.Activation.{Activation}
 use Rattle.tfpg_graph.specs.Reach.{IsReach}
@@ -9,18 +9,18 @@ use Rattle.tfpg_clause.specs.Paths.{with_steps}
 use Rattle.tfpg_search.specs.Live.{AllowsReuse, IsUnsettled}
 use Rattle.tfpg_search.specs.Searched.{AreSearchSteps}
 use Rattle.tfpg_search.specs.Enough.{IsEnough}
-use Rattle.tfpg_predict.specs.LeastTime.{Question, IsLeastTime, HasNoTime}
+use Rattle.tfpg_predict.specs.LeastTime.{Lookahead, IsLeastTime, HasNoTime}
 use Rattle.tfpg_predict.specs.Probed.{IsProbed}
 use Rattle.tfpg_predict.specs.declared.outlook.Outlook.{Outlook}
 use Rattle.tfpg_predict.specs.declared.outlook.Outlook.TheVariants.{Earliest, Never, Unsettled}
 
 -- The case is that of the probe with a bound: a probed graph, the probed log, and what the set reaches in it.
-pub record IsProbeCase (asked : Question) (set : List ℕ) (bound : ℕ) (case : Case) : Type 0 where
+pub record IsProbeCase (asked : Lookahead) (set : List ℕ) (bound : ℕ) (case : Case) : Type 0 where
   pub probed : IsProbed asked bound case.graph case.log
   pub reach : IsReach case.graph set case.reach
 
 -- The steps are a refutation for the probe with this bound, with no more splits than the budget.
-pub record IsRefutedAt (asked : Question) (set : List ℕ) (bound budget : ℕ) (steps : List Step) : Type 0 where
+pub record IsRefutedAt (asked : Lookahead) (set : List ℕ) (bound budget : ℕ) (steps : List Step) : Type 0 where
   pub case : Case
   pub probe : IsProbeCase asked set bound case
   pub refutation : IsRefutation case (with_steps [] case.log steps)
@@ -28,7 +28,7 @@ pub record IsRefutedAt (asked : Question) (set : List ℕ) (bound budget : ℕ) 
 
 -- The steps are those of a search for the probe with this bound, which spent its budget: they have as many live splits as the
 -- budget says, their tree is unsettled, and no subtree is reusable after them. The budget is not one that is always enough.
-pub record IsSpentAt (asked : Question) (set : List ℕ) (bound budget : ℕ) (steps : List Step) : Type 0 where
+pub record IsSpentAt (asked : Lookahead) (set : List ℕ) (bound budget : ℕ) (steps : List Step) : Type 0 where
   pub case : Case
   pub probe : IsProbeCase asked set bound case
   pub live : AreSearchSteps case [] steps
@@ -39,23 +39,23 @@ pub record IsSpentAt (asked : Question) (set : List ℕ) (bound budget : ℕ) (s
 
 -- The time is the least one, attained by the trace. The steps are a refutation for the probe with the bound before it; at time 0
 -- there are none.
-pub record IsEarliest (asked : Question) (set : List ℕ) (budget time : ℕ) (trace : List Activation) (earlier : List Step) : Type 0 where
+pub record IsEarliest (asked : Lookahead) (set : List ℕ) (budget time : ℕ) (trace : List Activation) (earlier : List Step) : Type 0 where
   pub least : IsLeastTime asked set time trace
   pub refuted : 0 < time → IsRefutedAt asked set (time - 1) budget earlier
   pub at_zero : time ≡ 0 → earlier ≡ []
 
--- No trace activates the node, and the steps are a refutation for the probe with the time of the question as its bound.
-pub record IsNever (asked : Question) (set : List ℕ) (budget : ℕ) (steps : List Step) : Type 0 where
+-- No trace activates the node, and the steps are a refutation for the probe with the time up to which is looked as its bound.
+pub record IsNever (asked : Lookahead) (set : List ℕ) (budget : ℕ) (steps : List Step) : Type 0 where
   pub none : HasNoTime asked set
   pub refuted : IsRefutedAt asked set asked.to budget steps
 
--- The search for the probe with this bound, which is not after the time of the question, spent its budget.
-pub record IsUnsettledAt (asked : Question) (set : List ℕ) (budget bound : ℕ) (steps : List Step) : Type 0 where
+-- The search for the probe with this bound, which is not after the time up to which is looked, spent its budget.
+pub record IsUnsettledAt (asked : Lookahead) (set : List ℕ) (budget bound : ℕ) (steps : List Step) : Type 0 where
   pub within : bound ≤ asked.to
   pub spent : IsSpentAt asked set bound budget steps
 
--- The outlook answers the question for a set, where each search has this budget.
-abbrev pub IsOutlook : Question → List ℕ → ℕ → Outlook → Type 0
+-- The outlook is right for a set, where each search has this budget.
+abbrev pub IsOutlook : Lookahead → List ℕ → ℕ → Outlook → Type 0
 IsOutlook asked set budget (Earliest time trace earlier) = IsEarliest asked set budget time trace earlier
 IsOutlook asked set budget (Never steps) = IsNever asked set budget steps
 IsOutlook asked set budget (Unsettled bound steps) = IsUnsettledAt asked set budget bound steps

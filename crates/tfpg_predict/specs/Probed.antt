@@ -12,7 +12,7 @@ use Rattle.tfpg_log.specs.Log.{Logbook, IsLogOf, now_of}
 use Rattle.tfpg_log.specs.Explains.{Explains}
 use Rattle.tfpg_log.specs.Rules.{IsTraceOf}
 use Rattle.tfpg_predict.specs.Kept.{kept_events}
-use Rattle.tfpg_predict.specs.LeastTime.{Question, IsOutcome}
+use Rattle.tfpg_predict.specs.LeastTime.{Lookahead, ExplainsContinued}
 
 -- the name of a probe, by its number
 abbrev pub probe_word : ℕ → List ℕ
@@ -34,7 +34,7 @@ probed_log graph log to =
 
 -- A graph with a probe of a node, and a probed log of it. The name of the probe is `probe.` and the least number that makes it
 -- new. The log keeps what matters of the log before, and its last event is the alarm of the probe.
-pub record IsProbed (asked : Question) (bound : ℕ) (graph : Tfpg) (log : Logbook) : Type 0 where
+pub record IsProbed (asked : Lookahead) (bound : ℕ) (graph : Tfpg) (log : Logbook) : Type 0 where
   pub number : ℕ
   pub named : IsProbeNumber asked.graph number
   pub graph_is : graph ≡ with_probe asked.graph (probe_word number) asked.node (probe_lag asked.to bound)
@@ -46,22 +46,22 @@ without_probe probe trace = filter (λ activation. not (activation.node == probe
 
 -- Without the probe, the trace explains the continued log from the set; it gives the node a time of at most the bound; and it
 -- gives the probe that same time.
-pub record IsProbedOutcome (asked : Question) (bound : ℕ) (set : List ℕ) (trace : List Activation) : Type 0 where
-  pub outcome : IsOutcome asked set (without_probe (length asked.graph.nodes) trace)
+pub record IsProbedTrace (asked : Lookahead) (bound : ℕ) (set : List ℕ) (trace : List Activation) : Type 0 where
+  pub explains : ExplainsContinued asked set (without_probe (length asked.graph.nodes) trace)
   pub time : ℕ
   pub active : time_of trace asked.node ≡ Some time
   pub by_bound : time ≤ bound
   pub probe : time_of trace (length asked.graph.nodes) ≡ Some time
 
 -- Exactly these traces explain the probed log.
-abbrev pub ExplainsAsProbed : Question → ℕ → Tfpg → Logbook → Type 0
+abbrev pub ExplainsAsProbed : Lookahead → ℕ → Tfpg → Logbook → Type 0
 ExplainsAsProbed asked bound graph log =
     (set : List ℕ) (trace : List Activation) → IsTraceOf graph trace
-    → Explains graph log set trace ↔ IsProbedOutcome asked bound set trace
+    → Explains graph log set trace ↔ IsProbedTrace asked bound set trace
 
--- The question is about a node of the graph and a log of it, the time is not before now and not too late, and there is room in
+-- The look ahead is for a node of the graph by a log of it, the time is not before now and not too late, and there is room in
 -- the graph for a probe.
-pub record IsProbeable (asked : Question) : Type 0 where
+pub record IsProbeable (asked : Lookahead) : Type 0 where
   pub of : IsLogOf asked.graph asked.log
   pub node : asked.node < length asked.graph.nodes
   pub few_nodes : length asked.graph.nodes < MAX_NODES

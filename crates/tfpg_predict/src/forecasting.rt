@@ -5,7 +5,7 @@ ghost use Rattle.tfpg_base.specs.Trace.{time_of};
 ghost use Rattle.tfpg_graph.specs.Graph.{AreFailures, is_monitored};
 ghost use Rattle.tfpg_log.specs.Log.{ignoring};
 ghost use Rattle.tfpg_log.specs.Rules.{IsActive};
-ghost use Rattle.tfpg_predict.specs.LeastTime.{question_of};
+ghost use Rattle.tfpg_predict.specs.LeastTime.{lookahead_of};
 ghost use Rattle.tfpg_predict.specs.Probed.{IsProbeable};
 ghost use Rattle.tfpg_predict.specs.Outlooks.{IsOutlook};
 ghost use Rattle.tfpg_predict.specs.inside.Quests.{asked_by, IsQuest};
@@ -37,11 +37,11 @@ pub fn forecast<L: Ledger>(
     budget: u64,
     work: &mut Steps<L>,
 ) -> Result<Outlook, NoMemory>
-    requires probeable { IsProbeable (question_of graph.now log.now node to) }
+    requires probeable { IsProbeable (lookahead_of graph.now log.now node to) }
     requires members { AreFailures graph.now set }
     requires doubts { All (λ monitor. IsTrue (is_monitored graph.now monitor)) doubts }
     requires budget { 1 ≤ budget }
-    ensures { IfOk result (IsOutlook (question_of graph.now (ignoring log.now doubts) node to) set budget) }
+    ensures { IfOk result (IsOutlook (lookahead_of graph.now (ignoring log.now doubts) node to) set budget) }
 {
     let quest = Quest {
         graph,

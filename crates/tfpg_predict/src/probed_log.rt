@@ -4,7 +4,7 @@ ghost use Rattle.std.specs.Prelude.{◌≡◌, ◌≤◌, [], ◌∷◌, ◌++�
 ghost use Rattle.tfpg_log.specs.declared.event.Event.TheVariants as kinds;
 ghost use Rattle.tfpg_log.specs.Log.{IsLogOf};
 ghost use Rattle.tfpg_predict.specs.Kept.{kept_events};
-ghost use Rattle.tfpg_predict.specs.LeastTime.{question_of};
+ghost use Rattle.tfpg_predict.specs.LeastTime.{lookahead_of};
 ghost use Rattle.tfpg_predict.specs.Probed.{IsProbed, IsProbeable, ExplainsAsProbed};
 
 use crate::events_log::log_of_events;
@@ -38,13 +38,13 @@ pub fn probed(
     to: u64,
     bound: u64,
 ) -> Result<ProbedLog, NoMemory>
-    requires probeable { IsProbeable (question_of graph.now log.now node to) }
+    requires probeable { IsProbeable (lookahead_of graph.now log.now node to) }
     requires bound { bound ≤ to }
-    ensures probed { IfOk result (λ probed. IsProbed (question_of graph.now log.now node to) bound
+    ensures probed { IfOk result (λ probed. IsProbed (lookahead_of graph.now log.now node to) bound
         probed.graph probed.log) }
     ensures probe { IfOk result (λ probed. probed.probe ≡ length graph.now.nodes) }
     ensures of { IfOk result (λ probed. IsLogOf probed.graph probed.log) }
-    ensures explains { IfOk result (λ probed. ExplainsAsProbed (question_of graph.now log.now node to)
+    ensures explains { IfOk result (λ probed. ExplainsAsProbed (lookahead_of graph.now log.now node to)
         bound probed.graph probed.log) }
 {
     graph.is_always_valid();

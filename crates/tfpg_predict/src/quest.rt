@@ -1,10 +1,10 @@
-//! What is tried with one bound after the other: a question about a set, lent.
+//! What is tried with one bound after the other: a look ahead from a set, lent.
 
 use tfpg_base::{Doubts, Set};
 use tfpg_graph::Graph;
 use tfpg_log::Log;
 
-/// A question about a set, by the log that ignores the doubted monitors, and the budget of each search.
+/// A look ahead from a set, by the log that ignores the doubted monitors, and the budget of each search.
 #[derive(Clone, Copy)]
 pub(crate) struct Quest<'a> {
     pub(crate) graph: &'a Graph,

@@ -25,7 +25,7 @@ use Rattle.std.proofs.lemmas.List.{append-nil}
 use Rattle.tfpg_log.specs.declared.event.Offered.TheVariants.{Accepted}
 use Rattle.tfpg_hyp.specs.Views.{HypothesisFits, IsReachOf}
 use Rattle.tfpg_whatif.specs.declared.outcome.Outcome.TheVariants.{Fits}
-use Rattle.tfpg_whatif.specs.Outcomes.{Asked, asked_at, Lengthens, HasEvidence, AreOutcomes, AreOutcomesAfter, HasNoneUnknown, is_unknown}
+use Rattle.tfpg_whatif.specs.Outcomes.{Asked, asked_at, Lengthens, HasOutcomeEvidence, AreOutcomes, AreOutcomesAfter, HasNoneUnknown, is_unknown}
 use Rattle.tfpg_whatif.specs.Foresight.{ForeseeRounds, SayWhichKeep}
 use Rattle.tfpg_whatif.specs.Laws.{OutcomesForeseeRounds}
 use Rattle.tfpg_whatif.specs.declared.asking.Asking.{Asking}
@@ -61,7 +61,7 @@ found_by asked read lent number hypothesis reach own outcome same_list table at 
           record {
             reach = reach;
             reach_is = subst (λ (h : Hypothesis). IsReachOf asked.graph h reach) same_one (table.reached.exact number hypothesis reach at reach_at);
-            evidence = subst (λ (h : Hypothesis). HasEvidence (case_of asked.graph (ignoring asked.log h.doubts) reach) h.set asked.budget outcome) same_one shown.evidence;
+            evidence = subst (λ (h : Hypothesis). HasOutcomeEvidence (case_of asked.graph (ignoring asked.log h.doubts) reach) h.set asked.budget outcome) same_one shown.evidence;
           };
       known = λ enough. shown.known (enough_ignoring asked.graph asked.log hypothesis.doubts asked.budget enough);
     }

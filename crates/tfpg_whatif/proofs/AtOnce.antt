@@ -39,7 +39,7 @@ use Rattle.tfpg_whatif.specs.declared.asking.Asking.{Asking}
 use Rattle.tfpg_whatif.specs.declared.asking.LastEvent.{LastEvent}
 use Rattle.tfpg_whatif.specs.declared.outcome.Outcome.{Outcome}
 use Rattle.tfpg_whatif.specs.declared.outcome.Outcome.TheVariants.{Fits, Out}
-use Rattle.tfpg_whatif.specs.Outcomes.{HasEvidence, all_judged}
+use Rattle.tfpg_whatif.specs.Outcomes.{HasOutcomeEvidence, all_judged}
 use Rattle.tfpg_whatif.specs.inside.Asking.{IsLastEvent, IsShown}
 use Rattle.tfpg_whatif.specs.inside.AtOnce.{ExplainsBefore, IsKept, IsLatestUnreached, ShowsAnswer, unreached_steps}
 use Rattle.tfpg_whatif.proofs.SameRules.{same_rules}
@@ -108,14 +108,14 @@ module _ (graph : Tfpg) (log earlier : Logbook) (reach : List ℕ) (event : Even
   no_splits = refl
 
   -- These steps refute, with no split.
-  pub refutes : (set : List ℕ) (budget : ℕ) (steps : List Step) → steps ≡ unreached_steps node latest count → HasEvidence (case_of graph log reach) set budget (Out steps)
-  refutes set budget steps are = subst (λ (all : List Step). HasEvidence case set budget (Out all)) (sym are) (refutation, omega (arith, no_splits))
+  pub refutes : (set : List ℕ) (budget : ℕ) (steps : List Step) → steps ≡ unreached_steps node latest count → HasOutcomeEvidence (case_of graph log reach) set budget (Out steps)
+  refutes set budget steps are = subst (λ (all : List Step). HasOutcomeEvidence case set budget (Out all)) (sym are) (refutation, omega (arith, no_splits))
 
 -- A refutation with so few splits is an outcome.
 pub refuted : (case : Case) (set : List ℕ) (budget : ℕ) (found : Option (List Step)) (steps : List Step) → found ≡ Some steps
-    → IfSome found (λ (s : List Step). HasEvidence case set budget (Out s)) → IsShown case set budget (Out steps)
+    → IfSome found (λ (s : List Step). HasOutcomeEvidence case set budget (Out s)) → IsShown case set budget (Out steps)
 refuted case set budget found steps is refutes = record {
-  evidence = subst (λ (f : Option (List Step)). IfSome f (λ (s : List Step). HasEvidence case set budget (Out s))) is refutes;
+  evidence = subst (λ (f : Option (List Step)). IfSome f (λ (s : List Step). HasOutcomeEvidence case set budget (Out s))) is refutes;
   known = λ enough. refl;
 }
 

@@ -14,12 +14,12 @@ use Rattle.tfpg_search.specs.SearchState.{SearchState}
 use Rattle.tfpg_search.specs.Represents.{SearchRepresents, RepresentsSome}
 use Rattle.tfpg_search.specs.Searched.{AreSearchSteps, Finds, IsSearched, call_of}
 use Rattle.tfpg_clause.specs.Paths.{with_steps}
-use Rattle.tfpg_whatif.specs.Outcomes.{HasEvidence, is_unknown}
+use Rattle.tfpg_whatif.specs.Outcomes.{HasOutcomeEvidence, is_unknown}
 use Rattle.tfpg_whatif.specs.inside.Asking.{IsShown, outcome_by}
 
 -- what was found is shown by its evidence
 evidence_by : (case : Case) (budget : ℕ) (steps : List Step) (search : SearchState) (found : Found) → AreSearchSteps case [] steps
-    → split_count steps ≤ budget → Finds case budget steps (with_steps [] case.log steps) search found → HasEvidence case search.set budget (outcome_by found steps)
+    → split_count steps ≤ budget → Finds case budget steps (with_steps [] case.log steps) search found → HasOutcomeEvidence case search.set budget (outcome_by found steps)
 evidence_by case budget steps search (Shown trace) right within finds = finds.0
 evidence_by case budget steps search Closed right within finds = (finds, within)
 evidence_by case budget steps search Spent right within finds = record { right = right; spent = finds.0; unsettled = finds.1; none_reusable = finds.3 }
@@ -43,14 +43,14 @@ module _ (graph : Tfpg) (log : Logbook) (search : SearchState) (unseen : search.
     all_added : searched.added ≡ steps
     all_added = sym (searched.appended ∙ ap (λ (front : List Step). front ++ searched.added) none)
 
-    evidence_added : HasEvidence (case_of graph log after.reach) after.set budget (outcome_by found searched.added)
+    evidence_added : HasOutcomeEvidence (case_of graph log after.reach) after.set budget (outcome_by found searched.added)
     evidence_added = evidence_by (case_of graph log after.reach) budget searched.added after found
         (subst (λ (nodes : List ℕ). AreSearchSteps (case_of graph log nodes) [] searched.added) (sym same_reach) (searched.right [] represents_none)) searched.within (searched.found [] represents_none)
 
-    evidence : HasEvidence (case_of graph log reach) set budget (outcome_by found steps)
-    evidence = subst (λ (all : List Step). HasEvidence (case_of graph log reach) set budget (outcome_by found all)) all_added
-        (subst (λ (nodes : List ℕ). HasEvidence (case_of graph log nodes) set budget (outcome_by found searched.added)) (same_reach ∙ is_reach)
-        (subst (λ (members : List ℕ). HasEvidence (case_of graph log after.reach) members budget (outcome_by found searched.added)) (same_set ∙ is_set) evidence_added))
+    evidence : HasOutcomeEvidence (case_of graph log reach) set budget (outcome_by found steps)
+    evidence = subst (λ (all : List Step). HasOutcomeEvidence (case_of graph log reach) set budget (outcome_by found all)) all_added
+        (subst (λ (nodes : List ℕ). HasOutcomeEvidence (case_of graph log nodes) set budget (outcome_by found searched.added)) (same_reach ∙ is_reach)
+        (subst (λ (members : List ℕ). HasOutcomeEvidence (case_of graph log after.reach) members budget (outcome_by found searched.added)) (same_set ∙ is_set) evidence_added))
 
     -- A new search shows its outcome.
     pub is_shown : (IsEnough graph log budget → ◌≡◌ {A = Result Found NoMemory} (Ok found) (Ok Spent) → ⊥) → IsShown (case_of graph log reach) set budget (outcome_by found steps)

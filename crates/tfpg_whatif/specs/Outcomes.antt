@@ -46,18 +46,18 @@ pub record AreSpent (case : Case) (budget : ℕ) (steps : List Step) : Type 0 wh
 
 -- What an outcome shows of a set of failure modes: a trace that explains the log from the set; steps that are a refutation with no
 -- more splits than the budget; or that the budget was spent.
-abbrev pub HasEvidence : Case → List ℕ → ℕ → Outcome → Type 0
-HasEvidence case set budget (Fits trace) = Explains case.graph case.log set trace
-HasEvidence case set budget (Out steps) = IsRefutation case (all_judged case steps) × (split_count steps ≤ budget)
-HasEvidence case set budget (Unknown steps) = AreSpent case budget steps
+abbrev pub HasOutcomeEvidence : Case → List ℕ → ℕ → Outcome → Type 0
+HasOutcomeEvidence case set budget (Fits trace) = Explains case.graph case.log set trace
+HasOutcomeEvidence case set budget (Out steps) = IsRefutation case (all_judged case steps) × (split_count steps ≤ budget)
+HasOutcomeEvidence case set budget (Unknown steps) = AreSpent case budget steps
 
 -- An outcome of a hypothesis at a log. It is shown by the log as the hypothesis sees it.
 pub record IsOutcome (graph : Tfpg) (log : Logbook) (hypothesis : Hypothesis) (budget : ℕ) (outcome : Outcome) : Type 0 where
   pub reach : List ℕ
   pub reach_is : IsReachOf graph hypothesis reach
-  pub evidence : HasEvidence (case_for graph log hypothesis reach) hypothesis.set budget outcome
+  pub evidence : HasOutcomeEvidence (case_for graph log hypothesis reach) hypothesis.set budget outcome
 
--- whether the hypothesis falls
+-- whether the hypothesis is shown to fall
 abbrev pub is_out : Outcome → Bool
 is_out (Fits trace) = false
 is_out (Out steps) = true

@@ -6,7 +6,7 @@ ghost use Rattle.tfpg_log.specs.Explains.{IsActivatedIn, ShowsSilence};
 ghost use Rattle.tfpg_log.specs.Log.{Logbook, IsLogOf, alarm_interval, with_event};
 ghost use Rattle.tfpg_log.specs.Rules.{IsActive};
 ghost use Rattle.tfpg_clause.specs.Case.{case_of};
-ghost use Rattle.tfpg_whatif.specs.Outcomes.{HasEvidence};
+ghost use Rattle.tfpg_whatif.specs.Outcomes.{HasOutcomeEvidence};
 ghost use Rattle.tfpg_whatif.specs.inside.Asking.{IsShown};
 ghost use Rattle.tfpg_whatif.specs.inside.AtOnce.{ExplainsBefore, IsKept, IsLatestUnreached, ShowsAnswer, unreached_steps};
 
@@ -54,7 +54,7 @@ fn refuted_by_alarm(
     requires { IsLogOf graph.now log.now }
     ensures { (earlier : Logbook) (set : List ℕ) (budget : ℕ) → log.now ≡ with_event earlier event →
         IfOk result (λ found. IfSome found (λ steps.
-        HasEvidence (case_of graph.now log.now reach.now) set budget (Outcome.Out steps))) }
+        HasOutcomeEvidence (case_of graph.now log.now reach.now) set budget (Outcome.Out steps))) }
 {
     let Event::Alarm { time, node } = event else {
         return Ok(None);

@@ -2,7 +2,7 @@
 //!
 //! - [`ask`] says of each hypothesis that is asked about what a line would show: an [`Outcome`] with its evidence.
 //! - [`questions`] asks a silence and an alarm of each monitored node without an alarm. A [`Question`] counts how many hypotheses
-//!   fall after each, and the question after which most fall whatever the answer is comes first.
+//!   are shown to fall after each, and the question after which most are, whatever the answer is, comes first.
 //! - [`AskFault`] says why there is no answer.
 //! - [`laws`] says what outcomes and questions say of later logs and of the rounds to come.
 //!

@@ -22,7 +22,7 @@ pub enum Outcome {
 pub type OutcomeList = Items<Outcome>;
 
 impl Outcome {
-    /// Whether the hypothesis falls.
+    /// Whether the hypothesis is shown to fall.
     pub fn is_out(&self) -> bool
         ensures { result ≡ is_out self.now }
     {

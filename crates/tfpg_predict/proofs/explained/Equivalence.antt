@@ -28,8 +28,8 @@ use Rattle.tfpg_log.proofs.events.Events.{now-with_event}
 use Rattle.tfpg_log.proofs.events.AlarmIntervals.{interval_is}
 use Rattle.tfpg_log.proofs.events.SilenceTimes.{inactive_says, says_inactive}
 use Rattle.tfpg_log.proofs.events.SilentNodes.{event_own, silent_within}
-use Rattle.tfpg_predict.specs.LeastTime.{Question, continued, IsOutcome}
-use Rattle.tfpg_predict.specs.Probed.{probe_lag, without_probe, IsProbedOutcome, IsProbeable}
+use Rattle.tfpg_predict.specs.LeastTime.{Lookahead, continued, ExplainsContinued}
+use Rattle.tfpg_predict.specs.Probed.{probe_lag, without_probe, IsProbedTrace, IsProbeable}
 use Rattle.tfpg_predict.proofs.explained.ProbeParts.{test_before, lag_before, lag_probe, monitored_before, monitored_probe, test_probe, edges_before, failures_same}
 use Rattle.tfpg_predict.proofs.explained.ProbedTraces.{time_without, rising_without, all_without}
 use Rattle.tfpg_predict.proofs.explained.SameRules.{rules_same}
@@ -37,7 +37,7 @@ use Rattle.tfpg_predict.proofs.explained.HeardAll.{ShowsOfNodes, of_nodes, all_s
 use Rattle.tfpg_predict.proofs.explained.KeptFacts.{KeepsEvents, IsSaidBy}
 use Rattle.tfpg_predict.proofs.explained.ProbeTimes.{modes_within, same_time, same_rules}
 
-module _ (asked : Question) (bound : ℕ) (name : List ℕ) (valid : IsValid asked.graph) (able : IsProbeable asked) (upto : bound ≤ asked.to)
+module _ (asked : Lookahead) (bound : ℕ) (name : List ℕ) (valid : IsValid asked.graph) (able : IsProbeable asked) (upto : bound ≤ asked.to)
     (kept : List Event) (keeps : KeepsEvents asked.graph asked.log kept) where
   abbrev graph : Tfpg
   graph = asked.graph
@@ -167,7 +167,7 @@ module _ (asked : Question) (bound : ℕ) (name : List ℕ) (valid : IsValid ask
           (inactive_same node by.last within ∙ says_inactive graph log node by.last said.heard (omega (arith, late, till)))
           (active.0, sym (rest_time node within) ∙ active.1, let before = active.2 in omega (arith, before, until_is, till))
 
-      explained : IsOutcome asked set rest
+      explained : ExplainsContinued asked set rest
       explained = record {
         trace_of = (
           rising_without probe trace explains.trace_of.0,
@@ -200,11 +200,11 @@ module _ (asked : Question) (bound : ℕ) (name : List ℕ) (valid : IsValid ask
           ((λ i. then_some (not (is_ignored log probe)) (interval_before (lag_probe graph name asked.node lag i) asked.to))
           ∙ ap (λ (b : Bool). then_some (not b) (interval_before lag asked.to)) probe_heard)
 
-      pub from_probed : IsProbedOutcome asked bound set trace
+      pub from_probed : IsProbedTrace asked bound set trace
       from_probed =
           let till = probe_shown.3 in
           record {
-            outcome = explained;
+            explains = explained;
             time = probe_shown.0;
             active = same_time graph name asked.node lag valid later modes_in trace probe_shown.0 (explains.rules probe (omega (arith, node_count))) probe_shown.1
                 (omega (arith, till, now_later));
@@ -214,7 +214,7 @@ module _ (asked : Question) (bound : ℕ) (name : List ℕ) (valid : IsValid ask
 
     -- ---- from the continued log
 
-    module _ (trace_of : IsTraceOf next trace) (is : IsProbedOutcome asked bound set trace) where
+    module _ (trace_of : IsTraceOf next trace) (is : IsProbedTrace asked bound set trace) where
       -- an activation is that of the probe, or one of the others
       activation_cases : (a : Activation) → Contains trace a → ((a.node ≡ probe) × (a.time ≡ is.time)) ⊎ Contains rest a
       activation_cases a among = ⊎_elim
@@ -223,7 +223,7 @@ module _ (asked : Question) (bound : ℕ) (name : List ℕ) (valid : IsValid ask
           (cases_eq a.node probe)
 
       heard : ShowsOfNodes graph log rest
-      heard = of_nodes graph log rest able.of (shown_before graph log rest asked.to is.outcome.shows)
+      heard = of_nodes graph log rest able.of (shown_before graph log rest asked.to is.explains.shows)
 
       alarm_on : (number time node : ℕ) → event_at log number ≡ Some (Alarm time node) → ShowsAlarm next later trace node time
       alarm_on number time node at =
@@ -270,7 +270,7 @@ module _ (asked : Question) (bound : ℕ) (name : List ℕ) (valid : IsValid ask
           (λ test. test_before graph name asked.node lag test node before)
           (edges_before graph name asked.node lag node before) (λ instant. sym (modes instant)) (now_later ∙ sym now_longer)
           (λ edge among. rest_time edge.source (source_within node edge among))
-          (rest_time node before) (is.outcome.rules node before))
+          (rest_time node before) (is.explains.rules node before))
           (λ from. subst (KeepsRulesOf next later trace) (let same : probe ≡ node = omega (arith, from, within, node_count) in same)
           (same_rules graph name asked.node lag valid later modes_in trace is.time is.active is.probe))
           (cases_lt node probe)
@@ -280,13 +280,13 @@ module _ (asked : Question) (bound : ℕ) (name : List ℕ) (valid : IsValid ask
         trace_of = trace_of;
         by_now = All-from_members (λ a. a.time ≤ now_of later) trace (λ a among. ⊎_elim
             (λ own. let till = is.by_bound in omega (arith, own.1, till, upto, now_later))
-            (λ other. let within = All-contains (λ (b : Activation). b.time ≤ now_of longer) rest a is.outcome.by_now other in omega (arith, within, now_later, now_longer))
+            (λ other. let within = All-contains (λ (b : Activation). b.time ≤ now_of longer) rest a is.explains.by_now other in omega (arith, within, now_later, now_longer))
             (activation_cases a among));
         from_set = All-from_members (λ a. IsTrue (is_kind_at is_failure next a.node) → IsMember next set a.node) trace (λ a among failure. ⊎_elim
             (λ own. absurd (false≢true (sym (test_probe graph name asked.node lag is_failure) ∙ subst (λ (n : ℕ). IsTrue (is_kind_at is_failure next n)) own.0 failure)))
             (λ other.
-            let before = All-contains (λ (b : Activation). b.node < probe) rest a is.outcome.trace_of.1 other in
-            let member = All-contains (λ (b : Activation). IsTrue (is_kind_at is_failure graph b.node) → IsMember graph set b.node) rest a is.outcome.from_set other
+            let before = All-contains (λ (b : Activation). b.node < probe) rest a is.explains.trace_of.1 other in
+            let member = All-contains (λ (b : Activation). IsTrue (is_kind_at is_failure graph b.node) → IsMember graph set b.node) rest a is.explains.from_set other
             (sym (test_before graph name asked.node lag is_failure a.node before) ∙ failure) in
             (member.0, member.1, failure_same member.0 ∙ member.2))
             (activation_cases a among));

@@ -17,7 +17,7 @@ use Rattle.tfpg_report.specs.ReportLines.{lines_text}
 use Rattle.tfpg_report.specs.SetText.{set_word}
 use Rattle.tfpg_predict.specs.declared.outlook.Outlook.{Outlook}
 use Rattle.tfpg_predict.specs.declared.outlook.Outlook.TheVariants.{Earliest, Never, Unsettled}
-use Rattle.tfpg_predict.specs.LeastTime.{Question, question_of}
+use Rattle.tfpg_predict.specs.LeastTime.{Lookahead, lookahead_of}
 use Rattle.tfpg_predict.specs.Outlooks.{IsOutlook}
 use Rattle.tfpg_predict.specs.Probed.{IsProbeNumber, probe_lag, probe_word}
 use Rattle.tfpg_run.specs.diagnosis.Rounds.{IsLastRound}
@@ -41,11 +41,11 @@ pub record Forecast : Type 0 where
   pub finding : Finding
   pub outlook : Outlook
 
--- It is right where the outlook answers the question for the set of the finding, by the log that ignores the monitors that it doubts,
+-- It is right where the outlook is right for the set of the finding, by the log that ignores the monitors that it doubts,
 -- with this budget for each search.
-abbrev pub IsForecast : Question → ℕ → Forecast → Type 0
+abbrev pub IsForecast : Lookahead → ℕ → Forecast → Type 0
 IsForecast asked budget forecast =
-    IsOutlook (question_of asked.graph (ignoring asked.log forecast.finding.doubts) asked.node asked.to)
+    IsOutlook (lookahead_of asked.graph (ignoring asked.log forecast.finding.doubts) asked.node asked.to)
     forecast.finding.set budget forecast.outlook
 
 -- ---- the text
@@ -80,31 +80,31 @@ forecast_text graph probed forecast = outlook_text graph probed forecast.finding
 
 -- the graph by whose names steps are written: that of a probe of the node, with this number in its name. All probes of a node have
 -- the same names, whatever their bounds.
-abbrev pub probed_names : Question → ℕ → Tfpg
+abbrev pub probed_names : Lookahead → ℕ → Tfpg
 probed_names asked number = with_probe asked.graph (probe_word number) asked.node (probe_lag asked.to asked.to)
 
 -- The text has a right forecast for each of these findings, in their order.
-pub record HasForecastsOf (asked : Question) (budget : ℕ) (probed : Tfpg) (findings : List Finding) (text : List ℕ) : Type 0 where
+pub record HasForecastsOf (asked : Lookahead) (budget : ℕ) (probed : Tfpg) (findings : List Finding) (text : List ℕ) : Type 0 where
   pub forecasts : List Forecast
   pub one_each : map (λ forecast. forecast.finding) forecasts ≡ findings
   pub right : All (IsForecast asked budget) forecasts
   pub text_is : text ≡ flat_map (forecast_text asked.graph probed) forecasts
 
 -- So it has for some number in the name of the probe, which is the least that makes the name new.
-pub record AreForecastsOf (asked : Question) (budget : ℕ) (findings : List Finding) (text : List ℕ) : Type 0 where
+pub record AreForecastsOf (asked : Lookahead) (budget : ℕ) (findings : List Finding) (text : List ℕ) : Type 0 where
   pub number : ℕ
   pub named : IsProbeNumber asked.graph number
   pub has : HasForecastsOf asked budget (probed_names asked number) findings text
 
 -- So it has for the ranked findings of the last round, in ranking order. Where there is no round, there is no forecast.
-abbrev pub AreForecastsAfter : Question → ℕ → Option Round → List ℕ → Type 0
+abbrev pub AreForecastsAfter : Lookahead → ℕ → Option Round → List ℕ → Type 0
 AreForecastsAfter asked budget None text = text ≡ []
 AreForecastsAfter asked budget (Some round) text = AreForecastsOf asked budget (ranked_in_order round) text
 
--- the question about the node of this number after these lines, so far ahead
-abbrev pub question_after : Tfpg → List (List ℕ) → ℕ → ℕ → Question
-question_after graph lines node ahead =
-    question_of graph (log_of_lines graph lines) node (time_ahead (now_of (log_of_lines graph lines)) ahead)
+-- the look ahead for the node of this number after these lines, so far ahead
+abbrev pub lookahead_after : Tfpg → List (List ℕ) → ℕ → ℕ → Lookahead
+lookahead_after graph lines node ahead =
+    lookahead_of graph (log_of_lines graph lines) node (time_ahead (now_of (log_of_lines graph lines)) ahead)
 
 -- The text is the prediction for the node of this number: its line, and then the forecasts of the ranked findings of the last round
 -- of a diagnosis of the lines, in ranking order.
@@ -112,6 +112,6 @@ pub record HasForecasts (graph : Tfpg) (asked : Prediction) (node : ℕ) (lines 
   pub last : Option Round
   pub is_last : IsLastRound graph asked.terms lines last
   pub forecasts : List ℕ
-  pub are : AreForecastsAfter (question_after graph lines node asked.ahead) asked.terms.budget last forecasts
+  pub are : AreForecastsAfter (lookahead_after graph lines node asked.ahead) asked.terms.budget last forecasts
   pub text_is : text ≡ predict_line asked.node (now_of (log_of_lines graph lines))
       (time_ahead (now_of (log_of_lines graph lines)) asked.ahead) ++ forecasts

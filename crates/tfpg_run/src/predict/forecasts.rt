@@ -5,7 +5,7 @@ ghost use Rattle.tfpg_base.specs.Append.{Appends};
 ghost use Rattle.tfpg_base.specs.Lines.{lines_of};
 ghost use Rattle.tfpg_base.specs.declared.limits.TheConstants.{MAX_TIME};
 ghost use Rattle.tfpg_evidence.specs.Findings.{findings_at, ranked_in_order};
-ghost use Rattle.tfpg_predict.specs.LeastTime.{question_of};
+ghost use Rattle.tfpg_predict.specs.LeastTime.{lookahead_of};
 ghost use Rattle.tfpg_predict.specs.Probed.{IsProbeable};
 ghost use Rattle.tfpg_run.specs.predict.Forecasts.{HasForecasts, predict_line, prediction, time_ahead};
 ghost use Rattle.tfpg_run.specs.inside.diagnosis.Diagnosed.{HasDiagnosed, IsDiagnosed};
@@ -116,11 +116,11 @@ fn append_forecasts<L: Ledger>(
     into: &mut Vec<u8>,
     work: &mut Steps<L>,
 ) -> Result<(), NoMemory>
-    requires probeable { IsProbeable (question_of diagnosis.now.engine.graph diagnosis.now.engine.log node to) }
+    requires probeable { IsProbeable (lookahead_of diagnosis.now.engine.graph diagnosis.now.engine.log node to) }
     requires budget { 1 ≤ diagnosis.now.engine.terms.budget }
     requires askable { All (IsAskable diagnosis.now.engine.graph) last.now.findings }
     requires rising { AllPairs (λ earlier later. earlier.number < later.number) last.now.findings }
-    ensures { OnOk result (ForecastsFollow (question_of diagnosis.now.engine.graph diagnosis.now.engine.log node to)
+    ensures { OnOk result (ForecastsFollow (lookahead_of diagnosis.now.engine.graph diagnosis.now.engine.log node to)
         diagnosis.now.engine.terms.budget (ranked_in_order last.entry.now) into.old.items into.new.items) }
 {
     let graph = diagnosis.engine.graph();

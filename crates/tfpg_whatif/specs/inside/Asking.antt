@@ -11,7 +11,7 @@ use Rattle.tfpg_whatif.specs.declared.outcome.Outcome.{Outcome}
 use Rattle.tfpg_whatif.specs.declared.outcome.Outcome.TheVariants.{Fits, Out, Unknown}
 use Rattle.tfpg_whatif.specs.declared.asking.Asking.{Asking}
 use Rattle.tfpg_whatif.specs.declared.asking.LastEvent.{LastEvent}
-use Rattle.tfpg_whatif.specs.Outcomes.{Asked, asked_of, asked_at, HasEvidence, IsOutcomeOf, Lengthens, is_unknown}
+use Rattle.tfpg_whatif.specs.Outcomes.{Asked, asked_of, asked_at, HasOutcomeEvidence, IsOutcomeOf, Lengthens, is_unknown}
 use Rattle.tfpg_whatif.specs.Laws.{IsWellAsked}
 
 -- what the code asks at the log of the engine
@@ -54,7 +54,7 @@ outcome_by Spent steps = Unknown steps
 
 -- An outcome of a new search for a set of failure modes in a case, which is not unknown if the budget is enough.
 pub record IsShown (case : Case) (set : List ℕ) (budget : ℕ) (outcome : Outcome) : Type 0 where
-  pub evidence : HasEvidence case set budget outcome
+  pub evidence : HasOutcomeEvidence case set budget outcome
   pub known : IsEnough case.graph case.log budget → is_unknown outcome ≡ false
 
 -- An outcome of the hypothesis of a number, which is not unknown if the budget is enough.

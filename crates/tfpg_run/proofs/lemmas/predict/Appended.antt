@@ -13,13 +13,13 @@ use Rattle.tfpg_evidence.specs.declared.finding.Finding.{Finding}
 use Rattle.tfpg_predict.specs.declared.outlook.Outlook.{Outlook}
 use Rattle.tfpg_evidence.specs.Findings.{findings_at}
 use Rattle.tfpg_evidence.specs.RoundOf.{finding_numbered}
-use Rattle.tfpg_predict.specs.LeastTime.{Question, question_of}
+use Rattle.tfpg_predict.specs.LeastTime.{Lookahead, lookahead_of}
 use Rattle.tfpg_run.specs.declared.predict.query.Query.{Query}
-use Rattle.tfpg_run.specs.inside.predict.Forecasting.{AddsForecasts, ForecastsFollow, question_in}
+use Rattle.tfpg_run.specs.inside.predict.Forecasting.{AddsForecasts, ForecastsFollow, lookahead_in}
 use Rattle.tfpg_run.specs.predict.Forecasts.{Forecast, HasForecastsOf, IsForecast, forecast_text, outlook_text, probed_names}
 use Rattle.tfpg_predict.specs.Probed.{IsProbeNumber}
 
-module _ (asked : Question) (budget : ℕ) (probed : Tfpg) where
+module _ (asked : Lookahead) (budget : ℕ) (probed : Tfpg) where
   -- no finding has no forecast
   pub no_forecasts : HasForecastsOf asked budget probed [] []
   no_forecasts = record { forecasts = []; one_each = refl; right = All-nil (IsForecast asked budget); text_is = refl }
@@ -62,14 +62,14 @@ found_more findings numbers number = filter_map-append (finding_numbered finding
 module _ (query : Query) where
   -- nothing was appended
   pub adds_none : (old : List ℕ) → AddsForecasts query [] old old
-  adds_none old = record { text = []; has = no_forecasts (question_in query) query.budget query.probed.now; appended = sym (append-nil old) }
+  adds_none old = record { text = []; has = no_forecasts (lookahead_in query) query.budget query.probed.now; appended = sym (append-nil old) }
 
   -- one forecast was
-  pub adds_one : (finding : Finding) (outlook : Outlook) (old new : List ℕ) → IsForecast (question_in query) query.budget (record { finding = finding; outlook = outlook })
+  pub adds_one : (finding : Finding) (outlook : Outlook) (old new : List ℕ) → IsForecast (lookahead_in query) query.budget (record { finding = finding; outlook = outlook })
       → new ≡ old ++ outlook_text query.graph.now query.probed.now finding outlook → AddsForecasts query (finding ∷ []) old new
   adds_one finding outlook old new is appended = record {
     text = outlook_text query.graph.now query.probed.now finding outlook;
-    has = one_forecast (question_in query) query.budget query.probed.now finding outlook is;
+    has = one_forecast (lookahead_in query) query.budget query.probed.now finding outlook is;
     appended = appended;
   }
 
@@ -77,12 +77,12 @@ module _ (query : Query) where
   pub adds_more : (findings others : List Finding) (old mid new : List ℕ) → AddsForecasts query findings old mid → AddsForecasts query others mid new → AddsForecasts query (findings ++ others) old new
   adds_more findings others old mid new adds more = record {
     text = adds.text ++ more.text;
-    has = more_forecasts (question_in query) query.budget query.probed.now findings others adds.text more.text adds.has more.has;
+    has = more_forecasts (lookahead_in query) query.budget query.probed.now findings others adds.text more.text adds.has more.has;
     appended = more.appended ∙ ap (λ (t : List ℕ). t ++ more.text) adds.appended ∙ append_assoc old adds.text more.text;
   }
 
   -- unless memory ran out
-  pub adds_if : (result : Result (Unit {0}) NoMemory) (finding : Finding) (outlook : Outlook) (old new : List ℕ) → IsForecast (question_in query) query.budget (record { finding = finding; outlook = outlook })
+  pub adds_if : (result : Result (Unit {0}) NoMemory) (finding : Finding) (outlook : Outlook) (old new : List ℕ) → IsForecast (lookahead_in query) query.budget (record { finding = finding; outlook = outlook })
       → Appends result old new (outlook_text query.graph.now query.probed.now finding outlook) → OnOk result (AddsForecasts query (finding ∷ []) old new)
   adds_if (Ok done) finding outlook old new is appended = adds_one finding outlook old new is appended
   adds_if (Err short) finding outlook old new is appended = tt
@@ -90,24 +90,24 @@ module _ (query : Query) where
 -- ---- what stands after the old bytes, by the names of the probe
 
 module _ (query : Query) (findings : List Finding) (old new : List ℕ) where
-  follows : (number : ℕ) → IsProbeNumber query.graph.now number → query.probed.now ≡ probed_names (question_in query) number → AddsForecasts query findings old new
-      → ForecastsFollow (question_in query) query.budget findings old new
+  follows : (number : ℕ) → IsProbeNumber query.graph.now number → query.probed.now ≡ probed_names (lookahead_in query) number → AddsForecasts query findings old new
+      → ForecastsFollow (lookahead_in query) query.budget findings old new
   follows number named probed_is adds = record {
     text = adds.text;
     are = record {
       number = number;
       named = named;
-      has = subst (λ (probed : Tfpg). HasForecastsOf (question_in query) query.budget probed findings adds.text) probed_is adds.has;
+      has = subst (λ (probed : Tfpg). HasForecastsOf (lookahead_in query) query.budget probed findings adds.text) probed_is adds.has;
     };
     appended = adds.appended;
   }
 
   pub follows_if : (result : Result (Unit {0}) NoMemory) → OnOk result (AddsForecasts query findings old new) → (number : ℕ) → IsProbeNumber query.graph.now number
-      → query.probed.now ≡ probed_names (question_in query) number → (graph : Tfpg) (log : Logbook) (budget : ℕ) (ranked : List Finding) → query.graph.now ≡ graph → query.log.now ≡ log
-      → query.budget ≡ budget → findings ≡ ranked → OnOk result (ForecastsFollow (question_of graph log query.node query.to) budget ranked old new)
+      → query.probed.now ≡ probed_names (lookahead_in query) number → (graph : Tfpg) (log : Logbook) (budget : ℕ) (ranked : List Finding) → query.graph.now ≡ graph → query.log.now ≡ log
+      → query.budget ≡ budget → findings ≡ ranked → OnOk result (ForecastsFollow (lookahead_of graph log query.node query.to) budget ranked old new)
   follows_if result adds number named probed_is graph log budget ranked g l b f =
       on_ok_weaker result
       (λ one.
-      subst₂ (λ (x : Tfpg) (y : Logbook). ForecastsFollow (question_of x y query.node query.to) budget ranked old new) g l
-      (subst₂ (λ (n : ℕ) (fs : List Finding). ForecastsFollow (question_in query) n fs old new) b f (follows number named probed_is one)))
+      subst₂ (λ (x : Tfpg) (y : Logbook). ForecastsFollow (lookahead_of x y query.node query.to) budget ranked old new) g l
+      (subst₂ (λ (n : ℕ) (fs : List Finding). ForecastsFollow (lookahead_in query) n fs old new) b f (follows number named probed_is one)))
       adds

@@ -19,7 +19,7 @@ use Rattle.tfpg_clause.specs.Trees.{Judged}
 use Rattle.tfpg_clause.proofs.trees.NamedSteps.{AreStepsOfGraph, partial_named, refutation_named}
 use Rattle.tfpg_predict.specs.declared.outlook.Outlook.{Outlook}
 use Rattle.tfpg_predict.specs.declared.outlook.Outlook.TheVariants.{Earliest, Never, Unsettled}
-use Rattle.tfpg_predict.specs.LeastTime.{Question, question_of}
+use Rattle.tfpg_predict.specs.LeastTime.{Lookahead, lookahead_of}
 use Rattle.tfpg_predict.specs.Outlooks.{IsOutlook, IsProbeCase, IsRefutedAt, IsSpentAt}
 use Rattle.tfpg_predict.specs.Probed.{IsProbeable, probe_lag, probe_word}
 use Rattle.tfpg_predict.proofs.AsProbed.{able_ignoring, by_its_end, of_probed}
@@ -44,7 +44,7 @@ same_sizes graph name other node lag late = λ i. record {
 
 -- ---- outlooks
 
-module _ (asked : Question) (set : List ℕ) (valid : IsValid asked.graph) (able : IsProbeable asked) (ordered : IsOrdered asked.log) (number : ℕ) where
+module _ (asked : Lookahead) (set : List ℕ) (valid : IsValid asked.graph) (able : IsProbeable asked) (ordered : IsOrdered asked.log) (number : ℕ) where
   -- the sizes of the probed graph
   abbrev Probed : Sizes
   Probed = sizes_of (probed_names asked number)
@@ -72,8 +72,8 @@ module _ (asked : Question) (set : List ℕ) (valid : IsValid asked.graph) (able
 
   pub outlook_named : (budget : ℕ) (outlook : Outlook) → IsOutlook asked set budget outlook → IsOutlookOf (sizes_of asked.graph) Probed outlook
   outlook_named budget (Earliest time trace earlier) is =
-      let by_end : time ≤ asked.to = by_its_end asked set trace asked.node time is.least.outcome is.least.attained in (
-        is.least.outcome.trace_of.1,
+      let by_end : time ≤ asked.to = by_its_end asked set trace asked.node time is.least.explains is.least.attained in (
+        is.least.explains.trace_of.1,
         ⊎_elim
             (λ later. named_when_refuted (time - 1) (omega (arith, by_end)) budget earlier (is.refuted later))
             (λ zero. subst (All (IsStepOf Probed)) (sym (is.at_zero (omega (arith, zero)))) (All-nil (IsStepOf Probed)))
@@ -84,10 +84,10 @@ module _ (asked : Question) (set : List ℕ) (valid : IsValid asked.graph) (able
 
 -- so does one that answers what the code asks of a finding
 pub named_in_query : (query : Query) (is : IsQuery query) (finding : Finding) → IsAskable query.graph.now finding → (outlook : Outlook)
-    → IsOutlook (question_of query.graph.now (ignoring query.log.now finding.doubts) query.node query.to) finding.set query.budget outlook
+    → IsOutlook (lookahead_of query.graph.now (ignoring query.log.now finding.doubts) query.node query.to) finding.set query.budget outlook
     → IsOutlookOf (sizes_of query.graph.now) (sizes_of query.probed.now) outlook
 named_in_query query is finding askable outlook right =
     subst (λ (probed : Tfpg). IsOutlookOf (sizes_of query.graph.now) (sizes_of probed) outlook) (sym is.probed_is)
-    (outlook_named (question_of query.graph.now (ignoring query.log.now finding.doubts) query.node query.to) finding.set is.valid
+    (outlook_named (lookahead_of query.graph.now (ignoring query.log.now finding.doubts) query.node query.to) finding.set is.valid
     (able_ignoring query.graph.now query.log.now query.node query.to finding.doubts is.probeable askable.doubts)
     (record { in_order = is.ordered.in_order; in_range = is.ordered.in_range }) is.number query.budget outlook right)

@@ -20,14 +20,14 @@ use Rattle.tfpg_evidence.specs.Findings.{ranked_in_order}
 use Rattle.tfpg_evidence.proofs.FindingsByNumber.{RiseByNumber}
 use Rattle.tfpg_hyp.specs.Rounds.{IsRound}
 use Rattle.tfpg_hyp.proofs.FindingsOfRound.{HasFindingAt, evidence}
-use Rattle.tfpg_predict.specs.LeastTime.{Question, question_of}
+use Rattle.tfpg_predict.specs.LeastTime.{Lookahead, lookahead_of}
 use Rattle.tfpg_predict.specs.Probed.{IsProbeable}
 use Rattle.tfpg_run.specs.declared.diagnosis.Diagnosis.{Diagnosis}
 use Rattle.tfpg_run.specs.declared.fault.ProbeFault.TheVariants.{TooManyNodes, TooManyEdges}
 use Rattle.tfpg_run.specs.declared.predict.forecasts.Aim.{Aim}
 use Rattle.tfpg_run.specs.inside.diagnosis.Diagnosed.{HasDiagnosed, HasLastOf}
 use Rattle.tfpg_run.specs.inside.predict.Forecasting.{ForecastsFollow, IsAimAt, IsAskable}
-use Rattle.tfpg_run.specs.predict.Forecasts.{AreForecastsAfter, AreForecastsOf, HasForecasts, predict_line, prediction, question_after, time_ahead}
+use Rattle.tfpg_run.specs.predict.Forecasts.{AreForecastsAfter, AreForecastsOf, HasForecasts, predict_line, prediction, lookahead_after, time_ahead}
 use Rattle.tfpg_run.specs.predict.Probing.{known_node, probed_node}
 use Rattle.tfpg_run.proofs.lemmas.diagnose.LineBlocks.{NamesOfRounds}
 use Rattle.tfpg_run.proofs.lemmas.diagnosis.Diagnosed.{last_diagnosed}
@@ -67,7 +67,7 @@ now_upto log ordered = last_upto log.events 0 MAX_TIME (omega arith) ordered.in_
 
 -- The node may be asked about.
 pub probeable_aim : (graph : Tfpg) (log : Logbook) (aim : Aim) (to : ℕ) → IsAimAt graph aim → IsLogOf graph log → IsOrdered log → to ≡ time_ahead (now_of log) aim.ahead
-    → IsProbeable (question_of graph log aim.node to)
+    → IsProbeable (lookahead_of graph log aim.node to)
 probeable_aim graph log aim to is of ordered to_is =
     let now = now_upto log ordered in
     record {
@@ -101,7 +101,7 @@ module _ (graph : Tfpg) (name : List ℕ) (node : ℕ) where
 
 -- With the forecasts after its line, or with its line alone, it is the prediction.
 module _ (graph : Tfpg) (terms : Terms) (lines : List (List ℕ)) (d : Diagnosis) (has : HasDiagnosed graph terms lines d) (aim : Aim) (log : Logbook) (log_is : log ≡ log_of_lines graph lines) where
-  predicted : (forecasts text : List ℕ) → AreForecastsAfter (question_after graph lines aim.node aim.ahead) terms.budget d.last forecasts
+  predicted : (forecasts text : List ℕ) → AreForecastsAfter (lookahead_after graph lines aim.node aim.ahead) terms.budget d.last forecasts
       → text ≡ predict_line aim.name.now (now_of log) (time_ahead (now_of log) aim.ahead) ++ forecasts → HasForecasts graph (prediction terms aim.ahead aim.name.now) aim.node lines text
   predicted forecasts text are text_is = record {
     last = d.last;
@@ -115,16 +115,16 @@ module _ (graph : Tfpg) (terms : Terms) (lines : List (List ℕ)) (d : Diagnosis
   pub predicted_none : (text : List ℕ) → d.last ≡ None → text ≡ predict_line aim.name.now (now_of log) (time_ahead (now_of log) aim.ahead)
       → HasForecasts graph (prediction terms aim.ahead aim.name.now) aim.node lines text
   predicted_none text none text_is =
-      predicted [] text (subst (λ (last : Option Round). AreForecastsAfter (question_after graph lines aim.node aim.ahead) terms.budget last []) (sym none) refl)
+      predicted [] text (subst (λ (last : Option Round). AreForecastsAfter (lookahead_after graph lines aim.node aim.ahead) terms.budget last []) (sym none) refl)
       (text_is ∙ sym (append-nil _))
 
   -- there was one
   pub predicted_last : (round : Round) (old text : List ℕ) (other : Logbook) (to : ℕ) → d.last ≡ Some round → old ≡ predict_line aim.name.now (now_of log) (time_ahead (now_of log) aim.ahead)
-      → log ≡ other → to ≡ time_ahead (now_of log) aim.ahead → ForecastsFollow (question_of graph other aim.node to) terms.budget (ranked_in_order round) old text
+      → log ≡ other → to ≡ time_ahead (now_of log) aim.ahead → ForecastsFollow (lookahead_of graph other aim.node to) terms.budget (ranked_in_order round) old text
       → HasForecasts graph (prediction terms aim.ahead aim.name.now) aim.node lines text
   predicted_last round old text other to is old_is same to_is follow =
-      let here = subst₂ (λ (l : Logbook) (t : ℕ). ForecastsFollow (question_of graph l aim.node t) terms.budget (ranked_in_order round) old text) (sym same) to_is follow in
+      let here = subst₂ (λ (l : Logbook) (t : ℕ). ForecastsFollow (lookahead_of graph l aim.node t) terms.budget (ranked_in_order round) old text) (sym same) to_is follow in
       predicted here.text text
-      (subst (λ (last : Option Round). AreForecastsAfter (question_after graph lines aim.node aim.ahead) terms.budget last here.text) (sym is)
-      (subst (λ (l : Logbook). AreForecastsOf (question_of graph l aim.node (time_ahead (now_of l) aim.ahead)) terms.budget (ranked_in_order round) here.text) log_is here.are))
+      (subst (λ (last : Option Round). AreForecastsAfter (lookahead_after graph lines aim.node aim.ahead) terms.budget last here.text) (sym is)
+      (subst (λ (l : Logbook). AreForecastsOf (lookahead_of graph l aim.node (time_ahead (now_of l) aim.ahead)) terms.budget (ranked_in_order round) here.text) log_is here.are))
       (here.appended ∙ ap (λ (t : List ℕ). t ++ here.text) old_is)

@@ -9,7 +9,7 @@ use Rattle.tfpg_evidence.specs.declared.finding.Finding.{Finding}
 use Rattle.tfpg_evidence.specs.RoundOf.{IsStepOf}
 use Rattle.tfpg_predict.specs.declared.outlook.Outlook.{Outlook}
 use Rattle.tfpg_predict.specs.declared.outlook.Outlook.TheVariants.{Earliest, Never, Unsettled}
-use Rattle.tfpg_predict.specs.LeastTime.{Question, question_of}
+use Rattle.tfpg_predict.specs.LeastTime.{Lookahead, lookahead_of}
 use Rattle.tfpg_predict.specs.Probed.{IsProbeable, IsProbeNumber}
 use Rattle.tfpg_run.specs.declared.predict.forecasts.Aim.{Aim}
 use Rattle.tfpg_run.specs.declared.predict.query.Query.{Query}
@@ -22,19 +22,19 @@ pub record IsAimAt (graph : Tfpg) (aim : Aim) : Type 0 where
   pub few_edges : length graph.edges < MAX_EDGES
   pub not_far : aim.ahead ≤ MAX_TIME
 
--- the question that the code asks, by the log as it stands
-abbrev pub question_in : Query → Question
-question_in query = question_of query.graph.now query.log.now query.node query.to
+-- the look ahead that the code makes, by the log as it stands
+abbrev pub lookahead_in : Query → Lookahead
+lookahead_in query = lookahead_of query.graph.now query.log.now query.node query.to
 
--- The question allows a probe, of which the graph of names is one, and the budget is not 0.
+-- The look ahead allows a probe, of which the graph of names is one, and the budget is not 0.
 pub record IsQuery (query : Query) : Type 0 where
   pub valid : IsValid query.graph.now
   pub ordered : IsOrdered query.log.now
-  pub probeable : IsProbeable (question_in query)
+  pub probeable : IsProbeable (lookahead_in query)
   pub budget : 1 ≤ query.budget
   pub number : ℕ
   pub named : IsProbeNumber query.graph.now number
-  pub probed_is : query.probed.now ≡ probed_names (question_in query) number
+  pub probed_is : query.probed.now ≡ probed_names (lookahead_in query) number
 
 -- The hypothesis of the finding is one of the graph.
 pub record IsAskable (graph : Tfpg) (finding : Finding) : Type 0 where
@@ -51,11 +51,11 @@ IsOutlookOf sizes probed (Unsettled bound steps) = All (IsStepOf probed) steps
 -- Right forecasts of these findings stand after the old bytes.
 pub record AddsForecasts (query : Query) (findings : List Finding) (old new : List ℕ) : Type 0 where
   pub text : List ℕ
-  pub has : HasForecastsOf (question_in query) query.budget query.probed.now findings text
+  pub has : HasForecastsOf (lookahead_in query) query.budget query.probed.now findings text
   pub appended : new ≡ old ++ text
 
 -- Forecasts of these findings stand after the old bytes.
-pub record ForecastsFollow (asked : Question) (budget : ℕ) (findings : List Finding) (old new : List ℕ) : Type 0 where
+pub record ForecastsFollow (asked : Lookahead) (budget : ℕ) (findings : List Finding) (old new : List ℕ) : Type 0 where
   pub text : List ℕ
   pub are : AreForecastsOf asked budget findings text
   pub appended : new ≡ old ++ text

@@ -5,7 +5,7 @@ use Rattle.tfpg_log.specs.Log.{Logbook}
 use Rattle.tfpg_evidence.specs.declared.finding.Finding.{Finding}
 use Rattle.tfpg_evidence.specs.Findings.{findings_at, ranked_in_order}
 use Rattle.tfpg_evidence.proofs.FindingsByNumber.{RiseByNumber}
-use Rattle.tfpg_predict.specs.LeastTime.{question_of}
+use Rattle.tfpg_predict.specs.LeastTime.{lookahead_of}
 use Rattle.tfpg_predict.specs.Probed.{IsProbeable}
 use Rattle.tfpg_run.specs.inside.predict.Forecasting.{IsAskable}
 use Rattle.tfpg_run.proofs.lemmas.predict.Appended.{follows_if}
@@ -13,13 +13,13 @@ use Rattle.tfpg_run.proofs.predict.forecasts.append_forecasts.Goals as goal
 
 pub probed-requires-clause-probeable : goal.probed-requires-clause-probeable
 probed-requires-clause-probeable g c =
-    subst₂ (λ (graph : Tfpg) (log : Logbook). IsProbeable (question_of graph log c.args.node c.args.to)) (sym c.graph-graph.ensures) (sym c.log-log.ensures.log) c.requires.probeable
+    subst₂ (λ (graph : Tfpg) (log : Logbook). IsProbeable (lookahead_of graph log c.args.node c.args.to)) (sym c.graph-graph.ensures) (sym c.log-log.ensures.log) c.requires.probeable
 
 pub append_ranked-requires-clause-query : goal.append_ranked-requires-clause-query
 append_ranked-requires-clause-query g c = record {
   valid = c.is_always_valid.ensures.valid;
   ordered = c.is_always_ordered.ensures;
-  probeable = subst₂ (λ (graph : Tfpg) (log : Logbook). IsProbeable (question_of graph log c.args.node c.args.to)) (sym c.graph-graph.ensures) (sym c.log-log.ensures.log) c.requires.probeable;
+  probeable = subst₂ (λ (graph : Tfpg) (log : Logbook). IsProbeable (lookahead_of graph log c.args.node c.args.to)) (sym c.graph-graph.ensures) (sym c.log-log.ensures.log) c.requires.probeable;
   budget = omega (arith, c.budget.ensures, c.requires.budget);
   number = c.in_ok-probed.ensures.probed.number;
   named = c.in_ok-probed.ensures.probed.named;

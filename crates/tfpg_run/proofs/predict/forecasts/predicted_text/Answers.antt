@@ -1,6 +1,6 @@
 use Rattle.std.proofs.Common.{ℕ, List, ◌++◌, ap, subst, ◌∙◌, arith}
 use Rattle.tfpg_log.specs.Log.{Logbook, IsLogOf}
-use Rattle.tfpg_predict.specs.LeastTime.{question_of}
+use Rattle.tfpg_predict.specs.LeastTime.{lookahead_of}
 use Rattle.tfpg_predict.specs.Probed.{IsProbeable}
 use Rattle.tfpg_run.specs.predict.Forecasts.{predict_line, time_ahead}
 use Rattle.tfpg_run.proofs.lemmas.predict.Predictions.{last_askable, last_rising, now_upto, predicted_last, probeable_aim}
@@ -11,7 +11,7 @@ time_ahead-to-requires-clause-now g c = omega (arith, c.now-now.ensures, now_upt
 
 pub append_forecasts-requires-clause-probeable : goal.append_forecasts-requires-clause-probeable
 append_forecasts-requires-clause-probeable g c =
-    subst (λ (log : Logbook). IsProbeable (question_of c.args.diagnosis.now.engine.graph log c.args.aim.now.node c.time_ahead-to.result)) c.log-log.ensures.log
+    subst (λ (log : Logbook). IsProbeable (lookahead_of c.args.diagnosis.now.engine.graph log c.args.aim.now.node c.time_ahead-to.result)) c.log-log.ensures.log
     (probeable_aim c.args.diagnosis.now.engine.graph c.log-log.result.now c.args.aim.now c.time_ahead-to.result c.requires.aim c.log-log.ensures.of c.is_always_ordered.ensures
     (c.time_ahead-to.ensures ∙ ap (λ (n : ℕ). time_ahead n c.args.aim.now.ahead) c.now-now.ensures))
 
