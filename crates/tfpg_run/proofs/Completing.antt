@@ -197,7 +197,7 @@ module _ (graphs : GraphLaws) (laws : CheckLaws) (before now : World) (calm : No
       → IsCompleted end
   diagnosed short end terms name can (inl lacks) =
       inr (without_memory end lacks.fault (fetched before.shelf can.files can.known Spells IsFirstFault graphs.text name can.graph can.gives now.shelf lacks.fault calm.shelf lacks.is_fault) lacks.end_is)
-  diagnosed short end terms name can (inr (inl many)) = absurd (omega (arith, many.too_many, can.few many.graph many.count many.gives many.counted))
+  diagnosed short end terms name can (inr (inl many)) = absurd (omega (arith, many.ends.too_many, can.few many.graph many.ends.count many.gives many.ends.counted))
   diagnosed short end terms name can (inr (inr file)) = go file.ends.result file.ends.works.ends file.ends.end_is
     where
       go : (result : Result (Unit {0}) StreamFault)

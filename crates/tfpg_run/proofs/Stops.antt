@@ -94,11 +94,7 @@ module _ {T : Type 0} (terms : Terms) (name : List ℕ) (before now : World) (re
           graph = graph;
           gives = gives;
           no_fault = no_fault;
-          count = count;
-          counted = many.1;
-          too_many = many.0;
-          end_is = refl;
-          untouched = untouched;
+          ends = record { count = count; counted = many.1; too_many = many.0; end_is = refl; untouched = untouched };
         })))
     stops_without_engine NoMemory within told exact untouched err =
         ends_by ends.NoMemory err (inr (inr (record {

@@ -1,16 +1,16 @@
 -- What `diagnose` does: it reads a graph, and writes the report of the input line by line.
-use Rattle.std.specs.Prelude.{◌≡◌, ◌⊎◌, ℕ, ◌<◌, ◌≤◌, List, Result}
+use Rattle.std.specs.Prelude.{◌≡◌, ◌⊎◌, ℕ, ◌≤◌, List, Result}
 use Rattle.tfpg_graph.specs.Graph.{Tfpg}
 use Rattle.tfpg_hyp.specs.Hypotheses.{HasHypotheses}
 use Rattle.tfpg_hyp.specs.declared.limits.TheConstants.{MAX_HYPOTHESES}
 use Rattle.tfpg_base.specs.declared.terms.Terms.{Terms}
 use Rattle.tfpg_run.specs.declared.end.End.{End}
-use Rattle.tfpg_run.specs.declared.end.End.TheVariants as ends
 use Rattle.tfpg_run.specs.declared.fault.StreamFault.{StreamFault}
 use Rattle.tfpg_run.specs.EndsOf.{EndsBy, end_of_stream_fault}
 use Rattle.tfpg_run.specs.Fetch.{GivesGraph, LacksGraph}
 use Rattle.tfpg_run.specs.Outputs.{WorksLineByLine}
 use Rattle.tfpg_run.specs.World.{World, Watched, streams_in, watched_of}
+use Rattle.tfpg_run.specs.diagnosis.TooMany.{EndsWithTooMany}
 use Rattle.tfpg_run.specs.diagnose.RightReport.{IsRightReport, BeginsRightReport}
 use Rattle.tfpg_run.specs.diagnose.TellsPanels.{desks}
 
@@ -27,11 +27,7 @@ pub record HasTooManyHypotheses (terms : Terms) (name : List ℕ) (before now : 
   pub graph : Tfpg
   pub gives : GivesGraph before.shelf name graph
   pub no_fault : now.shelf.faults ≡ before.shelf.faults
-  pub count : ℕ
-  pub counted : HasHypotheses graph terms count
-  pub too_many : MAX_HYPOTHESES < count
-  pub end_is : end ≡ ends.TooManyHypotheses count
-  pub untouched : watched_of now ≡ watched_of before
+  pub ends : EndsWithTooMany graph terms before now end
 
 -- The graph of the file of this name was diagnosed. It has at most 4,096 hypotheses on these terms.
 pub record DiagnosesFile (terms : Terms) (name : List ℕ) (before now : World) (end : End) : Type 0 where

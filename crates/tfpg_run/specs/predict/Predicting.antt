@@ -1,17 +1,16 @@
 -- What `predict` does: it reads a graph and a log, diagnoses the log, and writes when at the earliest a node becomes active.
-use Rattle.std.specs.Prelude.{◌≡◌, ◌⊎◌, ℕ, ◌<◌, ◌≤◌, List, Ok, Err}
-use Rattle.tfpg_base.specs.declared.terms.Terms.{Terms}
+use Rattle.std.specs.Prelude.{◌≡◌, ◌⊎◌, ℕ, ◌≤◌, List, Ok, Err}
 use Rattle.tfpg_base.specs.Lines.{lines_of}
 use Rattle.tfpg_graph.specs.Graph.{Tfpg}
 use Rattle.tfpg_hyp.specs.Hypotheses.{HasHypotheses}
 use Rattle.tfpg_hyp.specs.declared.limits.TheConstants.{MAX_HYPOTHESES}
 use Rattle.tfpg_run.specs.declared.end.End.{End}
-use Rattle.tfpg_run.specs.declared.end.End.TheVariants as ends
 use Rattle.tfpg_run.specs.declared.fault.ProbeFault.{ProbeFault}
 use Rattle.tfpg_run.specs.EndsOf.{EndsBy, end_of_output_fault, end_of_probe_fault}
 use Rattle.tfpg_run.specs.Fetch.{GivesGraphAndText, LacksGraphOrText, WorksByFiles}
 use Rattle.tfpg_run.specs.Outputs.{TextEnds}
 use Rattle.tfpg_run.specs.World.{World, watched_of}
+use Rattle.tfpg_run.specs.diagnosis.TooMany.{EndsWithTooMany}
 use Rattle.tfpg_run.specs.predict.Forecasts.{Prediction, HasForecasts}
 use Rattle.tfpg_run.specs.predict.Probing.{probed_node}
 
@@ -20,14 +19,6 @@ pub record TakesNoProbe (graph : Tfpg) (name : List ℕ) (before now : World) (e
   pub fault : ProbeFault
   pub is_fault : probed_node graph name ≡ Err fault
   pub end_is : end ≡ end_of_probe_fault fault
-  pub untouched : watched_of now ≡ watched_of before
-
--- The graph has more than 4,096 hypotheses on these terms, exactly this many, and all but the shelf is untouched.
-pub record HasTooMany (graph : Tfpg) (terms : Terms) (before now : World) (end : End) : Type 0 where
-  pub count : ℕ
-  pub counted : HasHypotheses graph terms count
-  pub too_many : MAX_HYPOTHESES < count
-  pub end_is : end ≡ ends.TooManyHypotheses count
   pub untouched : watched_of now ≡ watched_of before
 
 -- The graph has at most 4,096 hypotheses, and the forecasts of the node by the lines of the log were written.
@@ -42,7 +33,7 @@ pub record WritesForecasts (graph : Tfpg) (asked : Prediction) (log_text : List 
 abbrev pub PredictionEnds : Prediction → World → World → Tfpg → List ℕ → End → Type 0
 PredictionEnds asked before now graph log_text end =
     TakesNoProbe graph asked.node before now end
-    ⊎ (((node : ℕ) × (probed_node graph asked.node ≡ Ok node) × HasTooMany graph asked.terms before now end)
+    ⊎ (((node : ℕ) × (probed_node graph asked.node ≡ Ok node) × EndsWithTooMany graph asked.terms before now end)
     ⊎ WritesForecasts graph asked log_text before now end)
 
 -- There is no graph or no log of the files of those names; or a prediction was made by them.

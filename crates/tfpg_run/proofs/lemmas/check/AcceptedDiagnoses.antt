@@ -40,7 +40,7 @@ record WroteReport (terms : Terms) (name : List ℕ) (before now : World) : Type
 
 wrote_report : (terms : Terms) (panels : List PanelWord) (name : List ℕ) (before now : World) → RunEnds (Ok (Diagnose terms name panels)) before now Done → WroteReport terms name before now
 wrote_report terms panels name before now (inl (inl lacks)) = absurd (fetch_not_done lacks.fault (sym lacks.end_is))
-wrote_report terms panels name before now (inl (inr (inl many))) = let is : Done ≡ TooManyHypotheses many.count = many.end_is in absurd cc
+wrote_report terms panels name before now (inl (inr (inl many))) = let is : Done ≡ TooManyHypotheses many.ends.count = many.ends.end_is in absurd cc
 wrote_report terms panels name before now (inl (inr (inr file))) = by file.ends.result file.ends.works.ends file.ends.end_is
   where
     by : (result : Result (Unit {0}) StreamFault)
