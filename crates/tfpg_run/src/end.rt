@@ -32,8 +32,8 @@ pub enum End {
     Usage { cause: UsageCause },
     /// The graph file has this fault in this line.
     Graph { line: u64, cause: GraphCause },
-    /// There are more than [`MAX_HYPOTHESES`](tfpg_hyp::MAX_HYPOTHESES) sets of at most `k` failure modes, exactly this many; or there are
-    /// not, and those of all vehicles of a fleet are more than [`MAX_FLEET_HYPOTHESES`](tfpg_fleet::MAX_FLEET_HYPOTHESES), exactly this many.
+    /// There are more than [`MAX_HYPOTHESES`](tfpg_hyp::MAX_HYPOTHESES) hypotheses on the terms, exactly this many; or there are not, and
+    /// those of all vehicles of a fleet are more than [`MAX_FLEET_HYPOTHESES`](tfpg_fleet::MAX_FLEET_HYPOTHESES), exactly this many.
     TooManyHypotheses { count: u128 },
     /// The shelf of files or the input failed.
     ReadFault,
