@@ -291,7 +291,7 @@ fn is_as_expected(expected: &Expected, found: &Found, steps: &StepList) -> bool 
 }
 
 /// How many of the steps are splits.
-fn split_count(steps: &StepList) -> usize {
+pub(crate) fn split_count(steps: &StepList) -> usize {
     steps
         .as_slice()
         .iter()
