@@ -1,21 +1,19 @@
 -- What the last event shows at once.
-use Rattle.std.proofs.Common.{◌≡◌, ℕ, suc, ◌+◌, ◌-◌, ◌<◌, ◌≤◌, Bool, true, false, not, ◌&&◌, leb, ltb, List, [], ◌∷◌, ◌++◌, length, map, take, refl, sym, ap, subst, ◌∙◌, ⊎_elim, arith, pos}
-use Rattle.std.specs.Prelude.{ℤ, ◌+ℤ◌, ◌<ℤ◌, neg_ℤ, All, IfSome, Option, Some, option_and_then, option_map, slice_get}
+use Rattle.std.proofs.Common.{◌≡◌, ℕ, suc, ◌+◌, ◌<◌, ◌≤◌, true, not, ◌&&◌, leb, ltb, List, [], ◌∷◌, ◌++◌, length, refl, sym, ap, subst, ◌∙◌, ⊎_elim, arith, pos}
+use Rattle.std.specs.Prelude.{◌+ℤ◌, ◌<ℤ◌, neg_ℤ, All, IfSome, Option, Some, option_and_then, option_map, slice_get}
 use Rattle.std.specs.Bool.{then_some}
 use Rattle.std.proofs.lemmas.Bool.{and_from, le-leb, lt-ltb, false_from_ne_true}
 use Rattle.std.proofs.lemmas.Int.{ints}
 use Rattle.std.proofs.lemmas.List.{length-append, take-append-le, take_all}
-use Rattle.std.proofs.lemmas.List.Elements.{All-cons, All-nil, All-weaker}
 use Rattle.std.proofs.lemmas.Option.{slice_get_within}
 use Rattle.tfpg_base.specs.Bounds.{at_least, at_most}
 use Rattle.tfpg_base.specs.Choice.{each_of}
 use Rattle.tfpg_base.specs.ConstraintCycle.{IsNegativeCycle}
 use Rattle.tfpg_base.specs.Hypothesis.{Hypothesis}
 use Rattle.tfpg_base.specs.declared.activation.Activation.{Activation}
-use Rattle.tfpg_base.specs.declared.constraint.Constraint.{Constraint}
 use Rattle.tfpg_base.proofs.lists.Elements.{All-at}
 use Rattle.tfpg_base.proofs.lists.Written.{slice_get-push_cases, slice_get-push_last}
-use Rattle.tfpg_graph.specs.Graph.{Tfpg, is_monitored}
+use Rattle.tfpg_graph.specs.Graph.{Tfpg}
 use Rattle.tfpg_graph.specs.Reach.{is_among}
 use Rattle.tfpg_graph.proofs.NodeAt.{monitored_within}
 use Rattle.tfpg_graph.proofs.lemmas.reach.Reaches.{Contains-from_among}
@@ -23,17 +21,16 @@ use Rattle.tfpg_log.specs.declared.event.Event.{Event}
 use Rattle.tfpg_log.specs.declared.event.Event.TheVariants.{Alarm, Silent, Sweep, Tick, Mode}
 use Rattle.tfpg_log.specs.declared.interval.Interval.{Interval}
 use Rattle.tfpg_log.specs.Explains.{Explains, Shows}
-use Rattle.tfpg_log.specs.Log.{Logbook, IsEventOf, IsLogOf, alarm_interval, event_at, first_events, ignoring, mode_at, now_of, time_of_event, with_event}
+use Rattle.tfpg_log.specs.Log.{Logbook, IsEventOf, IsLogOf, event_at, first_events, ignoring, mode_at, now_of, time_of_event, with_event}
 use Rattle.tfpg_log.proofs.changes.ModeChanges.{mode_after-append}
 use Rattle.tfpg_log.proofs.events.AlarmIntervals.{interval_is}
-use Rattle.tfpg_log.proofs.events.Events.{event_at-last, now-with_event, whole_log}
-use Rattle.tfpg_evidence.specs.declared.reason.Reason.{Reason}
+use Rattle.tfpg_log.proofs.events.Events.{now-with_event}
 use Rattle.tfpg_evidence.specs.declared.reason.Reason.TheVariants.{Unreached, Upto}
 use Rattle.tfpg_evidence.specs.declared.step.Step.{Step}
 use Rattle.tfpg_evidence.specs.declared.step.Step.TheVariants.{Cycle}
-use Rattle.tfpg_clause.specs.Case.{Case, case_of, case_at}
+use Rattle.tfpg_clause.specs.Case.{Case, case_of}
 use Rattle.tfpg_clause.specs.Facts.{fact, upto_alarm}
-use Rattle.tfpg_clause.specs.Trees.{Leaf, IsClosedLeaf, IsRefutation, IsRight, StepPlace, leaf_place, split_count, stated}
+use Rattle.tfpg_clause.specs.Trees.{IsClosedLeaf, IsRefutation, split_count}
 use Rattle.tfpg_clause.proofs.trees.LeafSteps.{leaf_begins, leaf_ends}
 use Rattle.tfpg_whatif.specs.declared.asking.Asking.{Asking}
 use Rattle.tfpg_whatif.specs.declared.asking.LastEvent.{LastEvent}

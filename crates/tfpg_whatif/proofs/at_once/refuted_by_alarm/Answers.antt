@@ -1,6 +1,3 @@
-use Rattle.std.proofs.Common.{subst}
-use Rattle.std.specs.Prelude.{Option, IfSome}
-use Rattle.tfpg_whatif.specs.inside.AtOnce.{IsLatestUnreached}
 use Rattle.tfpg_whatif.proofs.AtOnce.{refutes}
 use Rattle.tfpg_whatif.proofs.at_once.refuted_by_alarm.Goals as goal
 
