@@ -4,10 +4,10 @@ use std::test::Fail;
 use tfpg_base::{
     BUFFER_SIZE, LONGEST_FILE, LONGEST_LINE, LONGEST_NAME, MAX_BUDGET, MAX_BYTES, MAX_CASE_SIZE,
     MAX_DOUBT, MAX_K, MAX_LINE_NUMBER, MAX_MEMBERS, MAX_NODE_NUMBERS, MAX_PANEL_NUMBER, MAX_TIME,
-    MAX_WORDS, NEVER,
+    MAX_VEHICLES, MAX_WORDS, NEVER,
 };
 use tfpg_clause::MAX_CONSTRAINTS;
-use tfpg_fleet::{MAX_FLEET_HYPOTHESES, MAX_VEHICLES};
+use tfpg_fleet::MAX_FLEET_HYPOTHESES;
 use tfpg_graph::{MAX_EDGES, MAX_FAILURES, MAX_INCOMING, MAX_MODES, MAX_NODES, MAX_RARITY};
 use tfpg_hyp::{DOUBT_COST, MAX_HYPOTHESES};
 use tfpg_log::{MAX_EVENTS, MAX_MODE_CHANGES};
@@ -17,11 +17,10 @@ use tfpg_sim::{
 };
 use tfpg_words::{
     DEFAULT_AHEAD, DEFAULT_BUDGET, DEFAULT_DOUBT, DEFAULT_DRAW, DEFAULT_K, DEFAULT_SIZE, MAX_DRAW,
-    MAX_NAMES,
 };
 
 /// A name, the constant, and the number that is promised.
-const LIMITS: [(&str, u64, u64); 45] = [
+const LIMITS: [(&str, u64, u64); 44] = [
     ("bytes of a file", LONGEST_FILE as u64, 16_777_216),
     ("bytes of a line", LONGEST_LINE as u64, 4_096),
     ("bytes of a name", LONGEST_NAME as u64, 32),
@@ -43,8 +42,7 @@ const LIMITS: [(&str, u64, u64); 45] = [
     ("constraints of an alternative", MAX_CONSTRAINTS as u64, 3),
     ("hypotheses", MAX_HYPOTHESES as u64, 4_096),
     ("hypotheses of a fleet", MAX_FLEET_HYPOTHESES as u64, 8_192),
-    ("vehicles of a fleet", MAX_VEHICLES as u64, 64),
-    ("names of vehicles", MAX_NAMES as u64, 64),
+    ("vehicles of a stream", MAX_VEHICLES as u64, 64),
     ("entries of a script", MAX_ENTRIES as u64, 8_192),
     (
         "delays of an edge without a greatest one",
