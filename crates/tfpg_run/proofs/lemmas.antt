@@ -8,3 +8,4 @@ pub mod generate
 pub mod ask
 pub mod fleet
 pub mod predict
+pub mod texts

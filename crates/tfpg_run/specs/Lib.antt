@@ -21,5 +21,7 @@ pub mod convert
 pub mod ask
 pub mod fleet
 pub mod predict
+-- What they say of calls over texts in memory.
+pub mod texts
 -- What the code and its proofs need besides. No public clause reaches it.
 pub mod inside

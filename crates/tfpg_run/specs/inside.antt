@@ -11,4 +11,5 @@ pub mod ask
 pub mod convert
 pub mod fleet
 pub mod predict
+pub mod texts
 pub mod Writing

@@ -72,7 +72,7 @@ fn check_report<S: Source, K: Sink>(
 }
 
 /// Judges the report of the input by the graph and the lines of the log, and returns how many rounds it has.
-fn judge_report<S: Source>(
+pub(crate) fn judge_report<S: Source>(
     alloc: Global,
     graph: Graph,
     log_text: Vec<u8>,

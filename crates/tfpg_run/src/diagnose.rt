@@ -8,8 +8,8 @@ ghost use Rattle.tfpg_run.specs.EndsOf.{end_of_result};
 ghost use Rattle.tfpg_run.specs.diagnose.Diagnosing.{DiagnoseEnds};
 ghost use Rattle.tfpg_run.specs.diagnose.Work.{DiagnosesWithin};
 
-mod line_blocks;
-mod report;
+pub(crate) mod line_blocks;
+pub(crate) mod report;
 mod telling;
 
 use crate::end::End;

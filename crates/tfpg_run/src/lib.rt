@@ -5,6 +5,9 @@
 //! round, that a rejected set stays rejected, that what `diagnose` wrote is accepted by `check`, and that a graph that is converted to
 //! JSON and back is the same graph. [`panel_line`] appends the line that a file panel writes for a round.
 //!
+//! For programs that have no files and no streams there are calls over texts in memory: [`diagnose_texts`], [`check_texts`], and a
+//! [`Session`] that takes the lines of a log one by one.
+//!
 //! ```
 //! // The words `diagnose pump.tfpg`, over a shelf that has the graph, and an input that has a log of it.
 //! let end = run(alloc, &words, &mut shelf, &mut input, &mut out, &mut desk, &mut work);
@@ -30,8 +33,10 @@ mod output;
 mod panel_lines;
 mod predict;
 mod simulate;
+mod texts;
 
 pub use commands::run;
 pub use end::End;
 pub use limits::{GENERATED_BUDGET, GENERATED_K};
 pub use panel_lines::panel_line;
+pub use texts::{CheckTextsFault, OpenFault, ReportFault, Session, check_texts, diagnose_texts};

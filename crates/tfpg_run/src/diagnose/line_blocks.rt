@@ -22,13 +22,13 @@ use tfpg_report::{RefusedLine, refused, render};
 
 /// The block of a line: its text, and its round if it brought one.
 #[derive(Drop)]
-pub(super) struct LineBlock {
-    pub(super) text: Vec<u8>,
-    pub(super) round: Option<Round>,
+pub(crate) struct LineBlock {
+    pub(crate) text: Vec<u8>,
+    pub(crate) round: Option<Round>,
 }
 
 /// The block of a line of this number and text, for a line that is not too long.
-pub(super) fn line_block<L: Ledger>(
+pub(crate) fn line_block<L: Ledger>(
     alloc: Global,
     engine: &mut Engine,
     number: u64,
@@ -62,7 +62,7 @@ pub(super) fn line_block<L: Ledger>(
 }
 
 /// The block of a refused line.
-pub(super) fn refused_block(
+pub(crate) fn refused_block(
     alloc: Global,
     number: u64,
     cause: RefusedLine,

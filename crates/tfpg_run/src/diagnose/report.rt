@@ -37,7 +37,7 @@ pub(super) enum NextBlock {
 }
 
 /// Diagnoses the lines of the input by a new engine, writes the report, and tells the desk each round whose text is written.
-pub(super) fn write_report<S: Source, K: Sink, P: Panel, L: Ledger>(
+pub(crate) fn write_report<S: Source, K: Sink, P: Panel, L: Ledger>(
     alloc: Global,
     engine: &mut Engine,
     input: &mut S,

@@ -1,0 +1,16 @@
+//! Calls over texts in memory, for programs that have no files and no streams.
+//!
+//! [`diagnose_texts`] returns the report of a log, and [`check_texts`] judges one. A [`Session`] takes the lines of a log one by one, and
+//! returns the block of each.
+
+mod checking;
+mod copying;
+mod fault;
+mod opening;
+mod reporting;
+mod session;
+
+pub use checking::check_texts;
+pub use fault::{CheckTextsFault, OpenFault, ReportFault};
+pub use reporting::diagnose_texts;
+pub use session::Session;

@@ -1,0 +1,99 @@
+//! Judging a report, where graph, log and report are texts.
+
+ghost use Rattle.std.specs.Prelude.{◌≡◌, ◌≢◌, ◌≤◌, ◌⊎◌, ℕ, Err, IfErr, IfOk, IsOkUnless, length};
+ghost use Rattle.tfpg_base.specs.Lines.{lines_of};
+ghost use Rattle.tfpg_base.specs.declared.limits.TheConstants.{LONGEST_FILE};
+ghost use Rattle.tfpg_check.specs.declared.cause.CheckCause.{CheckCause};
+ghost use Rattle.tfpg_run.specs.check.Checking.{matter_of};
+ghost use Rattle.tfpg_run.specs.inside.texts.Faults.{check_texts_fault_of_check};
+ghost use Rattle.tfpg_run.specs.inside.texts.Judged.{LacksRounds};
+ghost use Rattle.tfpg_run.specs.texts.Checks.{AreAcceptedLines, CanAccept, CanRefuseText, IsAcceptedText, IsCheckTextsFault, checked_texts};
+
+use super::copying::copy_of;
+use super::fault::CheckTextsFault;
+use crate::check::judge_report;
+use crate::fault::{CheckFault, StreamFault};
+use std::alloc::Global;
+use tfpg_base::{LONGEST_FILE, SteadySource};
+use tfpg_check::laws::lines_have_at_most_one_cause;
+use tfpg_graph::laws::a_text_has_at_most_one_first_fault;
+use tfpg_graph::{Graph, read};
+use tfpg_report::laws::a_report_line_says_one_thing;
+
+/// Judges the report by the graph that the text spells and the lines of the log, and returns how many rounds it has.
+///
+/// # Errors
+///
+/// The first line of the report that is wrong, and why.
+pub fn check_texts(
+    alloc: Global,
+    graph_text: &[u8],
+    log_text: &[u8],
+    report_text: &[u8],
+) -> Result<u32, CheckTextsFault>
+    ensures accepted { IfOk result (IsAcceptedText (checked_texts graph_text.now log_text.now report_text.now)) }
+    ensures fault { IfErr result (IsCheckTextsFault (checked_texts graph_text.now log_text.now report_text.now)) }
+    // A right report is accepted, whoever wrote it, or memory runs out.
+    ensures accepts { CanAccept (checked_texts graph_text.now log_text.now report_text.now) →
+        IsOkUnless result CheckTextsFault.NoMemory }
+    // A report that has a cause for which it is not accepted is refused for it, or memory runs out.
+    ensures refuses { (line : ℕ) (cause : CheckCause) →
+        CanRefuseText (checked_texts graph_text.now log_text.now report_text.now) line cause →
+        (result ≡ Err (CheckTextsFault.NotAccepted line cause)) ⊎ (result ≡ Err CheckTextsFault.NoMemory) }
+{
+    a_text_has_at_most_one_first_fault();
+    lines_have_at_most_one_cause();
+    a_report_line_says_one_thing();
+    judge_texts(alloc, graph_text, log_text, report_text)
+}
+
+/// The same, with what its result says alone.
+fn judge_texts(
+    alloc: Global,
+    graph_text: &[u8],
+    log_text: &[u8],
+    report_text: &[u8],
+) -> Result<u32, CheckTextsFault>
+    ensures accepted { IfOk result (IsAcceptedText (checked_texts graph_text.now log_text.now report_text.now)) }
+    ensures fault { IfErr result (IsCheckTextsFault (checked_texts graph_text.now log_text.now report_text.now)) }
+{
+    if log_text.len() > LONGEST_FILE {
+        return Err(CheckTextsFault::TooMuchInput);
+    }
+    let graph = read(alloc, graph_text)?;
+    let log = copy_of(alloc, log_text)?;
+    rounds_in(alloc, graph, log, report_text)
+}
+
+/// Judges the report by the graph and the lines of the log, and returns how many rounds it has.
+fn rounds_in(
+    alloc: Global,
+    graph: Graph,
+    log_text: Vec<u8>,
+    report_text: &[u8],
+) -> Result<u32, CheckTextsFault>
+    requires { length log_text.items ≤ LONGEST_FILE }
+    ensures accepted { IfOk result (AreAcceptedLines (matter_of graph log_text.items) (lines_of report_text.now)) }
+    ensures fault { IfErr result (LacksRounds (matter_of graph log_text.items) report_text.now) }
+{
+    let mut report = SteadySource::new(report_text);
+    match judge_report(alloc, graph, log_text, &mut report) {
+        Ok(rounds) => Ok(rounds),
+        Err(fault) => Err(fault_in_memory(fault)),
+    }
+}
+
+/// Why a report is not accepted whose input never fails, and where nothing is written.
+fn fault_in_memory(fault: CheckFault) -> CheckTextsFault
+    requires read { fault ≢ CheckFault.Stream StreamFault.ReadFault }
+    requires written { fault ≢ CheckFault.Stream StreamFault.WriteFault }
+    ensures { result ≡ check_texts_fault_of_check fault }
+{
+    match fault {
+        CheckFault::NotAccepted { line, cause } => CheckTextsFault::NotAccepted { line, cause },
+        CheckFault::TooMany { count } => CheckTextsFault::TooManyHypotheses { count },
+        CheckFault::Stream(StreamFault::TooMuchInput) => CheckTextsFault::TooMuchInput,
+        CheckFault::Stream(StreamFault::NoMemory) => CheckTextsFault::NoMemory,
+        CheckFault::Stream(StreamFault::ReadFault | StreamFault::WriteFault) => unreachable!(),
+    }
+}
