@@ -1,0 +1,24 @@
+use Rattle.std.proofs.Common.{◌∙◌, List, ℕ, Ok, Err, ap, length, refl}
+use Rattle.tfpg_embed.specs.Answers.{answer_of_text}
+use Rattle.tfpg_embed.specs.Rooms.{room_after}
+use Rattle.tfpg_embed.proofs.text_calls.tfpg_report.Goals as goal
+
+pub returns-in-Ok : goal.returns-in-Ok
+returns-in-Ok c = record {
+  made = Ok c.in-Ok.report.items;
+  report = c.in-Ok.ensures.report;
+  fault = tt;
+  completes = λ can. tt;
+  answer_is = c.put_text.ensures.answer ∙ ap (λ (text : List ℕ). answer_of_text text (length c.args.room.now)) c.deref.ensures.value;
+  room_is = c.put_text.ensures.room ∙ ap (λ (text : List ℕ). room_after text c.args.room.now) c.deref.ensures.value;
+}
+
+pub returns-in-Err : goal.returns-in-Err
+returns-in-Err c = record {
+  made = Err c.in-Err.fault;
+  report = tt;
+  fault = c.in-Err.ensures.fault;
+  completes = c.in-Err.ensures.completes;
+  answer_is = c.of_report_fault.ensures;
+  room_is = refl;
+}

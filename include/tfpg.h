@@ -1,0 +1,119 @@
+/* The diagnoser of timed failure propagation graphs, for C.
+ *
+ * Texts are bytes, given by a pointer and their number. `docs/formats.md` has the text of a graph, of a log and of a report. Times in
+ * them are milliseconds. A text needs no byte 0 at its end. A pointer is never NULL, also where the number is 0.
+ *
+ * Memory: a call reads the texts that it is given only while it runs, and keeps no pointer to them. A room is the caller's, and a call writes
+ * nothing else of the caller's. The library takes memory of its own by `malloc` and `realloc`, gives it back by `free` before the call
+ * returns, and says so if there is none.
+ *
+ * Threads: calls may run at the same time, each with a room of its own. No call may be made from a signal handler.
+ *
+ * Nothing checks what a C program passes. The library's statements hold for texts and rooms that are there.
+ */
+#ifndef TFPG_H
+#define TFPG_H
+
+#include <stddef.h>
+#include <stdint.h>
+
+#ifdef __cplusplus
+extern "C" {
+#endif
+
+/* How a call ended. */
+enum {
+    /* It is done. */
+    TFPG_DONE = 0,
+    /* The report is not accepted: `line` is the first line of it that is wrong, and `cause` says why. */
+    TFPG_NOT_ACCEPTED = 1,
+    /* `k` is more than 64, `doubt` more than 4, or the budget 0 or more than 10^12. */
+    TFPG_OUT_OF_RANGE = 2,
+    /* The graph's text spells no valid graph: `line` and `cause` are those of its first fault. */
+    TFPG_BAD_GRAPH = 3,
+    /* There are more than 4,096 hypotheses: `count_high` * 2^64 + `count`. */
+    TFPG_TOO_MANY_HYPOTHESES = 4,
+    /* A text is too long. `tfpg_report` takes a log of at most 2^32 bytes, `tfpg_check` one of at most 2^24, and a report of 2^32. */
+    TFPG_TOO_MUCH_INPUT = 7,
+    /* Memory ran out. */
+    TFPG_NO_MEMORY = 8,
+    /* The text has `count` bytes, and the room fewer. Nothing was written. */
+    TFPG_ROOM_TOO_SMALL = 9
+};
+
+/* What is wrong with a graph, in the words of `docs/formats.md`. */
+enum {
+    TFPG_GRAPH_BAD_HEADER = 1,
+    TFPG_GRAPH_BAD_LINE = 2,
+    TFPG_GRAPH_BAD_NAME = 3,
+    TFPG_GRAPH_DUPLICATE_NAME = 4,
+    TFPG_GRAPH_UNKNOWN_NAME = 5,
+    TFPG_GRAPH_BAD_NUMBER = 6,
+    TFPG_GRAPH_NUMBER_TOO_LARGE = 7,
+    TFPG_GRAPH_MIN_OVER_MAX = 8,
+    TFPG_GRAPH_EDGE_INTO_FAILURE = 9,
+    TFPG_GRAPH_SELF_EDGE = 10,
+    TFPG_GRAPH_DUPLICATE_EDGE = 11,
+    TFPG_GRAPH_NO_MODES = 12,
+    TFPG_GRAPH_NO_INCOMING = 13,
+    TFPG_GRAPH_ZERO_CYCLE = 14,
+    TFPG_GRAPH_TOO_MANY_NODES = 15,
+    TFPG_GRAPH_TOO_MANY_FAILURES = 16,
+    TFPG_GRAPH_TOO_MANY_EDGES = 17,
+    TFPG_GRAPH_TOO_MANY_MODES = 18,
+    TFPG_GRAPH_TOO_MANY_INCOMING = 19,
+    TFPG_GRAPH_MISSING_END = 20,
+    TFPG_GRAPH_AFTER_END = 21
+};
+
+/* Why a report is not accepted, in the words of `docs/formats.md`. */
+enum {
+    TFPG_REPORT_AFTER_CLOSED = 1,
+    TFPG_REPORT_NOT_REUSABLE = 2,
+    TFPG_REPORT_NOT_A_CLAUSE = 3,
+    TFPG_REPORT_NOT_A_FACT = 4,
+    TFPG_REPORT_NOT_ON_PATH = 5,
+    TFPG_REPORT_UNCHAINED = 6,
+    TFPG_REPORT_NOT_NEGATIVE = 7,
+    TFPG_REPORT_BAD_REPORT = 8,
+    TFPG_REPORT_SURPLUS = 9,
+    TFPG_REPORT_WRONG_ROUND = 10,
+    TFPG_REPORT_WRONG_HYPOTHESIS = 11,
+    TFPG_REPORT_WRONG_RANKED = 12,
+    TFPG_REPORT_NOT_A_TRACE = 13,
+    TFPG_REPORT_WRONG_OPEN = 14,
+    TFPG_REPORT_WRONG_REJECTED = 15,
+    TFPG_REPORT_WRONG_STATUS = 16,
+    TFPG_REPORT_WRONG_COUNTS = 17,
+    TFPG_REPORT_ENDS_EARLY = 18
+};
+
+/* What a call answers. What a status says nothing of is 0. */
+typedef struct {
+    uint32_t status;     /* one of the first list above */
+    uint32_t cause;      /* why a graph or a report is refused */
+    uint64_t line;       /* at which line, counted from 1 */
+    uint64_t count;      /* how many bytes a text has, or how many rounds, or the last 64 bits of a number of hypotheses */
+    uint64_t count_high; /* the first 64 bits of that number */
+} tfpg_answer;
+
+/* Diagnoses a whole log, and writes its report to the front of the room.
+ *
+ * A hypothesis has at most `k` members, at most `doubt` of them monitors, and at most `budget` splits in a round. `count` is the number of
+ * bytes of the report, also if the room is too small. Then ask again with room enough: the whole diagnosis is made again.
+ *
+ * TFPG_DONE, TFPG_ROOM_TOO_SMALL, TFPG_OUT_OF_RANGE, TFPG_BAD_GRAPH, TFPG_TOO_MANY_HYPOTHESES, TFPG_TOO_MUCH_INPUT, TFPG_NO_MEMORY */
+tfpg_answer tfpg_report(const uint8_t *graph, size_t graph_count, const uint8_t *log, size_t log_count, uint32_t k,
+                        uint32_t doubt, uint64_t budget, uint8_t *room, size_t room_count);
+
+/* Judges a report by the graph and the log, whoever wrote it. If it is accepted, `count` is the number of its rounds.
+ *
+ * TFPG_DONE, TFPG_NOT_ACCEPTED, TFPG_BAD_GRAPH, TFPG_TOO_MANY_HYPOTHESES, TFPG_TOO_MUCH_INPUT, TFPG_NO_MEMORY */
+tfpg_answer tfpg_check(const uint8_t *graph, size_t graph_count, const uint8_t *log, size_t log_count,
+                       const uint8_t *report, size_t report_count);
+
+#ifdef __cplusplus
+}
+#endif
+
+#endif
