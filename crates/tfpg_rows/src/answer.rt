@@ -1,8 +1,8 @@
 //! The lines that say what came of a run.
 
+use crate::bytes::append_number;
 use crate::made::Made;
 use crate::view::View;
-use itoa::Buffer;
 use std::alloc::Global;
 use tfpg_base::NoMemory;
 
@@ -97,11 +97,4 @@ pub(crate) fn append_failed(
         into.extend_from_slice(b": other bytes, ")?;
     }
     append_end(alloc, made, into)
-}
-
-/// Appends a number.
-pub(crate) fn append_number(number: u64, into: &mut Vec<u8>) -> Result<(), NoMemory> {
-    let mut digits = Buffer::new();
-    into.extend_from_slice(digits.format(number).as_bytes())?;
-    Ok(())
 }

@@ -2,20 +2,26 @@
 
 ghost use Rattle.std.specs.Prelude.{◌<◌};
 
+use itoa::Buffer;
 use std::alloc::Global;
 use tfpg_base::{NoMemory, Number, read_number};
 
 /// Appends the bytes that the text spells, and says whether a line end stands after them.
 ///
-/// `\xNN` spells the byte of this number in base 16. A backslash at the end says that there is no line end.
-pub(crate) fn append_spelled(text: &[u8], into: &mut Vec<u8>) -> Result<bool, NoMemory> {
+/// `\xNN` spells the byte of this number in base 16, and `\#` the number of the line among its repetitions. A backslash at the end
+/// says that there is no line end.
+pub(crate) fn append_spelled(
+    text: &[u8],
+    number: u64,
+    into: &mut Vec<u8>,
+) -> Result<bool, NoMemory> {
     let mut is_line = true;
     let mut is_first = true;
     for part in text.split(|byte| *byte == b'\\') {
         if is_first {
             into.extend_from_slice(part)?;
         } else {
-            is_line = append_after_backslash(part, into)?;
+            is_line = append_after_backslash(part, number, into)?;
         }
         is_first = false;
     }
@@ -23,9 +29,14 @@ pub(crate) fn append_spelled(text: &[u8], into: &mut Vec<u8>) -> Result<bool, No
 }
 
 /// Appends what stands after a backslash, and says whether a line end stands after it.
-fn append_after_backslash(part: &[u8], into: &mut Vec<u8>) -> Result<bool, NoMemory> {
+fn append_after_backslash(part: &[u8], number: u64, into: &mut Vec<u8>) -> Result<bool, NoMemory> {
     match part {
         [] => Ok(false),
+        [b'#', others @ ..] => {
+            append_number(number, into)?;
+            into.extend_from_slice(others)?;
+            Ok(true)
+        }
         [b'x', high, low, others @ ..] => {
             into.push(digit_value(*high) * 16 + digit_value(*low))?;
             into.extend_from_slice(others)?;
@@ -62,7 +73,7 @@ pub(crate) fn words_of<'a>(alloc: Global, line: &'a [u8]) -> Result<Vec<&'a [u8]
 /// The text that a word spells, where it spells one.
 pub(crate) fn text_of(alloc: Global, word: &[u8]) -> Result<Option<String>, NoMemory> {
     let mut bytes = Vec::new(alloc);
-    append_spelled(word, &mut bytes)?;
+    append_spelled(word, 1, &mut bytes)?;
     match str::from_utf8(&bytes) {
         Ok(text) => Ok(Some(String::from_str(alloc, text)?)),
         Err(_) => Ok(None),
@@ -95,4 +106,11 @@ pub(crate) fn numbers_of(alloc: Global, words: &[&[u8]]) -> Result<Vec<u64>, NoM
         numbers.push(number_of(word))?;
     }
     Ok(numbers)
+}
+
+/// Appends a number.
+pub(crate) fn append_number(number: u64, into: &mut Vec<u8>) -> Result<(), NoMemory> {
+    let mut digits = Buffer::new();
+    into.extend_from_slice(digits.format(number).as_bytes())?;
+    Ok(())
 }

@@ -1,6 +1,6 @@
 //! The panels of a run: at which calls they fail, and what they were told.
 
-use crate::answer::append_number;
+use crate::bytes::append_number;
 use std::alloc::Global;
 use tfpg_base::{LineList, NoMemory};
 use tfpg_evidence::Round;

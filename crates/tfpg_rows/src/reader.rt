@@ -64,20 +64,16 @@ impl RowReader {
     /// Takes a line of a file or of the input, as often as it is to be repeated.
     fn take_text(&mut self, text: &[u8]) -> Result<(), NoMemory> {
         let repeats = mem::replace(&mut self.repeats, 1);
-        let mut bytes = Vec::new(self.alloc);
-        if append_spelled(text, &mut bytes)? {
-            bytes.push(b'\n')?;
-        }
         match self.target {
             Target::Nothing => Ok(()),
-            Target::Input => append_often(&bytes, repeats, &mut self.row.input),
+            Target::Input => append_often(text, repeats, &mut self.row.input),
             Target::Change => match &mut self.row.change {
                 None => Ok(()),
-                Some(change) => append_often(&bytes, repeats, &mut change.text),
+                Some(change) => append_often(text, repeats, &mut change.text),
             },
             Target::LastFile => match self.files.last_mut() {
                 None => Ok(()),
-                Some(file) => append_often(&bytes, repeats, &mut file.text),
+                Some(file) => append_often(text, repeats, &mut file.text),
             },
         }
     }
@@ -246,10 +242,12 @@ impl RowReader {
     }
 }
 
-/// Appends the bytes so many times.
-fn append_often(bytes: &[u8], count: u64, into: &mut Vec<u8>) -> Result<(), NoMemory> {
-    for _turn in 0..count {
-        into.extend_from_slice(bytes)?;
+/// Appends the line that the text spells so many times, numbered from 1.
+fn append_often(text: &[u8], count: u64, into: &mut Vec<u8>) -> Result<(), NoMemory> {
+    for number in 1..=count {
+        if append_spelled(text, number, into)? {
+            into.push(b'\n')?;
+        }
     }
     Ok(())
 }
