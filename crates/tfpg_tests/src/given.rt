@@ -1,12 +1,13 @@
-//! Two graphs, a log of some lines, and what the first failure mode reaches: what several tests begin with.
+//! Two graphs, a log of some lines, a set of one failure mode, and what the first one reaches: what several tests begin with.
 
-ghost use Rattle.std.specs.Prelude.{◌≡◌, IfOk, OnOk};
+ghost use Rattle.std.specs.Prelude.{◌≡◌, ◌<◌, length, All, IfOk, IfSome, OnOk};
+ghost use Rattle.tfpg_graph.specs.Graph.{failures};
 ghost use Rattle.tfpg_log.specs.declared.event.Event.{Event};
 ghost use Rattle.tfpg_log.specs.Log.{IsLogOf, with_event};
 
 use std::alloc::Global;
 use std::test::Fail;
-use tfpg_base::Set;
+use tfpg_base::{MAX_MEMBERS, Set};
 use tfpg_graph::{Graph, NodeSet, read};
 use tfpg_log::{Log, Offered};
 
@@ -67,6 +68,19 @@ pub(crate) fn on_log_of<F: FnOnce(&Graph, &Log) -> Result<(), Fail>>(
 {
     let log = log_of(alloc, graph, lines)?;
     test(graph, &log)
+}
+
+/// The set of one failure mode of the graph, or of none.
+pub(crate) fn set_of(graph: &Graph, member: Option<u32>) -> Option<Set>
+    ensures { IfSome result (All (λ position. position < length (failures graph.now))) }
+{
+    match member {
+        None => Some(Set::empty()),
+        Some(position) if position < MAX_MEMBERS && position < graph.failure_count() => {
+            Some(Set::empty().with(position))
+        }
+        Some(_) => None,
+    }
 }
 
 /// The nodes that the first failure mode of the graph reaches.

@@ -164,7 +164,12 @@ fn step_of(alloc: Global, split: Option<ClauseName>, reasons: &[Reason]) -> Resu
 }
 
 /// What the checker returns for a step, with room for it.
-fn take_step(checker: &mut Checker, graph: &Graph, log: &Log, step: &Step) -> Result<Taken, Fail>
+pub(crate) fn take_step(
+    checker: &mut Checker,
+    graph: &Graph,
+    log: &Log,
+    step: &Step,
+) -> Result<Taken, Fail>
     requires { IsLogOf graph.now log.now }
 {
     checker.reserve()?;

@@ -1,5 +1,5 @@
-//! Tests of what no command shows: public calls of the crates of evidence, of the simulator, of panels, of fleets and of questions.
-//! There is a file for each crate.
+//! Tests of what no command shows: public calls of the crates of evidence, of the simulator, of panels, of fleets, of questions and of
+//! least times. There is a file for each crate.
 //!
 //! A crate with tests is proved again together with them. So tests stand apart, and the crates that they call are proved
 //! once. Those of the crates of the model stand in `tfpg_model_tests`: the two are proved side by side.
@@ -21,6 +21,8 @@ mod hyp;
 mod kernel;
 #[cfg(test)]
 mod panel;
+#[cfg(test)]
+mod predict;
 #[cfg(test)]
 mod search;
 #[cfg(test)]

@@ -1,17 +1,16 @@
 //! The public calls of `tfpg_search`: what a search finds for worked logs, whether it is asked at every event or once at the
 //! end, and how it goes on after its budget was spent.
 
-ghost use Rattle.std.specs.Prelude.{◌≡◌, ◌⊎◌, ◌<◌, ◌≤◌, [], length, All, IsTrue, IfOk, IfSome};
-ghost use Rattle.tfpg_graph.specs.Graph.{failures};
+ghost use Rattle.std.specs.Prelude.{◌≡◌, ◌⊎◌, ◌<◌, ◌≤◌, [], IsTrue, IfOk};
 ghost use Rattle.tfpg_log.specs.Log.{IsLogOf, Logbook, first_events};
 ghost use Rattle.tfpg_search.specs.Represents.{SearchRepresents, RepresentsSome};
 
-use crate::given::{ONE, TWO, accept};
+use crate::given::{ONE, TWO, accept, set_of};
 use std::alloc::Global;
 use std::marker::Brand;
 use std::sync::ledger::{Blank, Ledger};
 use std::test::Fail;
-use tfpg_base::{Activation, MAX_MEMBERS, Set, Steps};
+use tfpg_base::{Activation, Steps};
 use tfpg_evidence::{Step, StepList};
 use tfpg_graph::{Graph, read};
 use tfpg_log::Log;
@@ -189,19 +188,6 @@ fn search_of(alloc: Global, graph: &Graph, member: Option<u32>) -> Result<Search
 {
     let set = set_of(graph, member).ok_or("no such failure mode")?;
     Ok(Search::new(alloc, graph, set, graph.reach(set))?)
-}
-
-/// The set of one failure mode of the graph, or of none.
-fn set_of(graph: &Graph, member: Option<u32>) -> Option<Set>
-    ensures { IfSome result (All (λ position. position < length (failures graph.now))) }
-{
-    match member {
-        None => Some(Set::empty()),
-        Some(position) if position < MAX_MEMBERS && position < graph.failure_count() => {
-            Some(Set::empty().with(position))
-        }
-        Some(_) => None,
-    }
 }
 
 /// What the search finds for the log with one more line. It adds its steps to the list.
