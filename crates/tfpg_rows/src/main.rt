@@ -1,5 +1,5 @@
-//! Rows are worked runs as data. This program makes the runs that standard input describes, over files and streams in memory, and
-//! writes what came of each.
+//! Rows are worked runs as data. This program makes the runs that standard input describes, over files and streams in memory, and the
+//! calls over texts, and writes what came of each.
 //!
 //! The runs stand in `stdin`, and what has to come of them, worked out by hand, in `stdout`. `docs/rows.md` says how both are
 //! written.
@@ -12,6 +12,7 @@ mod panels;
 mod reader;
 mod row;
 mod runs;
+mod texts;
 mod view;
 
 use reader::RowReader;

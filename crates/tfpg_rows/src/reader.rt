@@ -4,6 +4,7 @@ use crate::bytes::{append_spelled, number_of, numbers_of, text_of, texts_of, wor
 use crate::panels::PanelFaults;
 use crate::row::{Change, InTurn, NamedFile, Row};
 use crate::runs::append_runs;
+use crate::texts::{append_checked, append_diagnosed};
 use std::alloc::Global;
 use std::mem;
 use tfpg_base::NoMemory;
@@ -91,6 +92,12 @@ impl RowReader {
             self.begin_file(others)
         } else if keyword == b"run".as_slice() {
             self.run(line, others)
+        } else if keyword == b"diagnose-texts".as_slice() {
+            self.append_line(line)?;
+            append_diagnosed(self.alloc, others, &self.files, &self.row, &mut self.answer)
+        } else if keyword == b"check-texts".as_slice() {
+            self.append_line(line)?;
+            append_checked(self.alloc, others, &self.files, &self.row, &mut self.answer)
         } else {
             self.set(line, keyword, others)
         }

@@ -62,7 +62,7 @@ fn append_runs_over(
                 ..*outside
             },
         )?;
-        append_difference(alloc, &made, &again, row, into)?;
+        append_difference(alloc, &made, &again, b"in pieces of one byte", row, into)?;
     }
     if let Some(in_turn) = row.in_turn {
         append_in_turn(alloc, words, outside, in_turn, &made.written, into)?;
@@ -70,11 +70,12 @@ fn append_runs_over(
     Ok(())
 }
 
-/// Appends what came of the run in pieces of one byte, where it is not the same.
-fn append_difference(
+/// Appends what came of the run once more, made in this way, where it is not the same.
+pub(crate) fn append_difference(
     alloc: Global,
     made: &Made,
     again: &Made,
+    way: &[u8],
     row: &Row,
     into: &mut Vec<u8>,
 ) -> Result<(), NoMemory> {
@@ -83,7 +84,9 @@ fn append_difference(
         && made.asked == again.asked
         && made.panels == again.panels;
     if !is_same {
-        into.extend_from_slice(b"other in pieces of one byte:\n")?;
+        into.extend_from_slice(b"other ")?;
+        into.extend_from_slice(way)?;
+        into.extend_from_slice(b":\n")?;
         append_made(alloc, again, &row.view, into)?;
     }
     Ok(())
