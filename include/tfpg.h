@@ -3,17 +3,20 @@
  * Texts are bytes, given by a pointer and their number. `docs/formats.md` has the text of a graph, of a log and of a report. Times in
  * them are milliseconds. A text needs no byte 0 at its end. A pointer is never NULL, also where the number is 0.
  *
- * Memory: a call reads the texts that it is given only while it runs, and keeps no pointer to them. A room is the caller's, and a call writes
- * nothing else of the caller's. The library takes memory of its own by `malloc` and `realloc`, gives it back by `free` before the call
- * returns, and says so if there is none.
+ * Memory: a call reads the texts that it is given only while it runs, and keeps no pointer to them. Rooms and sessions are the caller's,
+ * and a call writes nothing else of the caller's. The library takes memory of its own by `malloc` and `realloc`, gives it back by `free`,
+ * and says so if there is none. `tfpg_report` and `tfpg_check` give all of it back before they return. An open session has memory until it
+ * is closed.
  *
- * Threads: calls may run at the same time, each with a room of its own. No call may be made from a signal handler.
+ * Threads: calls may run at the same time, each with a room and a session of its own. A session may go from one thread to another between
+ * two calls, if the program orders these by a lock, or by starting or joining a thread. No call may be made from a signal handler.
  *
- * Nothing checks what a C program passes. The library's statements hold for texts and rooms that are there.
+ * Nothing checks what a C program passes. The library's statements hold for texts, rooms and sessions that are there.
  */
 #ifndef TFPG_H
 #define TFPG_H
 
+#include <stdbool.h>
 #include <stddef.h>
 #include <stdint.h>
 
@@ -38,7 +41,9 @@ enum {
     /* Memory ran out. */
     TFPG_NO_MEMORY = 8,
     /* The text has `count` bytes, and the room fewer. Nothing was written. */
-    TFPG_ROOM_TOO_SMALL = 9
+    TFPG_ROOM_TOO_SMALL = 9,
+    /* The session is closed. */
+    TFPG_ENDED = 10
 };
 
 /* What is wrong with a graph, in the words of `docs/formats.md`. */
@@ -111,6 +116,44 @@ tfpg_answer tfpg_report(const uint8_t *graph, size_t graph_count, const uint8_t 
  * TFPG_DONE, TFPG_NOT_ACCEPTED, TFPG_BAD_GRAPH, TFPG_TOO_MANY_HYPOTHESES, TFPG_TOO_MUCH_INPUT, TFPG_NO_MEMORY */
 tfpg_answer tfpg_check(const uint8_t *graph, size_t graph_count, const uint8_t *log, size_t log_count,
                        const uint8_t *report, size_t report_count);
+
+/* A diagnosis that takes one line of a log after the other.
+ *
+ * A session is closed or open. One whose bytes are all 0 is closed, as TFPG_SESSION is, and it has to be that before the first call. From
+ * then on a program only hands its address to the four calls below, and to one of them at a time. It may move a session, if it uses the old
+ * place no more. It may not copy one, since both copies would own the same memory, and neither read nor write what is in it. */
+typedef struct {
+    bool is_open;
+    uint8_t *held;
+} tfpg_session;
+
+#define TFPG_SESSION {false, NULL}
+
+/* Opens a session of this graph, on terms as `tfpg_report` has them. The text of the session is then the first line of its report, with its
+ * line end, and `count` is the number of its bytes.
+ *
+ * A session that is open is closed first. If the call is not done, the session is closed.
+ *
+ * TFPG_DONE, TFPG_OUT_OF_RANGE, TFPG_BAD_GRAPH, TFPG_TOO_MANY_HYPOTHESES, TFPG_NO_MEMORY */
+tfpg_answer tfpg_open(tfpg_session *session, const uint8_t *graph, size_t graph_count, uint32_t k, uint32_t doubt,
+                      uint64_t budget);
+
+/* Takes the next line of the log, without its line end. The text of the session is then the block of this line, and `count` is the
+ * number of its bytes. The first line of the report, and then the blocks, one after the other, are the report of the lines so far.
+ *
+ * If memory runs out, the session is closed. A session takes 2^63 - 2 lines at most, and then memory runs out.
+ *
+ * TFPG_DONE, TFPG_NO_MEMORY, TFPG_ENDED */
+tfpg_answer tfpg_line(tfpg_session *session, const uint8_t *line, size_t line_count);
+
+/* Writes the text of the session to the front of the room: the block of the last line, or before any line the first line of the report.
+ * `count` is the number of its bytes, also if the room is too small. It may be asked for any number of times.
+ *
+ * TFPG_DONE, TFPG_ROOM_TOO_SMALL, TFPG_ENDED */
+tfpg_answer tfpg_block(tfpg_session *session, uint8_t *room, size_t room_count);
+
+/* Closes the session, and gives its memory back. A closed session stays closed. */
+void tfpg_close(tfpg_session *session);
 
 #ifdef __cplusplus
 }

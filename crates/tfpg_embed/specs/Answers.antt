@@ -1,16 +1,20 @@
 -- What calls answer, as C sees it.
-use Rattle.std.specs.Prelude.{ℕ, ◌%◌, ◌/◌, ◌^◌, List, length, nat_le, if◌then◌else◌}
+use Rattle.std.specs.Prelude.{ℕ, ◌%◌, ◌/◌, ◌^◌, List, length, nat_le, if◌then◌else◌, Result, Ok, Err}
 use Rattle.tfpg_graph.specs.declared.cause.GraphCause.{GraphCause}
 use Rattle.tfpg_graph.specs.declared.cause.GraphCause.TheVariants as graph
 use Rattle.tfpg_graph.specs.declared.cause.GraphFault.{GraphFault}
 use Rattle.tfpg_check.specs.declared.cause.CheckCause.{CheckCause}
 use Rattle.tfpg_check.specs.declared.cause.CheckCause.TheVariants as check
+use Rattle.tfpg_engine.specs.declared.told.EventFault.{EventFault}
+use Rattle.tfpg_engine.specs.declared.told.EventFault.TheVariants as event
+use Rattle.tfpg_run.specs.declared.texts.fault.OpenFault.{OpenFault}
+use Rattle.tfpg_run.specs.declared.texts.fault.OpenFault.TheVariants as opening
 use Rattle.tfpg_run.specs.declared.texts.fault.ReportFault.{ReportFault}
 use Rattle.tfpg_run.specs.declared.texts.fault.ReportFault.TheVariants as reporting
 use Rattle.tfpg_run.specs.declared.texts.fault.CheckTextsFault.{CheckTextsFault}
 use Rattle.tfpg_run.specs.declared.texts.fault.CheckTextsFault.TheVariants as checking
 use Rattle.tfpg_embed.specs.declared.answer.TfpgAnswer.{TfpgAnswer}
-use Rattle.tfpg_embed.specs.declared.status.TheConstants.{DONE, NOT_ACCEPTED, OUT_OF_RANGE, BAD_GRAPH, TOO_MANY_HYPOTHESES, TOO_MUCH_INPUT, NO_MEMORY, ROOM_TOO_SMALL}
+use Rattle.tfpg_embed.specs.declared.status.TheConstants.{DONE, NOT_ACCEPTED, OUT_OF_RANGE, BAD_GRAPH, TOO_MANY_HYPOTHESES, TOO_MUCH_INPUT, NO_MEMORY, ROOM_TOO_SMALL, ENDED}
 
 -- the number of what is wrong with a graph
 abbrev pub graph_cause_number : GraphCause → ℕ
@@ -98,3 +102,25 @@ answer_of_check_fault checking.NoMemory = answer_with NO_MEMORY
 -- the answer for a text that is put into a room of so many bytes
 abbrev pub answer_of_text : List ℕ → ℕ → TfpgAnswer
 answer_of_text text room = counted (if nat_le (length text) room then DONE else ROOM_TOO_SMALL) (length text)
+
+-- the answer where no session is opened
+abbrev pub answer_of_open_fault : OpenFault → TfpgAnswer
+answer_of_open_fault opening.OutOfRange = answer_with OUT_OF_RANGE
+answer_of_open_fault (opening.Graph fault) = graph_refused fault
+answer_of_open_fault (opening.TooManyHypotheses count) = too_many count
+answer_of_open_fault opening.NoMemory = answer_with NO_MEMORY
+
+-- the answer where a line has no block
+abbrev pub answer_of_event_fault : EventFault → TfpgAnswer
+answer_of_event_fault event.NoMemory = answer_with NO_MEMORY
+answer_of_event_fault event.Ended = answer_with ENDED
+
+-- the answer of opening a session whose report has this first line, or for why there is none
+abbrev pub answer_of_opening : Result (List ℕ) OpenFault → TfpgAnswer
+answer_of_opening (Ok line) = counted DONE (length line)
+answer_of_opening (Err fault) = answer_of_open_fault fault
+
+-- the answer for a line that has this block, or for why it has none
+abbrev pub answer_of_block : Result (List ℕ) EventFault → TfpgAnswer
+answer_of_block (Ok block) = counted DONE (length block)
+answer_of_block (Err fault) = answer_of_event_fault fault

@@ -1,5 +1,8 @@
 -- The numbers of answers, and the room of the caller.
 pub mod Answers
 pub mod Rooms
--- What the calls come to.
+-- What the calls over whole texts come to.
 pub mod TextCalls
+-- What a handle of a session owns, and what the calls of a session come to.
+pub mod Holding
+pub mod Sessions

@@ -1,14 +1,15 @@
 //! What a call answers, as C sees it.
 
 ghost use Rattle.std.specs.Prelude.{◌≡◌, ◌%◌, ◌/◌, ◌^◌};
-ghost use Rattle.tfpg_embed.specs.Answers.{answer_of_check_fault, answer_of_report_fault, answer_with, check_cause_number, counted, graph_cause_number, graph_refused, report_refused, too_many};
+ghost use Rattle.tfpg_embed.specs.Answers.{answer_of_check_fault, answer_of_event_fault, answer_of_open_fault, answer_of_report_fault, answer_with, check_cause_number, counted, graph_cause_number, graph_refused, report_refused, too_many};
 
 use crate::status::{
-    BAD_GRAPH, NO_MEMORY, NOT_ACCEPTED, OUT_OF_RANGE, TOO_MANY_HYPOTHESES, TOO_MUCH_INPUT,
+    BAD_GRAPH, ENDED, NO_MEMORY, NOT_ACCEPTED, OUT_OF_RANGE, TOO_MANY_HYPOTHESES, TOO_MUCH_INPUT,
 };
 use tfpg_check::CheckCause;
+use tfpg_engine::EventFault;
 use tfpg_graph::{GraphCause, GraphFault};
-use tfpg_run::{CheckTextsFault, ReportFault};
+use tfpg_run::{CheckTextsFault, OpenFault, ReportFault};
 
 /// How a call ended, and what there is to say of it. What a status says nothing of is 0.
 #[repr(C)]
@@ -128,6 +129,28 @@ pub(crate) fn of_check_fault(fault: CheckTextsFault) -> TfpgAnswer
         CheckTextsFault::TooManyHypotheses { count } => of_hypotheses(count),
         CheckTextsFault::TooMuchInput => plain(TOO_MUCH_INPUT),
         CheckTextsFault::NoMemory => plain(NO_MEMORY),
+    }
+}
+
+/// The answer where no session is opened.
+pub(crate) fn of_open_fault(fault: OpenFault) -> TfpgAnswer
+    ensures { result ≡ answer_of_open_fault fault }
+{
+    match fault {
+        OpenFault::OutOfRange => plain(OUT_OF_RANGE),
+        OpenFault::Graph(fault) => of_graph_fault(fault),
+        OpenFault::TooManyHypotheses { count } => of_hypotheses(count),
+        OpenFault::NoMemory => plain(NO_MEMORY),
+    }
+}
+
+/// The answer where a line has no block.
+pub(crate) fn of_event_fault(fault: EventFault) -> TfpgAnswer
+    ensures { result ≡ answer_of_event_fault fault }
+{
+    match fault {
+        EventFault::NoMemory => plain(NO_MEMORY),
+        EventFault::Ended => plain(ENDED),
     }
 }
 

@@ -1,17 +1,21 @@
 //! The diagnoser for C: a static library, whose header is `include/tfpg.h`.
 //!
-//! [`tfpg_report`] writes the report of a whole log into a room, and [`tfpg_check`] judges one. Each answers by a [`TfpgAnswer`], whose status
-//! is [`DONE`] or another of the constants. Each calls `tfpg_run`, and says what came of it.
+//! [`tfpg_report`] writes the report of a whole log into a room, and [`tfpg_check`] judges one. A [`TfpgSession`] takes one line after
+//! the other: [`tfpg_open`] opens it, [`tfpg_line`] takes a line, [`tfpg_block`] writes the block of the line into a room, and
+//! [`tfpg_close`] closes it. Each call but the last answers by a [`TfpgAnswer`], whose status is [`DONE`] or another of the constants.
+//! Each calls `tfpg_run`, and says what came of it.
 #![tactic(auto)]
 
 mod answer;
 mod room;
+mod session;
 mod status;
 mod text_calls;
 
 pub use answer::TfpgAnswer;
+pub use session::{TfpgSession, tfpg_block, tfpg_close, tfpg_line, tfpg_open};
 pub use status::{
-    BAD_GRAPH, DONE, NO_MEMORY, NOT_ACCEPTED, OUT_OF_RANGE, ROOM_TOO_SMALL, TOO_MANY_HYPOTHESES,
-    TOO_MUCH_INPUT,
+    BAD_GRAPH, DONE, ENDED, NO_MEMORY, NOT_ACCEPTED, OUT_OF_RANGE, ROOM_TOO_SMALL,
+    TOO_MANY_HYPOTHESES, TOO_MUCH_INPUT,
 };
 pub use text_calls::{tfpg_check, tfpg_report};

@@ -23,3 +23,6 @@ pub const NO_MEMORY: u32 = 8;
 
 /// The text does not fit the room. The answer has the number of its bytes. Nothing is written.
 pub const ROOM_TOO_SMALL: u32 = 9;
+
+/// The handle is closed, or its session ended when memory ran out.
+pub const ENDED: u32 = 10;

@@ -1,0 +1,99 @@
+-- The answers of the calls of a session.
+use Rattle.std.proofs.Common.{◌≡◌, ℕ, ◌++◌, ◌∷◌, [], List, length, Option, Some, None, Result, Ok, Err, refl, sym, ap, subst₂, ◌∙◌}
+use Rattle.std.specs.Prelude.{◌↔◌, is_ok}
+use Rattle.std.proofs.lemmas.Bool.{false≢true}
+use Rattle.tfpg_base.specs.declared.terms.Terms.{Terms}
+use Rattle.tfpg_graph.specs.Graph.{Tfpg}
+use Rattle.tfpg_engine.specs.declared.told.EventFault.{EventFault}
+use Rattle.tfpg_engine.specs.declared.told.EventFault.TheVariants as event
+use Rattle.tfpg_run.specs.declared.texts.fault.OpenFault.{OpenFault}
+use Rattle.tfpg_run.specs.declared.texts.fault.OpenFault.TheVariants as opening
+use Rattle.tfpg_run.specs.texts.Opening.{CanOpen, IsOpenFault}
+use Rattle.tfpg_run.specs.texts.Sessions.{SessionRepresents}
+use Rattle.tfpg_embed.specs.declared.answer.TfpgAnswer.{TfpgAnswer}
+use Rattle.tfpg_embed.specs.declared.session.open_session.OpenSession.{OpenSession}
+use Rattle.tfpg_embed.specs.declared.status.TheConstants.{DONE, ENDED}
+use Rattle.tfpg_embed.specs.Answers.{answer_of_event_fault, answer_of_open_fault, answer_with, counted}
+use Rattle.tfpg_embed.specs.Sessions.{AnswersLine, AnswersOpen, IsNewlyOpen}
+
+-- a value is no error
+ok_is_no_error : {T E : Type 0} (value : T) (error : E) → Ok value ≡ Err error → ⊥
+ok_is_no_error value error same = false≢true (sym (ap is_ok same))
+
+-- the error, if it is one
+abbrev error_or : {T E : Type 0} → E → Result T E → E
+error_or other (Ok value) = other
+error_or other (Err error) = error
+
+-- equal errors at one type are equal at another
+same_error : {T U E : Type 0} (error other : E) → ◌≡◌ {A = Result T E} (Err error) (Err other) → ◌≡◌ {A = Result U E} (Err error) (Err other)
+same_error error other same = ap Err (ap (error_or error) same)
+
+module _ (line : List ℕ) (old new : Option OpenSession) (answer : TfpgAnswer) where
+  -- a line that has a block
+  pub line_taken : (before after : OpenSession) (count : ℕ) → Some before ≡ old → new ≡ Some after
+      → ((graph : Tfpg) (terms : Terms) (lines : List (List ℕ)) (bytes : List ℕ) → SessionRepresents graph terms lines bytes before.session
+      → SessionRepresents graph terms (lines ++ line ∷ []) (bytes ++ after.text.items) after.session)
+      → count ≡ length after.text.items → (◌≡◌ {A = Result ℕ EventFault} (Ok count) (Err event.Ended)) ↔ (before.session.next ≡ None)
+      → answer ≡ counted DONE count → AnswersLine line old new answer
+  line_taken before after count had has block counts ended answer_is =
+      subst₂ (λ (o n : Option OpenSession). AnswersLine line o n answer) had (sym has) (record {
+        made = Ok after.text.items;
+        block = block;
+        kept = refl;
+        ended = (λ same. absurd (ok_is_no_error after.text.items event.Ended same), λ none. absurd (ok_is_no_error count event.Ended (ended.1 none)));
+        closed = tt;
+        answer_is = answer_is ∙ ap (counted DONE) counts;
+      })
+
+  -- a line that has none
+  pub line_refused : (before : OpenSession) (fault : EventFault) → Some before ≡ old → new ≡ None
+      → (◌≡◌ {A = Result ℕ EventFault} (Err fault) (Err event.Ended)) ↔ (before.session.next ≡ None)
+      → answer ≡ answer_of_event_fault fault → AnswersLine line old new answer
+  line_refused before fault had has ended answer_is =
+      subst₂ (λ (o n : Option OpenSession). AnswersLine line o n answer) had (sym has) (record {
+        made = Err fault;
+        block = λ graph terms lines bytes represents. tt;
+        kept = tt;
+        ended = (λ same. ended.0 (same_error fault event.Ended same), λ none. same_error fault event.Ended (ended.1 none));
+        closed = refl;
+        answer_is = answer_is;
+      })
+
+  -- a line that is given to a closed handle
+  pub line_too_late : None ≡ old → new ≡ None → answer ≡ answer_with ENDED → AnswersLine line old new answer
+  line_too_late had has answer_is =
+      subst₂ (λ (o n : Option OpenSession). AnswersLine line o n answer) had (sym has) (record {
+        made = Err event.Ended;
+        block = λ graph terms lines bytes represents. tt;
+        kept = tt;
+        ended = (λ same. tt, λ none. refl);
+        closed = refl;
+        answer_is = answer_is;
+      })
+
+module _ (graph : List ℕ) (terms : Terms) (new : Option OpenSession) (answer : TfpgAnswer) where
+  -- a session that is opened
+  pub opened : (made : OpenSession) (text : List ℕ) → new ≡ Some made → IsNewlyOpen graph terms made → text ≡ made.text.items
+      → answer ≡ counted DONE (length text) → AnswersOpen graph terms new answer
+  opened made text has is text_is answer_is =
+      subst₂ (λ (n : Option OpenSession) (t : List ℕ). answer ≡ counted DONE (length t) → AnswersOpen graph terms n answer) (sym has) (sym text_is) (λ answered. record {
+        made = Ok made.text.items;
+        opened = (refl, is);
+        fault = tt;
+        closed = tt;
+        completes = λ can. tt;
+        answer_is = answered;
+      }) answer_is
+
+  -- one that is not
+  pub not_opened : (fault : OpenFault) → new ≡ None → IsOpenFault graph terms fault → (CanOpen graph terms → fault ≡ opening.NoMemory)
+      → answer ≡ answer_of_open_fault fault → AnswersOpen graph terms new answer
+  not_opened fault has is completes answer_is = record {
+    made = Err fault;
+    opened = tt;
+    fault = is;
+    closed = has;
+    completes = completes;
+    answer_is = answer_is;
+  }

@@ -1,0 +1,53 @@
+//! A session, and the text that it returned last.
+
+ghost use Rattle.std.specs.Prelude.{◌≡◌, ◌↔◌, ◌++◌, ◌∷◌, [], ℕ, List, Err, IfErr, IfOk, None, length};
+ghost use Rattle.tfpg_base.specs.declared.terms.Terms.{Terms};
+ghost use Rattle.tfpg_graph.specs.Graph.{Tfpg};
+ghost use Rattle.tfpg_run.specs.texts.Opening.{IsOpenFault};
+ghost use Rattle.tfpg_run.specs.texts.Sessions.{SessionRepresents};
+ghost use Rattle.tfpg_embed.specs.Sessions.{IsNewlyOpen};
+
+use std::alloc::Global;
+use tfpg_base::{NoMemory, Terms};
+use tfpg_engine::EventFault;
+use tfpg_run::{OpenFault, Session};
+
+/// A session, and the text that it returned last: the first line of its report, or the block of the last line.
+#[derive(Drop)]
+pub struct OpenSession {
+    session: Session,
+    text: Vec<u8>,
+}
+
+impl OpenSession {
+    /// A session of the graph that the text spells, on these terms, that has taken no line. Its text is the first line of the report.
+    pub(super) fn open(alloc: Global, graph: &[u8], terms: Terms) -> Result<OpenSession, OpenFault>
+        ensures opened { IfOk result (IsNewlyOpen graph.now terms) }
+        ensures fault { IfErr result (IsOpenFault graph.now terms) }
+    {
+        let session = Session::open(alloc, graph, terms)?;
+        match session.head(alloc) {
+            Ok(text) => Ok(OpenSession { session, text }),
+            Err(NoMemory) => Err(OpenFault::NoMemory),
+        }
+    }
+
+    /// Takes the next line of the log, without its line end, and returns the number of bytes of its block, which is then the text.
+    pub(super) fn line(&mut self, alloc: Global, line: &[u8]) -> Result<u64, EventFault>
+        ensures block { (graph : Tfpg) (terms : Terms) (lines : List (List ℕ)) (bytes : List ℕ) →
+            SessionRepresents graph terms lines bytes self.old.session →
+            IfOk result (λ _. SessionRepresents graph terms (lines ++ line.now ∷ []) (bytes ++ self.new.text.items) self.new.session) }
+        ensures count { IfOk result (λ count. count ≡ length self.new.text.items) }
+        ensures ended { (result ≡ Err EventFault.Ended) ↔ (self.old.session.next ≡ None) }
+    {
+        self.text = self.session.line(alloc, line)?;
+        Ok(self.text.len() as u64)
+    }
+
+    /// The text that it returned last.
+    pub(super) fn text(&self) -> &[u8]
+        ensures { result.now ≡ self.now.text.items }
+    {
+        &self.text
+    }
+}

@@ -1,0 +1,62 @@
+/* Diagnoses a log while it is written, and writes each block at once:
+ *
+ *   embed GRAPH < LOG > REPORT
+ *
+ * It ends with the status of the first call that is not done.
+ */
+#include "tfpg.h"
+
+#include <stdio.h>
+#include <stdlib.h>
+
+typedef struct {
+    uint8_t *bytes;
+    size_t count, room;
+} text;
+
+/* Makes room for so many bytes, or ends. */
+static void make_room(text *into, size_t wanted) {
+    if (wanted <= into->room) return;
+    into->room = wanted < 2 * into->room ? 2 * into->room : wanted;
+    into->bytes = realloc(into->bytes, into->room);
+    if (!into->bytes) exit(TFPG_NO_MEMORY);
+}
+
+/* Reads bytes up to a line end or up to the end of the file, without the line end. Returns whether there was any. */
+static bool read_up_to(FILE *file, int end, text *into) {
+    int byte = getc(file);
+    if (byte == EOF) return false;
+    for (into->count = 0; byte != EOF && byte != end; byte = getc(file)) {
+        make_room(into, into->count + 1);
+        into->bytes[into->count++] = (uint8_t)byte;
+    }
+    return true;
+}
+
+int main(int count, char **words) {
+    tfpg_session session = TFPG_SESSION;
+    text graph = {NULL, 0, 0}, line = {NULL, 0, 0}, room = {NULL, 0, 0};
+    FILE *file = count == 2 ? fopen(words[1], "rb") : NULL;
+    if (!file) return TFPG_OUT_OF_RANGE;
+    make_room(&graph, 1);
+    make_room(&line, 1);
+    make_room(&room, 1);
+    read_up_to(file, EOF, &graph);
+    fclose(file);
+
+    tfpg_answer answer = tfpg_open(&session, graph.bytes, graph.count, 2, 0, 1000);
+    while (answer.status == TFPG_DONE) {
+        make_room(&room, answer.count);
+        answer = tfpg_block(&session, room.bytes, room.room);
+        if (answer.status != TFPG_DONE) break;
+        fwrite(room.bytes, 1, answer.count, stdout);
+        fflush(stdout);
+        if (!read_up_to(stdin, '\n', &line)) break;
+        answer = tfpg_line(&session, line.bytes, line.count);
+    }
+    tfpg_close(&session);
+    free(graph.bytes);
+    free(line.bytes);
+    free(room.bytes);
+    return (int)answer.status;
+}
