@@ -1,12 +1,14 @@
 #!/usr/bin/env bash
-# Builds the diagnoser as a static library, and links the C program of `examples` with it under the sanitizers. Runs it on each example log, and
-# compares what it writes with what the program writes, byte for byte. Then prints the size of the library and the time of a line. Ends with
-# status 1 where something differs.
+# Builds the diagnoser as a static library, and links the C programs of `examples` with it under the sanitizers. Runs them on each example
+# log, and compares what they write with what the program writes, byte for byte. Then prints the size of the library, the time of a line and
+# the memory of a session. Ends with status 1 where something differs. With the word `alone` the program is not built: the one C program is
+# compared with the other.
 set -eu
 
 top=$(dirname "$(dirname "$(readlink -f "${BASH_SOURCE[0]}")")")
 heap=$(dirname "$(dirname "$(readlink -f "$(command -v rt)")")")/c/liblibc_c.a
 library=$top/crates/tfpg_embed/out/libtfpg_embed.a
+alone=$([ "${1-}" = alone ] && echo yes || true)
 made=$(mktemp -d)
 trap 'rm -r "$made"' EXIT
 status=0
@@ -16,21 +18,33 @@ differs() {
     status=1
 }
 
-# Links the program under this name, with these flags.
+# Links this program under this name, with these flags.
 link_with() {
-    cc -std=c11 -Wall -Wextra -Werror -I "$top/include" -o "$made/$1" "$top/examples/report.c" "$library" "$heap" "${@:2}"
+    cc -std=c11 -Wall -Wextra -Werror -I "$top/include" -o "$made/$2" "$top/$1" "$library" "$heap" "${@:3}"
+}
+
+# The report of this log that the C programs have to write.
+wanted() {
+    if [ "$alone" ]; then
+        "$made/report" "$1" "$2" 2> /dev/null
+    else
+        "$top/tfpg" diagnose "$1" < "$2"
+    fi
 }
 
 (cd "$top/crates/tfpg_embed" && rt lib)
-link_with report -g -fsanitize=address,undefined
-link_with plain -O2
+link_with examples/report.c report -g -fsanitize=address,undefined
+link_with examples/embed.c embed -g -fsanitize=address,undefined
+link_with examples/report.c plain -O2
+link_with bench/session.c session -O2 -D_GNU_SOURCE
 
 for log in "$top"/examples/*.log; do
     name=$(basename "$log" .log)
     graph=$top/examples/${name%%-*}.tfpg
     [ -e "$graph" ] || graph=$top/examples/pump.tfpg
-    "$top/tfpg" diagnose "$graph" < "$log" > "$made/wanted"
+    wanted "$graph" "$log" > "$made/wanted"
     "$made/report" "$graph" "$log" 2> "$made/judged" | cmp -s - "$made/wanted" || differs "$name"
+    "$made/embed" "$graph" < "$log" | cmp -s - "$made/wanted" || differs "$name, line by line"
     cmp -s "$made/judged" <(echo "accepted $(grep -c '^counts ' "$made/wanted")") || differs "$name, judged"
 done
 
@@ -52,5 +66,10 @@ time_of() {
 few=$(time_of 0)
 many=$(time_of 20000)
 printf 'a line of the pump, diagnosed twice and judged: %d microseconds\n' $(((many - few) / 20000))
+
+# The C library counts what it keeps for the thread as taken, so it keeps nothing here.
+export GLIBC_TUNABLES=glibc.malloc.tcache_count=0
+"$made/session" "$top/examples/pump.tfpg" 20000 < "$made/log"
+"$made/session" "$top/examples/satellite.tfpg" 1000 < "$top/examples/satellite-relay.log"
 
 exit "$status"
