@@ -10,6 +10,8 @@ mod base;
 #[cfg(test)]
 mod diff;
 #[cfg(test)]
+mod given;
+#[cfg(test)]
 mod graph;
 #[cfg(test)]
 mod log;

@@ -1,13 +1,12 @@
 //! The public calls of `tfpg_log`: which event a line is, and what the look-ups and copies of logs are.
 
-ghost use Rattle.std.specs.Prelude.{◌≡◌, IfOk};
 ghost use Rattle.tfpg_log.specs.Log.{IsLogOf};
 
+use crate::given::{compare, on_graph, on_log};
 use std::alloc::Global;
-use std::process::Abort;
 use std::test::Fail;
 use tfpg_base::Doubts;
-use tfpg_graph::{Graph, read};
+use tfpg_graph::Graph;
 use tfpg_log::{Event, Log, Offered, Span, Window, append_event};
 
 /// A failure mode, two monitored discrepancies and a hidden one, in two modes.
@@ -42,17 +41,6 @@ const ACCEPTED: [(&str, &str, Event); 5] = [
     ),
 ];
 
-/// The log of the lines.
-pub(crate) fn log_of(alloc: Global, graph: &Graph, lines: &[&[u8]]) -> Result<Log, Fail>
-    ensures { IfOk result (IsLogOf graph.now) }
-{
-    let mut log = Log::new(alloc);
-    for line in lines {
-        log.offer(graph, *line)?;
-    }
-    Ok(log)
-}
-
 /// What becomes of the line that is offered to a copy of the log.
 fn offered_to_copy(log: &Log, graph: &Graph, line: &[u8]) -> Result<Offered, Fail>
     requires { IsLogOf graph.now log.now }
@@ -61,15 +49,23 @@ fn offered_to_copy(log: &Log, graph: &Graph, line: &[u8]) -> Result<Offered, Fai
     Ok(copy.offer(graph, line)?)
 }
 
-#[test]
-fn accepts_each_kind_of_line(rt: HostRuntime) -> Result<(), Fail> {
-    let graph = read(rt.alloc(), GRAPH)?;
-    let log = log_of(rt.alloc(), &graph, &[b"10 alarm A"])?;
+/// Offers the line of each row to a copy of the log.
+fn offer_each(graph: &Graph, log: &Log) -> Result<(), Fail>
+    requires { IsLogOf graph.now log.now }
+{
     for (row, line, event) in &ACCEPTED {
-        let offered = offered_to_copy(&log, &graph, line.as_bytes())?;
-        assert_eq!(rt; offered, Offered::Accepted(*event), "{row}");
+        if offered_to_copy(log, graph, line.as_bytes())? != Offered::Accepted(*event) {
+            return Err(Fail::new(*row));
+        }
     }
     Ok(())
+}
+
+#[test]
+fn accepts_each_kind_of_line(rt: HostRuntime) -> Result<(), Fail> {
+    on_log(rt.alloc(), GRAPH, &[b"10 alarm A"], |graph, log| {
+        offer_each(graph, log)
+    })
 }
 
 /// Lines of which each is accepted.
@@ -122,26 +118,54 @@ fn silences_of(graph: &Graph, log: &Log, number: u32) -> [Option<u64>; 5] {
     ]
 }
 
-/// Asserts what the look-ups of a log of these lines say.
-fn assert_looks_up(rt: &impl Abort, graph: &Graph, log: &Log) {
+/// Compares the silences and the modes of a log of these lines.
+fn compare_rows(graph: &Graph, log: &Log) -> Result<(), Fail> {
     for (row, number, wanted) in &SILENCES {
-        assert_eq!(rt; silences_of(graph, log, *number), *wanted, "{row}");
+        if silences_of(graph, log, *number) != *wanted {
+            return Err(Fail::new(*row));
+        }
     }
     for (row, instant, mode) in &MODES {
-        assert_eq!(rt; log.mode_at(*instant), *mode, "{row}");
+        if log.mode_at(*instant) != *mode {
+            return Err(Fail::new(*row));
+        }
     }
-    assert_eq!(rt; log.now(), 25);
-    assert_eq!(rt; log.len(), 8);
-    assert_eq!(rt; log.alarm_of(1), None);
-    assert_eq!(rt; log.alarm_of(3), Some(10));
-    assert_eq!(rt; log.alarm_of(4), None);
-    assert_eq!(rt; log.alarm_event(1), None);
-    assert_eq!(rt; log.alarm_event(3), Some(2));
-    assert_eq!(rt; log.last_quiet(graph, 1), Some(4));
-    assert_eq!(rt; log.last_quiet(graph, 2), None);
-    assert_eq!(rt; log.last_quiet(graph, 3), Some(1));
-    assert_eq!(rt; log.silence_at(graph, 1, 3), Some(5));
-    assert_eq!(rt; log.inactive_until(graph, 1, 12), Some(12));
+    Ok(())
+}
+
+/// Compares what the look-ups of a log of these lines say.
+fn compare_look_ups(graph: &Graph, log: &Log) -> Result<(), Fail> {
+    compare_rows(graph, log)?;
+    compare(&[
+        ("now", Some(log.now()), Some(25)),
+        ("how many events", Some(u64::from(log.len())), Some(8)),
+        ("the alarm of A", log.alarm_of(1), None),
+        ("the alarm of C", log.alarm_of(3), Some(10)),
+        ("the alarm of no node", log.alarm_of(4), None),
+        ("the event of A", log.alarm_event(1).map(u64::from), None),
+        ("the event of C", log.alarm_event(3).map(u64::from), Some(2)),
+        (
+            "the last silence of A",
+            log.last_quiet(graph, 1).map(u64::from),
+            Some(4),
+        ),
+        (
+            "the last silence of B",
+            log.last_quiet(graph, 2).map(u64::from),
+            None,
+        ),
+        (
+            "the last silence of C",
+            log.last_quiet(graph, 3).map(u64::from),
+            Some(1),
+        ),
+        ("a silence of A", log.silence_at(graph, 1, 3), Some(5)),
+        (
+            "until when A is inactive",
+            log.inactive_until(graph, 1, 12),
+            Some(12),
+        ),
+    ])
 }
 
 /// The ends of the interval that an alarm of the node at this time leaves, where there is the node.
@@ -155,9 +179,16 @@ fn interval_at(graph: &Graph, log: &Log, node: u32, time: u64) -> Option<(u64, u
 
 #[test]
 fn an_alarm_leaves_an_interval(rt: HostRuntime) -> Result<(), Fail> {
-    let graph = read(rt.alloc(), GRAPH)?;
-    let log = Log::new(rt.alloc());
-    assert_eq!(rt; interval_at(&graph, &log, 3, 100), Some((93, 100)));
+    on_log(rt.alloc(), GRAPH, &[], |graph, log| {
+        compare_interval(interval_at(graph, log, 3, 100), Some((93, 100)))
+    })
+}
+
+/// Compares an interval with what is wanted.
+fn compare_interval(found: Option<(u64, u64)>, wanted: Option<(u64, u64)>) -> Result<(), Fail> {
+    if found != wanted {
+        return Err(Fail::new("the interval of an alarm"));
+    }
     Ok(())
 }
 
@@ -167,59 +198,106 @@ const LAGS: &[u8] = b"tfpg 2\nmode N\nfailure F 1\nor A watch 2 7\nedge F A 1 3 
 /// Two alarms of one monitor, and a silence between them.
 const TWO_ALARMS: [&[u8]; 3] = [b"10 alarm A", b"12 silent A", b"20 alarm A"];
 
+/// Compares what a log says of a monitor with two alarms.
+fn compare_alarms(graph: &Graph, log: &Log) -> Result<(), Fail> {
+    compare_interval(interval_at(graph, log, 1, 20), Some((13, 18)))?;
+    compare(&[
+        (
+            "the event of the first alarm",
+            log.alarm_event(1).map(u64::from),
+            Some(1),
+        ),
+        (
+            "the event of the last alarm",
+            log.last_alarm(1).map(u64::from),
+            Some(3),
+        ),
+        ("a silence", log.quiet_at(graph, 2, 1), Some(10)),
+        (
+            "until when it is inactive",
+            log.inactive_until(graph, 1, 1),
+            None,
+        ),
+    ])
+}
+
 #[test]
 fn a_monitor_has_a_first_and_a_last_alarm(rt: HostRuntime) -> Result<(), Fail> {
-    let graph = read(rt.alloc(), LAGS)?;
-    let log = log_of(rt.alloc(), &graph, &TWO_ALARMS)?;
-    assert_eq!(rt; log.alarm_event(1), Some(1));
-    assert_eq!(rt; log.last_alarm(1), Some(3));
-    assert_eq!(rt; interval_at(&graph, &log, 1, 20), Some((13, 18)));
-    assert_eq!(rt; log.quiet_at(&graph, 2, 1), Some(10));
-    assert_eq!(rt; log.inactive_until(&graph, 1, 1), None);
-    Ok(())
+    on_log(rt.alloc(), LAGS, &TWO_ALARMS, |graph, log| {
+        compare_alarms(graph, log)
+    })
+}
+
+/// Compares what a log says of a monitor that it ignores.
+fn compare_ignoring(graph: &Graph, log: &mut Log) -> Result<(), Fail> {
+    log.ignore(Doubts::empty().with(1));
+    if !log.ignored().has(1) {
+        return Err(Fail::new("the monitor is ignored"));
+    }
+    compare_interval(interval_at(graph, log, 1, 20), None)?;
+    compare(&[
+        (
+            "the last silence",
+            log.last_quiet(graph, 1).map(u64::from),
+            None,
+        ),
+        ("the alarm", log.alarm_of(1), Some(10)),
+    ])
+}
+
+/// Compares what a copy of the log says of a monitor that it ignores.
+fn compare_copy_ignoring(graph: &Graph, log: &Log) -> Result<(), Fail> {
+    let mut copy = log.copy()?;
+    compare_ignoring(graph, &mut copy)
 }
 
 #[test]
 fn a_log_ignores_monitors(rt: HostRuntime) -> Result<(), Fail> {
-    let graph = read(rt.alloc(), LAGS)?;
-    let mut log = log_of(rt.alloc(), &graph, &TWO_ALARMS)?;
-    log.ignore(Doubts::empty().with(1));
-    assert!(rt; log.ignored().has(1));
-    assert_eq!(rt; interval_at(&graph, &log, 1, 20), None);
-    assert_eq!(rt; log.last_quiet(&graph, 1), None);
-    assert_eq!(rt; log.silence_at(&graph, 2, 1), Some(12));
-    assert_eq!(rt; log.alarm_of(1), Some(10));
-    Ok(())
+    on_log(rt.alloc(), LAGS, &TWO_ALARMS, |graph, log| {
+        compare_copy_ignoring(graph, log)
+    })
+}
+
+/// Whether the lines of two events are written.
+fn has_lines(alloc: Global, graph: &Graph) -> Result<bool, Fail> {
+    let mut text = Vec::new(alloc);
+    append_event(graph, Event::Sweep { time: 5 }, &mut text)?;
+    append_event(graph, Event::Tick { time: 7 }, &mut text)?;
+    Ok(text.as_slice() == b"5 sweep\n7 tick\n".as_slice())
 }
 
 #[test]
 fn writes_the_line_of_an_event(rt: HostRuntime) -> Result<(), Fail> {
-    let graph = read(rt.alloc(), GRAPH)?;
-    let mut text = Vec::new(rt.alloc());
-    append_event(&graph, Event::Sweep { time: 5 }, &mut text)?;
-    append_event(&graph, Event::Tick { time: 7 }, &mut text)?;
-    assert_eq!(rt; text.as_slice(), b"5 sweep\n7 tick\n".as_slice());
-    Ok(())
+    let alloc = rt.alloc();
+    on_graph(alloc, GRAPH, |graph| {
+        if !has_lines(alloc, graph)? {
+            return Err(Fail::new("the lines of two events"));
+        }
+        Ok(())
+    })
 }
 
 #[test]
 fn a_log_has_its_look_ups(rt: HostRuntime) -> Result<(), Fail> {
-    let graph = read(rt.alloc(), GRAPH)?;
-    let log = log_of(rt.alloc(), &graph, &LINES)?;
-    assert_looks_up(&rt, &graph, &log);
-    Ok(())
+    on_log(rt.alloc(), GRAPH, &LINES, |graph, log| {
+        compare_look_ups(graph, log)
+    })
+}
+
+/// Compares what the look-ups of a copy of a log of these lines say.
+fn compare_copy(graph: &Graph, log: &Log) -> Result<(), Fail> {
+    let copy = log.copy()?;
+    compare_look_ups(graph, &copy)
 }
 
 #[test]
 fn a_copy_has_the_look_ups_of_its_log(rt: HostRuntime) -> Result<(), Fail> {
-    let graph = read(rt.alloc(), GRAPH)?;
-    let log = log_of(rt.alloc(), &graph, &LINES)?;
-    let copy = log.copy()?;
-    assert_looks_up(&rt, &graph, &copy);
-    assert_eq!(rt; copy.len(), 8);
-    assert_eq!(rt; copy.event(2), Event::Alarm { time: 10, node: 3 });
-    assert_eq!(rt; copy.event(8), Event::Mode { time: 25, mode: 0 });
-    Ok(())
+    on_log(
+        rt.alloc(),
+        GRAPH,
+        &LINES,
+        |graph, log| compare_copy(graph, log),
+    )
 }
 
 /// An AND node with an edge in one mode and an edge in both, and after it a node with an edge in the other mode.
@@ -316,16 +394,35 @@ fn joint_at(graph: &Graph, log: &Log, node: u32, number: u32, horizon: u64) -> O
     log.joint_of(graph, node, number, horizon)
 }
 
+/// Events of a log of these lines by their numbers, and none.
+const EVENTS: [(&str, u32, Option<Event>); 4] = [
+    ("event 0", 0, None),
+    ("an alarm", 2, Some(Event::Alarm { time: 10, node: 3 })),
+    ("the last", 8, Some(Event::Mode { time: 25, mode: 0 })),
+    ("an event past the end", 9, None),
+];
+
+/// The event of the number, where there is one.
+fn event_at(log: &Log, number: u32) -> Option<Event> {
+    if number == 0 || number > log.len() {
+        return None;
+    }
+    Some(log.event(number))
+}
+
+/// Finds the event of each row in both ways.
+fn find_each(log: &Log) -> Result<(), Fail> {
+    for (row, number, wanted) in &EVENTS {
+        if log.find_event(*number) != *wanted || event_at(log, *number) != *wanted {
+            return Err(Fail::new(*row));
+        }
+    }
+    Ok(())
+}
+
 #[test]
 fn an_event_is_found_by_its_number(rt: HostRuntime) -> Result<(), Fail> {
-    let graph = read(rt.alloc(), GRAPH)?;
-    let mut log = Log::new(rt.alloc());
-    log.offer(&graph, b"5 sweep")?;
-    log.offer(&graph, b"8 tick")?;
-    assert_eq!(rt; log.find_event(0), None);
-    assert_eq!(rt; log.find_event(2), Some(Event::Tick { time: 8 }));
-    assert_eq!(rt; log.find_event(3), None);
-    Ok(())
+    on_log(rt.alloc(), GRAPH, &LINES, |_graph, log| find_each(log))
 }
 
 #[test]
@@ -345,24 +442,40 @@ fn a_span_has_a_first_instant_from_another_on(rt: HostRuntime) {
     }
 }
 
-#[test]
-fn finds_spans_and_windows(rt: HostRuntime) -> Result<(), Fail> {
-    let graph = read(rt.alloc(), TWO_EDGES)?;
-    let log = log_of(rt.alloc(), &graph, &CHANGES)?;
+/// Compares the spans of a log with these changes.
+fn compare_spans(log: &Log) -> Result<(), Fail> {
     for (row, instant, wanted) in &NUMBERS {
-        assert_eq!(rt; log.span_of(*instant), *wanted, "{row}");
+        if log.span_of(*instant) != *wanted {
+            return Err(Fail::new(*row));
+        }
     }
     for (row, number, horizon, wanted) in &SPANS {
-        let found = ends_of_span(log.span(*number, *horizon));
-        assert_eq!(rt; found, *wanted, "{row}");
-    }
-    for (row, edge, number, horizon, wanted) in &WINDOWS {
-        let found = ends_of_window(window_at(&graph, &log, *edge, *number, *horizon));
-        assert_eq!(rt; found, *wanted, "an edge {row}");
-    }
-    for (row, node, number, horizon, wanted) in &JOINT_WINDOWS {
-        let found = ends_of_window(joint_at(&graph, &log, *node, *number, *horizon));
-        assert_eq!(rt; found, *wanted, "{row}");
+        if ends_of_span(log.span(*number, *horizon)) != *wanted {
+            return Err(Fail::new(*row));
+        }
     }
     Ok(())
+}
+
+/// Compares the windows of edges and nodes.
+fn compare_windows(graph: &Graph, log: &Log) -> Result<(), Fail> {
+    for (row, edge, number, horizon, wanted) in &WINDOWS {
+        if ends_of_window(window_at(graph, log, *edge, *number, *horizon)) != *wanted {
+            return Err(Fail::new(*row));
+        }
+    }
+    for (row, node, number, horizon, wanted) in &JOINT_WINDOWS {
+        if ends_of_window(joint_at(graph, log, *node, *number, *horizon)) != *wanted {
+            return Err(Fail::new(*row));
+        }
+    }
+    Ok(())
+}
+
+#[test]
+fn finds_spans_and_windows(rt: HostRuntime) -> Result<(), Fail> {
+    on_log(rt.alloc(), TWO_EDGES, &CHANGES, |graph, log| {
+        compare_spans(log)?;
+        compare_windows(graph, log)
+    })
 }

@@ -5,15 +5,16 @@ ghost use Rattle.tfpg_evidence.specs.RoundOf.{IsFindingOf, IsReasonOf, IsRoundOf
 ghost use Rattle.tfpg_graph.specs.Graph.{sizes_of};
 ghost use Rattle.tfpg_model_tests.specs.inside.Sizes.{small};
 
+use crate::given::on_graph;
 use std::alloc::Global;
 use std::test::Fail;
 use tfpg_base::{Doubts, NoMemory, NumberList, Set, Trace};
 use tfpg_evidence::{
     ClauseName, Counts, Finding, Findings, Reason, Reasons, Round, Status, Step, StepList,
 };
-use tfpg_graph::{Graph, read};
+use tfpg_graph::Graph;
 use tfpg_report::{
-    BlockReader, Fed, ReadRefusal, ReportLine, head, lost, read_report_line, render,
+    BlockReader, Fed, LineRefusal, ReadRefusal, ReportLine, head, lost, read_report_line, render,
 };
 
 #[test]
@@ -201,68 +202,105 @@ fn end_of_round(alloc: Global, graph: &Graph, report: &[u8]) -> Result<Option<u6
     Ok(None)
 }
 
+/// Two failure modes with an edge each to A. Their numbers are 0 to 2.
+const GRAPH: &[u8] = b"tfpg 1\n\
+    mode N\n\
+    failure F1 3\n\
+    failure F2 5\n\
+    or A watch 0\n\
+    edge F1 A 10 20 *\n\
+    edge F2 A 5 5 *\n\
+    end\n";
+
+/// The block of the round of an alarm of A at 30.
+const BLOCK: &[u8] = b"round 1 1 30\n\
+    hyp 0\n\
+    cycle 2\n\
+    why unreached A 30\n\
+    why upto 1\n\
+    hyp 1\n\
+    split ormay A 0 30\n\
+    cycle 2\n\
+    why pick 1 1\n\
+    why from 1\n\
+    hyp 3\n\
+    split ormay A 0 30\n\
+    split andmay F2 A 1 31\n\
+    split ormust F1 A 2 32\n\
+    split andmust A 3 33\n\
+    cycle 7\n\
+    why zero F1\n\
+    why top F2\n\
+    why unreached A 34\n\
+    why from 1\n\
+    why upto 2\n\
+    why quiet 3 A\n\
+    why pick 4 5\n\
+    again\n\
+    ranked 1 cost 3 robust 1/2 set F1\n\
+    at F1 20\n\
+    at A 30\n\
+    open 3 set F1,F2\n\
+    rejected 0 set -\n\
+    counts ranked 1 covered 2 rejected 3 open 4\n";
+
+/// Whether the graph has as many nodes, edges and failure modes as the round speaks of.
+fn is_small(graph: &Graph) -> bool
+    ensures { IsTrue result → sizes_of graph.now ≡ small }
+{
+    graph.node_count() == 3 && graph.edge_count() == 2 && graph.failure_count() == 2
+}
+
+/// Whether the round and its copy have this block.
+fn has_block(alloc: Global, graph: &Graph, round: &Round) -> Result<bool, NoMemory>
+    requires { IsRoundOf (sizes_of graph.now) round.now }
+{
+    let mut text = Vec::new(alloc);
+    render(graph, round, &mut text)?;
+    let copied = text_of_copy(alloc, graph, round)?;
+    Ok(text.as_slice() == BLOCK && copied.as_slice() == BLOCK)
+}
+
+/// Writes the round.
+fn write_round(alloc: Global, graph: &Graph) -> Result<(), Fail> {
+    if !is_small(graph) {
+        return Err(Fail::new("the graph is small"));
+    }
+    let round = round_of_alarm(alloc)?;
+    if !has_block(alloc, graph, &round)? {
+        return Err(Fail::new("the block of a round"));
+    }
+    Ok(())
+}
+
 #[test]
 fn a_round_with_each_kind_of_line(rt: HostRuntime) -> Result<(), Fail> {
-    let text = b"tfpg 1\n\
-        mode N\n\
-        failure F1 3\n\
-        failure F2 5\n\
-        or A watch 0\n\
-        edge F1 A 10 20 *\n\
-        edge F2 A 5 5 *\n\
-        end\n";
-    let graph = match read(rt.alloc(), text) {
-        Ok(graph) => graph,
-        Err(_) => panic!(rt; "the graph is small"),
-    };
-    assert!(rt; graph.node_count() == 3 && graph.edge_count() == 2 && graph.failure_count() == 2);
-    let round = round_of_alarm(rt.alloc())?;
-    let mut text = Vec::new(rt.alloc());
-    render(&graph, &round, &mut text)?;
-    let copied = text_of_copy(rt.alloc(), &graph, &round)?;
-    let wanted = b"round 1 1 30\n\
-        hyp 0\n\
-        cycle 2\n\
-        why unreached A 30\n\
-        why upto 1\n\
-        hyp 1\n\
-        split ormay A 0 30\n\
-        cycle 2\n\
-        why pick 1 1\n\
-        why from 1\n\
-        hyp 3\n\
-        split ormay A 0 30\n\
-        split andmay F2 A 1 31\n\
-        split ormust F1 A 2 32\n\
-        split andmust A 3 33\n\
-        cycle 7\n\
-        why zero F1\n\
-        why top F2\n\
-        why unreached A 34\n\
-        why from 1\n\
-        why upto 2\n\
-        why quiet 3 A\n\
-        why pick 4 5\n\
-        again\n\
-        ranked 1 cost 3 robust 1/2 set F1\n\
-        at F1 20\n\
-        at A 30\n\
-        open 3 set F1,F2\n\
-        rejected 0 set -\n\
-        counts ranked 1 covered 2 rejected 3 open 4\n";
-    assert_eq!(rt; text.as_slice(), wanted.as_slice());
-    assert_eq!(rt; copied.as_slice(), wanted.as_slice(), "of the copy");
-    let mut report = Vec::new(rt.alloc());
+    let alloc = rt.alloc();
+    on_graph(alloc, GRAPH, |graph| write_round(alloc, graph))
+}
+
+/// Reads the report with this block alone, and one line by itself.
+fn read_back(alloc: Global, graph: &Graph) -> Result<(), Fail> {
+    let mut report = Vec::new(alloc);
     head(1, 0, 1000, &mut report)?;
-    report.extend_from_slice(wanted)?;
-    assert!(rt;
-        end_of_round(rt.alloc(), &graph, &report) == Ok(Some(31)),
-        "as it is read back"
-    );
-    let read = read_report_line(rt.alloc(), &graph, b"hyp 3");
-    assert!(rt;
-        matches!(read, Ok(ReportLine::Hyp { number: 3 })),
-        "one line"
-    );
+    report.extend_from_slice(BLOCK)?;
+    if end_of_round(alloc, graph, &report)? != Some(31) {
+        return Err(Fail::new("the end of the round"));
+    }
+    if !is_hypothesis_3(alloc, graph)? {
+        return Err(Fail::new("one line"));
+    }
     Ok(())
+}
+
+/// Whether the line of a hypothesis of the number 3 is read so.
+fn is_hypothesis_3(alloc: Global, graph: &Graph) -> Result<bool, LineRefusal> {
+    let line = read_report_line(alloc, graph, b"hyp 3")?;
+    Ok(matches!(line, ReportLine::Hyp { number: 3 }))
+}
+
+#[test]
+fn a_round_is_read_back(rt: HostRuntime) -> Result<(), Fail> {
+    let alloc = rt.alloc();
+    on_graph(alloc, GRAPH, |graph| read_back(alloc, graph))
 }

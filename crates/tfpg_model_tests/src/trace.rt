@@ -1,11 +1,14 @@
 //! The public call of `tfpg_trace`, for what no command can ask.
 
 ghost use Rattle.std.specs.Prelude.{◌<◌, length, All, IsTrue};
+ghost use Rattle.tfpg_log.specs.Log.{IsLogOf};
 
-use crate::log::log_of;
+use crate::given::on_log;
+use std::alloc::Global;
 use std::test::Fail;
-use tfpg_base::{Set, Trace};
-use tfpg_graph::{Graph, read};
+use tfpg_base::{NoMemory, Set, Trace};
+use tfpg_graph::Graph;
+use tfpg_log::Log;
 use tfpg_trace::{Verdict, explains};
 
 /// An AND node with two failure modes.
@@ -25,18 +28,28 @@ fn is_of(graph: &Graph, trace: &Trace) -> bool
     true
 }
 
-#[test]
-fn a_set_may_have_positions_of_no_failure_mode(rt: HostRuntime) -> Result<(), Fail> {
-    let graph = read(rt.alloc(), GRAPH)?;
-    let log = log_of(rt.alloc(), &graph, &[b"20 alarm C"])?;
-    let mut trace = Trace::new(rt.alloc());
+/// What is said of a set with a position of no failure mode, and a trace with an activation of G at 10.
+fn verdict(alloc: Global, graph: &Graph, log: &Log) -> Result<Option<Verdict>, NoMemory>
+    requires { IsLogOf graph.now log.now }
+{
+    let mut trace = Trace::new(alloc);
     trace.set(0, 0)?;
     trace.set(1, 10)?;
     trace.set(2, 5)?;
-    assert!(rt; is_of(&graph, &trace));
-    assert_eq!(rt;
-        explains(&graph, &log, Set::empty().with(0).with(63), &trace),
-        Verdict::Stranger { node: 1, time: 10 }
-    );
-    Ok(())
+    if !is_of(graph, &trace) {
+        return Ok(None);
+    }
+    let set = Set::empty().with(0).with(63);
+    Ok(Some(explains(graph, log, set, &trace)))
+}
+
+#[test]
+fn a_set_may_have_positions_of_no_failure_mode(rt: HostRuntime) -> Result<(), Fail> {
+    let alloc = rt.alloc();
+    on_log(alloc, GRAPH, &[b"20 alarm C"], |graph, log| {
+        if verdict(alloc, graph, log)? != Some(Verdict::Stranger { node: 1, time: 10 }) {
+            return Err(Fail::new("the failure mode that is not of the set"));
+        }
+        Ok(())
+    })
 }

@@ -2,9 +2,10 @@
 
 ghost use Rattle.std.specs.Prelude.{◌<◌, length};
 
+use crate::given::on_graph;
 use std::alloc::Global;
 use std::test::Fail;
-use tfpg_graph::{Edge, Graph, Kind, append_edge_start, read, write};
+use tfpg_graph::{Edge, Graph, Kind, append_edge_start, write};
 
 /// Three modes, an AND discrepancy before its sources, comments, and edges that name their modes in every way.
 const THREE_MODES: &[u8] =
@@ -84,13 +85,27 @@ fn look_ups(alloc: Global, graph: &Graph) -> Result<String, Fail> {
     Ok(seen)
 }
 
+/// Compares what all look-ups of the graph return.
+fn compare_look_ups(alloc: Global, graph: &Graph) -> Result<(), Fail> {
+    if look_ups(alloc, graph)?.as_str() != THREE_MODES_SEEN {
+        return Err(Fail::new("the look-ups of a graph"));
+    }
+    Ok(())
+}
+
+/// Compares what all look-ups of a copy of the graph return.
+fn compare_copy(alloc: Global, graph: &Graph) -> Result<(), Fail> {
+    let copy = graph.copy()?;
+    compare_look_ups(alloc, &copy)
+}
+
 #[test]
 fn a_graph_and_its_copy_have_the_parts_of_the_text(rt: HostRuntime) -> Result<(), Fail> {
-    let graph = read(rt.alloc(), THREE_MODES)?;
-    let copy = graph.copy()?;
-    assert_eq!(rt; look_ups(rt.alloc(), &graph)?.as_str(), THREE_MODES_SEEN);
-    assert_eq!(rt; look_ups(rt.alloc(), &copy)?.as_str(), THREE_MODES_SEEN);
-    Ok(())
+    let alloc = rt.alloc();
+    on_graph(alloc, THREE_MODES, |graph| {
+        compare_look_ups(alloc, graph)?;
+        compare_copy(alloc, graph)
+    })
 }
 
 #[test]
@@ -129,16 +144,26 @@ fn a_discrepancy_is_or_or_and(rt: HostRuntime) {
     assert!(rt; !Kind::And { lag: None }.is_or());
 }
 
+/// Nodes, and whether each is an OR node, and an AND node.
+const KINDS: [(&str, u32, bool, bool); 3] = [
+    ("an AND node", 0, false, true),
+    ("an OR node", 1, true, false),
+    ("no node", 4, false, false),
+];
+
+/// Compares the kinds of the nodes.
+fn compare_kinds(graph: &Graph) -> Result<(), Fail> {
+    for (row, node, is_or, is_and) in &KINDS {
+        if graph.is_or(*node) != *is_or || graph.is_and(*node) != *is_and {
+            return Err(Fail::new(*row));
+        }
+    }
+    Ok(())
+}
+
 #[test]
 fn nodes_are_or_nodes_or_and_nodes(rt: HostRuntime) -> Result<(), Fail> {
-    let graph = read(rt.alloc(), THREE_MODES)?;
-    assert!(rt; graph.is_and(0));
-    assert!(rt; !graph.is_or(0));
-    assert!(rt; graph.is_or(1));
-    assert!(rt; !graph.is_and(1));
-    assert!(rt; !graph.is_or(4));
-    assert!(rt; !graph.is_and(4));
-    Ok(())
+    on_graph(rt.alloc(), THREE_MODES, |graph| compare_kinds(graph))
 }
 
 #[test]
@@ -149,20 +174,23 @@ fn an_edge_is_written_up_to_its_delays(rt: HostRuntime) -> Result<(), Fail> {
     Ok(())
 }
 
-#[test]
-fn the_canonical_text_is_written(rt: HostRuntime) -> Result<(), Fail> {
-    for (row, read_text) in [
-        ("as it is read", THREE_MODES),
-        ("in its canonical text", THREE_MODES_WRITTEN),
-    ] {
-        let graph = read(rt.alloc(), read_text)?;
-        let mut text = Vec::from_slice(rt.alloc(), b"# before\n")?;
-        write(&graph, &mut text)?;
-        assert_eq!(rt;
-            text.as_slice().strip_prefix(b"# before\n".as_slice()),
-            Some(THREE_MODES_WRITTEN),
-            "{row}"
-        );
+/// Compares the text that is written after another with the canonical one.
+fn compare_text(alloc: Global, graph: &Graph) -> Result<(), Fail> {
+    let mut text = Vec::from_slice(alloc, b"# before\n")?;
+    write(graph, &mut text)?;
+    if text.as_slice().strip_prefix(b"# before\n".as_slice()) != Some(THREE_MODES_WRITTEN) {
+        return Err(Fail::new("the canonical text"));
     }
     Ok(())
+}
+
+#[test]
+fn the_canonical_text_is_written(rt: HostRuntime) -> Result<(), Fail> {
+    let alloc = rt.alloc();
+    on_graph(alloc, THREE_MODES, |graph| compare_text(alloc, graph))?;
+    on_graph(
+        alloc,
+        THREE_MODES_WRITTEN,
+        |graph| compare_text(alloc, graph),
+    )
 }

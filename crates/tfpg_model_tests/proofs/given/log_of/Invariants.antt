@@ -1,5 +1,5 @@
 use Rattle.tfpg_log.specs.Log.{IsLogOf}
-use Rattle.tfpg_model_tests.proofs.log.log_of.Given as goal
+use Rattle.tfpg_model_tests.proofs.given.log_of.Given as goal
 
 abbrev pub invariant-loop-line : goal.invariant-loop-line
 invariant-loop-line l = IsLogOf l.graph l.log
