@@ -37,6 +37,24 @@ impl Labels {
         })
     }
 
+    /// A copy for a system of so many picks. Its trail is empty, and reaches back to these picks.
+    pub(crate) fn copy(&self, alloc: Global, picks: u64) -> Result<Labels, AllocError>
+        ensures values { IfOk result (λ labels. labels.values.items ≡ self.now.values.items) }
+        ensures links { IfOk result (λ labels. labels.links.items ≡ self.now.links.items) }
+        ensures trail { IfOk result (λ labels. labels.trail.saved.items ≡ []) }
+        ensures reach { IfOk result (λ labels. labels.trail.reach ≡ picks) }
+    {
+        let values = self.values.clone()?;
+        let links = self.links.clone()?;
+        let mut trail = Trail::new(alloc, values.len() / 2 + SPARE_CHANGES)?;
+        trail.restart(picks);
+        Ok(Labels {
+            values,
+            links,
+            trail,
+        })
+    }
+
     /// Lowers the value of a number, which comes from this link from now on. The trail saves what it had, as there were so many
     /// picks before the call.
     pub(crate) fn lower(&mut self, number: u32, value: u64, link: Link, before: u32)

@@ -80,6 +80,22 @@ impl System {
         })
     }
 
+    /// A copy, which demands the same and lends no tags. Takes time and memory linear in the variables and the picks.
+    pub fn copy(&self, alloc: Global) -> Result<System, NoMemory>
+        ensures { IfOk result (λ copy. copy.demands ≡ self.now.demands) }
+    {
+        let bounds = self.bounds.clone()?;
+        let picks = self.picks.clone()?;
+        let labels = self.labels.copy(alloc, picks.len() as u64)?;
+        let cycle = Vec::with_capacity(alloc, bounds.len() + 3)?;
+        Ok(System {
+            bounds,
+            picks,
+            labels,
+            cycle,
+        })
+    }
+
     /// Makes room for so many more picks. The system is unchanged where memory ran out, or where there would be 2^32 picks
     /// or more.
     pub fn reserve(&mut self, picks: u32) -> Result<(), NoMemory>

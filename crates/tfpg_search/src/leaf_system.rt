@@ -84,6 +84,23 @@ impl LeafSystem {
         })
     }
 
+    /// A copy, with the allocator that the system keeps.
+    pub(crate) fn copy(&self) -> Result<LeafSystem, NoMemory>
+        ensures { IfOk result (λ copy. copy ≡ self.now) }
+    {
+        let system = self.system.copy(self.alloc)?;
+        let lows = self.lows.clone()?;
+        let highs = self.highs.clone()?;
+        let entered = self.entered.clone()?;
+        Ok(LeafSystem {
+            alloc: self.alloc,
+            system,
+            lows,
+            highs,
+            entered,
+        })
+    }
+
     /// The present bounds of a node.
     pub(crate) fn bounds(&self, node: u32) -> Bounds
         requires { node < length self.now.demands.bounds }

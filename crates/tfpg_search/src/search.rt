@@ -87,6 +87,23 @@ impl Search {
         })
     }
 
+    /// A copy of the search, with the allocator that the search keeps. It continues by itself, and the search stays as it is. Takes
+    /// time and memory linear in what the search keeps.
+    pub fn copy(&self) -> Result<Search, NoMemory>
+        ensures { IfOk result (λ copy. copy ≡ self.now) }
+    {
+        let path = self.path.clone()?;
+        let leaf = self.leaf.copy()?;
+        Ok(Search {
+            alloc: self.alloc,
+            set: self.set,
+            reach: self.reach,
+            seen: self.seen,
+            path,
+            leaf,
+        })
+    }
+
     /// How many events the log had at the last round, and 0 before the first.
     pub fn seen(&self) -> u32
         ensures { result ≡ self.now.seen }
