@@ -8,3 +8,4 @@ pub mod Ignoring
 pub mod EnoughIgnoring
 mod FindingWork
 mod RoundWork
+mod LentSearch

@@ -5,17 +5,18 @@ use Rattle.tfpg_base.specs.Hypothesis.{Hypothesis}
 use Rattle.tfpg_graph.specs.Graph.{Tfpg}
 use Rattle.tfpg_log.specs.declared.event.Event.{Event}
 use Rattle.tfpg_log.specs.declared.event.Offered.TheVariants.{Accepted, Refused}
-use Rattle.tfpg_log.specs.Log.{Logbook, first_events, with_event}
+use Rattle.tfpg_log.specs.Log.{Logbook, GoesOn, first_events, with_event}
 use Rattle.tfpg_log.specs.Accepted.{reply_to}
 use Rattle.tfpg_evidence.specs.declared.round.Round.{Round}
 use Rattle.tfpg_clause.specs.Case.{Case}
 use Rattle.tfpg_clause.specs.Trees.{Judged, IsRefutation}
 use Rattle.tfpg_hyp.specs.Hypotheses.{Hypotheses, Row, IsRowOf}
-use Rattle.tfpg_hyp.specs.Views.{case_for}
+use Rattle.tfpg_hyp.specs.Views.{case_for, log_for}
 use Rattle.tfpg_hyp.specs.Rounds.{IsRound, HasNoneOpen, steps_so_far}
 use Rattle.tfpg_search.specs.Enough.{IsEnough}
 use Rattle.tfpg_search.specs.Live.{HasNoNameTwice}
-use Rattle.tfpg_search.specs.Represents.{SearchRepresents}
+use Rattle.tfpg_search.specs.Represents.{SearchRepresents, RepresentsSome}
+use Rattle.tfpg_search.specs.SearchState.{SearchState}
 use Rattle.tfpg_engine.specs.declared.slot.Slot.{Slot}
 use Rattle.tfpg_engine.specs.declared.slot.Slot.TheVariants.{Untouched, Searched, Rejected}
 use Rattle.tfpg_engine.specs.declared.told.Told.{Told}
@@ -55,6 +56,12 @@ abbrev pub seen_by : Slot → ℕ
 seen_by Untouched = 0
 seen_by (Searched search) = search.seen
 seen_by Rejected = 0
+
+-- The search of a hypothesis that an engine lends: it is of the set of the hypothesis, and represents some steps at what the hypothesis
+-- sees of each log that goes on from that of the engine. So a copy of it can continue there.
+pub record IsLentSearch (engine : EngineState) (hypothesis : Hypothesis) (search : SearchState) : Type 0 where
+  pub set_is : search.set ≡ hypothesis.set
+  pub represents : (later : Logbook) → GoesOn engine.log later → RepresentsSome engine.graph (log_for later hypothesis) search
 
 -- What is kept of the hypothesis of a number is as it was worked on in these rounds: it is rejected where it was in one of them, and
 -- else its search has seen the events at the last one in which it was worked on.

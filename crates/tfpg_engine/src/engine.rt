@@ -1,6 +1,7 @@
 //! One event, all hypotheses.
 
-ghost use Rattle.std.specs.Prelude.{◌≡◌, ◌≤◌, ◌<◌, ◌↔◌, ℕ, List, [], true, false, IfOk, OnOk, OnErr, Ok, Err, replicate};
+ghost use Rattle.std.specs.Prelude.{◌≡◌, ◌≤◌, ◌<◌, ◌↔◌, ℕ, List, [], true, false, Some, IfOk, IfSome, OnOk, OnErr, Ok, Err, replicate, slice_get};
+ghost use Rattle.tfpg_base.specs.Hypothesis.{Hypothesis};
 ghost use Rattle.tfpg_evidence.specs.declared.round.Round.{Round};
 ghost use Rattle.tfpg_base.specs.declared.limits.TheConstants.{MAX_DOUBT};
 ghost use Rattle.tfpg_hyp.specs.Hypotheses.{HasHypotheses, IsTableOf};
@@ -9,7 +10,7 @@ ghost use Rattle.tfpg_log.specs.Accepted.{reply_to};
 ghost use Rattle.tfpg_log.specs.Log.{IsLogOf};
 ghost use Rattle.tfpg_log.specs.LogOfLines.{new_log};
 ghost use Rattle.tfpg_log.specs.declared.refusal.Refusal.{Refusal};
-ghost use Rattle.tfpg_engine.specs.EngineState.{EngineRepresents, Brings, CountsCalls};
+ghost use Rattle.tfpg_engine.specs.EngineState.{EngineRepresents, Brings, CountsCalls, IsLentSearch};
 
 use crate::inquiry::Inquiry;
 use crate::round;
@@ -24,6 +25,7 @@ use tfpg_graph::Graph;
 use tfpg_hyp::laws::subsets_stand_before_their_supersets;
 use tfpg_hyp::{Table, TableFault};
 use tfpg_log::{Log, Offered};
+use tfpg_search::Search;
 
 /// Diagnoses a graph by a growing log: for each accepted line a finding for each hypothesis.
 #[derive(Drop)]
@@ -188,6 +190,22 @@ impl Engine {
         ensures of { IsTableOf self.now.graph self.now.terms result.now }
     {
         &self.table
+    }
+
+    /// Lends the search of the hypothesis of a number, where it was searched and is not rejected, and the engine has not ended. A copy
+    /// of it continues at the log of the engine, and at each log that goes on from that.
+    pub fn search(&self, number: u32) -> Option<&Search>
+        ensures { (hypothesis : Hypothesis) → slice_get self.now.table.hypotheses number ≡ Some hypothesis →
+            IfSome result (λ search. IsLentSearch self.now hypothesis search.now) }
+    {
+        if self.ended {
+            return None;
+        }
+        match self.slots.get(number as usize)? {
+            Slot::Searched(search) => Some(search),
+            Slot::Untouched => None,
+            Slot::Rejected => None,
+        }
     }
 }
 
