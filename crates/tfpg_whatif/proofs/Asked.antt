@@ -77,6 +77,7 @@ pub asked_same : (asking : Asking) (one other : Logbook) → other.events ≡ on
 asked_same asking one other same is = record {
   own = subst (All (IsEventOf asking.engine.now.graph)) (sym same) is.own;
   event = subst (λ (events : List Event). 1 ≤ length events) (sym same) is.event;
+  goes_on = (is.goes_on.0, same ∙ is.goes_on.1);
 }
 
 -- what was found depends on the events alone

@@ -1,7 +1,7 @@
 -- The last event of a log, and what is known before it.
 use Rattle.std.proofs.Common.{◌≡◌, ℕ, zero, suc, List, [], ◌∷◌, ◌++◌, length, sym, ap, subst, ◌∙◌, arith}
 use Rattle.std.specs.Prelude.{All, Some, slice_get}
-use Rattle.std.proofs.lemmas.List.{take_all}
+use Rattle.std.proofs.lemmas.List.{append-nil, take_all}
 use Rattle.std.proofs.lemmas.Option.{slice_get_within}
 use Rattle.tfpg_base.proofs.lists.Cuts.{take-item}
 use Rattle.tfpg_log.specs.declared.event.Event.{Event}
@@ -45,11 +45,13 @@ module _ (asking : Asking) (last : LastEvent) (event : Event) (same_event : last
       (ap (λ (l : Logbook). l.events) is_copy ∙ sym (take_all (suc index) lent.events (omega (arith, counted))) ∙ take-item lent.events index event at)
 
 -- A log with an event can be asked about.
-pub asked_at_end : (asking : Asking) (lent copied : Logbook) (count : ℕ) (event : Event) → copied ≡ lent → IsLogOf asking.engine.now.graph lent → event_at lent count ≡ Some event → IsAskedAt asking copied
-asked_at_end asking lent copied zero event is_copy of at = absurd cc
-asked_at_end asking lent copied (suc index) event is_copy of at = record {
+pub asked_at_end : (asking : Asking) (lent copied : Logbook) (count : ℕ) (event : Event) → copied ≡ lent → lent ≡ asking.engine.now.log → IsLogOf asking.engine.now.graph lent → event_at lent count ≡ Some event
+    → IsAskedAt asking copied
+asked_at_end asking lent copied zero event is_copy is_log of at = absurd cc
+asked_at_end asking lent copied (suc index) event is_copy is_log of at = record {
   own = subst (λ (l : Logbook). All (IsEventOf asking.engine.now.graph) l.events) (sym is_copy) of.own;
   event = omega (arith, slice_get_within lent.events index event at, ap (λ (l : Logbook). length l.events) is_copy);
+  goes_on = ([], ap (λ (l : Logbook). l.events) (is_copy ∙ is_log) ∙ sym (append-nil asking.engine.now.log.events));
 }
 
 -- The event of a line that was accepted is at now, and these outcomes are known before it.

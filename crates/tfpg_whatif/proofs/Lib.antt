@@ -6,4 +6,6 @@ mod Rounds
 mod Asked
 mod Questioned
 mod OnceAsked
+mod Continued
+mod Judging
 mod Inserted

@@ -80,13 +80,14 @@ never_refused accepts graph lent log lent_log copied event text count reply refu
     cc
 
 -- What is asked can be asked after an accepted line.
-pub asked_after : (asking : Asking) (lent : Tfpg) (old new : Logbook) (reply : Offered) (event : Event) → lent ≡ asking.engine.now.graph → IsLogOf lent new → new ≡ log_after_reply old reply
-    → reply ≡ Accepted event → IsAskedAt asking new
-asked_after asking lent old new reply event same of is accepted =
+pub asked_after : (asking : Asking) (lent : Tfpg) (old new : Logbook) (reply : Offered) (event : Event) → lent ≡ asking.engine.now.graph → IsLogOf lent new → old ≡ asking.engine.now.log
+    → new ≡ log_after_reply old reply → reply ≡ Accepted event → IsAskedAt asking new
+asked_after asking lent old new reply event same of is_log is accepted =
     let longer : new ≡ with_event old event = is ∙ ap (log_after_reply old) accepted in
     record {
       own = subst (λ (g : Tfpg). All (IsEventOf g) new.events) same of.own;
       event = omega (arith, ap (λ (log : Logbook). length log.events) longer, length-append old.events (event ∷ []));
+      goes_on = (event ∷ [], ap (λ (log : Logbook). log.events) (longer ∙ ap (λ (log : Logbook). with_event log event) is_log));
     }
 
 -- ---- the counts

@@ -24,6 +24,7 @@ mod answer;
 mod ask_fault;
 mod asking;
 mod at_once;
+mod early;
 pub mod laws;
 mod order;
 mod outcome;

@@ -1,11 +1,16 @@
 -- What the code asks, and what it has found so far.
-use Rattle.std.specs.Prelude.{◌≡◌, ℕ, ◌<◌, ◌≤◌, List, [], ◌∷◌, ◌++◌, length, All, false, Some, slice_get}
+use Rattle.std.specs.Prelude.{◌≡◌, ℕ, ◌<◌, ◌≤◌, List, [], ◌∷◌, ◌++◌, length, All, false, Option, Some, None, slice_get}
+use Rattle.tfpg_base.specs.declared.activation.Activation.{Activation}
+use Rattle.tfpg_graph.specs.Graph.{Tfpg}
+use Rattle.tfpg_log.specs.declared.event.Event.{Event}
 use Rattle.tfpg_log.specs.Log.{Logbook, IsEventOf, now_of, time_of_event}
 use Rattle.tfpg_evidence.specs.declared.step.Step.{Step}
 use Rattle.tfpg_clause.specs.Case.{Case}
 use Rattle.tfpg_search.specs.declared.found.Found.{Found}
 use Rattle.tfpg_search.specs.declared.found.Found.TheVariants.{Shown, Closed, Spent}
 use Rattle.tfpg_search.specs.Enough.{IsEnough}
+use Rattle.tfpg_search.specs.SearchState.{SearchState}
+use Rattle.tfpg_search.specs.Represents.{RepresentsSome}
 use Rattle.tfpg_whatif.specs.declared.outcome.Outcome.{Outcome}
 use Rattle.tfpg_whatif.specs.declared.outcome.Outcome.TheVariants.{Fits, Out, Unknown}
 use Rattle.tfpg_whatif.specs.declared.asking.Asking.{Asking}
@@ -26,10 +31,20 @@ pub record IsAsking (asking : Asking) : Type 0 where
   pub among : All (λ number. number < length asking.engine.now.table.hypotheses) asking.among.now
   pub budget : 1 ≤ asking.budget
 
--- The events of the log are of the graph, and there is one.
+-- The events of the later log begin with those of the earlier one, whatever the logs ignore.
+abbrev pub HasEventsOf : Logbook → Logbook → Type 0
+HasEventsOf earlier later = (more : List Event) × (later.events ≡ earlier.events ++ more)
+
+-- The events of the log are of the graph, there is one, and the first ones are those of the engine's log.
 pub record IsAskedAt (asking : Asking) (log : Logbook) : Type 0 where
   pub own : All (IsEventOf asking.engine.now.graph) log.events
   pub event : 1 ≤ length log.events
+  pub goes_on : HasEventsOf asking.engine.now.log log
+
+-- A search for this set, of which a copy can continue at the log.
+pub record CanContinue (graph : Tfpg) (log : Logbook) (set : List ℕ) (search : SearchState) : Type 0 where
+  pub set_is : search.set ≡ set
+  pub represents : RepresentsSome graph log search
 
 -- These are outcomes of the first hypotheses that are asked about.
 abbrev pub AreKnown : Asked → List Outcome → Type 0
@@ -44,6 +59,12 @@ pub record IsLastEvent (asking : Asking) (last : LastEvent) (log : Logbook) : Ty
   pub known : AreKnown (asked_by asking earlier) last.before.now
   pub at_now : (index : ℕ) (outcome : Outcome) → slice_get last.before.now index ≡ Some outcome
       → time_of_event last.event ≡ now_of earlier
+
+-- the trace that was found, where one was
+abbrev pub trace_found : Found → Option (List Activation)
+trace_found (Shown trace) = Some trace
+trace_found Closed = None
+trace_found Spent = None
 
 -- what was found with these steps, as an outcome
 abbrev pub outcome_by : Found → List Step → Outcome

@@ -1,5 +1,6 @@
 use Rattle.std.proofs.Common.{ap, sym, ◌∙◌}
 use Rattle.std.specs.Prelude.{slice_get}
+use Rattle.std.proofs.lemmas.Option.{IfSome_then}
 use Rattle.std.proofs.lemmas.Result.{IfOk-weaker}
 use Rattle.tfpg_base.specs.Hypothesis.{Hypothesis}
 use Rattle.tfpg_hyp.specs.Hypotheses.{Hypotheses}
@@ -8,25 +9,40 @@ use Rattle.tfpg_log.specs.Log.{ignoring}
 use Rattle.tfpg_whatif.specs.inside.Asking.{asked_by}
 use Rattle.tfpg_whatif.proofs.AtOnce.{explained_before, own_last, shown_at_once}
 use Rattle.tfpg_whatif.proofs.Asked.{found_by, its_members, its_reach, its_log, has_event}
+use Rattle.tfpg_whatif.proofs.Continued.{can_continue}
 use Rattle.tfpg_whatif.proofs.outcomes.outcome_of.Goals as goal
 
-pub search-requires-clause-of : goal.search-requires-clause-of
-search-requires-clause-of g c =
+pub outcome_at_once-requires : goal.outcome_at_once-requires
+outcome_at_once-requires g c =
     its_log c.args.asking.now.engine.now.graph c.args.asking.now.engine.now.terms c.table-table.result.now c.table-table.ensures.of c.args.number (record { set = c.set-set.result; doubts = c.doubts-doubts.result })
     (hypothesis_at _ c.set-set.result c.doubts-doubts.result c.set-set.ensures c.doubts-doubts.ensures) c.graph-graph.result.now c.args.log.now c.ignore.new.self c.graph-graph.ensures c.requires.log.own c.ignore.ensures
 
-pub search-requires-clause-event : goal.search-requires-clause-event
-search-requires-clause-event g c = has_event c.args.log.now c.ignore.new.self c.doubts-doubts.result c.ignore.ensures c.requires.log.event
+pub find_outcome-requires-clause-of : goal.find_outcome-requires-clause-of
+find_outcome-requires-clause-of g c =
+    its_log c.args.asking.now.engine.now.graph c.args.asking.now.engine.now.terms c.table-table.result.now c.table-table.ensures.of c.args.number (record { set = c.set-set.result; doubts = c.doubts-doubts.result })
+    (hypothesis_at _ c.set-set.result c.doubts-doubts.result c.set-set.ensures c.doubts-doubts.ensures) c.graph-graph.result.now c.args.log.now c.ignore.new.self c.graph-graph.ensures c.requires.log.own c.ignore.ensures
 
-pub search-requires-clause-members : goal.search-requires-clause-members
-search-requires-clause-members g c =
+pub find_outcome-requires-clause-event : goal.find_outcome-requires-clause-event
+find_outcome-requires-clause-event g c = has_event c.args.log.now c.ignore.new.self c.doubts-doubts.result c.ignore.ensures c.requires.log.event
+
+pub find_outcome-requires-clause-members : goal.find_outcome-requires-clause-members
+find_outcome-requires-clause-members g c =
     its_members c.args.asking.now.engine.now.graph c.args.asking.now.engine.now.terms c.table-table.result.now c.table-table.ensures.of c.args.number (record { set = c.set-set.result; doubts = c.doubts-doubts.result })
     (hypothesis_at _ c.set-set.result c.doubts-doubts.result c.set-set.ensures c.doubts-doubts.ensures) c.graph-graph.result.now c.graph-graph.ensures
 
-pub search-requires-clause-reach : goal.search-requires-clause-reach
-search-requires-clause-reach g c =
+pub find_outcome-requires-clause-reach : goal.find_outcome-requires-clause-reach
+find_outcome-requires-clause-reach g c =
     its_reach c.args.asking.now.engine.now.graph c.args.asking.now.engine.now.terms c.table-table.result.now c.table-table.ensures.of c.args.number (record { set = c.set-set.result; doubts = c.doubts-doubts.result })
     (hypothesis_at _ c.set-set.result c.doubts-doubts.result c.set-set.ensures c.doubts-doubts.ensures) c.graph-graph.result.now c.reach.result.now c.graph-graph.ensures c.reach.ensures
+
+pub find_outcome-requires-clause-kept : goal.find_outcome-requires-clause-kept
+find_outcome-requires-clause-kept g c =
+    let hypothesis : Hypothesis = record { set = c.set-set.result; doubts = c.doubts-doubts.result } in
+    let there = hypothesis_at _ c.set-set.result c.doubts-doubts.result c.set-set.ensures c.doubts-doubts.ensures in
+    IfSome_then c.search-kept.result
+    (c.search-kept.ensures hypothesis (sym (ap (λ (t : Hypotheses). slice_get t.hypotheses c.args.number) c.table-table.ensures.table) ∙ there))
+    (λ search lent.
+    can_continue c.args.asking.now.engine.now c.graph-graph.result.now hypothesis search.now c.args.log.now c.ignore.new.self c.graph-graph.ensures c.requires.log.goes_on c.ignore.ensures lent)
 
 pub returns-in-Some-clause-found : goal.returns-in-Some-clause-found
 returns-in-Some-clause-found g c =
@@ -42,8 +58,8 @@ returns-in-Some-clause-found g c =
 
 pub returns-in-None-clause-found : goal.returns-in-None-clause-found
 returns-in-None-clause-found g c =
-    IfOk-weaker c.search.result _ _
+    IfOk-weaker c.find_outcome.result _ _
     (λ outcome shown.
     found_by (asked_by c.args.asking.now c.args.log.now) c.table-table.result.now c.graph-graph.result.now c.args.number (record { set = c.set-set.result; doubts = c.doubts-doubts.result })
     c.reach.result.now c.ignore.new.self outcome (ap (λ (t : Hypotheses). t.hypotheses) c.table-table.ensures.table) c.table-table.ensures.of
-    (hypothesis_at _ c.set-set.result c.doubts-doubts.result c.set-set.ensures c.doubts-doubts.ensures) c.reach.ensures c.graph-graph.ensures c.ignore.ensures shown) c.search.ensures
+    (hypothesis_at _ c.set-set.result c.doubts-doubts.result c.set-set.ensures c.doubts-doubts.ensures) c.reach.ensures c.graph-graph.ensures c.ignore.ensures shown) c.find_outcome.ensures

@@ -6,7 +6,7 @@ use Rattle.tfpg_whatif.proofs.question_of.outcomes_after.Goals as goal
 
 pub outcomes_at-requires-clause-log : goal.outcomes_at-requires-clause-log
 outcomes_at-requires-clause-log g c =
-    asked_after c.args.asking.now c.graph-graph.result.now c.in_ok-log.log c.offer.new.self c.in_ok-offer.field-0 c.in-Accepted.field-0 c.graph-graph.ensures c.offer.ensures.of c.in_ok-offer.ensures.log c.in-Accepted.is
+    asked_after c.args.asking.now c.graph-graph.result.now c.in_ok-log.log c.offer.new.self c.in_ok-offer.field-0 c.in-Accepted.field-0 c.graph-graph.ensures c.offer.ensures.of (c.in_ok-log.ensures ∙ c.log.ensures.log) c.in_ok-offer.ensures.log c.in-Accepted.is
 
 pub unreachable-requires : goal.unreachable-requires
 unreachable-requires g c =

@@ -1,0 +1,13 @@
+use Rattle.std.proofs.Common.{sym, subst}
+use Rattle.std.specs.Prelude.{IfSome}
+use Rattle.tfpg_log.specs.Explains.{Explains}
+use Rattle.tfpg_whatif.specs.inside.Asking.{CanContinue}
+use Rattle.tfpg_whatif.proofs.Continued.{continues}
+use Rattle.tfpg_whatif.proofs.outcomes.continued.Goals as goal
+
+pub returns : goal.returns
+returns g c =
+    subst (λ found. IfSome found (λ trace. Explains c.args.graph.now c.args.log.now c.args.set trace)) (sym c.trace_found.ensures)
+    (continues c.args.graph.now c.args.log.now c.args.set c.args.budget c.in-Some.search.now c.in_ok-copy.copy c.round.new.self c.new-steps.result c.round.new.steps c.in_ok-found.found
+    (subst (λ kept. IfSome kept (λ search. CanContinue c.args.graph.now c.args.log.now c.args.set search.now)) c.in-Some.is c.requires.kept) c.in_ok-copy.ensures c.round.ensures.set
+    c.in_ok-found.ensures.searched)
