@@ -1,8 +1,7 @@
 -- What a copy of the engine's search shows at a log that goes on.
 use Rattle.std.proofs.Common.{◌≡◌, ℕ, List, refl, sym, ap, subst, ◌∙◌}
-use Rattle.std.specs.Prelude.{Ok, Some, Result, Option, IfSome, slice_get}
+use Rattle.std.specs.Prelude.{Ok, IfSome}
 use Rattle.tfpg_base.specs.Hypothesis.{Hypothesis}
-use Rattle.tfpg_base.specs.declared.no_memory.NoMemory.{NoMemory}
 use Rattle.tfpg_base.specs.declared.activation.Activation.{Activation}
 use Rattle.tfpg_graph.specs.Graph.{Tfpg}
 use Rattle.tfpg_log.specs.Explains.{Explains}
@@ -13,7 +12,7 @@ use Rattle.tfpg_search.specs.declared.found.Found.{Found}
 use Rattle.tfpg_search.specs.declared.found.Found.TheVariants.{Shown, Closed, Spent}
 use Rattle.tfpg_search.specs.SearchState.{SearchState}
 use Rattle.tfpg_search.specs.Represents.{RepresentsSome}
-use Rattle.tfpg_search.specs.Searched.{IsSearched, SearchCall, call_of}
+use Rattle.tfpg_search.specs.Searched.{IsSearched, call_of}
 use Rattle.tfpg_engine.specs.EngineState.{EngineState, IsLentSearch}
 use Rattle.tfpg_whatif.specs.inside.Asking.{CanContinue, HasEventsOf, IsShown, trace_found}
 use Rattle.tfpg_whatif.specs.declared.outcome.Outcome.TheVariants.{Fits}

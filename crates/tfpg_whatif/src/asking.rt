@@ -6,15 +6,31 @@ ghost use Rattle.tfpg_whatif.specs.Laws.{IsWellAsked};
 ghost use Rattle.tfpg_whatif.specs.inside.Asking.{IsAsking, asked_by};
 
 use crate::outcome::Outcome;
-use tfpg_base::NumberList;
+use tfpg_base::{NumberList, Set};
 use tfpg_engine::Engine;
+use tfpg_graph::{Graph, NodeSet};
 use tfpg_log::{Event, Log};
+use tfpg_search::Search;
 
 /// Which hypotheses of an engine are asked about, by their numbers, and with which budget.
 #[derive(Clone, Copy)]
 pub(crate) struct Asking<'a> {
     pub(crate) engine: &'a Engine,
     pub(crate) among: &'a NumberList,
+    /// At least 1.
+    pub(crate) budget: u64,
+}
+
+/// A hypothesis that is asked about, by the log as it sees it.
+#[derive(Clone, Copy)]
+pub(crate) struct Subject<'a> {
+    pub(crate) graph: &'a Graph,
+    pub(crate) log: &'a Log,
+    pub(crate) set: Set,
+    /// What the set reaches.
+    pub(crate) reach: NodeSet,
+    /// Its search in the engine, where there is one.
+    pub(crate) kept: Option<&'a Search>,
     /// At least 1.
     pub(crate) budget: u64,
 }

@@ -1,22 +1,17 @@
 //! The outcomes at a log.
 
 ghost use Rattle.std.specs.Prelude.{◌≡◌, ◌≤◌, ◌<◌, length, IfOk, IfSome, Some, slice_get};
-ghost use Rattle.tfpg_graph.specs.Graph.{AreFailures};
-ghost use Rattle.tfpg_graph.specs.Reach.{IsReach};
 ghost use Rattle.tfpg_log.specs.Explains.{Explains};
-ghost use Rattle.tfpg_log.specs.Log.{IsLogOf};
-ghost use Rattle.tfpg_clause.specs.Case.{case_of};
-ghost use Rattle.tfpg_whatif.specs.inside.Asking.{IsAsking, IsAskedAt, IsLastEvent, IsShown, IsFound, AreAllFound, CanContinue, asked_by, outcome_by, trace_found};
+ghost use Rattle.tfpg_whatif.specs.inside.Asking.{IsAsking, IsAskedAt, IsLastEvent, IsShown, IsFound, AreAllFound, IsSubject, asked_by, case_asked, outcome_by, trace_found};
 
-use crate::asking::{Asking, LastEvent};
+use crate::asking::{Asking, LastEvent, Subject};
 use crate::at_once::outcome_at_once;
 use crate::early::refuted_early;
 use crate::outcome::{Outcome, OutcomeList};
 use std::alloc::Global;
 use std::sync::ledger::Ledger;
-use tfpg_base::{NoMemory, Set, Steps, Trace};
+use tfpg_base::{NoMemory, Steps, Trace};
 use tfpg_evidence::StepList;
-use tfpg_graph::{Graph, NodeSet};
 use tfpg_log::{Event, Log};
 use tfpg_search::{Found, Search};
 
@@ -68,99 +63,73 @@ fn outcome_of<L: Ledger>(
     match outcome_at_once(alloc, graph, log, &reach, last, index)? {
         Some(outcome) => Ok(outcome),
         None => {
-            let kept = asking.engine.search(number);
-            let event = last.event;
-            find_outcome(
-                alloc,
-                kept,
+            let subject = Subject {
                 graph,
                 log,
-                event,
                 set,
                 reach,
-                asking.budget,
-                work,
-            )
+                kept: asking.engine.search(number),
+                budget: asking.budget,
+            };
+            find_outcome(alloc, &subject, last.event, work)
         }
     }
 }
 
-/// The outcome by the log alone, for a set of failure modes that reaches these nodes: by the last event, where that is an alarm which
-/// comes too early, and else of a search.
+/// The outcome by the log alone: by the last event, where that is an alarm which comes too early, and else of a search.
 fn find_outcome<L: Ledger>(
     alloc: Global,
-    kept: Option<&Search>,
-    graph: &Graph,
-    log: &Log,
+    subject: &Subject<'_>,
     last: Event,
-    set: Set,
-    reach: NodeSet,
-    budget: u64,
     work: &mut Steps<L>,
 ) -> Result<Outcome, NoMemory>
-    requires kept { IfSome kept (λ search. CanContinue graph.now log.now set search.now) }
-    requires of { IsLogOf graph.now log.now }
-    requires event { 1 ≤ length log.now.events }
-    requires budget { 1 ≤ budget }
-    requires members { AreFailures graph.now set }
-    requires reach { IsReach graph.now set reach }
-    ensures { IfOk result (IsShown (case_of graph.now log.now reach) set budget) }
+    requires { IsSubject subject.now }
+    ensures { IfOk result (IsShown (case_asked subject.now) subject.now.set subject.now.budget) }
 {
-    match refuted_early(alloc, graph, log, &reach, last, budget)? {
+    let Subject {
+        graph,
+        log,
+        budget,
+        ..
+    } = *subject;
+    match refuted_early(alloc, graph, log, &subject.reach, last, budget)? {
         Some(steps) => Ok(Outcome::Out(steps)),
-        None => search(alloc, kept, graph, log, set, reach, budget, work),
+        None => search(alloc, subject, work),
     }
 }
 
-/// The outcome of a search by the log alone, for a set of failure modes that reaches these nodes: of a copy of the one that is kept, where
-/// that continues to a trace, and else of a new one.
+/// The outcome of a search by the log alone: of a copy of the one that is kept, where that continues to a trace, and else of a new one.
 fn search<L: Ledger>(
     alloc: Global,
-    kept: Option<&Search>,
-    graph: &Graph,
-    log: &Log,
-    set: Set,
-    reach: NodeSet,
-    budget: u64,
+    subject: &Subject<'_>,
     work: &mut Steps<L>,
 ) -> Result<Outcome, NoMemory>
-    requires kept { IfSome kept (λ search. CanContinue graph.now log.now set search.now) }
-    requires of { IsLogOf graph.now log.now }
-    requires event { 1 ≤ length log.now.events }
-    requires budget { 1 ≤ budget }
-    requires members { AreFailures graph.now set }
-    requires reach { IsReach graph.now set reach }
-    ensures { IfOk result (IsShown (case_of graph.now log.now reach) set budget) }
+    requires { IsSubject subject.now }
+    ensures { IfOk result (IsShown (case_asked subject.now) subject.now.set subject.now.budget) }
 {
-    match continued(alloc, kept, graph, log, set, budget, work)? {
+    match continued(alloc, subject, work)? {
         Some(trace) => Ok(Outcome::Fits(trace)),
-        None => search_anew(alloc, graph, log, set, reach, budget, work),
+        None => search_anew(alloc, subject, work),
     }
 }
 
-/// The trace to which a copy of the search that is kept continues at the log, where there is one.
+/// The trace to which a copy of the search that is kept continues, where there is one.
 fn continued<L: Ledger>(
     alloc: Global,
-    kept: Option<&Search>,
-    graph: &Graph,
-    log: &Log,
-    set: Set,
-    budget: u64,
+    subject: &Subject<'_>,
     work: &mut Steps<L>,
 ) -> Result<Option<Trace>, NoMemory>
-    requires kept { IfSome kept (λ search. CanContinue graph.now log.now set search.now) }
-    requires of { IsLogOf graph.now log.now }
-    requires event { 1 ≤ length log.now.events }
-    requires budget { 1 ≤ budget }
-    ensures { IfOk result (λ found. IfSome found (λ trace. Explains graph.now log.now set trace)) }
+    requires { IsSubject subject.now }
+    ensures { IfOk result (λ found. IfSome found (λ trace.
+        Explains subject.now.graph.now subject.now.log.now subject.now.set trace)) }
 {
-    let Some(search) = kept else {
+    let Some(search) = subject.kept else {
         return Ok(None);
     };
     let mut copy = search.copy()?;
     // The steps of the rounds before are not at hand, so these alone are no evidence.
     let mut steps = StepList::new(alloc);
-    let found = copy.round(graph, log, budget, &mut steps, work)?;
+    let found = copy.round(subject.graph, subject.log, subject.budget, &mut steps, work)?;
     Ok(trace_found(found))
 }
 
@@ -175,26 +144,18 @@ fn trace_found(found: Found) -> Option<Trace>
     }
 }
 
-/// The outcome of a new search, by the log alone, for a set of failure modes that reaches these nodes.
+/// The outcome of a new search by the log alone.
 fn search_anew<L: Ledger>(
     alloc: Global,
-    graph: &Graph,
-    log: &Log,
-    set: Set,
-    reach: NodeSet,
-    budget: u64,
+    subject: &Subject<'_>,
     work: &mut Steps<L>,
 ) -> Result<Outcome, NoMemory>
-    requires of { IsLogOf graph.now log.now }
-    requires event { 1 ≤ length log.now.events }
-    requires budget { 1 ≤ budget }
-    requires members { AreFailures graph.now set }
-    requires reach { IsReach graph.now set reach }
-    ensures { IfOk result (IsShown (case_of graph.now log.now reach) set budget) }
+    requires { IsSubject subject.now }
+    ensures { IfOk result (IsShown (case_asked subject.now) subject.now.set subject.now.budget) }
 {
-    let mut search = Search::new(alloc, graph, set, reach)?;
+    let mut search = Search::new(alloc, subject.graph, subject.set, subject.reach)?;
     let mut steps = StepList::new(alloc);
-    let found = search.round(graph, log, budget, &mut steps, work)?;
+    let found = search.round(subject.graph, subject.log, subject.budget, &mut steps, work)?;
     Ok(outcome(found, steps))
 }
 

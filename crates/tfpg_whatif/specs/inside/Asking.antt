@@ -1,11 +1,12 @@
 -- What the code asks, and what it has found so far.
-use Rattle.std.specs.Prelude.{◌≡◌, ℕ, ◌<◌, ◌≤◌, List, [], ◌∷◌, ◌++◌, length, All, false, Option, Some, None, slice_get}
+use Rattle.std.specs.Prelude.{◌≡◌, ℕ, ◌<◌, ◌≤◌, List, [], ◌∷◌, ◌++◌, length, All, false, Option, Some, None, IfSome, slice_get}
 use Rattle.tfpg_base.specs.declared.activation.Activation.{Activation}
-use Rattle.tfpg_graph.specs.Graph.{Tfpg}
+use Rattle.tfpg_graph.specs.Graph.{Tfpg, AreFailures}
+use Rattle.tfpg_graph.specs.Reach.{IsReach}
 use Rattle.tfpg_log.specs.declared.event.Event.{Event}
-use Rattle.tfpg_log.specs.Log.{Logbook, IsEventOf, now_of, time_of_event}
+use Rattle.tfpg_log.specs.Log.{Logbook, IsEventOf, IsLogOf, now_of, time_of_event}
 use Rattle.tfpg_evidence.specs.declared.step.Step.{Step}
-use Rattle.tfpg_clause.specs.Case.{Case}
+use Rattle.tfpg_clause.specs.Case.{Case, case_of}
 use Rattle.tfpg_search.specs.declared.found.Found.{Found}
 use Rattle.tfpg_search.specs.declared.found.Found.TheVariants.{Shown, Closed, Spent}
 use Rattle.tfpg_search.specs.Enough.{IsEnough}
@@ -15,6 +16,7 @@ use Rattle.tfpg_whatif.specs.declared.outcome.Outcome.{Outcome}
 use Rattle.tfpg_whatif.specs.declared.outcome.Outcome.TheVariants.{Fits, Out, Unknown}
 use Rattle.tfpg_whatif.specs.declared.asking.Asking.{Asking}
 use Rattle.tfpg_whatif.specs.declared.asking.LastEvent.{LastEvent}
+use Rattle.tfpg_whatif.specs.declared.asking.Subject.{Subject}
 use Rattle.tfpg_whatif.specs.Outcomes.{Asked, asked_of, asked_at, HasOutcomeEvidence, IsOutcomeOf, Lengthens, is_unknown}
 use Rattle.tfpg_whatif.specs.Laws.{IsWellAsked}
 
@@ -45,6 +47,20 @@ pub record IsAskedAt (asking : Asking) (log : Logbook) : Type 0 where
 pub record CanContinue (graph : Tfpg) (log : Logbook) (set : List ℕ) (search : SearchState) : Type 0 where
   pub set_is : search.set ≡ set
   pub represents : RepresentsSome graph log search
+
+-- what the evidence on a hypothesis that is asked about is of
+abbrev pub case_asked : Subject → Case
+case_asked subject = case_of subject.graph.now subject.log.now subject.reach
+
+-- The log is of the graph and has an event, the failure modes are of the graph and reach these nodes, a copy of the search that is kept can
+-- continue at the log, and the budget is not 0.
+pub record IsSubject (subject : Subject) : Type 0 where
+  pub of : IsLogOf subject.graph.now subject.log.now
+  pub event : 1 ≤ length subject.log.now.events
+  pub members : AreFailures subject.graph.now subject.set
+  pub reaches : IsReach subject.graph.now subject.set subject.reach
+  pub kept : IfSome subject.kept (λ search. CanContinue subject.graph.now subject.log.now subject.set search.now)
+  pub budget : 1 ≤ subject.budget
 
 -- These are outcomes of the first hypotheses that are asked about.
 abbrev pub AreKnown : Asked → List Outcome → Type 0

@@ -11,15 +11,18 @@ use tfpg_base::NoMemory;
 use tfpg_clause::{constraint, count};
 use tfpg_evidence::{ClauseName, Reason, Reasons, Step, StepList};
 use tfpg_graph::{Graph, NodeSet};
-use tfpg_log::{Event, Log};
+use tfpg_log::{Event, Log, Span};
 
 /// How often the nodes are gone through for what has to be shown, and for what can be shown.
 const PASSES: u32 = 8;
 
 /// The steps so far: those down to the present leaf, and those that close what stands beside the path, the last first.
 #[derive(Drop)]
-struct Proposal {
+struct Proposal<'a, 'b> {
     alloc: Global,
+    graph: &'a Graph,
+    log: &'b Log,
+    bounds: AllBounds,
     down: Vec<Step>,
     beside: Vec<Step>,
     depth: u64,
@@ -51,17 +54,21 @@ pub(super) fn proposed(
     need_sources(graph, &mut bounds);
     let mut proposal = Proposal {
         alloc,
+        graph,
+        log,
+        bounds,
         down: Vec::new(alloc),
         beside: Vec::new(alloc),
         depth: 0,
         budget,
     };
-    proposal.show_all(graph, log, &mut bounds, node)?;
-    if bounds.at(node).stated.time <= interval.latest {
+    proposal.show_all(node)?;
+    let shown = proposal.bounds.at(node).stated;
+    if shown.time <= interval.latest {
         return Ok(None);
     }
     let upto = Reason::Upto { event: log.len() };
-    let last = proposal.cycle(&[bounds.at(node).stated.reason, upto])?;
+    let last = proposal.cycle(&[shown.reason, upto])?;
     proposal.down.push(last)?;
     let steps = proposal.into_steps()?;
     Ok(Some(steps))
@@ -134,22 +141,16 @@ fn late_edge(graph: &Graph, bounds: &AllBounds, node: u32, until: u64) -> Option
     }
 }
 
-impl Proposal {
+impl Proposal<'_, '_> {
     /// Shows of one node after the other that it is not active as long as is needed, until that is shown of the node of the alarm.
-    fn show_all(
-        &mut self,
-        graph: &Graph,
-        log: &Log,
-        bounds: &mut AllBounds,
-        last: u32,
-    ) -> Result<(), NoMemory> {
+    fn show_all(&mut self, last: u32) -> Result<(), NoMemory> {
         for _ in 0..PASSES {
-            for node in 0..graph.node_count() {
-                if let Some(until) = unstated(bounds, node) {
-                    self.show(graph, log, bounds, node, until)?;
+            for node in 0..self.graph.node_count() {
+                if let Some(until) = unstated(&self.bounds, node) {
+                    self.show(node, until)?;
                 }
             }
-            if unstated(bounds, last).is_none() {
+            if unstated(&self.bounds, last).is_none() {
                 return Ok(());
             }
         }
@@ -157,45 +158,28 @@ impl Proposal {
     }
 
     /// Shows that a node is not active up to an instant, span by span, if what is stated of the sources of its edges suffices.
-    fn show(
-        &mut self,
-        graph: &Graph,
-        log: &Log,
-        bounds: &mut AllBounds,
-        node: u32,
-        until: u64,
-    ) -> Result<(), NoMemory> {
-        let Some(edge) = shown_by(graph, bounds, node, until) else {
+    fn show(&mut self, node: u32, until: u64) -> Result<(), NoMemory> {
+        let Some(edge) = shown_by(self.graph, &self.bounds, node, until) else {
             return Ok(());
         };
-        let Some(first) = log.span_of(bounds.at(node).stated.time) else {
+        let Some(first) = self.log.span_of(self.bounds.at(node).stated.time) else {
             return Ok(());
         };
-        let Some(last) = log.span_of(until) else {
+        let Some(last) = self.log.span_of(until) else {
             return Ok(());
         };
         for span in first..=last {
-            let name = may_clause(graph, node, edge, span, until);
-            self.split(graph, log, bounds, node, name, span, until)?;
+            let name = may_clause(self.graph, node, edge, span, until);
+            if let Some(span) = self.log.span(span, until) {
+                self.split(name, node, span)?;
+            }
         }
         Ok(())
     }
 
-    /// Splits on a may clause of a node, within the budget, and goes on in the second alternative.
-    fn split(
-        &mut self,
-        graph: &Graph,
-        log: &Log,
-        bounds: &mut AllBounds,
-        node: u32,
-        name: ClauseName,
-        span: u32,
-        until: u64,
-    ) -> Result<(), NoMemory> {
-        let Ok(alternatives) = count(graph, log, name) else {
-            return Ok(());
-        };
-        let Some(window) = log.span(span, until) else {
+    /// Splits on a may clause of a node for a span, within the budget, and goes on in the second alternative.
+    fn split(&mut self, name: ClauseName, node: u32, span: Span) -> Result<(), NoMemory> {
+        let Ok(alternatives) = count(self.graph, self.log, name) else {
             return Ok(());
         };
         if self.depth >= self.budget {
@@ -207,24 +191,24 @@ impl Proposal {
             split,
             constraint: 1,
         };
-        let before = self.cycle(&[bounds.at(node).stated.reason, pick])?;
+        let before = self.cycle(&[self.bounds.at(node).stated.reason, pick])?;
         self.down.push(Step::Split(name))?;
         self.down.push(before)?;
         for alternative in (3..=alternatives).rev() {
-            if let Ok(Some(arrives)) = constraint(graph, log, name, alternative, 1) {
-                let source = arrives.left.saturating_sub(1);
+            if let Ok(Some(arrives)) = constraint(self.graph, self.log, name, alternative, 1) {
+                let source = self.bounds.at(arrives.left.saturating_sub(1));
                 let by = Reason::Pick {
                     split,
                     constraint: 3,
                 };
-                let closed = self.cycle(&[bounds.at(source).stated.reason, pick, by])?;
+                let closed = self.cycle(&[source.stated.reason, pick, by])?;
                 self.beside.push(closed)?;
             }
         }
-        bounds.state(
+        self.bounds.state(
             node,
             LowBound {
-                time: window.hi.saturating_add(1),
+                time: span.hi.saturating_add(1),
                 reason: pick,
             },
         );

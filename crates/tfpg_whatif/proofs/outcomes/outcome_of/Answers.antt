@@ -17,32 +17,23 @@ outcome_at_once-requires g c =
     its_log c.args.asking.now.engine.now.graph c.args.asking.now.engine.now.terms c.table-table.result.now c.table-table.ensures.of c.args.number (record { set = c.set-set.result; doubts = c.doubts-doubts.result })
     (hypothesis_at _ c.set-set.result c.doubts-doubts.result c.set-set.ensures c.doubts-doubts.ensures) c.graph-graph.result.now c.args.log.now c.ignore.new.self c.graph-graph.ensures c.requires.log.own c.ignore.ensures
 
-pub find_outcome-requires-clause-of : goal.find_outcome-requires-clause-of
-find_outcome-requires-clause-of g c =
-    its_log c.args.asking.now.engine.now.graph c.args.asking.now.engine.now.terms c.table-table.result.now c.table-table.ensures.of c.args.number (record { set = c.set-set.result; doubts = c.doubts-doubts.result })
-    (hypothesis_at _ c.set-set.result c.doubts-doubts.result c.set-set.ensures c.doubts-doubts.ensures) c.graph-graph.result.now c.args.log.now c.ignore.new.self c.graph-graph.ensures c.requires.log.own c.ignore.ensures
-
-pub find_outcome-requires-clause-event : goal.find_outcome-requires-clause-event
-find_outcome-requires-clause-event g c = has_event c.args.log.now c.ignore.new.self c.doubts-doubts.result c.ignore.ensures c.requires.log.event
-
-pub find_outcome-requires-clause-members : goal.find_outcome-requires-clause-members
-find_outcome-requires-clause-members g c =
-    its_members c.args.asking.now.engine.now.graph c.args.asking.now.engine.now.terms c.table-table.result.now c.table-table.ensures.of c.args.number (record { set = c.set-set.result; doubts = c.doubts-doubts.result })
-    (hypothesis_at _ c.set-set.result c.doubts-doubts.result c.set-set.ensures c.doubts-doubts.ensures) c.graph-graph.result.now c.graph-graph.ensures
-
-pub find_outcome-requires-clause-reach : goal.find_outcome-requires-clause-reach
-find_outcome-requires-clause-reach g c =
-    its_reach c.args.asking.now.engine.now.graph c.args.asking.now.engine.now.terms c.table-table.result.now c.table-table.ensures.of c.args.number (record { set = c.set-set.result; doubts = c.doubts-doubts.result })
-    (hypothesis_at _ c.set-set.result c.doubts-doubts.result c.set-set.ensures c.doubts-doubts.ensures) c.graph-graph.result.now c.reach.result.now c.graph-graph.ensures c.reach.ensures
-
-pub find_outcome-requires-clause-kept : goal.find_outcome-requires-clause-kept
-find_outcome-requires-clause-kept g c =
+pub find_outcome-requires : goal.find_outcome-requires
+find_outcome-requires g c =
+    let graph = c.args.asking.now.engine.now.graph in
+    let terms = c.args.asking.now.engine.now.terms in
     let hypothesis : Hypothesis = record { set = c.set-set.result; doubts = c.doubts-doubts.result } in
     let there = hypothesis_at _ c.set-set.result c.doubts-doubts.result c.set-set.ensures c.doubts-doubts.ensures in
-    IfSome_then c.search-kept.result
-    (c.search-kept.ensures hypothesis (sym (ap (λ (t : Hypotheses). slice_get t.hypotheses c.args.number) c.table-table.ensures.table) ∙ there))
-    (λ search lent.
-    can_continue c.args.asking.now.engine.now c.graph-graph.result.now hypothesis search.now c.args.log.now c.ignore.new.self c.graph-graph.ensures c.requires.log.goes_on c.ignore.ensures lent)
+    record {
+      of = its_log graph terms c.table-table.result.now c.table-table.ensures.of c.args.number hypothesis there c.graph-graph.result.now c.args.log.now c.ignore.new.self c.graph-graph.ensures c.requires.log.own c.ignore.ensures;
+      event = has_event c.args.log.now c.ignore.new.self c.doubts-doubts.result c.ignore.ensures c.requires.log.event;
+      members = its_members graph terms c.table-table.result.now c.table-table.ensures.of c.args.number hypothesis there c.graph-graph.result.now c.graph-graph.ensures;
+      reaches = its_reach graph terms c.table-table.result.now c.table-table.ensures.of c.args.number hypothesis there c.graph-graph.result.now c.reach.result.now c.graph-graph.ensures c.reach.ensures;
+      kept = IfSome_then c.search.result
+          (c.search.ensures hypothesis (sym (ap (λ (t : Hypotheses). slice_get t.hypotheses c.args.number) c.table-table.ensures.table) ∙ there))
+          (λ search lent.
+          can_continue c.args.asking.now.engine.now c.graph-graph.result.now hypothesis search.now c.args.log.now c.ignore.new.self c.graph-graph.ensures c.requires.log.goes_on c.ignore.ensures lent);
+      budget = c.requires.budget;
+    }
 
 pub returns-in-Some-clause-found : goal.returns-in-Some-clause-found
 returns-in-Some-clause-found g c =

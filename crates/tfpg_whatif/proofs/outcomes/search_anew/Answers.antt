@@ -5,11 +5,11 @@ use Rattle.tfpg_whatif.proofs.Searched.{represents_some, is_shown}
 use Rattle.tfpg_whatif.proofs.outcomes.search_anew.Goals as goal
 
 pub round-requires-clause-represents : goal.round-requires-clause-represents
-round-requires-clause-represents g c = represents_some c.args.graph.now c.args.log.now c.in_ok-search.search c.in_ok-search.ensures.seen c.in_ok-search.ensures.represents
+round-requires-clause-represents g c = represents_some c.args.subject.now.graph.now c.args.subject.now.log.now c.in_ok-search.search c.in_ok-search.ensures.seen c.in_ok-search.ensures.represents
 
 pub returns : goal.returns
 returns g c =
-    subst (IsShown (case_of c.args.graph.now c.args.log.now c.args.reach) c.args.set c.args.budget) (sym c.outcome.ensures)
-    (is_shown c.args.graph.now c.args.log.now c.in_ok-search.search c.in_ok-search.ensures.seen c.in_ok-search.ensures.represents c.args.set c.args.reach c.args.budget c.in_ok-search.ensures.set
+    subst (IsShown (case_of c.args.subject.now.graph.now c.args.subject.now.log.now c.args.subject.now.reach) c.args.subject.now.set c.args.subject.now.budget) (sym c.outcome.ensures)
+    (is_shown c.args.subject.now.graph.now c.args.subject.now.log.now c.in_ok-search.search c.in_ok-search.ensures.seen c.in_ok-search.ensures.represents c.args.subject.now.set c.args.subject.now.reach c.args.subject.now.budget c.in_ok-search.ensures.set
     c.in_ok-search.ensures.reach c.round.new.self c.round.ensures.set c.round.ensures.reach c.new-steps.result c.round.new.steps c.new-steps.ensures c.in_ok-found.found c.in_ok-found.ensures.searched
     c.in_ok-found.ensures.enough)
