@@ -55,7 +55,7 @@ def definitions_of(crate, module, text):
 
 def clauses_of(text, wanted):
     """The clauses of the public functions and traits of a source, and the values of its models."""
-    for match in re.finditer(r"^( *)(pub )?(?:const )?fn (\w+)", text, re.M):
+    for match in re.finditer(r"^( *)(pub )?(?:const )?(?:extern \S+ )?fn (\w+)", text, re.M):
         indent, public, name = match.groups()
         rest = text[match.end():]
         end = re.search(rf"^{indent}[{{}}]|;\s*$", rest, re.M)

@@ -1,7 +1,8 @@
 #!/usr/bin/env bash
 # Builds the diagnoser as a static library, and links the C programs of `examples` with it under the sanitizers. Runs them on each example
-# log, and compares what they write with what the program writes, byte for byte. Then prints the size of the library, the time of a line and
-# the memory of a session. Ends with status 1 where something differs. With the word `alone` the program is not built: the one C program is
+# log, and compares what they write with what the program writes, byte for byte. Compares the numbers of the header with those of the library,
+# and tries the calls where they do not end well. Then prints the size of the library, the time of a line and the memory of a session. Ends
+# with status 1 where something differs. With the word `alone` the program is not built: the one C program is
 # compared with the other.
 set -eu
 
@@ -35,6 +36,7 @@ wanted() {
 (cd "$top/crates/tfpg_embed" && rt lib)
 link_with examples/report.c report -g -fsanitize=address,undefined
 link_with examples/embed.c embed -g -fsanitize=address,undefined
+link_with bench/statuses.c statuses -g -fsanitize=address,undefined
 link_with examples/report.c plain -O2
 link_with bench/session.c session -O2 -D_GNU_SOURCE
 
@@ -47,6 +49,15 @@ for log in "$top"/examples/*.log; do
     "$made/embed" "$graph" < "$log" | cmp -s - "$made/wanted" || differs "$name, line by line"
     cmp -s "$made/judged" <(echo "accepted $(grep -c '^counts ' "$made/wanted")") || differs "$name, judged"
 done
+
+"$made/statuses" || differs statuses
+
+# The statuses of a file, by this pattern of its lines, in order.
+statuses_of() {
+    sed -nE "s/$1/\\1 \\2/p" "$2" | sort
+}
+diff <(statuses_of '^pub const ([A-Z_]*): u32 = ([0-9]*);' "$top/crates/tfpg_embed/src/status.rt") \
+    <(statuses_of '^    TFPG_([A-Z_]*) = ([0-9]*),?' "$top/include/tfpg.h" | grep -v '^GRAPH_\|^REPORT_') || differs 'the numbers of the header'
 
 strip -g -o "$made/small.a" "$library"
 printf 'library: %s bytes\n' "$(stat -c %s "$made/small.a")"

@@ -2,8 +2,8 @@
  *
  *   session GRAPH LINES < LOG
  *
- * Gives a session the first lines of the log, at most so many. Prints the bytes that it has after it is opened and after its last line, by
- * the C library's count, and the microseconds of processor time for a line and its block.
+ * Gives a session the first lines of the log, at most so many, each of at most 65,536 bytes. Prints the bytes that it has after it is
+ * opened and after its last line, by the C library's count, and the microseconds of processor time for a line and its block.
  */
 #include "tfpg.h"
 
@@ -29,15 +29,17 @@ int main(int count, char **words) {
     tfpg_answer answer = tfpg_open(&session, graph, graph_count, 2, 0, 1000);
     size_t opened = mallinfo2().uordblks - before;
     clock_t begun = clock();
-    for (int byte; answer.status == TFPG_DONE && taken < wanted && (byte = getc(stdin)) != EOF;) {
-        if (byte != '\n' && end < sizeof line) {
+    for (int byte = 0; answer.status == TFPG_DONE && taken < wanted && byte != EOF;) {
+        byte = getc(stdin);
+        if (byte != '\n' && byte != EOF) {
+            if (end == sizeof line) return TFPG_TOO_MUCH_INPUT;
             line[end++] = (uint8_t)byte;
-            continue;
+        } else if (byte == '\n' || end > 0) {
+            answer = tfpg_line(&session, line, end);
+            if (answer.status == TFPG_DONE) answer = tfpg_block(&session, room, sizeof room);
+            taken++;
+            end = 0;
         }
-        answer = tfpg_line(&session, line, end);
-        if (answer.status == TFPG_DONE) answer = tfpg_block(&session, room, sizeof room);
-        taken++;
-        end = 0;
     }
     clock_t ended = clock();
     size_t last = mallinfo2().uordblks - before;

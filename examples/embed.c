@@ -2,7 +2,7 @@
  *
  *   embed GRAPH < LOG > REPORT
  *
- * It ends with the status of the first call that is not done.
+ * It ends with the status of the first call that is not done, with 5 where a read failed, and with 6 where a write did.
  */
 #include "tfpg.h"
 
@@ -49,12 +49,12 @@ int main(int count, char **words) {
         make_room(&room, answer.count);
         answer = tfpg_block(&session, room.bytes, room.room);
         if (answer.status != TFPG_DONE) break;
-        fwrite(room.bytes, 1, answer.count, stdout);
-        fflush(stdout);
+        if (fwrite(room.bytes, 1, answer.count, stdout) != answer.count || fflush(stdout)) return 6;
         if (!read_up_to(stdin, '\n', &line)) break;
         answer = tfpg_line(&session, line.bytes, line.count);
     }
     tfpg_close(&session);
+    if (answer.status == TFPG_DONE && ferror(stdin)) return 5;
     free(graph.bytes);
     free(line.bytes);
     free(room.bytes);

@@ -1,6 +1,8 @@
 /* Diagnoses a whole log, writes its report, and lets it be judged:
  *
  *   report GRAPH LOG > REPORT
+ *
+ * It ends with the status of the first call that is not done, with 6 where a write failed, and with 70 where a file could not be read.
  */
 #include "tfpg.h"
 
@@ -48,9 +50,9 @@ int main(int count, char **words) {
         answer = tfpg_report(graph.bytes, graph.count, log.bytes, log.count, 2, 0, 1000, report.bytes, report.count);
     }
     if (answer.status == TFPG_DONE) {
-        fwrite(report.bytes, 1, answer.count, stdout);
+        if (fwrite(report.bytes, 1, answer.count, stdout) != answer.count || fflush(stdout)) return 6;
         answer = tfpg_check(graph.bytes, graph.count, log.bytes, log.count, report.bytes, answer.count);
-        fprintf(stderr, "accepted %llu\n", (unsigned long long)answer.count);
+        if (answer.status == TFPG_DONE) fprintf(stderr, "accepted %llu\n", (unsigned long long)answer.count);
     }
     free(graph.bytes);
     free(log.bytes);

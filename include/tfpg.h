@@ -4,9 +4,10 @@
  * them are milliseconds. A text needs no byte 0 at its end. A pointer is never NULL, also where the number is 0.
  *
  * Memory: a call reads the texts that it is given only while it runs, and keeps no pointer to them. Rooms and sessions are the caller's,
- * and a call writes nothing else of the caller's. The library takes memory of its own by `malloc` and `realloc`, gives it back by `free`,
- * and says so if there is none. `tfpg_report` and `tfpg_check` give all of it back before they return. An open session has memory until it
- * is closed.
+ * and a call writes nothing else of the caller's. A room overlaps no text and no session of the same call, and nothing else reads or
+ * writes them while the call runs. A call may need some 100 KB of stack. The library takes memory of its own by `malloc` and `realloc`,
+ * gives it back by `free`, and says so if there is none. `tfpg_report` and `tfpg_check` give all of it back before they return. An open
+ * session has memory until it is closed.
  *
  * Threads: calls may run at the same time, each with a room and a session of its own. A session may go from one thread to another between
  * two calls, if the program orders these by a lock, or by starting or joining a thread. No call may be made from a signal handler.
@@ -24,7 +25,8 @@
 extern "C" {
 #endif
 
-/* How a call ended. */
+/* How a call ended. Where more than one cause holds, any of them may be said. The numbers up to 8 are those with which the program ends;
+ * 5 and 6, a failed read and a failed write, are not of a call. */
 enum {
     /* It is done. */
     TFPG_DONE = 0,
@@ -104,8 +106,10 @@ typedef struct {
 
 /* Diagnoses a whole log, and writes its report to the front of the room.
  *
- * A hypothesis has at most `k` members, at most `doubt` of them monitors, and at most `budget` splits in a round. `count` is the number of
- * bytes of the report, also if the room is too small. Then ask again with room enough: the whole diagnosis is made again.
+ * A hypothesis has at most `k` members, which are failure modes and monitors that it doubts, at most `doubt` of them monitors, and at most
+ * `budget` splits in a round. `count` is the number of bytes of the report, also if the room is too small. Then ask again with room enough:
+ * the whole diagnosis is made again. That it makes the same report again is tested and not proved, so be ready for TFPG_ROOM_TOO_SMALL once
+ * more.
  *
  * TFPG_DONE, TFPG_ROOM_TOO_SMALL, TFPG_OUT_OF_RANGE, TFPG_BAD_GRAPH, TFPG_TOO_MANY_HYPOTHESES, TFPG_TOO_MUCH_INPUT, TFPG_NO_MEMORY */
 tfpg_answer tfpg_report(const uint8_t *graph, size_t graph_count, const uint8_t *log, size_t log_count, uint32_t k,
@@ -132,7 +136,7 @@ typedef struct {
 /* Opens a session of this graph, on terms as `tfpg_report` has them. The text of the session is then the first line of its report, with its
  * line end, and `count` is the number of its bytes.
  *
- * A session that is open is closed first. If the call is not done, the session is closed.
+ * A session that is open is closed first, also if the call then fails. If the call is not done, the session is closed.
  *
  * TFPG_DONE, TFPG_OUT_OF_RANGE, TFPG_BAD_GRAPH, TFPG_TOO_MANY_HYPOTHESES, TFPG_NO_MEMORY */
 tfpg_answer tfpg_open(tfpg_session *session, const uint8_t *graph, size_t graph_count, uint32_t k, uint32_t doubt,
@@ -141,13 +145,18 @@ tfpg_answer tfpg_open(tfpg_session *session, const uint8_t *graph, size_t graph_
 /* Takes the next line of the log, without its line end. The text of the session is then the block of this line, and `count` is the
  * number of its bytes. The first line of the report, and then the blocks, one after the other, are the report of the lines so far.
  *
+ * A line that the log refuses is done too: its block is `refused LINE CAUSE`, where LINE counts the calls from 1. So is a line of more
+ * than 4,096 bytes, an empty one, and one with a line end inside, which is one line here and more in a text. After 65,536 accepted
+ * lines, of which 1,024 may change the mode, each further one is refused, with the cause `LogFull` or `ModesFull`: then open the session
+ * anew.
+ *
  * If memory runs out, the session is closed. A session takes 2^63 - 2 lines at most, and then memory runs out.
  *
  * TFPG_DONE, TFPG_NO_MEMORY, TFPG_ENDED */
 tfpg_answer tfpg_line(tfpg_session *session, const uint8_t *line, size_t line_count);
 
 /* Writes the text of the session to the front of the room: the block of the last line, or before any line the first line of the report.
- * `count` is the number of its bytes, also if the room is too small. It may be asked for any number of times.
+ * `count` is the number of its bytes, also if the room is too small. A program may ask for it any number of times.
  *
  * TFPG_DONE, TFPG_ROOM_TOO_SMALL, TFPG_ENDED */
 tfpg_answer tfpg_block(tfpg_session *session, uint8_t *room, size_t room_count);

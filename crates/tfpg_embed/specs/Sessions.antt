@@ -21,8 +21,8 @@ pub record IsNewlyOpen (graph : List ℕ) (terms : Terms) (open_session : OpenSe
   pub text_is : open_session.text.items ≡ head_text terms
 
 -- What a handle holds is an open session with this text.
-abbrev pub Keeps : Option OpenSession → List ℕ → Type 0
-Keeps held text = IsSomeAnd held (λ one. one.text.items ≡ text)
+abbrev pub HoldsText : Option OpenSession → List ℕ → Type 0
+HoldsText held text = IsSomeAnd held (λ one. one.text.items ≡ text)
 
 -- What a handle holds is a session that represents these lines and bytes.
 abbrev pub HoldsReport : Tfpg → Terms → List (List ℕ) → List ℕ → Option OpenSession → Type 0
@@ -37,7 +37,7 @@ HasEnded (Some one) = one.session.next ≡ None
 -- Where nothing stands in its way there is a session, or memory ran out. The answer says which.
 pub record AnswersOpen (graph : List ℕ) (terms : Terms) (new : Option OpenSession) (answer : TfpgAnswer) : Type 0 where
   pub made : Result (List ℕ) OpenFault
-  pub opened : IfOk made (λ text. Keeps new text × IsSomeAnd new (IsNewlyOpen graph terms))
+  pub opened : IfOk made (λ text. HoldsText new text × IsSomeAnd new (IsNewlyOpen graph terms))
   pub fault : IfErr made (IsOpenFault graph terms)
   pub closed : OnErr made (new ≡ None)
   pub completes : CanOpen graph terms → IsOkUnless made opening.NoMemory
@@ -50,17 +50,17 @@ pub record AnswersLine (line : List ℕ) (old new : Option OpenSession) (answer 
   pub made : Result (List ℕ) EventFault
   pub block : (graph : Tfpg) (terms : Terms) (lines : List (List ℕ)) (bytes : List ℕ) → HoldsReport graph terms lines bytes old
       → IfOk made (λ block. HoldsReport graph terms (lines ++ line ∷ []) (bytes ++ block) new)
-  pub kept : IfOk made (Keeps new)
+  pub kept : IfOk made (HoldsText new)
   pub ended : (made ≡ Err event.Ended) ↔ HasEnded old
   pub closed : OnErr made (new ≡ None)
   pub answer_is : answer ≡ answer_of_block made
 
 -- the answer of a call for the text that is kept, with a room of so many bytes
-abbrev pub answer_of_kept : Option OpenSession → ℕ → TfpgAnswer
-answer_of_kept None room = answer_with ENDED
-answer_of_kept (Some one) room = answer_of_text one.text.items room
+abbrev pub answer_of_held : Option OpenSession → ℕ → TfpgAnswer
+answer_of_held None room = answer_with ENDED
+answer_of_held (Some one) room = answer_of_text one.text.items room
 
 -- the room after that
-abbrev pub room_after_kept : Option OpenSession → List ℕ → List ℕ
-room_after_kept None room = room
-room_after_kept (Some one) room = room_after one.text.items room
+abbrev pub room_after_held : Option OpenSession → List ℕ → List ℕ
+room_after_held None room = room
+room_after_held (Some one) room = room_after one.text.items room

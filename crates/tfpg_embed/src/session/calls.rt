@@ -2,7 +2,7 @@
 
 ghost use Rattle.std.specs.Prelude.{◌≡◌, IfErr, IfOk, IsOkUnless, None, length};
 ghost use Rattle.tfpg_run.specs.texts.Opening.{CanOpen, IsOpenFault};
-ghost use Rattle.tfpg_embed.specs.Sessions.{AnswersLine, AnswersOpen, IsNewlyOpen, answer_of_kept, room_after_kept};
+ghost use Rattle.tfpg_embed.specs.Sessions.{AnswersLine, AnswersOpen, IsNewlyOpen, answer_of_held, room_after_held};
 ghost use Rattle.tfpg_embed.specs.TextCalls.{terms_of};
 
 use super::handle::TfpgSession;
@@ -67,8 +67,8 @@ pub extern "C" fn tfpg_block(
     room: &mut [u8],
 ) -> TfpgAnswer
     ensures same { session.new.held.session ≡ session.old.held.session }
-    ensures answer { result ≡ answer_of_kept session.old.held.session (length room.old) }
-    ensures room { room.new ≡ room_after_kept session.old.held.session room.old }
+    ensures answer { result ≡ answer_of_held session.old.held.session (length room.old) }
+    ensures room { room.new ≡ room_after_held session.old.held.session room.old }
 {
     match session.take(alloc) {
         Some(open) => {

@@ -1,0 +1,81 @@
+/* Tries the calls for C where they do not end well, or are made in an unusual order:
+ *
+ *   statuses
+ *
+ * Prints each answer that is not the one that `include/tfpg.h` says, and ends with their number.
+ */
+#include "tfpg.h"
+
+#include <stdio.h>
+#include <string.h>
+
+static const char graph[] = "tfpg 1\nmode N\nfailure F 1\nor A watch 0\nedge F A 1 3 *\nend\n";
+static const char bad[] = "tfpg 1\nmode N\nmode N\nend\n";
+static const char head[] = "report 2 k 1 doubt 0 budget 1000\n";
+static uint8_t room[4096];
+static int wrong;
+
+/* A text and how many bytes it has. */
+#define TEXT(text) (const uint8_t *)(text), sizeof(text) - 1
+
+/* An answer is to have this status, and what the status says: a cause, a line, and a count. */
+static void expect(const char *what, tfpg_answer answer, uint32_t status, uint32_t cause, uint64_t line, uint64_t count) {
+    if (answer.status == status && answer.cause == cause && answer.line == line && answer.count == count && !answer.count_high) return;
+    printf("%s: status %u, cause %u, line %llu, count %llu\n", what, answer.status, answer.cause, (unsigned long long)answer.line,
+           (unsigned long long)answer.count);
+    wrong++;
+}
+
+/* A graph of 64 failure modes, which has 43,745 sets of at most three. */
+static size_t many_failures(char *into, size_t size) {
+    size_t end = (size_t)snprintf(into, size, "tfpg 1\nmode N\n");
+    for (int number = 0; number < 64; number++) end += (size_t)snprintf(into + end, size - end, "failure F%d 1\n", number);
+    return end + (size_t)snprintf(into + end, size - end, "end\n");
+}
+
+/* Calls over whole texts. */
+static void try_texts(void) {
+    char large[4096];
+    size_t count = many_failures(large, sizeof large);
+    expect("a bad graph", tfpg_report(TEXT(bad), TEXT(""), 1, 0, 1000, room, sizeof room), TFPG_BAD_GRAPH, TFPG_GRAPH_DUPLICATE_NAME, 3, 0);
+    expect("k of 65", tfpg_report(TEXT(graph), TEXT(""), 65, 0, 1000, room, sizeof room), TFPG_OUT_OF_RANGE, 0, 0, 0);
+    expect("a doubt of 5", tfpg_report(TEXT(graph), TEXT(""), 1, 5, 1000, room, sizeof room), TFPG_OUT_OF_RANGE, 0, 0, 0);
+    expect("a budget of 0", tfpg_report(TEXT(graph), TEXT(""), 1, 0, 0, room, sizeof room), TFPG_OUT_OF_RANGE, 0, 0, 0);
+    expect("too many sets", tfpg_report((uint8_t *)large, count, TEXT(""), 3, 0, 1000, room, sizeof room), TFPG_TOO_MANY_HYPOTHESES, 0, 0,
+           43745);
+    expect("no room", tfpg_report(TEXT(graph), TEXT(""), 1, 0, 1000, room, 3), TFPG_ROOM_TOO_SMALL, 0, 0, sizeof head - 1);
+    expect("an empty log", tfpg_report(TEXT(graph), TEXT(""), 1, 0, 1000, room, sizeof room), TFPG_DONE, 0, 0, sizeof head - 1);
+    expect("its report", tfpg_check(TEXT(graph), TEXT(""), room, sizeof head - 1), TFPG_DONE, 0, 0, 0);
+    expect("no report", tfpg_check(TEXT(graph), TEXT(""), TEXT("")), TFPG_NOT_ACCEPTED, TFPG_REPORT_ENDS_EARLY, 1, 0);
+    expect("a bad graph, judged", tfpg_check(TEXT(bad), TEXT(""), TEXT(head)), TFPG_BAD_GRAPH, TFPG_GRAPH_DUPLICATE_NAME, 3, 0);
+}
+
+/* Calls of a session. */
+static void try_session(void) {
+    static const char refused[] = "refused 1 BadLine\n", inside[] = "refused 2 BadLine\n";
+    tfpg_session session = TFPG_SESSION;
+    expect("a line before it is open", tfpg_line(&session, TEXT("1 tick")), TFPG_ENDED, 0, 0, 0);
+    expect("a block before it is open", tfpg_block(&session, room, sizeof room), TFPG_ENDED, 0, 0, 0);
+    tfpg_close(&session);
+    expect("opened", tfpg_open(&session, TEXT(graph), 1, 0, 1000), TFPG_DONE, 0, 0, sizeof head - 1);
+    expect("no room for its first line", tfpg_block(&session, room, 3), TFPG_ROOM_TOO_SMALL, 0, 0, sizeof head - 1);
+    expect("its first line", tfpg_block(&session, room, sizeof room), TFPG_DONE, 0, 0, sizeof head - 1);
+    if (memcmp(room, head, sizeof head - 1)) wrong++, puts("its first line is another");
+    expect("an empty line", tfpg_line(&session, TEXT("")), TFPG_DONE, 0, 0, sizeof refused - 1);
+    expect("a line end inside", tfpg_line(&session, TEXT("1 tick\n2 tick")), TFPG_DONE, 0, 0, sizeof inside - 1);
+    expect("its block", tfpg_block(&session, room, sizeof room), TFPG_DONE, 0, 0, sizeof inside - 1);
+    if (memcmp(room, inside, sizeof inside - 1)) wrong++, puts("the block is another");
+    expect("opened again", tfpg_open(&session, TEXT(graph), 1, 0, 1000), TFPG_DONE, 0, 0, sizeof head - 1);
+    expect("opened by a bad graph", tfpg_open(&session, TEXT(bad), 1, 0, 1000), TFPG_BAD_GRAPH, TFPG_GRAPH_DUPLICATE_NAME, 3, 0);
+    expect("a line after that", tfpg_line(&session, TEXT("1 tick")), TFPG_ENDED, 0, 0, 0);
+    expect("opened once more", tfpg_open(&session, TEXT(graph), 1, 0, 1000), TFPG_DONE, 0, 0, sizeof head - 1);
+    tfpg_close(&session);
+    tfpg_close(&session);
+    expect("a block after the end", tfpg_block(&session, room, sizeof room), TFPG_ENDED, 0, 0, 0);
+}
+
+int main(void) {
+    try_texts();
+    try_session();
+    return wrong;
+}
