@@ -3,63 +3,62 @@
 //! [`proposed`](steps::proposed) makes the steps of a refutation, and promises nothing of them. The checker of refutations judges them, and
 //! only where it closes their tree they are an outcome.
 
-ghost use Rattle.std.specs.Prelude.{◌≡◌, ℕ, List, IfOk, IfSome, IsTrue};
+ghost use Rattle.std.specs.Prelude.{◌≡◌, IfOk, IfSome, IsTrue};
 ghost use Rattle.tfpg_log.specs.Log.{IsLogOf};
-ghost use Rattle.tfpg_clause.specs.Case.{case_of};
 ghost use Rattle.tfpg_clause.specs.Trees.{IsRefutation, is_split, split_count};
 ghost use Rattle.tfpg_whatif.specs.declared.outcome.Outcome.TheVariants.{Out};
 ghost use Rattle.tfpg_whatif.specs.Outcomes.{HasOutcomeEvidence, all_judged};
+ghost use Rattle.tfpg_whatif.specs.inside.Asking.{IsSubject, case_asked};
 ghost use Rattle.tfpg_whatif.specs.inside.Early.{HasTaken};
 
 mod bounds;
 mod steps;
 
+use crate::asking::Subject;
 use std::alloc::Global;
 use steps::proposed;
 use tfpg_base::NoMemory;
 use tfpg_evidence::{Step, StepList};
-use tfpg_graph::{Graph, NodeSet};
+use tfpg_graph::Graph;
 use tfpg_kernel::{Checker, Taken};
 use tfpg_log::{Event, Log};
 
-/// The refutation by an alarm that comes too early, where the event is one and some steps show it with at most so many splits. It costs
-/// some passes over the nodes and the edges, and what the steps cost the checker: two for each node that takes part, and one for each
-/// edge into it.
+/// How often at most the nodes are gone through for what follows from the bounds of others, for what has to be shown, and for what can be
+/// shown. Once is enough where each edge goes to a later node.
+const PASSES: u32 = 8;
+
+/// The refutation by an alarm that comes too early, where the event is one and some steps show it within the budget. It costs some
+/// passes over the nodes and the edges, and what the steps cost the checker: a split and a cycle for each span in which a node is
+/// shown not to be active, and a cycle for each edge by which the failure could arrive there.
 pub(crate) fn refuted_early(
     alloc: Global,
-    graph: &Graph,
-    log: &Log,
-    reach: &NodeSet,
+    subject: &Subject<'_>,
     event: Event,
-    budget: u64,
 ) -> Result<Option<StepList>, NoMemory>
-    requires { IsLogOf graph.now log.now }
-    ensures { (set : List ℕ) → IfOk result (λ found. IfSome found (λ steps.
-        HasOutcomeEvidence (case_of graph.now log.now reach.now) set budget (Out steps))) }
+    requires { IsSubject subject.now }
+    ensures { IfOk result (λ found. IfSome found (λ steps.
+        HasOutcomeEvidence (case_asked subject.now) subject.now.set subject.now.budget (Out steps))) }
 {
-    match proposed(alloc, graph, log, reach, event, budget)? {
-        Some(steps) => judged(alloc, graph, log, reach, steps, budget),
+    match proposed(alloc, subject, event)? {
+        Some(steps) => judged(alloc, subject, steps),
         None => Ok(None),
     }
 }
 
-/// The steps, where they are a refutation with at most so many splits.
+/// The steps, where they are a refutation within the budget.
 fn judged(
     alloc: Global,
-    graph: &Graph,
-    log: &Log,
-    reach: &NodeSet,
+    subject: &Subject<'_>,
     steps: StepList,
-    budget: u64,
 ) -> Result<Option<StepList>, NoMemory>
-    requires { IsLogOf graph.now log.now }
-    ensures { (set : List ℕ) → IfOk result (λ found. IfSome found (λ steps.
-        HasOutcomeEvidence (case_of graph.now log.now reach.now) set budget (Out steps))) }
+    requires { IsSubject subject.now }
+    ensures { IfOk result (λ found. IfSome found (λ steps.
+        HasOutcomeEvidence (case_asked subject.now) subject.now.set subject.now.budget (Out steps))) }
 {
-    if split_count(steps.as_slice()) > budget {
+    if split_count(steps.as_slice()) > subject.budget {
         return Ok(None);
     }
-    if is_refutation(alloc, graph, log, reach, steps.as_slice())? {
+    if is_refutation(alloc, subject, steps.as_slice())? {
         Ok(Some(steps))
     } else {
         Ok(None)
@@ -67,20 +66,14 @@ fn judged(
 }
 
 /// Whether the steps are a refutation, as the checker judges them.
-fn is_refutation(
-    alloc: Global,
-    graph: &Graph,
-    log: &Log,
-    reach: &NodeSet,
-    steps: &[Step],
-) -> Result<bool, NoMemory>
-    requires { IsLogOf graph.now log.now }
+fn is_refutation(alloc: Global, subject: &Subject<'_>, steps: &[Step]) -> Result<bool, NoMemory>
+    requires { IsSubject subject.now }
     ensures { IfOk result (λ closed. IsTrue closed →
-        IsRefutation (case_of graph.now log.now reach.now) (all_judged (case_of graph.now log.now reach.now) steps.now)) }
+        IsRefutation (case_asked subject.now) (all_judged (case_asked subject.now) steps.now)) }
 {
-    let mut checker = Checker::new(alloc, *reach);
+    let mut checker = Checker::new(alloc, subject.reach);
     for step in steps {
-        if !takes(&mut checker, graph, log, step)? {
+        if !takes(&mut checker, subject.graph, subject.log, step)? {
             return Ok(false);
         }
     }

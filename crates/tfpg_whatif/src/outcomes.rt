@@ -36,7 +36,8 @@ pub(crate) fn outcomes_at<L: Ledger>(
     Ok(OutcomeList::from_vec(outcomes))
 }
 
-/// The outcome at the log of the hypothesis of this number, which is asked about at this index. The log is left ignoring the monitors that it doubts.
+/// The outcome at the log of the hypothesis of this number, which is asked about at this index. The log is left ignoring the monitors
+/// that it doubts.
 fn outcome_of<L: Ledger>(
     alloc: Global,
     asking: &Asking<'_>,
@@ -86,13 +87,7 @@ fn find_outcome<L: Ledger>(
     requires { IsSubject subject.now }
     ensures { IfOk result (IsShown (case_asked subject.now) subject.now.set subject.now.budget) }
 {
-    let Subject {
-        graph,
-        log,
-        budget,
-        ..
-    } = *subject;
-    match refuted_early(alloc, graph, log, &subject.reach, last, budget)? {
+    match refuted_early(alloc, subject, last)? {
         Some(steps) => Ok(Outcome::Out(steps)),
         None => search(alloc, subject, work),
     }

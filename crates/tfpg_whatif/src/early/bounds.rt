@@ -1,13 +1,11 @@
 //! Lower bounds of the times of nodes.
 
+use super::PASSES;
 use std::alloc::Global;
 use tfpg_base::{NEVER, NoMemory};
 use tfpg_evidence::Reason;
 use tfpg_graph::{Graph, NodeSet};
 use tfpg_log::Log;
-
-/// How often the nodes are gone through for what follows from the bounds of others. Once is enough where each edge goes to a later node.
-const PASSES: u32 = 8;
 
 /// A lower bound of the time of a node, in milliseconds, with the reason that states it.
 #[derive(Clone, Copy)]
@@ -172,7 +170,7 @@ pub(super) fn edges_into(graph: &Graph, node: u32) -> &[u32] {
     &[]
 }
 
-/// The source of an edge, and its least delay in milliseconds.
+/// The source of an edge, and its least delay in milliseconds. The edge may be any number: of one that is no edge both are 0.
 pub(super) fn source_and_delay(graph: &Graph, edge: u32) -> (u32, u64) {
     if edge < graph.edge_count() {
         let propagation = graph.edge(edge);
