@@ -21,8 +21,8 @@ use tfpg_engine::Engine;
 use tfpg_log::Offered;
 
 /// What the line would show of the hypotheses of these numbers: one outcome for each, in order. The steps of one that is out or
-/// unknown have at most `budget` splits. The engine does not change. It costs a copy of the log, and for each hypothesis a copy of its search
-/// in the engine, which goes on to that log. If that finds no trace, it costs a new search.
+/// unknown have at most `budget` splits. The engine does not change. It costs a copy of the log, and for each hypothesis at most a try
+/// by lower bounds, a copy of its search in the engine, which continues to that log, and a new search.
 ///
 /// - `outcomes`: each outcome is shown by its evidence at the lengthened log.
 /// - `keeps`, `foresee`: what the outcomes say of that log, of later logs and of the rounds to come.

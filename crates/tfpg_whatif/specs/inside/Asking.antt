@@ -88,7 +88,7 @@ outcome_by (Shown trace) steps = Fits trace
 outcome_by Closed steps = Out steps
 outcome_by Spent steps = Unknown steps
 
--- An outcome of a new search for a set of failure modes in a case, which is not unknown if the budget is enough.
+-- An outcome for a set of failure modes in a case, which is not unknown if the budget is enough.
 pub record IsShown (case : Case) (set : List ℕ) (budget : ℕ) (outcome : Outcome) : Type 0 where
   pub evidence : HasOutcomeEvidence case set budget outcome
   pub known : IsEnough case.graph case.log budget → is_unknown outcome ≡ false

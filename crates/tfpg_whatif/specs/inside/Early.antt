@@ -11,7 +11,8 @@ use Rattle.tfpg_kernel.specs.Represents.{CheckerRepresents}
 -- The checker took the step, judged by the whole log: it represents one step more, whichever steps it represented.
 pub record HasTaken (graph : Tfpg) (log : Logbook) (step : Step) (old new : CheckerState) : Type 0 where
   pub reach : new.reach ≡ old.reach
-  pub represents : (steps : List Judged) → CheckerRepresents graph log old steps → CheckerRepresents graph log new (with_step steps log step)
+  pub represents : (steps : List Judged) → CheckerRepresents graph log old steps
+      → CheckerRepresents graph log new (with_step steps log step)
 
 -- It took all these steps, and no other.
 pub record HasTakenAll (graph : Tfpg) (log : Logbook) (reach : List ℕ) (steps : List Step) (checker : CheckerState) : Type 0 where
