@@ -1,7 +1,7 @@
 //! The public calls of `tfpg_diff`: worked systems, and a table of small ones whose latest solutions a script found by
 //! trying all times.
 
-ghost use Rattle.std.specs.Prelude.{◌≡◌, ◌<◌, ◌≤◌, length};
+ghost use Rattle.std.specs.Prelude.{◌≡◌, ◌<◌, ◌≤◌, length, IfOk};
 
 use std::alloc::Global;
 use std::marker::Brand;
@@ -104,6 +104,64 @@ fn off_by_one<L: Ledger>(alloc: Global, blank: Blank) -> Result<bool, Fail>
 #[test]
 fn a_contradiction_by_one_near_the_greatest_time(rt: HostRuntime) -> Result<(), Fail> {
     assert!(rt; !off_by_one::<Brand>(rt.alloc(), Blank::new(1))?);
+    Ok(())
+}
+
+/// A system of two variables, of which the second is at most 9 and at least 4 after the first. It lends the tags of a conflict.
+fn first_in_5<L: Ledger>(alloc: Global, work: &mut Steps<L>) -> Result<System, NoMemory>
+    ensures { IfOk result (λ system. length system.demands.bounds ≡ 2) }
+{
+    let mut system = System::new(alloc, 2)?;
+    let _ = system.lower(1, 9, 1, work);
+    system.reserve(1)?;
+    let constraint = Constraint {
+        left: 1,
+        right: 2,
+        bound: -4,
+    };
+    let _ = system.push(constraint, 2, work);
+    let _ = system.raise(0, 6, 3, work);
+    Ok(system)
+}
+
+/// Makes the first variable at most 3, by a pick.
+fn push_3<L: Ledger>(system: &mut System, work: &mut Steps<L>) -> Result<(), NoMemory>
+    requires { length system.old.demands.bounds ≡ 2 }
+{
+    system.reserve(1)?;
+    let constraint = Constraint {
+        left: 1,
+        right: 0,
+        bound: 3,
+    };
+    let _ = system.push(constraint, 4, work);
+    Ok(())
+}
+
+/// Of a copy whether it has the solution of its system, whether it lends no tags, whether it goes on by itself and takes that
+/// back, and whether the system stays as it was.
+fn copied<L: Ledger>(alloc: Global, blank: Blank) -> Result<[bool; 5], NoMemory>
+    requires name { blank.name ≡ L.name }
+    requires parts { blank.parts ≡ L.parts }
+    requires some { 0 < blank.parts }
+{
+    let mut work = Steps::<L>::new(blank);
+    let system = first_in_5(alloc, &mut work)?;
+    let mut copy = system.copy(alloc)?;
+    let has_the_solution = copy.solution() == [5, 9].as_slice();
+    let lends_no_tags = copy.cycle().is_empty();
+    push_3(&mut copy, &mut work)?;
+    let goes_on = copy.solution() == [3, 9].as_slice();
+    copy.pop_to(0);
+    let takes_back = copy.solution() == [1_000_000_000_001, 9].as_slice();
+    let stays = system.cycle().len() == 3 && system.solution() == [5, 9].as_slice();
+    Ok([has_the_solution, lends_no_tags, goes_on, takes_back, stays])
+}
+
+#[test]
+fn a_copy_has_the_solution_and_goes_on_by_itself(rt: HostRuntime) -> Result<(), Fail> {
+    let shown = copied::<Brand>(rt.alloc(), Blank::new(1))?;
+    assert_eq!(rt; shown, [true, true, true, true, true]);
     Ok(())
 }
 
