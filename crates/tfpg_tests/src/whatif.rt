@@ -1,4 +1,5 @@
-//! The call `ask` of `tfpg_whatif`: what a further line shows of two hypotheses after a worked log, or why it is refused.
+//! The call `ask` of `tfpg_whatif`: what a further line shows of two hypotheses after a worked log, or why it is refused. Also the searches
+//! that an engine lends for it.
 
 ghost use Rattle.std.specs.Prelude.{◌≡◌, ◌<◌, ◌≤◌, length, All, IfOk};
 
@@ -48,7 +49,12 @@ struct Row {
 }
 
 /// The hypotheses 0, 1 and 2 of `TWO` are the empty set, F1 and F2. Those of `ONE` are the empty set and F.
-const ROWS: [Row; 6] = [
+///
+/// A budget of one split tells the ways to an outcome apart. By hand: of F1, an alarm of C at 30 takes a new search a split on when A
+/// arrives at C, one on when B does, and one each on what makes A and B active. A copy of a search that has these splits needs no more
+/// at 31. Of F, alarms of A and of E at 2 take a new search a split on A and then one on E, in the order of the nodes. The one on E alone
+/// closes: E becomes active 9 after F, so not before 9. That is the one split of the refutation by lower bounds.
+const ROWS: [Row; 10] = [
     Row {
         name: "an alarm of C, which F2 does not reach",
         graph: TWO,
@@ -108,6 +114,46 @@ const ROWS: [Row; 6] = [
         line: b"10 alarm E",
         budget: 1,
         result: Answer::Outcomes(Expected::Out, Expected::Unknown(1)),
+    },
+    Row {
+        name: "an alarm of C, where a new search spends its split",
+        graph: TWO,
+        before: b"30 tick",
+        first: 1,
+        second: 2,
+        line: b"30 alarm C",
+        budget: 1,
+        result: Answer::Outcomes(Expected::Unknown(1), Expected::Out),
+    },
+    Row {
+        name: "a tick after it, where a copy of the search of F1 has the trace",
+        graph: TWO,
+        before: b"30 alarm C",
+        first: 1,
+        second: 2,
+        line: b"31 tick",
+        budget: 1,
+        result: Answer::Outcomes(Expected::Fits, Expected::Out),
+    },
+    Row {
+        name: "an alarm of A after one of E that came too early, where a new search spends its split",
+        graph: ONE,
+        before: b"2 alarm E",
+        first: 0,
+        second: 1,
+        line: b"2 alarm A",
+        budget: 1,
+        result: Answer::Outcomes(Expected::Out, Expected::Unknown(1)),
+    },
+    Row {
+        name: "an alarm of E that comes too early",
+        graph: ONE,
+        before: b"2 alarm A",
+        first: 0,
+        second: 1,
+        line: b"2 alarm E",
+        budget: 1,
+        result: Answer::Outcomes(Expected::Out, Expected::Out),
     },
 ];
 
@@ -212,5 +258,42 @@ fn first_wrong<L: Ledger>(
 fn a_line_shows_what_was_worked_out(rt: HostRuntime) -> Result<(), Fail> {
     let wrong = first_wrong::<Brand>(rt.alloc(), Blank::new(1), &ROWS)?;
     assert_eq!(rt; wrong, None);
+    Ok(())
+}
+
+/// Of which of the hypotheses 0, 1 and 2 the engine lends the search.
+fn lent(engine: &Engine) -> [bool; 3] {
+    [
+        engine.search(0).is_some(),
+        engine.search(1).is_some(),
+        engine.search(2).is_some(),
+    ]
+}
+
+/// Of which hypotheses of `TWO` an engine lends the search, before a line and after it.
+fn lent_around<L: Ledger>(
+    alloc: Global,
+    blank: Blank,
+    line: &[u8],
+) -> Result<([bool; 3], [bool; 3]), Fail>
+    requires name { blank.name ≡ L.name }
+    requires parts { blank.parts ≡ L.parts }
+    requires some { 0 < blank.parts }
+{
+    let mut work = Steps::<L>::new(blank);
+    let graph = read(alloc, TWO)?;
+    let mut engine = Engine::new(alloc, graph, TERMS)?;
+    let before = lent(&engine);
+    accept_line(&mut engine, line, &mut work)?;
+    Ok((before, lent(&engine)))
+}
+
+#[test]
+fn an_engine_lends_the_search_of_each_hypothesis_that_is_not_rejected(
+    rt: HostRuntime,
+) -> Result<(), Fail> {
+    let (before, after) = lent_around::<Brand>(rt.alloc(), Blank::new(1), b"30 alarm C")?;
+    assert_eq!(rt; before, [false, false, false]);
+    assert_eq!(rt; after, [false, true, false]);
     Ok(())
 }
