@@ -223,6 +223,8 @@ fn is_closed(found: &Found) -> bool
 enum AskedAt {
     /// At each of them.
     EachEvent,
+    /// At each of them, where a copy takes the place of the search before.
+    EachEventOfCopies,
     /// At the last one alone.
     LastEvent,
 }
@@ -230,9 +232,20 @@ enum AskedAt {
 /// The lines at whose events a search is not asked, and those after them, at whose events it is.
 fn parts_of<'a>(lines: &'a [&'a [u8]], at: AskedAt) -> (&'a [&'a [u8]], &'a [&'a [u8]]) {
     match at {
-        AskedAt::EachEvent => lines.split_at(0),
+        AskedAt::EachEvent | AskedAt::EachEventOfCopies => lines.split_at(0),
         AskedAt::LastEvent => lines.split_at(lines.len().saturating_sub(1)),
     }
+}
+
+/// Puts a copy in the place of the search, where copies are asked.
+fn replace(search: &mut Search, at: AskedAt) -> Result<(), Fail>
+    ensures { search.new ≡ search.old }
+{
+    if matches!(at, AskedAt::EachEventOfCopies) {
+        let copy = search.copy()?;
+        *search = copy;
+    }
+    Ok(())
 }
 
 /// What a search finds at the end of the log that is asked at these events, with the steps of all rounds. It is not asked again
@@ -256,6 +269,7 @@ fn asked<L: Ledger>(
     }
     let mut last = Found::Spent;
     for line in asking {
+        replace(&mut search, at)?;
         let found = ask_after(&mut log, &mut search, graph, line, budget, &mut steps, work)?;
         if is_closed(&found) {
             return Ok((found, steps));
@@ -319,6 +333,14 @@ fn a_search_that_is_asked_at_the_end_finds_what_the_log_says(rt: HostRuntime) ->
 #[test]
 fn a_search_that_is_asked_at_each_event_finds_the_same(rt: HostRuntime) -> Result<(), Fail> {
     let wrong = first_wrong::<Brand>(rt.alloc(), Blank::new(1), AskedAt::EachEvent, 1_000, &ROWS)?;
+    assert_eq!(rt; wrong, None);
+    Ok(())
+}
+
+#[test]
+fn copies_that_are_asked_at_each_event_find_the_same(rt: HostRuntime) -> Result<(), Fail> {
+    let at = AskedAt::EachEventOfCopies;
+    let wrong = first_wrong::<Brand>(rt.alloc(), Blank::new(1), at, 1_000, &ROWS)?;
     assert_eq!(rt; wrong, None);
     Ok(())
 }
