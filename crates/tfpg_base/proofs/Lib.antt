@@ -9,6 +9,7 @@ pub mod Separators
 pub mod WordLengths
 pub mod Sets
 pub mod NodeSets
+pub mod SetTests
 pub mod Traces
 pub mod TraceTimes
 pub mod SameTraces

@@ -4,16 +4,16 @@ use Rattle.tfpg_base.specs.declared.constraint.Constraint.{Constraint}
 
 -- the time of the node is at most this
 abbrev pub at_most : ℕ → ℤ → Constraint
-at_most node bound = record { left = node + 1; right = 0; bound = bound }
+at_most node bound = record { left = node + 1; right = 0; most = bound }
 
 -- the time of the node is at least this
 abbrev pub at_least : ℕ → ℕ → Constraint
-at_least node least = record { left = 0; right = node + 1; bound = neg_ℤ (pos least) }
+at_least node least = record { left = 0; right = node + 1; most = neg_ℤ (pos least) }
 
 -- the one node's time is at most so much after the other's
 abbrev pub at_most_after : ℕ → ℕ → ℕ → Constraint
-at_most_after node source bound = record { left = node + 1; right = source + 1; bound = pos bound }
+at_most_after node source bound = record { left = node + 1; right = source + 1; most = pos bound }
 
 -- the one node's time is at least so much after the other's
 abbrev pub at_least_after : ℕ → ℕ → ℕ → Constraint
-at_least_after node source least = record { left = source + 1; right = node + 1; bound = neg_ℤ (pos least) }
+at_least_after node source least = record { left = source + 1; right = node + 1; most = neg_ℤ (pos least) }

@@ -9,4 +9,4 @@ value_of times (suc node) = pos (slice_index times node)
 
 -- These times meet the constraint.
 abbrev pub Meets : List ℕ → Constraint → Type 0
-Meets times constraint = (value_of times constraint.left -ℤ value_of times constraint.right) ≤ℤ constraint.bound
+Meets times constraint = (value_of times constraint.left -ℤ value_of times constraint.right) ≤ℤ constraint.most

@@ -19,7 +19,7 @@ HasDistinctLefts constraints = AllPairs (λ earlier later. earlier.left ≢ late
 
 -- the sum of their bounds
 abbrev pub sum_of : List Constraint → ℤ
-sum_of constraints = fold (λ total constraint. total +ℤ constraint.bound) (pos 0) constraints
+sum_of constraints = fold (λ total constraint. total +ℤ constraint.most) (pos 0) constraints
 
 -- The constraints chain into a cycle, and the sum of their bounds is below 0.
 pub record IsNegativeCycle (constraints : List Constraint) : Type 0 where

@@ -66,6 +66,20 @@ impl Doubts {
         self.nodes.len()
     }
 
+    /// Whether there is no monitor.
+    pub fn is_empty(self) -> bool
+        ensures { IsTrue result ↔ (self ≡ []) }
+    {
+        self.nodes.len() == 0
+    }
+
+    /// Whether both sets have the same monitors.
+    pub(crate) fn is_same(self, other: Doubts) -> bool
+        ensures { IsTrue result ↔ (self ≡ other) }
+    {
+        self.len() == other.len() && self.is_subset(other)
+    }
+
     /// Whether each monitor is one of the other set.
     pub fn is_subset(self, of: Doubts) -> bool
         ensures { IsTrue result ↔ IsSubset self of }

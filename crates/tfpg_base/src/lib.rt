@@ -9,8 +9,8 @@
 //! - [`append_to_file`] appends a part of a file, as far as a file may go.
 //! - [`Words`] cuts a line into words, [`parts_at_commas`] a word into parts, and [`has_empty_word`] finds an empty word.
 //!   [`read_name`] and [`read_number`] know the two forms of words that every text format uses; [`Number`] says what is read.
-//! - [`Set`] is a set of failure modes, [`Doubts`] one of monitors that may be wrong; [`NodeNumbers`] is what sets of nodes
-//!   stand on. [`Trace`] says when which node became active, with an [`Activation`] for each.
+//! - [`Set`] is a set of failure modes, [`Doubts`] one of monitors that may be wrong, and a [`Hypothesis`] has both;
+//!   [`NodeNumbers`] is what sets of nodes stand on. [`Trace`] says when which node became active, with an [`Activation`] for each.
 //!   [`Constraint`] is a difference constraint over the times of nodes.
 //! - [`Terms`] are what a diagnosis is asked with: the greatest size of its hypotheses, how many monitors each may doubt, and
 //!   the budget of a round.
@@ -41,6 +41,7 @@ mod constraint;
 mod doubts;
 mod fault_count;
 mod file;
+mod hypothesis;
 mod items;
 mod last_line_end;
 pub mod laws;
@@ -66,6 +67,7 @@ pub use constraint::Constraint;
 pub use doubts::Doubts;
 pub use fault_count::FaultCount;
 pub use file::append_to_file;
+pub use hypothesis::Hypothesis;
 pub use items::{Bytes, Items, LineList, NumberList};
 pub use last_line_end::without_last_line_end;
 pub use limits::{

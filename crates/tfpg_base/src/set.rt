@@ -67,23 +67,23 @@ impl Set {
     }
 
     /// The set with this member.
-    pub fn with(self, position: u32) -> Set
-        requires { position < MAX_MEMBERS }
-        ensures list { result ≡ with_member position self }
-        ensures members { (other : ℕ) → Contains result other ↔ ((position ≡ other) ⊎ Contains self other) }
+    pub fn with(self, place: u32) -> Set
+        requires { place < MAX_MEMBERS }
+        ensures list { result ≡ with_member place self }
+        ensures members { (other : ℕ) → Contains result other ↔ ((place ≡ other) ⊎ Contains self other) }
         ensures set { IsSet result }
     {
         Set {
-            bits: self.bits | 1 << position,
+            bits: self.bits | 1 << place,
         }
     }
 
-    /// Whether the position is a member.
-    pub fn has(self, position: u32) -> bool
-        ensures member { IsTrue result ↔ Contains self position }
+    /// Whether the place is a member.
+    pub fn has(self, place: u32) -> bool
+        ensures member { IsTrue result ↔ Contains self place }
         ensures set { IsSet self }
     {
-        position < MAX_MEMBERS && self.bits >> position & 1 == 1
+        place < MAX_MEMBERS && self.bits >> place & 1 == 1
     }
 
     /// How many members there are.
@@ -108,7 +108,8 @@ impl Set {
         self.is_subset(of) && self != of
     }
 
-    fn is_subset(self, of: Set) -> bool
+    /// Whether each member is one of the other set.
+    pub(crate) fn is_subset(self, of: Set) -> bool
         ensures { IsTrue result ↔ IsSubset self of }
     {
         self.bits & of.bits == self.bits

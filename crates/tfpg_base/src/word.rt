@@ -40,16 +40,16 @@ fn are_name_bytes(bytes: &[u8]) -> bool
     bytes.iter().all(|byte| byte.is_ascii_alphanumeric() || matches!(byte, b'_' | b'.' | b'-'))
 }
 
-/// The number that the word spells, where it is of the form of a number and at most `limit`. Takes time linear
+/// The number that the word spells, where it is of the form of a number and at most `most`. Takes time linear
 /// in the length of the word, which may have any length.
-pub fn read_number(word: &[u8], limit: u64) -> Number
-    ensures { result ≡ number_up_to limit (number_of word.now) }
+pub fn read_number(word: &[u8], most: u64) -> Number
+    ensures { result ≡ number_up_to most (number_of word.now) }
 {
     if !is_number(word) {
         return Number::NotANumber;
     }
     match digits_value(word) {
-        Some(value) if value <= limit => Number::Value(value),
+        Some(value) if value <= most => Number::Value(value),
         _ => Number::TooLarge,
     }
 }

@@ -29,7 +29,7 @@ use Rattle.tfpg_evidence.specs.Findings.{hypothesis_of, ranked_in_order, open_in
 use Rattle.tfpg_evidence.proofs.FindingsByNumber.{finding_numbered-first}
 use Rattle.tfpg_hyp.specs.Fitting.{SayWhichSetsFit}
 use Rattle.tfpg_hyp.specs.Rounds.{IsRound, key_of_status}
-use Rattle.tfpg_hyp.specs.declared.ranking_key.RankingKey.{RankingKey}
+use Rattle.tfpg_hyp.specs.declared.place.Place.{Place}
 use Rattle.tfpg_hyp.proofs.FindingsOfRound.{HasFindingAt, evidence}
 use Rattle.tfpg_report.specs.declared.refused_line.RefusedLine.{RefusedLine}
 use Rattle.tfpg_report.specs.SetText.{set_word}
@@ -142,7 +142,7 @@ no_trace Rejected not_ranked = refl
 no_trace Open not_ranked = refl
 
 -- one that ranks has a key
-key_there : (number : ℕ) (status : Status) → is_ranked status ≡ true → (key : RankingKey) × (key_of_status number status ≡ Some key)
+key_there : (number : ℕ) (status : Status) → is_ranked status ≡ true → (key : Place) × (key_of_status number status ≡ Some key)
 key_there number (Ranked trace cost alarmed monitored) ranked = (_, refl)
 key_there number (Covered by) ranked = cc
 key_there number Rejected ranked = cc

@@ -16,7 +16,7 @@ use Rattle.tfpg_evidence.specs.declared.finding.Status.TheVariants.{Ranked, Cove
 use Rattle.tfpg_evidence.specs.declared.round.Round.{Round}
 use Rattle.tfpg_evidence.specs.RoundOf.{is_ranked, is_covered, is_rejected, is_open}
 use Rattle.tfpg_evidence.specs.Findings.{hypothesis_of}
-use Rattle.tfpg_hyp.specs.declared.ranking_key.Fraction.{Fraction}
+use Rattle.tfpg_hyp.specs.declared.place.Fraction.{Fraction}
 use Rattle.tfpg_hyp.specs.Fitting.{SayWhichSetsFit}
 use Rattle.tfpg_hyp.specs.Ranking.{cost_of, robustness_of}
 use Rattle.tfpg_hyp.specs.Rounds.{IsRound, HasEvidence, IsRankedPart, HasRankedPart, IsLeastPart, steps_so_far}

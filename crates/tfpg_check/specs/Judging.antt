@@ -13,7 +13,7 @@ use Rattle.tfpg_kernel.specs.declared.taken.BadStep.TheVariants as bad
 use Rattle.tfpg_kernel.specs.Breaks.{IsFirstBroken}
 use Rattle.tfpg_hyp.specs.Views.{IsReachOf, case_for, log_for}
 use Rattle.tfpg_hyp.specs.Ranking.{cost_of, robustness_of, IsRankedBefore}
-use Rattle.tfpg_hyp.specs.declared.ranking_key.RankingKey.{RankingKey}
+use Rattle.tfpg_hyp.specs.declared.place.Place.{Place}
 use Rattle.tfpg_report.specs.declared.read_round.Part.{Part}
 use Rattle.tfpg_report.specs.declared.read_round.RankedLine.{RankedLine}
 use Rattle.tfpg_report.specs.declared.read_round.NamedSet.{NamedSet}
@@ -101,7 +101,7 @@ PartFails docket before part =
     (InTurn (StepFails docket part) [] part.steps)
 
 -- what a ranked line says of its place in the order
-abbrev pub key_read : RankedLine → RankingKey
+abbrev pub key_read : RankedLine → Place
 key_read r = record { cost = r.cost; robust = record { alarmed = r.alarmed; monitored = r.monitored }; number = r.number }
 
 -- A proper part of the hypothesis stands among the ranked lines of the round.
@@ -196,12 +196,12 @@ EachHasStatus docket read =
 -- the others are covered.
 pub record AreRightCounts (docket : Docket) (read : ReadRound) : Type 0 where
   pub ranked : read.counts.ranked ≡ length read.ranked
-  pub left_open : read.counts.left_open ≡ length read.unsettled
+  pub unsettled : read.counts.unsettled ≡ length read.unsettled
   pub closed : List ℕ
   pub rising : AllPairs (λ (earlier later : ℕ). earlier < later) closed
   pub exact : (number : ℕ) → Contains closed number ↔ IsClosed docket read number
   pub rejected : read.counts.rejected ≡ length closed
-  pub all : read.counts.ranked + read.counts.covered + read.counts.rejected + read.counts.left_open ≡ length docket.hypotheses
+  pub all : read.counts.ranked + read.counts.covered + read.counts.rejected + read.counts.unsettled ≡ length docket.hypotheses
 
 -- A round for the line of this number of the log fails by the first of these tests, in this order.
 abbrev pub RoundFails : Docket → ℕ → ReadRound → Fails

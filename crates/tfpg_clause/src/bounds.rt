@@ -15,7 +15,7 @@ pub(crate) fn at_least(node: u32, least: u64) -> Constraint
     Constraint {
         left: 0,
         right: node + 1,
-        bound: -(least as i64),
+        most: -(least as i64),
     }
 }
 
@@ -28,7 +28,7 @@ pub(crate) fn at_most(node: u32, bound: u64) -> Constraint
     Constraint {
         left: node + 1,
         right: 0,
-        bound: bound as i64,
+        most: bound as i64,
     }
 }
 
@@ -42,7 +42,7 @@ pub(crate) fn at_most_after(node: u32, source: u32, bound: u64) -> Constraint
     Constraint {
         left: node + 1,
         right: source + 1,
-        bound: bound as i64,
+        most: bound as i64,
     }
 }
 
@@ -56,7 +56,7 @@ pub(crate) fn at_least_after(node: u32, source: u32, least: u64) -> Constraint
     Constraint {
         left: source + 1,
         right: node + 1,
-        bound: -(least as i64),
+        most: -(least as i64),
     }
 }
 
@@ -69,6 +69,6 @@ pub(crate) fn at_most_before(node: u32, time: u64) -> Constraint
     Constraint {
         left: node + 1,
         right: 0,
-        bound: time as i64 - 1,
+        most: time as i64 - 1,
     }
 }

@@ -87,21 +87,21 @@ pub fn count(graph: &Graph, log: &Log, name: ClauseName) -> Result<u32, NotAClau
     .ok_or(NotAClause)
 }
 
-/// The constraint with this number in an alternative of the clause, both numbered from 1. The name is refused
+/// The constraint at this place in an alternative of the clause, both numbered from 1. The name is refused
 /// as [`count`] refuses it, and the cost is the same.
 pub fn constraint(
     graph: &Graph,
     log: &Log,
     name: ClauseName,
     alternative: u32,
-    number: u32,
+    place: u32,
 ) -> Result<Option<Constraint>, NotAClause>
     ensures { result_ok result
-        ≡ option_map (λ clause. constraint_at clause alternative number)
+        ≡ option_map (λ clause. constraint_at clause alternative place)
         (alternatives graph.now log.now name) }
 {
     match alternative_of(graph, log, name, alternative)? {
-        Some(found) => Ok(constraint_in(found, number)),
+        Some(found) => Ok(constraint_in(found, place)),
         None => Ok(None),
     }
 }

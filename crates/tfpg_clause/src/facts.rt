@@ -48,10 +48,7 @@ fn fact_of(graph: &Graph, log: &Log, reach: &NodeSet, reason: Reason) -> Option<
         Reason::From { event } => from(graph, log, event),
         Reason::Upto { event } => upto(graph, log, event),
         Reason::Quiet { event, node } => quiet(graph, log, event, node),
-        Reason::Pick {
-            split: _,
-            constraint: _,
-        } => None,
+        Reason::Pick { split: _, place: _ } => None,
     }
 }
 

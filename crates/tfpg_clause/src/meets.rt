@@ -39,7 +39,7 @@ fn meets_one(times: &[u64], constraint: Constraint) -> bool
 {
     let left = value_of(times, constraint.left);
     let right = value_of(times, constraint.right);
-    left as i64 - right as i64 <= constraint.bound
+    left as i64 - right as i64 <= constraint.most
 }
 
 /// The value of a number of a constraint: 0 for number 0, and the time of the node before for any other.

@@ -123,7 +123,7 @@ fn cite_one(path: &mut [PathSplit], reason: Reason)
 
 /// Marks the split of this number, where there is one. They are numbered from 1.
 fn cite_split(path: &mut [PathSplit], number: u64)
-    ensures { (constraint : ℕ) → path.new ≡ cited_by (Pick number constraint ∷ []) path.old }
+    ensures { (place : ℕ) → path.new ≡ cited_by (Pick number place ∷ []) path.old }
 {
     if number == 0 || number > path.len() as u64 {
         return;
@@ -157,7 +157,7 @@ pub fn stated(
     ensures { result ≡ stated (case_of graph.now log.now reach.now) path.now reason }
 {
     match reason {
-        Reason::Pick { split, constraint } => picked(graph, log, path, split, constraint),
+        Reason::Pick { split, place } => picked(graph, log, path, split, place),
         _ => fact(graph, log, reach, reason).ok(),
     }
 }

@@ -127,7 +127,7 @@ module _ (bounds : List Bounds) (picks : List Pick) (v : ℕ) (old : Bounds) (at
       (λ (demanded : Demanded (demands_of bounds picks) e). Demanded-changed bounds picks v old lower at_v e demanded
       (λ (is : e ≡ ceiling_of v old).
       let left : x ≡ v + 1 = sym link.left ∙ ap (λ (f : Demand). f.constraint.left) is in
-      let ceiling : e.constraint.bound ≡ pos old.ceiling = ap (λ (f : Demand). f.constraint.bound) is in
+      let ceiling : e.constraint.most ≡ pos old.ceiling = ap (λ (f : Demand). f.constraint.most) is in
       let tight = link.tight in
       let value : slice_index values x ≡ slice_index values (v + 1) = ap (slice_index values) left in
       absurd (omega (arith, ints)))

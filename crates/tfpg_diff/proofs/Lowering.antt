@@ -25,7 +25,7 @@ pub record IsBrokenDemand (demands : Demands) (values : List ℕ) (demand : Dema
   pub demanded : Demanded demands demand
   pub left : demand.constraint.left ≤ length demands.bounds
   pub right : demand.constraint.right ≤ length demands.bounds
-  pub broken : (pos (slice_index values demand.constraint.right) +ℤ demand.constraint.bound) <ℤ pos (slice_index values demand.constraint.left)
+  pub broken : (pos (slice_index values demand.constraint.right) +ℤ demand.constraint.most) <ℤ pos (slice_index values demand.constraint.left)
 
 module _ (demands : Demands) (values : List ℕ) (links : List Demand) (kept : IsKept demands values links) where
   -- each link has its number on its left
@@ -54,7 +54,7 @@ module _ (demands : Demands) (values : List ℕ) (links : List Demand) (kept : I
   -- the links.
   pub cycle_from_links : (new : Demands) (demand : Demand) (tags : List Why) → Demanded new demand →
       ((x : ℕ) (e : Demand) → 0 < x → slice_get links x ≡ Some e → Demanded new e) → demand.constraint.left < length links →
-      (pos (slice_index values demand.constraint.right) +ℤ demand.constraint.bound) <ℤ pos (slice_index values demand.constraint.left) →
+      (pos (slice_index values demand.constraint.right) +ℤ demand.constraint.most) <ℤ pos (slice_index values demand.constraint.left) →
       Walked links demand.constraint.right demand.constraint.left demand.constraint.left (demand.why ∷ []) tags → NamesNegativeCycle new tags
   cycle_from_links new demand tags demanded demands_links inside broken walked =
       let es : List Demand = walked.chain in
@@ -79,7 +79,7 @@ module _ (demands : Demands) (values : List ℕ) (links : List Demand) (kept : I
   -- a walk to zero from a constraint that would lower its left side below its floor closes a negative cycle
   pub cycle_from_floor : (demand : Demand) (tags : List Why) (variable : ℕ) (bounds : Bounds) → IsBrokenDemand demands values demand →
       Walked links demand.constraint.right demand.constraint.left 0 (demand.why ∷ []) tags → Bounded demands variable bounds → demand.constraint.left ≡ variable + 1 →
-      (pos (slice_index values demand.constraint.right) +ℤ demand.constraint.bound) <ℤ pos bounds.floor →
+      (pos (slice_index values demand.constraint.right) +ℤ demand.constraint.most) <ℤ pos bounds.floor →
       NamesNegativeCycle demands (tags ++ bounds.floor_why ∷ [])
   cycle_from_floor demand tags variable bounds broken walked bounded number low =
       let es : List Demand = walked.chain in
@@ -107,7 +107,7 @@ module _ (demands : Demands) (values : List ℕ) (links : List Demand) (kept : I
   -- a lowering keeps what is kept
   pub IsKept-lowered : (demand : Demand) (value variable : ℕ) (bounds : Bounds) → IsBrokenDemand demands values demand →
       LeadsTo links demand.constraint.right demand.constraint.left 0 → Bounded demands variable bounds → demand.constraint.left ≡ variable + 1 →
-      pos value ≡ (pos (slice_index values demand.constraint.right) +ℤ demand.constraint.bound) → bounds.floor ≤ value →
+      pos value ≡ (pos (slice_index values demand.constraint.right) +ℤ demand.constraint.most) → bounds.floor ≤ value →
       IsKept demands (set values demand.constraint.left value) (set links demand.constraint.left demand)
   IsKept-lowered demand value variable bounds broken leads bounded number is high =
       let below = broken.broken in

@@ -38,7 +38,7 @@ small-kept demands sound values links kept (suc v) d inside =
 -- a pick that the values break, as the code reads both
 pub IsBrokenDemand-pick : (demands : Demands) (sound : IsSound demands) (values : List ℕ) (index : ℕ) (d : Pick) (demand : Demand) (now : List ℕ) →
     index < length demands.picks → demand ≡ demand_of_pick (get_or demands.picks index d) → now ≡ values →
-    (pos (slice_index now demand.constraint.right) +ℤ demand.constraint.bound) <ℤ pos (slice_index now demand.constraint.left) → IsBrokenDemand demands values demand
+    (pos (slice_index now demand.constraint.right) +ℤ demand.constraint.most) <ℤ pos (slice_index now demand.constraint.left) → IsBrokenDemand demands values demand
 IsBrokenDemand-pick demands sound values index d demand now inside is same broken =
     let left : demand.constraint.left ≡ (get_or demands.picks index d).constraint.left = ap (λ (e : Demand). e.constraint.left) is in
     let right : demand.constraint.right ≡ (get_or demands.picks index d).constraint.right = ap (λ (e : Demand). e.constraint.right) is in
@@ -48,7 +48,7 @@ IsBrokenDemand-pick demands sound values index d demand now inside is same broke
       demanded = inr (inr (get_or demands.picks index d, Contains-get_or demands.picks index d inside, is));
       left = omega arith;
       right = omega arith;
-      broken = subst (λ (xs : List ℕ). (pos (slice_index xs demand.constraint.right) +ℤ demand.constraint.bound) <ℤ pos (slice_index xs demand.constraint.left)) same broken;
+      broken = subst (λ (xs : List ℕ). (pos (slice_index xs demand.constraint.right) +ℤ demand.constraint.most) <ℤ pos (slice_index xs demand.constraint.left)) same broken;
     }
 
 -- the bounds of the left side, as the code reads them
@@ -79,7 +79,7 @@ pub AreKept-lowered : (demands : Demands) (values : List ℕ) (links : List Link
     (value variable : ℕ) (bounds : Bounds) → demand ≡ demand_of_pick (get_or demands.picks index no_pick) →
     IsBrokenDemand demands values demand → LeadsTo (demands_linked demands links) demand.constraint.right demand.constraint.left 0 →
     Bounded demands variable bounds → demand.constraint.left ≡ variable + 1 →
-    pos value ≡ (pos (slice_index values demand.constraint.right) +ℤ demand.constraint.bound) → bounds.floor ≤ value →
+    pos value ≡ (pos (slice_index values demand.constraint.right) +ℤ demand.constraint.most) → bounds.floor ≤ value →
     AreKept demands (set values demand.constraint.left value) (set links demand.constraint.left (Picked index))
 AreKept-lowered demands values links kept index demand value variable bounds is broken leads bounded number sum high =
     let left : ℕ = demand.constraint.left in

@@ -23,12 +23,12 @@ Chains from (e ∷ es) to = (e.constraint.left ≡ from) × Chains e.constraint.
 -- the sum of the bounds
 abbrev pub total_of : List Demand → ℤ
 total_of [] = pos 0
-total_of (e ∷ es) = e.constraint.bound +ℤ total_of es
+total_of (e ∷ es) = e.constraint.most +ℤ total_of es
 
 -- Each number that has a link has at least the value that the link allows.
 abbrev pub IsTight : List ℕ → List Demand → Type 0
 IsTight values links = (x : ℕ) (e : Demand) → 0 < x → slice_get links x ≡ Some e →
-    (pos (slice_index values e.constraint.right) +ℤ e.constraint.bound) ≤ℤ pos (slice_index values x)
+    (pos (slice_index values e.constraint.right) +ℤ e.constraint.most) ≤ℤ pos (slice_index values x)
 
 -- the sum of one list after another
 pub total_of-append : (es fs : List Demand) → total_of (es ++ fs) ≡ total_of es +ℤ total_of fs
@@ -53,13 +53,13 @@ total_of-Chains times x [] y chains met =
 total_of-Chains times x (e ∷ es) y chains met =
     let here : IsMetBy times e = All-head (IsMetBy times) e es met in
     let rest = total_of-Chains times e.constraint.right es y chains.1 (All-tail (IsMetBy times) e es met) in
-    subst (λ (n : ℕ). pos (slice_index times n) ≤ℤ (pos (slice_index times y) +ℤ (e.constraint.bound +ℤ total_of es))) chains.0 (omega (arith, ints))
+    subst (λ (n : ℕ). pos (slice_index times n) ≤ℤ (pos (slice_index times y) +ℤ (e.constraint.most +ℤ total_of es))) chains.0 (omega (arith, ints))
 
 -- the sum of the bounds, as cycles have it
 sum_of-total : (start : ℤ) (es : List Demand) →
-    fold (λ (total : ℤ) (constraint : Constraint). total +ℤ constraint.bound) start (constraints_of es) ≡ start +ℤ total_of es
+    fold (λ (total : ℤ) (constraint : Constraint). total +ℤ constraint.most) start (constraints_of es) ≡ start +ℤ total_of es
 sum_of-total start [] = omega (arith, ints)
-sum_of-total start (e ∷ es) = let rest = sum_of-total (start +ℤ e.constraint.bound) es in rest ∙ omega (arith, ints)
+sum_of-total start (e ∷ es) = let rest = sum_of-total (start +ℤ e.constraint.most) es in rest ∙ omega (arith, ints)
 
 -- the constraints of a chain, as cycles have it
 IsChainTo-Chains : (x : ℕ) (e : Demand) (es : List Demand) (y : ℕ) → Chains x (e ∷ es) y → IsChainTo y (constraints_of (e ∷ es))

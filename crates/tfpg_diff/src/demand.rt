@@ -27,7 +27,7 @@ pub(crate) fn ceiling_of(variable: u32, bounds: Bounds) -> Demand
         constraint: Constraint {
             left: variable + 1,
             right: 0,
-            bound: bounds.ceiling as i64,
+            most: bounds.ceiling as i64,
         },
         why: bounds.ceiling_why,
     }

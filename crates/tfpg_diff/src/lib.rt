@@ -17,7 +17,7 @@
 //! system.reserve(1)?;
 //! let _ = system.raise(0, 5, 50, &mut work);
 //! let _ = system.lower(1, 7, 70, &mut work);
-//! let after = Constraint { left: 1, right: 2, bound: -4 };
+//! let after = Constraint { left: 1, right: 2, most: -4 };
 //! assert!(rt; system.push(after, 45, &mut work).is_err());
 //! assert_eq!(rt; system.cycle(), [Why::Given(45), Why::Given(70), Why::Given(50)].as_slice());
 //! ```

@@ -27,7 +27,7 @@ pub(crate) fn is_broken(values: &[u64], demand: Demand) -> bool
 {
     let left = values[demand.constraint.left as usize] as i64;
     let right = values[demand.constraint.right as usize] as i64;
-    left - right > demand.constraint.bound
+    left - right > demand.constraint.most
 }
 
 /// The greatest value that a broken constraint allows its left side, where that is not below a floor.
@@ -41,7 +41,7 @@ pub(crate) fn allowed(values: &[u64], demand: Demand, floor: u64) -> Option<u64>
     ensures value { IfSome result (λ value. pos value ≡ allowed_by values.now demand) }
     ensures above { IfSome result (λ value. floor ≤ value) }
 {
-    let value = values[demand.constraint.right as usize] as i64 + demand.constraint.bound;
+    let value = values[demand.constraint.right as usize] as i64 + demand.constraint.most;
     if value < floor as i64 {
         return None;
     }

@@ -17,7 +17,7 @@ use Rattle.tfpg_clause.specs.Case.{Case, case_of}
 use Rattle.tfpg_hyp.specs.Hypotheses.{Hypotheses, Row, IsRowOf}
 use Rattle.tfpg_hyp.specs.Views.{case_for}
 use Rattle.tfpg_hyp.specs.Rounds.{Inquiry}
-use Rattle.tfpg_hyp.specs.declared.ranking_key.Fraction.{Fraction}
+use Rattle.tfpg_hyp.specs.declared.place.Fraction.{Fraction}
 use Rattle.tfpg_search.specs.Work.{IsWorkLimit}
 use Rattle.tfpg_search.specs.declared.found.Found.{Found}
 use Rattle.tfpg_search.specs.declared.found.Found.TheVariants.{Shown, Closed, Spent}

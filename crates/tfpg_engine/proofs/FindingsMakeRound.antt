@@ -21,7 +21,7 @@ use Rattle.tfpg_clause.specs.Trees.{Judged}
 use Rattle.tfpg_hyp.specs.Table.{IsTable}
 use Rattle.tfpg_hyp.specs.Hypotheses.{Hypotheses, Row, IsRowOf, IsTableOf}
 use Rattle.tfpg_hyp.specs.Views.{IsReachOf, case_for}
-use Rattle.tfpg_hyp.specs.declared.ranking_key.RankingKey.{RankingKey}
+use Rattle.tfpg_hyp.specs.declared.place.Place.{Place}
 use Rattle.tfpg_hyp.specs.Rounds.{Inquiry, IsRound, IsFinding, IsOrder, HasNoneOpen, counts_of, HasEvidence, IsRankedPart, steps_so_far, key_at, key_of_status}
 use Rattle.tfpg_hyp.proofs.FindingsOfRound.{steps_so_far-push}
 use Rattle.tfpg_search.specs.Enough.{IsEnough}
@@ -75,12 +75,12 @@ module _ (inquiry : Inquiry) (table : Hypotheses) (old new : List Slot) (finding
         is_new = each (row_with number hypothesis.0 reach.0) (record { hypothesis = hypothesis.1; reach = reach.1 }) before.0 now.0 finding before.1 now.1 at;
       }
 
-  fraction_by : (number : ℕ) (key : RankingKey) (at : Option Finding) → slice_get findings number ≡ at → option_and_then (λ (f : Finding). key_of_status number f.status) at ≡ Some key → HasFraction key
+  fraction_by : (number : ℕ) (key : Place) (at : Option Finding) → slice_get findings number ≡ at → option_and_then (λ (f : Finding). key_of_status number f.status) at ≡ Some key → HasFraction key
   fraction_by number key None is key_is = cc
   fraction_by number key (Some finding) is key_is = (new_finding_at number finding is).is_new.whole key key_is
 
   -- the robustness of each key is a fraction
-  pub fractions_of : (number : ℕ) (key : RankingKey) → key_at findings number ≡ Some key → HasFraction key
+  pub fractions_of : (number : ℕ) (key : Place) → key_at findings number ≡ Some key → HasFraction key
   fractions_of number key key_is = fraction_by number key (slice_get findings number) refl key_is
 
   -- what is kept now can go on

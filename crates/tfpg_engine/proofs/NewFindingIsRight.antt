@@ -23,7 +23,7 @@ use Rattle.tfpg_clause.specs.Case.{Case, case_of}
 use Rattle.tfpg_clause.specs.Trees.{Judged, IsPartial, IsRefutation, split_count}
 use Rattle.tfpg_hyp.specs.Hypotheses.{Hypotheses, Row, IsRowOf}
 use Rattle.tfpg_hyp.specs.Views.{log_for}
-use Rattle.tfpg_hyp.specs.declared.ranking_key.Fraction.{Fraction}
+use Rattle.tfpg_hyp.specs.declared.place.Fraction.{Fraction}
 use Rattle.tfpg_hyp.specs.Ranking.{cost_of, robustness_of, believed_in, alarmed_in}
 use Rattle.tfpg_hyp.specs.Rounds.{Inquiry, IsRankedPart, HasRankedPart, IsLeastPart}
 use Rattle.tfpg_log.specs.Explains.{Explains}

@@ -15,7 +15,7 @@ pub(crate) fn counts_of(findings: &[Finding]) -> Counts
         ranked: 0,
         covered: 0,
         rejected: 0,
-        left_open: 0,
+        unsettled: 0,
     };
     for finding in findings {
         add(&mut counts, &finding.status);
@@ -28,13 +28,13 @@ fn add(counts: &mut Counts, status: &Status)
     requires ranked { counts.old.ranked + 1 < 2 ^ 32 }
     requires covered { counts.old.covered + 1 < 2 ^ 32 }
     requires rejected { counts.old.rejected + 1 < 2 ^ 32 }
-    requires left_open { counts.old.left_open + 1 < 2 ^ 32 }
+    requires unsettled { counts.old.unsettled + 1 < 2 ^ 32 }
     ensures { counts.new ≡ counts_with counts.old status.now }
 {
     match status {
         Status::Ranked { .. } => counts.ranked += 1,
         Status::Covered { .. } => counts.covered += 1,
         Status::Rejected => counts.rejected += 1,
-        Status::Open => counts.left_open += 1,
+        Status::Open => counts.unsettled += 1,
     }
 }

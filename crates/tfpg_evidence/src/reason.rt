@@ -18,8 +18,8 @@ pub enum Reason {
     Upto { event: u32 },
     /// This event, a silence or a sweep, says that the node was not active at its time.
     Quiet { event: u32, node: u32 },
-    /// The constraint with this number in the alternative taken at this split of the path. Both are numbered from 1.
-    Pick { split: u64, constraint: u32 },
+    /// The constraint at this place in the alternative taken at this split of the path. Both are numbered from 1.
+    Pick { split: u64, place: u32 },
 }
 
 /// The reasons of a cycle, in order.

@@ -13,7 +13,7 @@ pub struct Counts {
     pub ranked: u32,
     pub covered: u32,
     pub rejected: u32,
-    pub left_open: u32,
+    pub unsettled: u32,
 }
 
 /// What one accepted line brings: a finding for each hypothesis.

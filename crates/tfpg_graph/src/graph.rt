@@ -207,13 +207,13 @@ impl Graph {
         self.declared.incoming(node)
     }
 
-    /// The node of the failure mode at this position.
-    pub fn failure_node(&self, position: u32) -> u32
-        requires { position < length (failures self.now) }
-        ensures node { failure_at self.now position ≡ Some result }
+    /// The node of the failure mode at this place.
+    pub fn failure_node(&self, place: u32) -> u32
+        requires { place < length (failures self.now) }
+        ensures node { failure_at self.now place ≡ Some result }
         ensures within { result < length self.now.nodes }
     {
-        self.declared.failure_node(position)
+        self.declared.failure_node(place)
     }
 
     /// The position of the node among the failure modes, where it is one.

@@ -1,10 +1,10 @@
 -- That the ranking order is transitive.
 use Rattle.std.proofs.Common.{◌*◌, ◌<◌, ◌≤◌, ◌⊎◌, inl, inr, ⊎_elim, arith, ◌∙◌}
 use Rattle.tfpg_base.proofs.lists.Fractions.{fractions-le, fractions-lt_le, fractions-le_lt}
-use Rattle.tfpg_hyp.specs.declared.ranking_key.RankingKey.{RankingKey}
+use Rattle.tfpg_hyp.specs.declared.place.Place.{Place}
 use Rattle.tfpg_hyp.specs.Ranking.{IsMoreRobust, IsAsRobust, IsRankedBefore}
 
-module _ (a b c : RankingKey) (whole_a : 1 ≤ a.robust.monitored) (whole_b : 1 ≤ b.robust.monitored) (whole_c : 1 ≤ c.robust.monitored) where
+module _ (a b c : Place) (whole_a : 1 ≤ a.robust.monitored) (whole_b : 1 ≤ b.robust.monitored) (whole_c : 1 ≤ c.robust.monitored) where
   as_robust : IsAsRobust a.robust b.robust → IsAsRobust b.robust c.robust → IsAsRobust a.robust c.robust
   as_robust first second =
       let low = fractions-le a.robust.alarmed a.robust.monitored b.robust.alarmed b.robust.monitored c.robust.alarmed c.robust.monitored whole_b (omega (arith, first)) (omega (arith, second)) in

@@ -14,7 +14,7 @@ use Rattle.tfpg_graph.specs.Reach.{is_among}
 use Rattle.tfpg_graph.specs.Valid.{IsValid, HasValidNumber}
 use Rattle.tfpg_base.proofs.lists.Elements.{All-at}
 use Rattle.tfpg_log.specs.Log.{Logbook, alarm_of}
-use Rattle.tfpg_hyp.specs.declared.ranking_key.Fraction.{Fraction}
+use Rattle.tfpg_hyp.specs.declared.place.Fraction.{Fraction}
 use Rattle.tfpg_hyp.specs.Ranking.{rarity_at, is_believed, robustness_of, believed_in, alarmed_in}
 use Rattle.tfpg_base.proofs.lists.Filtered.{filter-push_yes, filter-push_no, count_by-push}
 use Rattle.tfpg_base.proofs.lists.Below.{below, below-zero, below-member, below-absent, below-all}

@@ -25,7 +25,7 @@ use Rattle.tfpg_base.proofs.lists.Elements.{All-back, All-from_members, Contains
 use Rattle.tfpg_hyp.specs.Table.{IsHypothesis}
 use Rattle.tfpg_hyp.specs.Views.{case_for}
 use Rattle.tfpg_hyp.specs.Rounds.{IsRound, HasEvidence, key_at, key_of_status, steps_so_far}
-use Rattle.tfpg_hyp.specs.declared.ranking_key.RankingKey.{RankingKey}
+use Rattle.tfpg_hyp.specs.declared.place.Place.{Place}
 use Rattle.tfpg_hyp.proofs.FittingSets.{of_view}
 use Rattle.tfpg_hyp.proofs.FindingsOfRound.{HasFindingAt, evidence, steps_so_far-push}
 
@@ -55,7 +55,7 @@ status_named case budget findings steps finding (Covered by) own = tt
 status_named case budget findings steps finding Rejected own = tt
 status_named case budget findings steps finding Open own = tt
 
-key_ranked : (number : ℕ) (status : Status) (key : RankingKey) → key_of_status number status ≡ Some key → IsTrue (is_ranked status)
+key_ranked : (number : ℕ) (status : Status) (key : Place) → key_of_status number status ≡ Some key → IsTrue (is_ranked status)
 key_ranked number (Ranked trace cost alarmed monitored) key at = refl
 key_ranked number (Covered by) key at = absurd cc
 key_ranked number Rejected key at = absurd cc
@@ -93,7 +93,7 @@ module _ (graph : Tfpg) (terms : Terms) (line : ℕ) (rounds : List Round) (log 
       finding_numbered-first round.findings number number finding at (number_at number finding at)
       (λ other f lt there is. (let own : f.number ≡ other = number_at other f there in omega (arith, own, is, lt)))
 
-  ranked_in : (number : ℕ) (key : RankingKey) → key_at round.findings number ≡ Some key → IsRankedIn round.findings number
+  ranked_in : (number : ℕ) (key : Place) → key_at round.findings number ≡ Some key → IsRankedIn round.findings number
   ranked_in number key at =
       option_and_then_some (λ (finding : Finding). key_of_status number finding.status) (slice_get round.findings number) key at
       (λ finding there rest. (finding, found_by_number number finding there, key_ranked number finding.status key rest))
@@ -109,7 +109,7 @@ module _ (graph : Tfpg) (terms : Terms) (line : ℕ) (rounds : List Round) (log 
     order = All-from_members (IsRankedIn round.findings) round.order
         (λ number has.
         let all : each_of (map (key_at round.findings) round.order) ≡ Some is_round.order.keys =
-        ap (λ (keys : List (Option RankingKey)). each_of keys) is_round.order.all_ranked ∙ each_of-some is_round.order.keys in
+        ap (λ (keys : List (Option Place)). each_of keys) is_round.order.all_ranked ∙ each_of-some is_round.order.keys in
         let own = Contains-each_of (key_at round.findings) round.order is_round.order.keys number all has in
         ranked_in number own.0 own.2);
   }

@@ -17,7 +17,7 @@ use Rattle.tfpg_clause.specs.Case.{Case}
 use Rattle.tfpg_clause.specs.Trees.{Judged, IsRefutation, IsPartial, split_count}
 use Rattle.tfpg_hyp.specs.Table.{IsTable}
 use Rattle.tfpg_hyp.specs.Views.{IsReachOf, case_for}
-use Rattle.tfpg_hyp.specs.declared.ranking_key.RankingKey.{RankingKey}
+use Rattle.tfpg_hyp.specs.declared.place.Place.{Place}
 use Rattle.tfpg_hyp.specs.Ranking.{cost_of, robustness_of, IsRankedBefore}
 
 -- the steps of one hypothesis in a round, judged by the log of that round, which has as many events as the round's
@@ -81,7 +81,7 @@ pub record IsFinding (inquiry : Inquiry) (rounds : List Round) (findings : List 
       inquiry.terms.budget findings (steps_so_far number rounds) finding finding.status
 
 -- the key of a ranked finding
-abbrev pub key_of_status : ℕ → Status → Option RankingKey
+abbrev pub key_of_status : ℕ → Status → Option Place
 key_of_status number (Ranked trace cost alarmed monitored) =
     Some (record { cost = cost; robust = record { alarmed = alarmed; monitored = monitored }; number = number })
 key_of_status number (Covered by) = None
@@ -89,15 +89,15 @@ key_of_status number Rejected = None
 key_of_status number Open = None
 
 -- the key of the hypothesis of a number, if it is ranked
-abbrev pub key_at : List Finding → ℕ → Option RankingKey
+abbrev pub key_at : List Finding → ℕ → Option Place
 key_at findings number =
     option_and_then (λ finding. key_of_status number finding.status) (slice_get findings number)
 
 -- The numbers of the ranked hypotheses, best first.
 pub record IsOrder (findings : List Finding) (order : List ℕ) : Type 0 where
-  pub keys : List RankingKey
+  pub keys : List Place
   pub all_ranked : map (key_at findings) order ≡ map Some keys
-  pub each_ranked : (number : ℕ) (key : RankingKey) → key_at findings number ≡ Some key → Contains order number
+  pub each_ranked : (number : ℕ) (key : Place) → key_at findings number ≡ Some key → Contains order number
   pub in_order : AllPairs IsRankedBefore keys
 
 -- No finding of the round is open.
@@ -111,7 +111,7 @@ counts_of findings =
       ranked = count_by (λ finding. is_ranked finding.status) findings;
       covered = count_by (λ finding. is_covered finding.status) findings;
       rejected = count_by (λ finding. is_rejected finding.status) findings;
-      left_open = count_by (λ finding. is_open finding.status) findings;
+      unsettled = count_by (λ finding. is_open finding.status) findings;
     }
 
 -- The round of an accepted line after these rounds: a finding for each hypothesis of the table.

@@ -9,7 +9,7 @@ ghost use Rattle.tfpg_graph.specs.Graph.{Tfpg};
 ghost use Rattle.tfpg_hyp.specs.Hypotheses.{HasHypotheses};
 ghost use Rattle.tfpg_hyp.specs.Ranking.{IsRankedBefore};
 ghost use Rattle.tfpg_hyp.specs.Table.{IsHypothesis, IsTable};
-ghost use Rattle.tfpg_hyp.specs.declared.ranking_key.RankingKey.{RankingKey};
+ghost use Rattle.tfpg_hyp.specs.declared.place.Place.{Place};
 
 mod larger_hypotheses;
 mod names;
@@ -45,9 +45,9 @@ pub fn subsets_stand_before_their_supersets()
 
 /// The ranking order is a strict total order of keys with different numbers whose robustness is a fraction.
 pub fn the_ranking_order_is_total()
-    ensures irreflexive { (a : RankingKey) → IsRankedBefore a a → ⊥ }
-    ensures transitive { (a b c : RankingKey) →
+    ensures irreflexive { (a : Place) → IsRankedBefore a a → ⊥ }
+    ensures transitive { (a b c : Place) →
         1 ≤ a.robust.monitored → 1 ≤ b.robust.monitored → 1 ≤ c.robust.monitored →
         IsRankedBefore a b → IsRankedBefore b c → IsRankedBefore a c }
-    ensures total { (a b : RankingKey) → a.number ≢ b.number → IsRankedBefore a b ⊎ IsRankedBefore b a }
+    ensures total { (a b : Place) → a.number ≢ b.number → IsRankedBefore a b ⊎ IsRankedBefore b a }
 {}

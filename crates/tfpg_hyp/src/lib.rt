@@ -5,7 +5,7 @@
 //!
 //! - [`Table`] lists all hypotheses of a graph in order, with what each reaches. Where there are more than
 //!   [`MAX_HYPOTHESES`], [`TableFault`] says how many.
-//! - [`cost`] and [`robust`] find what ranks a hypothesis, its [`RankingKey`], and [`before`] compares two keys. Robustness is
+//! - [`cost`] and [`robust`] find what ranks a hypothesis, its [`Place`], and [`before`] compares two keys. Robustness is
 //!   a [`Fraction`]. A doubt costs [`DOUBT_COST`].
 //! - [`laws`] says what follows from the definitions of the table, of the ranking order and of a round.
 //!
@@ -14,7 +14,7 @@
 //! ```
 //! let table = Table::new(alloc, &graph, 2, 1)?;
 //! for number in 0..table.len() {
-//!     let key = RankingKey {
+//!     let key = Place {
 //!         cost: cost(&graph, table.set(number), table.doubts(number)),
 //!         robust: robust(&graph, &log, table.reach(number), table.doubts(number)),
 //!         number,
@@ -29,11 +29,11 @@ mod limits;
 mod listing;
 mod members;
 mod monitors;
+mod place;
 mod ranking;
-mod ranking_key;
 mod table;
 
 pub use limits::{DOUBT_COST, MAX_HYPOTHESES};
+pub use place::{Fraction, Place};
 pub use ranking::{before, cost, robust};
-pub use ranking_key::{Fraction, RankingKey};
 pub use table::{Table, TableFault};

@@ -6,7 +6,7 @@ ghost use Rattle.tfpg_graph.specs.declared.limits.TheConstants.{MAX_RARITY};
 ghost use Rattle.tfpg_hyp.specs.Ranking.{rarity_at, cost_of, is_believed, robustness_of, IsRankedBefore};
 
 use crate::limits::DOUBT_COST;
-use crate::ranking_key::{Fraction, RankingKey};
+use crate::place::{Fraction, Place};
 use tfpg_base::{Doubts, Set};
 use tfpg_graph::{Graph, Kind, NodeSet};
 use tfpg_log::Log;
@@ -53,7 +53,7 @@ pub fn robust(graph: &Graph, log: &Log, reach: &NodeSet, doubts: Doubts) -> Frac
 
 /// Whether the one key comes before the other: where it costs less, or costs the same and is more robust, or is as
 /// robust too and has the lesser number. Robustness is compared as the fraction that it is.
-pub fn before(a: &RankingKey, b: &RankingKey) -> bool
+pub fn before(a: &Place, b: &Place) -> bool
     requires first { 1 ≤ a.now.robust.monitored }
     requires second { 1 ≤ b.now.robust.monitored }
     ensures { IsTrue result ↔ IsRankedBefore a.now b.now }

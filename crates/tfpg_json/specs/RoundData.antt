@@ -17,7 +17,7 @@ use Rattle.tfpg_json.specs.GraphData.{whole, texts}
 abbrev pub counts_data : Counts → Data
 counts_data counts =
     object (member (codes "covered") (whole counts.covered)
-    (member (codes "open") (whole counts.left_open)
+    (member (codes "open") (whole counts.unsettled)
     (member (codes "ranked") (whole counts.ranked)
     (member (codes "rejected") (whole counts.rejected) no_members))))
 

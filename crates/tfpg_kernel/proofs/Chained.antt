@@ -24,7 +24,7 @@ chain_from chain constraints = fold with_constraint chain constraints
 pub chain_push : (constraints : List Constraint) (last : Constraint) → chain_of (constraints ++ last ∷ []) ≡ with_constraint (chain_of constraints) last
 chain_push constraints last = fold_push with_constraint new_chain constraints last
 
-sum_from : (chain : Chain) (constraints : List Constraint) → (chain_from chain constraints).sum ≡ fold (λ total constraint. total +ℤ constraint.bound) chain.sum constraints
+sum_from : (chain : Chain) (constraints : List Constraint) → (chain_from chain constraints).sum ≡ fold (λ total constraint. total +ℤ constraint.most) chain.sum constraints
 sum_from chain [] = refl
 sum_from chain (c ∷ constraints) = sum_from (with_constraint chain c) constraints
 
@@ -43,7 +43,7 @@ round_from : (first last : ℕ) (unbroken : Bool) (sum : ℤ) (constraints : Lis
     → round_test (chain_from (record { ends = Some (record { first = first; last = last }); unbroken = unbroken; sum = sum }) constraints) ≡ (unbroken && chains last first constraints)
 round_from first last unbroken sum [] = refl
 round_from first last unbroken sum (c ∷ constraints) =
-    round_from first c.right (unbroken && (last == c.left)) (sum +ℤ c.bound) constraints ∙ and_assoc unbroken (last == c.left) (chains c.right first constraints)
+    round_from first c.right (unbroken && (last == c.left)) (sum +ℤ c.most) constraints ∙ and_assoc unbroken (last == c.left) (chains c.right first constraints)
 
 chained : (end : ℕ) (c : Constraint) (constraints : List Constraint) → chains c.right end constraints ≡ true → IsChainTo end (c ∷ constraints)
 chained end c [] test = sym (eqb-true end c.right test)
@@ -58,11 +58,11 @@ unchained end c (d ∷ constraints) chain =
 
 cycle_of : (constraints : List Constraint) → round_test (chain_of constraints) ≡ true → IsCycle constraints
 cycle_of [] test = cc
-cycle_of (c ∷ constraints) test = chained c.left c constraints (sym (round_from c.left c.right true (pos 0 +ℤ c.bound) constraints) ∙ test)
+cycle_of (c ∷ constraints) test = chained c.left c constraints (sym (round_from c.left c.right true (pos 0 +ℤ c.most) constraints) ∙ test)
 
 round_of : (constraints : List Constraint) → IsCycle constraints → round_test (chain_of constraints) ≡ true
 round_of [] cycle = absurd cycle
-round_of (c ∷ constraints) cycle = round_from c.left c.right true (pos 0 +ℤ c.bound) constraints ∙ unchained c.left c constraints cycle
+round_of (c ∷ constraints) cycle = round_from c.left c.right true (pos 0 +ℤ c.most) constraints ∙ unchained c.left c constraints cycle
 
 below_zero : (sum : ℤ) → is_negative sum ≡ true → sum <ℤ pos 0
 below_zero (pos n) test = cc

@@ -10,7 +10,7 @@ use Rattle.tfpg_clause.specs.Paths.{judged_by, with_step, IsRightNext}
 use Rattle.tfpg_clause.specs.declared.path.PathSplit.{PathSplit}
 use Rattle.tfpg_clause.proofs.trees.LeafSteps.{whole_case}
 use Rattle.tfpg_kernel.specs.declared.taken.Taken.{Taken}
-use Rattle.tfpg_kernel.specs.declared.taken.Taken.TheVariants.{Partial, Closed, Bad}
+use Rattle.tfpg_kernel.specs.declared.taken.Taken.TheVariants.{Open, Closed, Bad}
 use Rattle.tfpg_kernel.specs.declared.taken.BadStep.{BadStep}
 use Rattle.tfpg_kernel.specs.declared.taken.BadStep.TheVariants.{AfterClosed}
 use Rattle.tfpg_kernel.specs.CheckerState.{CheckerState}
@@ -41,7 +41,7 @@ module _ (laws : ResultLaws) (case : Case) where
   -- ---- the three results
 
   module _ (steps : List Judged) (step : Step) (after : CheckerState) where
-    result_partial : IsPartial case (with_step steps case.log step) → CheckerRepresents case.graph case.log after (with_step steps case.log step) → IsStepResult case steps step Partial after
+    result_partial : IsPartial case (with_step steps case.log step) → CheckerRepresents case.graph case.log after (with_step steps case.log step) → IsStepResult case steps step Open after
     result_partial partial represents = record {
       closed = (λ same. cc, λ refutation. absurd (laws.finished case (with_step steps case.log step) refutation partial));
       partial = (λ same. partial, λ is. refl);
@@ -106,7 +106,7 @@ module _ (laws : ResultLaws) (graph : Tfpg) (earlier log : Logbook) (old : Check
 
     -- it was not
     pub moved : (result : Taken) → Moves graph log old step result new → IsStepResult (case_of graph log old.reach) steps step result new
-    moved Partial moves =
+    moved Open moves =
         let leaf : IsPresentLeaf (case_of graph log old.reach) (with_step steps log step) new.path = laws.leaf_moves (case_of graph log old.reach) steps old.path new.path step leaf_now moves.0 in
         result_partial laws (case_of graph log old.reach) steps step new leaf.partial (represents_by graph log old.reach new (with_step steps log step) false kept moves.1 leaf)
     moved Closed moves =

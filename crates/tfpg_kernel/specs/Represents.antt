@@ -8,7 +8,7 @@ use Rattle.tfpg_clause.specs.Trees.{Judged, IsRefutation, IsPresentLeaf}
 use Rattle.tfpg_clause.specs.Paths.{with_step}
 use Rattle.tfpg_clause.specs.declared.path.PathSplit.{PathSplit}
 use Rattle.tfpg_kernel.specs.declared.taken.Taken.{Taken}
-use Rattle.tfpg_kernel.specs.declared.taken.Taken.TheVariants.{Partial, Closed, Bad}
+use Rattle.tfpg_kernel.specs.declared.taken.Taken.TheVariants.{Open, Closed, Bad}
 use Rattle.tfpg_kernel.specs.CheckerState.{CheckerState}
 
 -- A checker that is closed represents a refutation, and one that is not a partial tree whose present leaf has its path.
@@ -23,6 +23,6 @@ pub record CheckerRepresents (graph : Tfpg) (log : Logbook) (checker : CheckerSt
 
 -- the steps taken after a step with this result: a bad one is not among them
 abbrev pub steps_after : Taken → List Judged → Logbook → Step → List Judged
-steps_after Partial steps log step = with_step steps log step
+steps_after Open steps log step = with_step steps log step
 steps_after Closed steps log step = with_step steps log step
 steps_after (Bad bad) steps log step = steps

@@ -62,7 +62,7 @@ impl Chain {
         ensures small { (count : ℕ) →
             HasMagnitudeUpTo (count * 2 ^ 63) self.sum → HasMagnitudeUpTo ((count + 1) * 2 ^ 63) result.sum }
     {
-        let sum = self.sum + i128::from(constraint.bound);
+        let sum = self.sum + i128::from(constraint.most);
         match self.ends {
             None => Chain {
                 ends: Some(ChainEnds {

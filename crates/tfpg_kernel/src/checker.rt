@@ -8,7 +8,7 @@ ghost use Rattle.tfpg_log.specs.Explains.{Fits};
 ghost use Rattle.tfpg_evidence.specs.declared.step.Step.TheVariants.{Split, Cycle, Again};
 ghost use Rattle.tfpg_clause.specs.Case.{case_of};
 ghost use Rattle.tfpg_clause.specs.Trees.{Judged, IsRefutation, IsPartial};
-ghost use Rattle.tfpg_kernel.specs.declared.taken.Taken.TheVariants.{Partial, Closed, Bad};
+ghost use Rattle.tfpg_kernel.specs.declared.taken.Taken.TheVariants.{Open, Closed, Bad};
 ghost use Rattle.tfpg_kernel.specs.declared.taken.BadStep.{BadStep};
 ghost use Rattle.tfpg_kernel.specs.Breaks.{IsFirstBroken};
 ghost use Rattle.tfpg_clause.specs.Paths.{judged_by, with_step};
@@ -87,7 +87,7 @@ impl Checker {
     /// reasons cost, and the splits that it finishes.
     ///
     /// The steps that were taken before are any that the checker represents, each judged by a log from which this one goes
-    /// on. Closed comes exactly where they are a refutation with this step, Partial exactly where they are a partial tree with
+    /// on. Closed comes exactly where they are a refutation with this step, Open exactly where they are a partial tree with
     /// it, and Bad exactly where the step breaks a condition, with the first that it breaks. Then nothing is changed. After
     /// Closed no trace explains the log, or one that goes on from it, from a set that reaches the checker's nodes.
     pub fn take(&mut self, graph: &Graph, log: &Log, step: &Step) -> Taken
@@ -99,7 +99,7 @@ impl Checker {
             ↔ IsRefutation (case_of graph.now log.now self.old.reach) (with_step steps log.now step.now) }
         ensures partial { (earlier : Logbook) (steps : List Judged) → GoesOn earlier log.now →
             CheckerRepresents graph.now earlier self.old steps →
-            (result ≡ Partial)
+            (result ≡ Open)
             ↔ IsPartial (case_of graph.now log.now self.old.reach) (with_step steps log.now step.now) }
         ensures bad { (earlier : Logbook) (steps : List Judged) → GoesOn earlier log.now →
             CheckerRepresents graph.now earlier self.old steps → (bad : BadStep) →
@@ -157,7 +157,7 @@ impl Checker {
         match PathSplit::on_clause(graph, log, name) {
             Some(split) => {
                 self.enter(split);
-                Taken::Partial
+                Taken::Open
             }
             None => Taken::Bad(BadStep::NotAClause),
         }
@@ -208,11 +208,11 @@ impl Checker {
     /// The result of a step that closed a leaf. The tree is closed where the path does not go on.
     fn finish(&mut self, goes_on: bool) -> Taken
         requires { self.old.closed ≡ false }
-        ensures result { result ≡ if goes_on then Partial else Closed }
+        ensures result { result ≡ if goes_on then Open else Closed }
         ensures same { self.new ≡ record self.old { closed = not goes_on } }
     {
         if goes_on {
-            return Taken::Partial;
+            return Taken::Open;
         }
         self.closed = true;
         Taken::Closed

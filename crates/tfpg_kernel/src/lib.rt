@@ -16,7 +16,7 @@
 //! for step in &steps {
 //!     checker.reserve()?;
 //!     match checker.take(&graph, &log, step) {
-//!         Taken::Partial => {}
+//!         Taken::Open => {}
 //!         Taken::Closed => {} // the steps are a refutation
 //!         Taken::Bad(cause) => {} // the checker is unchanged
 //!     }

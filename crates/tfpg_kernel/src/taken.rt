@@ -4,7 +4,7 @@
 #[derive(Clone, Copy, Debug, PartialEq, Eq)]
 pub enum Taken {
     /// It is right, and the tree is not finished.
-    Partial,
+    Open,
     /// It is right, and closed the last leaf.
     Closed,
     /// It is not right, and the checker is unchanged.

@@ -39,7 +39,7 @@ fn second_after_first<L: Ledger>(
     let constraint = Constraint {
         left: 1,
         right: 2,
-        bound: -4,
+        most: -4,
     };
     let pushed = system.push(constraint, 45, &mut work);
     if pushed == Err(Conflict) {
@@ -89,14 +89,14 @@ fn off_by_one<L: Ledger>(alloc: Global, blank: Blank) -> Result<bool, Fail>
     let before = Constraint {
         left: 1,
         right: 2,
-        bound: -1,
+        most: -1,
     };
     let _ = system.push(before, 1, &mut work);
     system.reserve(1)?;
     let not_before = Constraint {
         left: 2,
         right: 1,
-        bound: 0,
+        most: 0,
     };
     Ok(system.push(not_before, 2, &mut work).is_ok())
 }
@@ -117,7 +117,7 @@ fn first_in_5<L: Ledger>(alloc: Global, work: &mut Steps<L>) -> Result<System, N
     let constraint = Constraint {
         left: 1,
         right: 2,
-        bound: -4,
+        most: -4,
     };
     let _ = system.push(constraint, 2, work);
     let _ = system.raise(0, 6, 3, work);
@@ -132,7 +132,7 @@ fn push_3<L: Ledger>(system: &mut System, work: &mut Steps<L>) -> Result<(), NoM
     let constraint = Constraint {
         left: 1,
         right: 0,
-        bound: 3,
+        most: 3,
     };
     let _ = system.push(constraint, 4, work);
     Ok(())
@@ -302,7 +302,7 @@ fn solved<L: Ledger>(alloc: Global, blank: Blank, case: &Case) -> Result<Option<
         let constraint = Constraint {
             left: *left,
             right: *right,
-            bound: *bound,
+            most: *bound,
         };
         if system.push(constraint, 3, &mut work).is_err() {
             return Ok(None);

@@ -60,10 +60,7 @@ fn ranked(alloc: Global) -> Result<Finding, NoMemory>
         horizon: 30,
     };
     let reasons = vec![in alloc;
-        Reason::Pick {
-            split: 1,
-            constraint: 1
-        },
+        Reason::Pick { split: 1, place: 1 },
         Reason::From { event: 1 },
     ]?;
     let steps = vec![in alloc;
@@ -101,10 +98,7 @@ fn each_reason(alloc: Global) -> Result<Reasons, NoMemory>
         Reason::From { event: 1 },
         Reason::Upto { event: 2 },
         Reason::Quiet { event: 3, node: 2 },
-        Reason::Pick {
-            split: 4,
-            constraint: 5
-        },
+        Reason::Pick { split: 4, place: 5 },
     ]?;
     Ok(Reasons::from_vec(reasons))
 }
@@ -169,7 +163,7 @@ fn round_of_alarm(alloc: Global) -> Result<Round, NoMemory>
             ranked: 1,
             covered: 2,
             rejected: 3,
-            left_open: 4,
+            unsettled: 4,
         },
     })
 }

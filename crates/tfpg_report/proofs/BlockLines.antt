@@ -272,7 +272,7 @@ module _ (graph : Tfpg) (valid : IsValid graph) where
               lacks_checked 10 (codes "covered") refl,
               (
                 number counts.covered,
-                (lacks_checked 10 (codes "rejected") refl, (number counts.rejected, (lacks_checked 10 (codes "open") refl, (number counts.left_open, tt)))),
+                (lacks_checked 10 (codes "rejected") refl, (number counts.rejected, (lacks_checked 10 (codes "open") refl, (number counts.unsettled, tt)))),
               ),
             ),
           ),
@@ -280,9 +280,9 @@ module _ (graph : Tfpg) (valid : IsValid graph) where
       )) refl refl refl
 
   lost : (loss : Loss) → HasLines (lost_text loss) [] []
-  lost loss = by loss.no_memory
+  lost loss = by loss.memory
     where
-      by : (no_memory : Bool) → HasLines (text_line (codes "panel" ∷ decimal loss.panel ∷ cond no_memory (codes "memory") (codes "lost") ∷ [])) [] []
+      by : (memory : Bool) → HasLines (text_line (codes "panel" ∷ decimal loss.panel ∷ cond memory (codes "memory") (codes "lost") ∷ [])) [] []
       by true =
           one (codes "panel" ∷ decimal loss.panel ∷ codes "memory" ∷ []) [] []
           (words (codes "panel" ∷ decimal loss.panel ∷ codes "memory" ∷ []) (lacks_checked 10 (codes "panel") refl, (number loss.panel, (lacks_checked 10 (codes "memory") refl, tt)))) refl refl refl

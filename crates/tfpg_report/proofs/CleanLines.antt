@@ -168,7 +168,7 @@ module _ (graph : Tfpg) (valid : IsValid graph) where
       words (numbered_set_words graph n hypothesis) (number n, (lacks_checked 10 (codes "set") refl, (set graph valid hypothesis, tt)))
 
   -- the word for how a panel was lost
-  how_lost : (panel : ℕ) (no_memory : Bool) → All HasNoLineEnd (lost_words panel no_memory)
+  how_lost : (panel : ℕ) (memory : Bool) → All HasNoLineEnd (lost_words panel memory)
   how_lost panel true =
       words (codes "panel" ∷ decimal panel ∷ codes "memory" ∷ []) (lacks_checked 10 (codes "panel") refl, (number panel, (lacks_checked 10 (codes "memory") refl, tt)))
   how_lost panel false =
@@ -256,7 +256,7 @@ module _ (graph : Tfpg) (valid : IsValid graph) where
                   lacks_checked 10 (codes "rejected") refl,
                   (
                     number counts.rejected,
-                    (lacks_checked 10 (codes "open") refl, (number counts.left_open, tt)),
+                    (lacks_checked 10 (codes "open") refl, (number counts.unsettled, tt)),
                   ),
                 ),
               ),
@@ -264,7 +264,7 @@ module _ (graph : Tfpg) (valid : IsValid graph) where
           ),
         ),
       )
-  line_words_clean (Panel panel no_memory) = how_lost panel no_memory
+  line_words_clean (Panel panel memory) = how_lost panel memory
 
   -- No line has a line end in it.
   pub written_line_clean : (line : ReportLine) → HasNoLineEnd (written_line graph line)

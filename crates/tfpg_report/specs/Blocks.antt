@@ -55,11 +55,11 @@ round_lines round = lines_before_counts round ++ Counts round.counts ∷ []
 -- a panel that was lost, or for which memory ran out, at the round before
 pub record Loss : Type 0 where
   pub panel : ℕ
-  pub no_memory : Bool
+  pub memory : Bool
 
 -- the line of a panel that was lost, or for which memory ran out
 abbrev pub loss_line : Loss → ReportLine
-loss_line loss = Panel loss.panel loss.no_memory
+loss_line loss = Panel loss.panel loss.memory
 
 -- the block of a line: of a refused line, or of a round with the panels that were lost at it
 pub data Block : Type 0 where
@@ -85,4 +85,4 @@ round_text graph round = lines_text graph (round_lines round)
 
 -- the line of a panel that was lost, or for which memory ran out
 abbrev pub lost_text : Loss → List ℕ
-lost_text loss = text_line (lost_words loss.panel loss.no_memory)
+lost_text loss = text_line (lost_words loss.panel loss.memory)

@@ -112,9 +112,9 @@ activation_text graph activation = with_line_end (activation_line graph activati
 abbrev pub counts_words : Counts → List (List ℕ)
 counts_words counts =
     codes "ranked" ∷ decimal counts.ranked ∷ codes "covered" ∷ decimal counts.covered
-    ∷ codes "rejected" ∷ decimal counts.rejected ∷ codes "open" ∷ decimal counts.left_open ∷ []
+    ∷ codes "rejected" ∷ decimal counts.rejected ∷ codes "open" ∷ decimal counts.unsettled ∷ []
 
 -- the words for a panel that was lost, or for which memory ran out
 abbrev pub lost_words : ℕ → Bool → List (List ℕ)
-lost_words panel no_memory =
-    codes "panel" ∷ decimal panel ∷ (if no_memory then codes "memory" else codes "lost") ∷ []
+lost_words panel memory =
+    codes "panel" ∷ decimal panel ∷ (if memory then codes "memory" else codes "lost") ∷ []

@@ -18,7 +18,7 @@ is_last (Head terms) = true
 is_last (OldHead k budget) = true
 is_last (Refused line cause) = true
 is_last (Counts counts) = true
-is_last (Panel panel no_memory) = true
+is_last (Panel panel memory) = true
 is_last _ = false
 
 -- the lines of a round that has not ended, among those of a report, with one more line
@@ -46,7 +46,7 @@ Completes before line (fed.Refused number cause) = line ≡ Refused number cause
 Completes before line (fed.Round round) =
     ((counts : _) × (line ≡ Counts counts))
     × IsReadFrom (length before - length (begun_in before) + 1) (begun_in before ++ line ∷ []) round
-Completes before line (fed.Lost panel no_memory) = line ≡ Panel panel no_memory
+Completes before line (fed.Lost panel memory) = line ≡ Panel panel memory
 
 -- The bytes say a line that may come after these lines of a report.
 pub record MayCome (graph : Tfpg) (before : List ReportLine) (bytes : List ℕ) (line : ReportLine) : Type 0 where

@@ -41,7 +41,7 @@ line_words graph (Open number set doubts) = codes "open" ∷ numbered_set_words 
 line_words graph (Rejected number set doubts) =
     codes "rejected" ∷ numbered_set_words graph number (hypothesis_with set doubts)
 line_words graph (Counts counts) = codes "counts" ∷ counts_words counts
-line_words graph (Panel panel no_memory) = lost_words panel no_memory
+line_words graph (Panel panel memory) = lost_words panel memory
 
 -- how a line is written
 abbrev pub written_line : Tfpg → ReportLine → List ℕ
@@ -87,7 +87,7 @@ pub record AreCountsWithin (counts : CountsOf) : Type 0 where
   pub ranked : IsSmall counts.ranked
   pub covered : IsSmall counts.covered
   pub rejected : IsSmall counts.rejected
-  pub left_open : IsSmall counts.left_open
+  pub unsettled : IsSmall counts.unsettled
 
 -- A line names what the graph has, and its numbers are within their limits.
 abbrev pub IsLineWithin : Tfpg → ReportLine → Type 0
@@ -106,7 +106,7 @@ IsLineWithin graph (At activation) = (activation.node < length graph.nodes) × (
 IsLineWithin graph (Open number set doubts) = IsSmall number × IsHypothesisOf graph (hypothesis_with set doubts)
 IsLineWithin graph (Rejected number set doubts) = IsSmall number × IsHypothesisOf graph (hypothesis_with set doubts)
 IsLineWithin graph (Counts counts) = AreCountsWithin counts
-IsLineWithin graph (Panel panel no_memory) = panel ≤ MAX_PANEL_NUMBER
+IsLineWithin graph (Panel panel memory) = panel ≤ MAX_PANEL_NUMBER
 
 -- The bytes say this line: they are how it is written, its names and numbers are within their limits, and they are not too
 -- many.

@@ -87,7 +87,7 @@ stand_after before (At activation) = after_activation before activation.node
 stand_after before (Open number set doubts) = then_some (may_open before) stand.Open
 stand_after before (Rejected number set doubts) = then_some (may_reject before) stand.Rejected
 stand_after before (Counts counts) = then_some (may_reject before) (stand.Counts None)
-stand_after before (Panel panel no_memory) = after_loss before panel
+stand_after before (Panel panel memory) = after_loss before panel
 
 -- the stand after some more lines, if each of them may come
 abbrev pub stand_after_all : Stand → List ReportLine → Option Stand

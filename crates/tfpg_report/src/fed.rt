@@ -14,7 +14,7 @@ pub enum Fed {
     /// It ends the block of this round.
     Round(ReadRound),
     /// It says that a panel was lost, or that memory ran out for it, at the round before.
-    Lost { panel: u64, no_memory: bool },
+    Lost { panel: u64, memory: bool },
 }
 
 /// Why a line of a report is not taken.

@@ -9,24 +9,20 @@ use tfpg_base::{NoMemory, append_line};
 
 /// Appends the line of a panel that was lost at the round before, or for which memory ran out. Panels are counted from 1.
 /// Where memory runs out, a part of the line may stand after the old bytes.
-pub fn lost(panel: u64, no_memory: bool, into: &mut Vec<u8>) -> Result<(), NoMemory>
+pub fn lost(panel: u64, memory: bool, into: &mut Vec<u8>) -> Result<(), NoMemory>
     ensures { Appends result into.old.items into.new.items
-        (lost_text (record { panel = panel; no_memory = no_memory })) }
+        (lost_text (record { panel = panel; memory = memory })) }
 {
     let mut digits = Buffer::new();
     append_line(
         into,
-        &[
-            b"panel",
-            digits.format(panel).as_bytes(),
-            why_lost(no_memory),
-        ],
+        &[b"panel", digits.format(panel).as_bytes(), why_lost(memory)],
     )
 }
 
 /// The word for why a panel was lost.
-fn why_lost(no_memory: bool) -> &'static [u8]
-    ensures { result.now ≡ (if no_memory then codes "memory" else codes "lost") }
+fn why_lost(memory: bool) -> &'static [u8]
+    ensures { result.now ≡ (if memory then codes "memory" else codes "lost") }
 {
-    if no_memory { b"memory" } else { b"lost" }
+    if memory { b"memory" } else { b"lost" }
 }

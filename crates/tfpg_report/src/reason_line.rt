@@ -40,11 +40,11 @@ pub(crate) fn append_reason(
             let event = digits.format(event).as_bytes();
             append_line(into, &[b"why", b"quiet", event, graph.name(node)])
         }
-        Reason::Pick { split, constraint } => {
-            let mut constraint_digits = Buffer::new();
+        Reason::Pick { split, place } => {
+            let mut place_digits = Buffer::new();
             let split = digits.format(split).as_bytes();
-            let constraint = constraint_digits.format(constraint).as_bytes();
-            append_line(into, &[b"why", b"pick", split, constraint])
+            let place = place_digits.format(place).as_bytes();
+            append_line(into, &[b"why", b"pick", split, place])
         }
     }
 }

@@ -67,6 +67,6 @@ pub enum ReportLine {
     /// A panel was lost, or memory ran out for it, at the round before.
     Panel {
         panel: u64,
-        no_memory: bool,
+        memory: bool,
     },
 }

@@ -66,7 +66,7 @@ pub fn append_counts(counts: Counts, into: &mut Vec<u8>) -> Result<(), NoMemory>
     let ranked = ranked_digits.format(counts.ranked).as_bytes();
     let covered = covered_digits.format(counts.covered).as_bytes();
     let rejected = rejected_digits.format(counts.rejected).as_bytes();
-    let left_open = open_digits.format(counts.left_open).as_bytes();
+    let unsettled = open_digits.format(counts.unsettled).as_bytes();
     append_line(
         into,
         &[
@@ -77,7 +77,7 @@ pub fn append_counts(counts: Counts, into: &mut Vec<u8>) -> Result<(), NoMemory>
             b"rejected",
             rejected,
             b"open",
-            left_open,
+            unsettled,
         ],
     )
 }

@@ -233,7 +233,7 @@ impl LeafSystem {
                 tag,
                 Reason::Pick {
                     split,
-                    constraint: number,
+                    place: number,
                 },
             )),
         }

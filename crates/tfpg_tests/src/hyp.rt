@@ -4,7 +4,7 @@ use crate::given::reach_of_first;
 use std::test::Fail;
 use tfpg_base::{Doubts, Set};
 use tfpg_graph::read;
-use tfpg_hyp::{Fraction, RankingKey, Table, before, cost, robust};
+use tfpg_hyp::{Fraction, Place, Table, before, cost, robust};
 use tfpg_log::Log;
 
 /// Three failure modes. The first is shown by two monitors, the second by one that also needs the third.
@@ -71,15 +71,15 @@ fn ranks_by_cost_then_robustness_then_number(rt: HostRuntime) {
 }
 
 /// Whether the one key comes before the other, where both have fractions.
-fn comes_before(a: &RankingKey, b: &RankingKey) -> Option<bool> {
+fn comes_before(a: &Place, b: &Place) -> Option<bool> {
     if a.robust.monitored == 0 || b.robust.monitored == 0 {
         return None;
     }
     Some(before(a, b))
 }
 
-fn key_of(row: (u64, u32, u32, u32)) -> RankingKey {
-    RankingKey {
+fn key_of(row: (u64, u32, u32, u32)) -> Place {
+    Place {
         cost: row.0,
         robust: Fraction {
             alarmed: row.1,

@@ -33,10 +33,7 @@ const MUST: ClauseName = ClauseName::OrMust {
 
 /// The two reasons that close the first alternative of the first split.
 const TOO_EARLY: [Reason; 2] = [
-    Reason::Pick {
-        split: 1,
-        constraint: 1,
-    },
+    Reason::Pick { split: 1, place: 1 },
     Reason::From { event: 2 },
 ];
 
@@ -54,73 +51,55 @@ const REFUTATION: [Row; 11] = [
         name: "split on E",
         split: Some(MAY),
         reasons: &[],
-        result: Taken::Partial,
+        result: Taken::Open,
     },
     Row {
         name: "E before 0",
         split: None,
         reasons: &TOO_EARLY,
-        result: Taken::Partial,
+        result: Taken::Open,
     },
     Row {
         name: "E after 10",
         split: None,
         reasons: &[
-            Reason::Pick {
-                split: 1,
-                constraint: 1,
-            },
+            Reason::Pick { split: 1, place: 1 },
             Reason::Upto { event: 2 },
         ],
-        result: Taken::Partial,
+        result: Taken::Open,
     },
     Row {
         name: "split on A",
         split: Some(MUST),
         reasons: &[],
-        result: Taken::Partial,
+        result: Taken::Open,
     },
     Row {
         name: "F too late for A",
         split: None,
         reasons: &[
-            Reason::Pick {
-                split: 1,
-                constraint: 1,
-            },
+            Reason::Pick { split: 1, place: 1 },
             Reason::Upto { event: 2 },
-            Reason::Pick {
-                split: 2,
-                constraint: 1,
-            },
+            Reason::Pick { split: 2, place: 1 },
         ],
-        result: Taken::Partial,
+        result: Taken::Open,
     },
     Row {
         name: "A follows F",
         split: None,
         reasons: &[
-            Reason::Pick {
-                split: 2,
-                constraint: 1,
-            },
-            Reason::Pick {
-                split: 1,
-                constraint: 1,
-            },
+            Reason::Pick { split: 2, place: 1 },
+            Reason::Pick { split: 1, place: 1 },
             Reason::Upto { event: 2 },
             Reason::Quiet { event: 1, node: 1 },
         ],
-        result: Taken::Partial,
+        result: Taken::Open,
     },
     Row {
         name: "A by the time it is due",
         split: None,
         reasons: &[
-            Reason::Pick {
-                split: 2,
-                constraint: 1,
-            },
+            Reason::Pick { split: 2, place: 1 },
             Reason::Quiet { event: 1, node: 1 },
         ],
         result: Taken::Closed,
@@ -226,7 +205,7 @@ fn repeat(
             graph,
             log,
             step,
-            Taken::Partial,
+            Taken::Open,
             "the tree stays open",
         )?;
     }

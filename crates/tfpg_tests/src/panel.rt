@@ -25,7 +25,7 @@ fn round_numbered(alloc: Global, number: u32) -> Round
             ranked: 0,
             covered: 0,
             rejected: 0,
-            left_open: 0,
+            unsettled: 0,
         },
     }
 }

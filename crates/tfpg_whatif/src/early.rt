@@ -87,7 +87,7 @@ fn takes(checker: &mut Checker, graph: &Graph, log: &Log, step: &Step) -> Result
 {
     checker.reserve()?;
     match checker.take(graph, log, step) {
-        Taken::Partial => Ok(true),
+        Taken::Open => Ok(true),
         Taken::Closed => Ok(true),
         Taken::Bad(_) => Ok(false),
     }

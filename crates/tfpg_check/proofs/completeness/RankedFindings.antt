@@ -23,7 +23,7 @@ use Rattle.tfpg_evidence.specs.RoundOf.{finding_numbered, is_ranked}
 use Rattle.tfpg_evidence.specs.Findings.{findings_at, ranked_in_order}
 use Rattle.tfpg_hyp.specs.Ranking.{IsRankedBefore}
 use Rattle.tfpg_hyp.specs.Rounds.{key_at, key_of_status}
-use Rattle.tfpg_hyp.specs.declared.ranking_key.RankingKey.{RankingKey}
+use Rattle.tfpg_hyp.specs.declared.place.Place.{Place}
 use Rattle.tfpg_hyp.proofs.FindingsOfRound.{HasFindingAt}
 use Rattle.tfpg_check.specs.Judging.{Docket}
 use Rattle.tfpg_check.proofs.passing.ByNumber.{AllPairs-from_indexes}
@@ -31,13 +31,13 @@ use Rattle.tfpg_check.proofs.completeness.WhatIsSaid.{OrdersRanked, ranking_as, 
 use Rattle.tfpg_check.proofs.completeness.RightRoundFacts.{IsRightBy, number_of, found_by_number, finding_at_number, numbers_rise}
 
 -- nothing is ranked before itself
-not_before_itself : (key : RankingKey) → IsRankedBefore key key → ⊥
+not_before_itself : (key : Place) → IsRankedBefore key key → ⊥
 not_before_itself key (inl less) = omega (arith, less)
 not_before_itself key (inr (_, inl more)) = omega (arith, more)
 not_before_itself key (inr (_, inr (_, less))) = omega (arith, less)
 
 -- the key of a ranked finding
-key_there : (number : ℕ) (finding : Finding) (status : Status) (key : RankingKey) → finding.number ≡ number → key_of_status number status ≡ Some key
+key_there : (number : ℕ) (finding : Finding) (status : Status) (key : Place) → finding.number ≡ number → key_of_status number status ≡ Some key
     → (is_ranked status ≡ true) × ((ranking_as finding status).key ≡ key)
 key_there number finding (Ranked trace cost alarmed monitored) key same at =
     let own : record { cost = cost; robust = record { alarmed = alarmed; monitored = monitored }; number = number } ≡ key = same_Some _ key at in
@@ -46,7 +46,7 @@ key_there number finding (Covered by) key same at = absurd cc
 key_there number finding Rejected key same at = absurd cc
 key_there number finding Open key same at = absurd cc
 
-key_where_ranked : (number : ℕ) (status : Status) → is_ranked status ≡ true → (key : RankingKey) × (key_of_status number status ≡ Some key)
+key_where_ranked : (number : ℕ) (status : Status) → is_ranked status ≡ true → (key : Place) × (key_of_status number status ≡ Some key)
 key_where_ranked number (Ranked trace cost alarmed monitored) ranked = (_, refl)
 key_where_ranked number (Covered by) ranked = absurd cc
 key_where_ranked number Rejected ranked = absurd cc
@@ -54,24 +54,24 @@ key_where_ranked number Open ranked = absurd cc
 
 module _ (docket : Docket) (line : ℕ) (round : Round) (right : IsRightBy docket line round) where
   -- a number of the order is that of a ranked finding with this key
-  record IsKeyed (number : ℕ) (key : RankingKey) (finding : Finding) : Type 0 where
+  record IsKeyed (number : ℕ) (key : Place) (finding : Finding) : Type 0 where
     at : HasFindingAt round number finding
     ranked : is_ranked finding.status ≡ true
     key_is : (ranking_of finding).key ≡ key
 
-  keyed : (number : ℕ) (key : RankingKey) → key_at round.findings number ≡ Some key → (finding : Finding) × IsKeyed number key finding
+  keyed : (number : ℕ) (key : Place) → key_at round.findings number ≡ Some key → (finding : Finding) × IsKeyed number key finding
   keyed number key is =
       let found = option_and_then-some (λ (f : Finding). key_of_status number f.status) (slice_get round.findings number) key is in
       let has = key_there number found.0 found.0.status key (number_of docket line round right number found.0 found.1) found.2 in
       (found.0, record { at = found.1; ranked = has.0; key_is = has.1 })
 
   -- What the findings of these numbers, whose keys are these, come to.
-  record AreKeyed (numbers : List ℕ) (keys : List RankingKey) (found : List Finding) : Type 0 where
+  record AreKeyed (numbers : List ℕ) (keys : List Place) (found : List Finding) : Type 0 where
     pub ranked : All (λ (finding : Finding). is_ranked finding.status ≡ true) found
     pub keys_are : map (λ (finding : Finding). (ranking_of finding).key) found ≡ keys
     pub numbers_are : map (λ (finding : Finding). finding.number) found ≡ numbers
 
-  are_keyed : (numbers : List ℕ) (keys : List RankingKey) → map (key_at round.findings) numbers ≡ map Some keys → AreKeyed numbers keys (findings_at round.findings numbers)
+  are_keyed : (numbers : List ℕ) (keys : List Place) → map (key_at round.findings) numbers ≡ map Some keys → AreKeyed numbers keys (findings_at round.findings numbers)
   are_keyed [] [] same = record { ranked = All-nil (λ (finding : Finding). is_ranked finding.status ≡ true); keys_are = refl; numbers_are = refl }
   are_keyed [] (key ∷ keys) same = absurd cc
   are_keyed (number ∷ numbers) [] same = absurd cc
@@ -127,10 +127,10 @@ module _ (docket : Docket) (line : ℕ) (round : Round) (right : IsRightBy docke
 
   -- no number stands in the order twice
   key_at_index : (index number : ℕ) → slice_get round.order index ≡ Some number
-      → (key : RankingKey) × (slice_get right.is_round.order.keys index ≡ Some key) × (key_at round.findings number ≡ Some key)
+      → (key : Place) × (slice_get right.is_round.order.keys index ≡ Some key) × (key_at round.findings number ≡ Some key)
   key_at_index index number at =
       let both : option_map Some (slice_get right.is_round.order.keys index) ≡ Some (key_at round.findings number) =
-      sym (slice_get-map Some right.is_round.order.keys index) ∙ ap (λ (ks : List (Option RankingKey)). slice_get ks index) (sym right.is_round.order.all_ranked)
+      sym (slice_get-map Some right.is_round.order.keys index) ∙ ap (λ (ks : List (Option Place)). slice_get ks index) (sym right.is_round.order.all_ranked)
       ∙ slice_get-map (key_at round.findings) round.order index ∙ ap (option_map (key_at round.findings)) at in
       let found = option_map-some Some (slice_get right.is_round.order.keys index) (key_at round.findings number) both in
       (found.0, found.1, sym found.2)

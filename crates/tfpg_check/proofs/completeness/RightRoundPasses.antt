@@ -267,7 +267,7 @@ module _ (docket : Docket) (line : ℕ) (round : Round) (right : IsRightBy docke
       ∙ length-filter (λ (f : Finding). is_open f.status) round.findings in
       record {
         ranked = ap (λ (c : Counts). c.ranked) counts_are ∙ sym ranked;
-        left_open = ap (λ (c : Counts). c.left_open) counts_are ∙ sym opened;
+        unsettled = ap (λ (c : Counts). c.unsettled) counts_are ∙ sym opened;
         closed = map (λ (f : Finding). f.number) (filter (λ (f : Finding). is_rejected f.status) round.findings);
         rising = AllPairs-map ◌<◌ (λ (f : Finding). f.number) (filter (λ (f : Finding). is_rejected f.status) round.findings)
             (AllPairs-filter (λ (a b : Finding). a.number < b.number) (λ (f : Finding). is_rejected f.status) round.findings (numbers_rise docket line round right));
@@ -279,7 +279,7 @@ module _ (docket : Docket) (line : ℕ) (round : Round) (right : IsRightBy docke
           ap (λ (c : Counts). c.ranked) counts_are,
           ap (λ (c : Counts). c.covered) counts_are,
           ap (λ (c : Counts). c.rejected) counts_are,
-          ap (λ (c : Counts). c.left_open) counts_are,
+          ap (λ (c : Counts). c.unsettled) counts_are,
           four_counts round.findings,
           as_many docket line round right,
         );

@@ -12,7 +12,7 @@ use Rattle.tfpg_evidence.specs.declared.step.Step.TheVariants as step
 use Rattle.tfpg_evidence.specs.declared.reason.Reason.{Reason}
 use Rattle.tfpg_evidence.specs.declared.clause_name.ClauseName.{ClauseName}
 use Rattle.tfpg_evidence.specs.declared.round.Counts.{Counts as CountsOf}
-use Rattle.tfpg_hyp.specs.declared.ranking_key.RankingKey.{RankingKey}
+use Rattle.tfpg_hyp.specs.declared.place.Place.{Place}
 use Rattle.tfpg_report.specs.declared.report_line.ReportLine.{ReportLine}
 use Rattle.tfpg_report.specs.declared.report_line.ReportLine.TheVariants.{Head, OldHead, Refused, Round, Hyp, Split, Cycle, Why, Again, Ranked, At, Open, Rejected, Counts, Panel}
 use Rattle.tfpg_report.specs.ReadRounds.{step_lines}
@@ -23,7 +23,7 @@ use Rattle.tfpg_check.proofs.completeness.MappedLists.{All-flat_map}
 
 -- what is said of a ranked hypothesis
 pub record RankingSaying : Type 0 where
-  pub key : RankingKey
+  pub key : Place
   pub hypothesis : Hypothesis
   pub trace : List Activation
 

@@ -13,8 +13,8 @@ use Rattle.tfpg_log.specs.Explains.{Explains}
 use Rattle.tfpg_clause.specs.Trees.{split_count}
 use Rattle.tfpg_hyp.specs.Views.{log_for}
 use Rattle.tfpg_hyp.specs.Ranking.{cost_of, robustness_of, believed_in, alarmed_in}
-use Rattle.tfpg_hyp.specs.declared.ranking_key.Fraction.{Fraction}
-use Rattle.tfpg_hyp.specs.declared.ranking_key.RankingKey.{RankingKey}
+use Rattle.tfpg_hyp.specs.declared.place.Fraction.{Fraction}
+use Rattle.tfpg_hyp.specs.declared.place.Place.{Place}
 use Rattle.tfpg_report.specs.ReportLines.{hypothesis_with}
 use Rattle.tfpg_report.specs.declared.read_round.Part.{Part}
 use Rattle.tfpg_report.specs.declared.read_round.RankedLine.{RankedLine}
@@ -110,7 +110,7 @@ module _ (docket : Docket) (hearing : Hearing) (is : IsHearing docket hearing) w
       from (inr (inr (inr covered))) = inr (inr (inr (steps_are number (within number hypothesis at) ∙ covered.0, (is.part_ranked number hypothesis at).1 covered.1)))
 
   -- A ranked line says what is right.
-  pub ranked_exactly : (before : List RankedLine) (last : Option RankingKey) (r : RankedLine) → IsLastOf before last
+  pub ranked_exactly : (before : List RankedLine) (last : Option Place) (r : RankedLine) → IsLastOf before last
       → SaysRight hearing docket.log last r ↔ MayBeRanked docket hearing.read.now before r
   ranked_exactly before last r after = (
     λ says. (let at = listed_in r.number (hypothesis_with r.set r.doubts) says.listed in
@@ -138,7 +138,7 @@ module _ (docket : Docket) (hearing : Hearing) (is : IsHearing docket hearing) w
         }),
   )
 
-  pub ranked_exactly_by : (log : Logbook) → docket.log ≡ log → (before : List RankedLine) (last : Option RankingKey) (r : RankedLine) → IsLastOf before last
+  pub ranked_exactly_by : (log : Logbook) → docket.log ≡ log → (before : List RankedLine) (last : Option Place) (r : RankedLine) → IsLastOf before last
       → SaysRight hearing log last r ↔ MayBeRanked docket hearing.read.now before r
   ranked_exactly_by log same before last r after =
       subst (λ (l : Logbook). SaysRight hearing l last r ↔ MayBeRanked docket hearing.read.now before r) same (ranked_exactly before last r after)

@@ -5,19 +5,19 @@ use Rattle.std.proofs.lemmas.List.Elements.{All-push, All-nil}
 use Rattle.tfpg_base.proofs.lists.Cuts.{take-next}
 use Rattle.tfpg_base.proofs.lists.Elements.{All-middle}
 use Rattle.tfpg_hyp.specs.Ranking.{IsRankedBefore}
-use Rattle.tfpg_hyp.specs.declared.ranking_key.RankingKey.{RankingKey}
+use Rattle.tfpg_hyp.specs.declared.place.Place.{Place}
 use Rattle.tfpg_report.specs.declared.read_round.RankedLine.{RankedLine}
 use Rattle.tfpg_check.specs.Judging.{key_read}
 use Rattle.tfpg_check.specs.inside.RankedKeys.{IsLastOf}
 
 -- the ranking order is transitive, as the law says it
 abbrev pub IsTransitive : Type 0
-IsTransitive = (a b c : RankingKey) → 1 ≤ a.robust.monitored → 1 ≤ b.robust.monitored → 1 ≤ c.robust.monitored → IsRankedBefore a b → IsRankedBefore b c → IsRankedBefore a c
+IsTransitive = (a b c : Place) → 1 ≤ a.robust.monitored → 1 ≤ b.robust.monitored → 1 ≤ c.robust.monitored → IsRankedBefore a b → IsRankedBefore b c → IsRankedBefore a c
 
 pub last_none : IsLastOf [] None
 last_none = record { fractions = All-nil (λ (r : RankedLine). 1 ≤ r.monitored); exact = λ key fraction. (λ all. tt, λ none. All-nil (λ (r : RankedLine). IsRankedBefore (key_read r) key)) }
 
-last_more : IsTransitive → (before : List RankedLine) (last : Option RankingKey) (r : RankedLine) → IsLastOf before last → 1 ≤ r.monitored
+last_more : IsTransitive → (before : List RankedLine) (last : Option Place) (r : RankedLine) → IsLastOf before last → 1 ≤ r.monitored
     → All (λ (earlier : RankedLine). IsRankedBefore (key_read earlier) (key_read r)) before → IsLastOf (before ++ r ∷ []) (Some (key_read r))
 last_more transitive before last r is fraction in_order = record {
   fractions = All-push (λ (e : RankedLine). 1 ≤ e.monitored) before r is.fractions fraction;
@@ -29,8 +29,8 @@ last_more transitive before last r is fraction in_order = record {
 }
 
 -- the last key after one ranked line more, which comes after those before
-pub last_step : IsTransitive → (xs : List RankedLine) (index : ℕ) (last : Option RankingKey) (r : RankedLine) (key : RankingKey) → slice_get xs index ≡ Some r → IsLastOf (take index xs) last → 1 ≤ r.monitored
+pub last_step : IsTransitive → (xs : List RankedLine) (index : ℕ) (last : Option Place) (r : RankedLine) (key : Place) → slice_get xs index ≡ Some r → IsLastOf (take index xs) last → 1 ≤ r.monitored
     → All (λ (earlier : RankedLine). IsRankedBefore (key_read earlier) (key_read r)) (take index xs) → key ≡ key_read r → IsLastOf (take (index + 1) xs) (Some key)
 last_step transitive xs index last r key at is fraction in_order same =
-    subst (λ (k : RankingKey). IsLastOf (take (index + 1) xs) (Some k)) (sym same)
+    subst (λ (k : Place). IsLastOf (take (index + 1) xs) (Some k)) (sym same)
     (subst (λ (before : List RankedLine). IsLastOf before (Some (key_read r))) (sym (take-next xs index r at)) (last_more transitive (take index xs) last r is fraction in_order))

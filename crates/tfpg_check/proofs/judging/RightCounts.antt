@@ -61,7 +61,7 @@ module _ (docket : Docket) (hearing : Hearing) (is : IsHearing docket hearing) w
   counts_exactly = (
     λ heard. record {
       ranked = heard.ranked;
-      left_open = heard.left_open;
+      unsettled = heard.unsettled;
       closed = closed;
       rising = numbers_rise (λ (flag : Bool). flag) 0 hearing.closed.now;
       exact = closed_exactly;
@@ -73,7 +73,7 @@ module _ (docket : Docket) (hearing : Hearing) (is : IsHearing docket hearing) w
         (λ number member. (closed_exactly number).1 ((right.exact number).0 member)) (λ number member. (right.exact number).1 ((closed_exactly number).0 member)) in
         record {
           ranked = right.ranked;
-          left_open = right.left_open;
+          unsettled = right.unsettled;
           rejected = right.rejected ∙ ap length same ∙ counted ∙ sym is.counted;
           all = right.all ∙ ap length is.hypotheses;
         }),

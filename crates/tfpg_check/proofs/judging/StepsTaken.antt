@@ -14,7 +14,7 @@ use Rattle.tfpg_kernel.specs.Represents.{CheckerRepresents, steps_after}
 use Rattle.tfpg_kernel.specs.Breaks.{IsFirstBroken}
 use Rattle.tfpg_kernel.specs.declared.taken.BadStep.{BadStep}
 use Rattle.tfpg_kernel.specs.declared.taken.Taken.{Taken}
-use Rattle.tfpg_kernel.specs.declared.taken.Taken.TheVariants.{Partial, Closed, Bad}
+use Rattle.tfpg_kernel.specs.declared.taken.Taken.TheVariants.{Open, Closed, Bad}
 use Rattle.tfpg_report.specs.declared.read_round.Part.{Part}
 use Rattle.tfpg_check.specs.declared.cause.CheckCause.{CheckCause}
 use Rattle.tfpg_check.specs.Tests.{InTurn}
@@ -32,7 +32,7 @@ pub roomier : (graph : Tfpg) (log : Logbook) (old new : CheckerState) (steps : L
     → CheckerRepresents graph log new steps
 roomier graph log old new steps same is = subst (λ (c : CheckerState). CheckerRepresents graph log c steps) (sym same) (record { steps_are = is.steps_are })
 
-partial_not_bad : (bad : BadStep) → Partial ≡ Bad bad → ⊥
+partial_not_bad : (bad : BadStep) → Open ≡ Bad bad → ⊥
 partial_not_bad bad is = cc
 
 closed_not_bad : (bad : BadStep) → Closed ≡ Bad bad → ⊥
@@ -42,7 +42,7 @@ closed_not_bad bad is = cc
 pub taken_as : (case : Case) (steps : List Judged) (step : Step) (after : CheckerState) (taken : Taken)
     → ((bad : BadStep) → (taken ≡ Bad bad) ↔ IsFirstBroken case steps (judged_by case.log step) bad) → CheckerRepresents case.graph case.log after (steps_after taken steps case.log step)
     → IsTakenAs case steps step after (broken_by taken)
-taken_as case steps step after Partial exact represents = (represents, λ bad breaks. partial_not_bad bad ((exact bad).1 breaks))
+taken_as case steps step after Open exact represents = (represents, λ bad breaks. partial_not_bad bad ((exact bad).1 breaks))
 taken_as case steps step after Closed exact represents = (represents, λ bad breaks. closed_not_bad bad ((exact bad).1 breaks))
 taken_as case steps step after (Bad bad) exact represents = (exact bad).0 refl
 

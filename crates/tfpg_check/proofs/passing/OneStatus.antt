@@ -14,7 +14,7 @@ use Rattle.tfpg_evidence.specs.declared.finding.Status.TheVariants.{Ranked, Cove
 use Rattle.tfpg_evidence.specs.RoundOf.{is_ranked, is_rejected, is_open}
 use Rattle.tfpg_hyp.specs.Views.{IsReachOf}
 use Rattle.tfpg_hyp.specs.Ranking.{cost_of, robustness_of, IsRankedBefore}
-use Rattle.tfpg_hyp.specs.declared.ranking_key.RankingKey.{RankingKey}
+use Rattle.tfpg_hyp.specs.declared.place.Place.{Place}
 use Rattle.tfpg_report.specs.declared.read_round.NamedSet.{NamedSet}
 use Rattle.tfpg_report.specs.declared.read_round.RankedLine.{RankedLine}
 use Rattle.tfpg_report.specs.declared.read_round.ReadRound.{ReadRound}
@@ -24,7 +24,7 @@ use Rattle.tfpg_check.specs.inside.Passing.{RankedPasses, RoundPasses}
 use Rattle.tfpg_check.proofs.passing.ReadFindings.{Reached, HasRead, HasRankedPartIn-from, IsReadFinding, AreReadFindings, closed_not_partial, status_read}
 
 -- no key is ranked before itself
-not_before_itself : (key : RankingKey) → IsRankedBefore key key → ⊥
+not_before_itself : (key : Place) → IsRankedBefore key key → ⊥
 not_before_itself key before =
     ⊎_elim (λ less. omega (arith, less)) (λ same. ⊎_elim (λ more. omega (arith, more)) (λ as_robust. (let less = as_robust.1 in omega (arith, less))) same.1) before
 
@@ -157,7 +157,7 @@ module _ (docket : Docket) (line : ℕ) (read : ReadRound) (passes : RoundPasses
       All-contains (λ (earlier : RankedLine). IsRankedBefore (key_read earlier) (key_read other)) (take j read.ranked) one (passes.ranked j other also).may.in_order
       (Contains-at (take j read.ranked) i one (slice_get-take j read.ranked i before ∙ at)) in
       not_before_itself (key_read other)
-      (subst (λ (key : RankingKey). IsRankedBefore key (key_read other)) (same_key one other (Contains-at read.ranked i one at) (Contains-at read.ranked j other also) same) in_order)
+      (subst (λ (key : Place). IsRankedBefore key (key_read other)) (same_key one other (Contains-at read.ranked i one at) (Contains-at read.ranked j other also) same) in_order)
 
   -- Of a number there is one ranked line.
   pub one_line : (one other : RankedLine) → Contains read.ranked one → Contains read.ranked other → one.number ≡ other.number → one ≡ other

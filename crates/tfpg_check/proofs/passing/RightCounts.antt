@@ -136,8 +136,8 @@ module _ (docket : Docket) (line : ℕ) (read : ReadRound) (passes : RoundPasses
   pub are_counts : read.counts ≡ counts_of findings
   are_counts =
       let ranked : read.counts.ranked ≡ count is_ranked findings = passes.counts.ranked ∙ sym count_ranked in
-      let left_open : read.counts.left_open ≡ count is_open findings = passes.counts.left_open ∙ sym count_open in
+      let unsettled : read.counts.unsettled ≡ count is_open findings = passes.counts.unsettled ∙ sym count_open in
       let rejected : read.counts.rejected ≡ count is_rejected findings = passes.counts.rejected ∙ sym count_rejected in
       let covered : read.counts.covered ≡ count is_covered findings =
-      omega (arith, ranked, left_open, rejected, passes.counts.all, four_counts findings, are.as_many) in
-      λ i. record { ranked = ranked i; covered = covered i; rejected = rejected i; left_open = left_open i }
+      omega (arith, ranked, unsettled, rejected, passes.counts.all, four_counts findings, are.as_many) in
+      λ i. record { ranked = ranked i; covered = covered i; rejected = rejected i; unsettled = unsettled i }

@@ -18,7 +18,7 @@ use Rattle.tfpg_clause.specs.Paths.{with_steps}
 use Rattle.tfpg_hyp.specs.Ranking.{cost_of, robustness_of, IsRankedBefore}
 use Rattle.tfpg_hyp.specs.Rounds.{IsFinding, HasEvidence, IsRankedPart, HasRankedPart, IsOrder, key_of_status, key_at, steps_so_far}
 use Rattle.tfpg_hyp.specs.Views.{IsReachOf, case_for, log_for}
-use Rattle.tfpg_hyp.specs.declared.ranking_key.RankingKey.{RankingKey}
+use Rattle.tfpg_hyp.specs.declared.place.Place.{Place}
 use Rattle.tfpg_hyp.proofs.FindingsOfRound.{steps_so_far-push}
 use Rattle.tfpg_report.specs.declared.read_round.RankedLine.{RankedLine}
 use Rattle.tfpg_report.specs.declared.read_round.ReadRound.{ReadRound}
@@ -43,7 +43,7 @@ round_read read findings =
     }
 
 -- a status with a key ranks
-has_key : (number : ℕ) (status : Status) (key : RankingKey) → key_of_status number status ≡ Some key → is_ranked status ≡ true
+has_key : (number : ℕ) (status : Status) (key : Place) → key_of_status number status ≡ Some key → is_ranked status ≡ true
 has_key number (Ranked trace cost alarmed monitored) key is = refl
 has_key number (Covered by) key is = cc
 has_key number Rejected key is = cc
@@ -146,7 +146,7 @@ module _ (docket : Docket) (line : ℕ) (read : ReadRound) (passes : RoundPasses
       let found = ranked_finding docket line read passes findings are r stands in
       ap (option_and_then (λ (f : Finding). key_of_status r.number f.status)) found.1 ∙ ap (key_of_status r.number) found.3
 
-  each_ranked : (number : ℕ) (key : RankingKey) → key_at findings number ≡ Some key → Contains (map (λ (r : RankedLine). r.number) read.ranked) number
+  each_ranked : (number : ℕ) (key : Place) → key_at findings number ≡ Some key → Contains (map (λ (r : RankedLine). r.number) read.ranked) number
   each_ranked number key is = by (slice_get findings number) refl is
     where
       by : (found : Option Finding) → slice_get findings number ≡ found → option_and_then (λ (f : Finding). key_of_status number f.status) found ≡ Some key

@@ -36,7 +36,7 @@ use Rattle.tfpg_evidence.specs.RoundOf.{finding_numbered, is_covered, is_open, i
 use Rattle.tfpg_evidence.specs.Findings.{hypothesis_of, is_rejected_now, newly_rejected, open_in, ranked_in_order}
 use Rattle.tfpg_clause.specs.Trees.{Judged}
 use Rattle.tfpg_hyp.specs.declared.limits.TheConstants.{MAX_HYPOTHESES}
-use Rattle.tfpg_hyp.specs.declared.ranking_key.Fraction.{Fraction}
+use Rattle.tfpg_hyp.specs.declared.place.Fraction.{Fraction}
 use Rattle.tfpg_hyp.specs.Ranking.{alarmed_in, believed_in, cost_of, is_believed, rarity_at, rarity_of, robustness_of}
 use Rattle.tfpg_hyp.specs.Rounds.{HasEvidence, IsRound, steps_so_far}
 use Rattle.tfpg_hyp.specs.Table.{IsHypothesis}
@@ -155,7 +155,7 @@ module _ (graph : Tfpg) (valid : IsValid graph) (terms : Terms) (has_reports : H
           ranked = omega (arith, few, count_by-le-length (λ (f : Finding). is_ranked f.status) round.findings);
           covered = omega (arith, few, count_by-le-length (λ (f : Finding). is_covered f.status) round.findings);
           rejected = omega (arith, few, count_by-le-length (λ (f : Finding). is_rejected f.status) round.findings);
-          left_open = omega (arith, few, count_by-le-length (λ (f : Finding). is_open f.status) round.findings);
+          unsettled = omega (arith, few, count_by-le-length (λ (f : Finding). is_open f.status) round.findings);
         })
 
     -- the lines of a finding, if it is ranked

@@ -302,7 +302,7 @@ module _ (graph : Tfpg) (valid : IsValid graph) where
       let one = small.ranked in
       let two = small.covered in
       let three = small.rejected in
-      let four = small.left_open in
+      let four = small.unsettled in
       few_words (line_words graph (Counts counts))
       (by_recursion (line_words graph (Counts counts)) (
         keyword (codes "counts") refl,
@@ -316,7 +316,7 @@ module _ (graph : Tfpg) (valid : IsValid graph) where
                 number_short counts.covered (omega (arith, two)),
                 (
                   keyword (codes "rejected") refl,
-                  (number_short counts.rejected (omega (arith, three)), (keyword (codes "open") refl, (number_short counts.left_open (omega (arith, four)), tt))),
+                  (number_short counts.rejected (omega (arith, three)), (keyword (codes "open") refl, (number_short counts.unsettled (omega (arith, four)), tt))),
                 ),
               ),
             ),

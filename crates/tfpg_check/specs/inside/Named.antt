@@ -55,7 +55,7 @@ Names hypotheses number (Some named) =
 -- The counts are right, by what is looked up.
 pub record AreCountsHeard (hearing : Hearing) : Type 0 where
   pub ranked : hearing.read.now.counts.ranked ≡ length hearing.read.now.ranked
-  pub left_open : hearing.read.now.counts.left_open ≡ length hearing.read.now.unsettled
+  pub unsettled : hearing.read.now.counts.unsettled ≡ length hearing.read.now.unsettled
   pub rejected : hearing.read.now.counts.rejected ≡ hearing.closed_count
-  pub all : hearing.read.now.counts.ranked + hearing.read.now.counts.covered + hearing.read.now.counts.rejected + hearing.read.now.counts.left_open
+  pub all : hearing.read.now.counts.ranked + hearing.read.now.counts.covered + hearing.read.now.counts.rejected + hearing.read.now.counts.unsettled
       ≡ length hearing.table.now.hypotheses

@@ -11,7 +11,7 @@ use Rattle.tfpg_kernel.specs.Represents.{CheckerRepresents}
 use Rattle.tfpg_kernel.specs.Breaks.{IsFirstBroken}
 use Rattle.tfpg_kernel.specs.declared.taken.BadStep.{BadStep}
 use Rattle.tfpg_kernel.specs.declared.taken.Taken.{Taken}
-use Rattle.tfpg_kernel.specs.declared.taken.Taken.TheVariants.{Partial, Closed, Bad}
+use Rattle.tfpg_kernel.specs.declared.taken.Taken.TheVariants.{Open, Closed, Bad}
 use Rattle.tfpg_hyp.specs.Hypotheses.{Hypotheses}
 use Rattle.tfpg_report.specs.declared.read_round.Part.{Part}
 use Rattle.tfpg_check.specs.Tests.{Fails, Passes}
@@ -30,7 +30,7 @@ StepBreaks case earlier lines before step line why =
 
 -- the condition that a bad step breaks
 abbrev pub broken_by : Taken → Option BadStep
-broken_by Partial = None
+broken_by Open = None
 broken_by Closed = None
 broken_by (Bad broken) = Some broken
 

@@ -2,7 +2,7 @@
 use Rattle.std.specs.Prelude.{◌≡◌, ◌↔◌, ℕ, ◌≤◌, List, All, IsTrue, Option, Some, None, slice_get}
 use Rattle.tfpg_log.specs.Log.{Logbook}
 use Rattle.tfpg_hyp.specs.Ranking.{cost_of, robustness_of, IsRankedBefore}
-use Rattle.tfpg_hyp.specs.declared.ranking_key.RankingKey.{RankingKey}
+use Rattle.tfpg_hyp.specs.declared.place.Place.{Place}
 use Rattle.tfpg_report.specs.ReportLines.{hypothesis_with}
 use Rattle.tfpg_report.specs.declared.read_round.RankedLine.{RankedLine}
 use Rattle.tfpg_check.specs.declared.round.hearing.Hearing.{Hearing}
@@ -10,19 +10,19 @@ use Rattle.tfpg_check.specs.Judging.{key_read}
 use Rattle.tfpg_check.specs.inside.Hearings.{flag_at}
 
 -- The robustness of the last key, if there is one, is a fraction.
-abbrev pub IsFractionOf : Option RankingKey → Type 0
+abbrev pub IsFractionOf : Option Place → Type 0
 IsFractionOf None = Unit {0}
 IsFractionOf (Some key) = 1 ≤ key.robust.monitored
 
 -- The key comes after the last one, if there is one.
-abbrev pub ComesAfter : Option RankingKey → RankingKey → Type 0
+abbrev pub ComesAfter : Option Place → Place → Type 0
 ComesAfter None key = Unit {0}
 ComesAfter (Some last) key = IsRankedBefore last key
 
 -- A key comes after those of these ranked lines exactly where it comes after the last one.
-pub record IsLastOf (before : List RankedLine) (last : Option RankingKey) : Type 0 where
+pub record IsLastOf (before : List RankedLine) (last : Option Place) : Type 0 where
   pub fractions : All (λ (earlier : RankedLine). 1 ≤ earlier.monitored) before
-  pub exact : (key : RankingKey) → 1 ≤ key.robust.monitored
+  pub exact : (key : Place) → 1 ≤ key.robust.monitored
       → All (λ (earlier : RankedLine). IsRankedBefore (key_read earlier) key) before ↔ ComesAfter last key
 
 -- The robustness is that of the hypothesis of the number, by its reach.
@@ -32,7 +32,7 @@ HasRobustness hearing log r =
     × (robustness_of hearing.graph.now log reach r.doubts ≡ record { alarmed = r.alarmed; monitored = r.monitored })
 
 -- What the line says is right, by what is looked up.
-pub record SaysRight (hearing : Hearing) (log : Logbook) (last : Option RankingKey) (r : RankedLine) : Type 0 where
+pub record SaysRight (hearing : Hearing) (log : Logbook) (last : Option Place) (r : RankedLine) : Type 0 where
   pub listed : slice_get hearing.table.now.hypotheses r.number ≡ Some (hypothesis_with r.set r.doubts)
   pub not_closed : IsTrue (flag_at hearing.closed.now r.number) → ⊥
   pub cost : r.cost ≡ cost_of hearing.graph.now (hypothesis_with r.set r.doubts)

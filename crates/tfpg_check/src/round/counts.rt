@@ -13,19 +13,19 @@ pub(crate) fn are_right_counts(hearing: &Hearing<'_>) -> bool
     let read = hearing.read;
     let counts = read.counts;
     counts.ranked as usize == read.ranked.as_slice().len()
-        && counts.left_open as usize == read.unsettled.as_slice().len()
+        && counts.unsettled as usize == read.unsettled.as_slice().len()
         && counts.rejected as usize == hearing.closed_count
         && total(counts) == u64::from(hearing.table.len())
 }
 
 /// How many hypotheses the counts are of.
 fn total(counts: Counts) -> u64
-    ensures { result ≡ counts.ranked + counts.covered + counts.rejected + counts.left_open }
+    ensures { result ≡ counts.ranked + counts.covered + counts.rejected + counts.unsettled }
 {
     u64::from(counts.ranked)
         + u64::from(counts.covered)
         + u64::from(counts.rejected)
-        + u64::from(counts.left_open)
+        + u64::from(counts.unsettled)
 }
 
 /// How many flags are raised. Goes once through them.

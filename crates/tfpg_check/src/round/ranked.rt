@@ -20,7 +20,7 @@ use crate::round_fault::FailedTest;
 use tfpg_base::Doubts;
 use tfpg_graph::Graph;
 use tfpg_hyp::laws::the_ranking_order_is_total;
-use tfpg_hyp::{Fraction, RankingKey, before, cost, robust};
+use tfpg_hyp::{Fraction, Place, before, cost, robust};
 use tfpg_log::Log;
 use tfpg_report::RankedLine;
 use tfpg_trace::{Verdict, explains};
@@ -49,7 +49,7 @@ pub(crate) fn judge_ranked(hearing: &Hearing<'_>, log: &mut Log) -> Result<(), F
 fn judge_line(
     hearing: &Hearing<'_>,
     log: &mut Log,
-    last: Option<RankingKey>,
+    last: Option<Place>,
     r: &RankedLine,
 ) -> Result<(), FailedTest>
     requires of { IsLogOf hearing.now.graph.now log.old }
@@ -81,7 +81,7 @@ fn judge_line(
 
 /// Whether the line says what is right: it names a hypothesis of the table whose tree is not closed, with its cost and its
 /// robustness, it comes after the one before, and no proper part of it is ranked.
-fn may_be_ranked(hearing: &Hearing<'_>, log: &Log, last: Option<RankingKey>, r: &RankedLine) -> bool
+fn may_be_ranked(hearing: &Hearing<'_>, log: &Log, last: Option<Place>, r: &RankedLine) -> bool
     requires line { IsRankedLineOf hearing.now.graph.now r.now }
     requires last { IsFractionOf last }
     ensures right { IsTrue result ↔ SaysRight hearing.now log.now last r.now }
@@ -109,7 +109,7 @@ fn has_robustness(hearing: &Hearing<'_>, log: &Log, r: &RankedLine) -> bool
 }
 
 /// Whether the key comes after the last one, if there is one.
-fn comes_after(last: Option<RankingKey>, key: RankingKey) -> bool
+fn comes_after(last: Option<Place>, key: Place) -> bool
     requires last { IsFractionOf last }
     requires key { 1 ≤ key.robust.monitored }
     ensures { IsTrue result ↔ ComesAfter last key }
@@ -121,10 +121,10 @@ fn comes_after(last: Option<RankingKey>, key: RankingKey) -> bool
 }
 
 /// What a ranked line says of its place in the order.
-fn key_of(r: &RankedLine) -> RankingKey
+fn key_of(r: &RankedLine) -> Place
     ensures { result ≡ key_read r.now }
 {
-    RankingKey {
+    Place {
         cost: r.cost,
         robust: Fraction {
             alarmed: r.alarmed,

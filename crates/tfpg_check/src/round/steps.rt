@@ -70,7 +70,7 @@ fn broken_by(taken: Taken) -> Option<BadStep>
     ensures { result ≡ broken_by taken }
 {
     match taken {
-        Taken::Partial => None,
+        Taken::Open => None,
         Taken::Closed => None,
         Taken::Bad(broken) => Some(broken),
     }

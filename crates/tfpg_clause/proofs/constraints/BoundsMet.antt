@@ -10,14 +10,14 @@ use Rattle.tfpg_base.specs.Constraint.{Meets, value_of}
 pub at_least-same : (u v a b : ℕ) → at_least u a ≡ at_least v b → (u ≡ v) × (a ≡ b)
 at_least-same u v a b same =
     let right : u + 1 ≡ v + 1 = ap (λ (c : Constraint). c.right) same in
-    let bound : neg_ℤ (pos a) ≡ neg_ℤ (pos b) = ap (λ (c : Constraint). c.bound) same in
+    let bound : neg_ℤ (pos a) ≡ neg_ℤ (pos b) = ap (λ (c : Constraint). c.most) same in
     (omega arith, omega (arith, ints))
 
 -- and so are two upper bounds
 pub at_most-same : (u v a b : ℕ) → at_most u (pos a) ≡ at_most v (pos b) → (u ≡ v) × (a ≡ b)
 at_most-same u v a b same =
     let left : u + 1 ≡ v + 1 = ap (λ (c : Constraint). c.left) same in
-    let bound : pos a ≡ pos b = ap (λ (c : Constraint). c.bound) same in
+    let bound : pos a ≡ pos b = ap (λ (c : Constraint). c.most) same in
     (omega arith, omega (arith, ints))
 
 -- an upper bound is no lower bound

@@ -9,7 +9,7 @@ use Rattle.tfpg_base.specs.ConstraintCycle.{IsChainTo, IsCycle, sum_of}
 
 -- the sum from a total on
 abbrev sum_from : ℤ → List Constraint → ℤ
-sum_from total constraints = fold (λ sum constraint. sum +ℤ constraint.bound) total constraints
+sum_from total constraints = fold (λ sum constraint. sum +ℤ constraint.most) total constraints
 
 module _ (times : List ℕ) where
   -- along a chain the values fall by no more than the sum of the bounds
@@ -18,7 +18,7 @@ module _ (times : List ℕ) where
   along total end first [] chain met =
       omega (arith, ints, met 0 first (omega arith), ap (value_of times) chain)
   along total end first (second ∷ others) chain met =
-      let rest = along (total +ℤ first.bound) end second others chain.1 (All-tail (Meets times) first (second ∷ others) met) in
+      let rest = along (total +ℤ first.most) end second others chain.1 (All-tail (Meets times) first (second ∷ others) met) in
       let same : value_of times first.right ≡ value_of times second.left = ap (value_of times) chain.0 in
       omega (arith, ints, met 0 first (omega arith), same, rest)
 

@@ -25,10 +25,10 @@ use Rattle.tfpg_clause.proofs.logs.StaysAllowed.{silence_within}
 
 -- the lower, and the upper bound that a constraint gives a node
 low_in : ℕ → Constraint → Option ℕ
-low_in node constraint = cond (eqb constraint.left 0 && eqb constraint.right (node + 1)) (opposite_of constraint.bound) None
+low_in node constraint = cond (eqb constraint.left 0 && eqb constraint.right (node + 1)) (opposite_of constraint.most) None
 
 high_in : ℕ → Constraint → Option ℕ
-high_in node constraint = cond (eqb constraint.left (node + 1) && eqb constraint.right 0) (natural_of constraint.bound) None
+high_in node constraint = cond (eqb constraint.left (node + 1) && eqb constraint.right 0) (natural_of constraint.most) None
 
 module _ (node : ℕ) where
   -- a lower bound is read off, and what is read off is one
@@ -41,12 +41,12 @@ module _ (node : ℕ) where
   low_is : (constraint : Constraint) (bound : ℕ) → low_in node constraint ≡ Some bound → constraint ≡ at_least node bound
   unfolding low_in
   low_is constraint bound is =
-      let parts = cond-some_first (eqb constraint.left 0 && eqb constraint.right (node + 1)) (opposite_of constraint.bound) bound is in
+      let parts = cond-some_first (eqb constraint.left 0 && eqb constraint.right (node + 1)) (opposite_of constraint.most) bound is in
       let both = and_parts (eqb constraint.left 0) (eqb constraint.right (node + 1)) parts.0 in
       let left = eqb-true constraint.left 0 both.0 in
       let right = eqb-true constraint.right (node + 1) both.1 in
-      let most = opposite-from_opposite_of constraint.bound bound parts.1 in
-      λ i. record { left = left i; right = right i; bound = most i }
+      let most = opposite-from_opposite_of constraint.most bound parts.1 in
+      λ i. record { left = left i; right = right i; most = most i }
 
   high_read : (bound : ℕ) → high_in node (at_most node (pos bound)) ≡ Some bound
   unfolding high_in
@@ -57,12 +57,12 @@ module _ (node : ℕ) where
   high_is : (constraint : Constraint) (bound : ℕ) → high_in node constraint ≡ Some bound → constraint ≡ at_most node (pos bound)
   unfolding high_in
   high_is constraint bound is =
-      let parts = cond-some_first (eqb constraint.left (node + 1) && eqb constraint.right 0) (natural_of constraint.bound) bound is in
+      let parts = cond-some_first (eqb constraint.left (node + 1) && eqb constraint.right 0) (natural_of constraint.most) bound is in
       let both = and_parts (eqb constraint.left (node + 1)) (eqb constraint.right 0) parts.0 in
       let left = eqb-true constraint.left (node + 1) both.0 in
       let right = eqb-true constraint.right 0 both.1 in
-      let most = pos-from_natural_of constraint.bound bound parts.1 in
-      λ i. record { left = left i; right = right i; bound = most i }
+      let most = pos-from_natural_of constraint.most bound parts.1 in
+      λ i. record { left = left i; right = right i; most = most i }
 
   -- ---- reasons enough
 

@@ -15,7 +15,7 @@ use Rattle.tfpg_base.specs.declared.limits.TheConstants.{NEVER}
 
 -- the greatest value that the constraint allows its left side
 abbrev pub allowed_by : List ℕ → Demand → ℤ
-allowed_by values demand = pos (slice_index values demand.constraint.right) +ℤ demand.constraint.bound
+allowed_by values demand = pos (slice_index values demand.constraint.right) +ℤ demand.constraint.most
 
 -- The left side less the right side is at most the bound, where these are the values of the numbers from 0 on.
 abbrev pub IsMetBy : List ℕ → Demand → Type 0

@@ -14,7 +14,7 @@ no_bounds = record { floor = 0; floor_why = Floor 0; ceiling = 0; ceiling_why = 
 
 -- what is read past the end of the picks
 abbrev pub no_pick : Pick
-no_pick = record { constraint = record { left = 0; right = 0; bound = pos 0 }; tag = 0 }
+no_pick = record { constraint = record { left = 0; right = 0; most = pos 0 }; tag = 0 }
 
 -- The demand that the link of a number stands for: the upper bound of the variable, or the pick at the index. The link of zero
 -- is not read.

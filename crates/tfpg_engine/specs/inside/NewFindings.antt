@@ -10,8 +10,8 @@ use Rattle.tfpg_evidence.specs.RoundOf.{is_open}
 use Rattle.tfpg_evidence.specs.Findings.{hypothesis_of}
 use Rattle.tfpg_clause.specs.Trees.{Judged}
 use Rattle.tfpg_hyp.specs.Hypotheses.{Hypotheses, Row, IsRowOf, AreReaches}
-use Rattle.tfpg_hyp.specs.declared.ranking_key.Fraction.{Fraction}
-use Rattle.tfpg_hyp.specs.declared.ranking_key.RankingKey.{RankingKey}
+use Rattle.tfpg_hyp.specs.declared.place.Fraction.{Fraction}
+use Rattle.tfpg_hyp.specs.declared.place.Place.{Place}
 use Rattle.tfpg_hyp.specs.Rounds.{Inquiry, HasEvidence, IsOrder, counts_of, key_of_status}
 use Rattle.tfpg_search.specs.Enough.{IsEnough}
 use Rattle.tfpg_search.specs.SearchState.{SearchState}
@@ -52,7 +52,7 @@ IsKeptAfter events status.Open old new = IsSearchedOn events old new
 
 -- Where the status ranks, its robustness is a fraction.
 abbrev pub RanksByFraction : ℕ → Status → Type 0
-RanksByFraction number status = (key : RankingKey) → key_of_status number status ≡ Some key → HasFraction key
+RanksByFraction number status = (key : Place) → key_of_status number status ≡ Some key → HasFraction key
 
 -- The finding goes on from these steps: what is kept represents the steps with those of the finding, which are its evidence
 -- and are earned.

@@ -11,5 +11,5 @@ counts_with counts status =
       ranked = counts.ranked + (if is_ranked status then 1 else 0);
       covered = counts.covered + (if is_covered status then 1 else 0);
       rejected = counts.rejected + (if is_rejected status then 1 else 0);
-      left_open = counts.left_open + (if is_open status then 1 else 0);
+      unsettled = counts.unsettled + (if is_open status then 1 else 0);
     }

@@ -52,7 +52,7 @@ fn append_counts(counts: Counts, into: &mut Writer) -> Result<(), NoMemory>
     into.key("counts")?;
     into.begin_object()?;
     append_count("covered", counts.covered, into)?;
-    append_count("open", counts.left_open, into)?;
+    append_count("open", counts.unsettled, into)?;
     append_count("ranked", counts.ranked, into)?;
     append_count("rejected", counts.rejected, into)?;
     into.end_object()?;

@@ -32,7 +32,7 @@ abbrev pub with_constraint : Chain → Constraint → Chain
 with_constraint chain constraint = record {
   ends = Some (ends_with chain.ends constraint);
   unbroken = chain.unbroken && goes_on_from chain.ends constraint.left;
-  sum = chain.sum +ℤ constraint.bound;
+  sum = chain.sum +ℤ constraint.most;
 }
 
 -- the chain of some constraints

@@ -6,7 +6,7 @@ use Rattle.tfpg_evidence.specs.declared.step.Step.{Step}
 use Rattle.tfpg_clause.specs.Case.{Case, case_of}
 use Rattle.tfpg_clause.specs.Paths.{MovesTo}
 use Rattle.tfpg_kernel.specs.declared.taken.Taken.{Taken}
-use Rattle.tfpg_kernel.specs.declared.taken.Taken.TheVariants.{Partial, Closed, Bad}
+use Rattle.tfpg_kernel.specs.declared.taken.Taken.TheVariants.{Open, Closed, Bad}
 use Rattle.tfpg_kernel.specs.CheckerState.{CheckerState}
 use Rattle.tfpg_kernel.specs.Breaks.{BreaksAt}
 
@@ -16,7 +16,7 @@ case_of_checker graph log checker = case_of graph log checker.reach
 
 -- what a checker that is not closed does at a step
 abbrev pub Moves : Tfpg → Logbook → CheckerState → Step → Taken → CheckerState → Type 0
-Moves graph log old step Partial new =
+Moves graph log old step Open new =
     MovesTo (case_of_checker graph log old) old.path step (Some new.path) × (new.closed ≡ false)
 Moves graph log old step Closed new = MovesTo (case_of_checker graph log old) old.path step None × (new.closed ≡ true)
 Moves graph log old step (Bad bad) new = BreaksAt (case_of_checker graph log old) old.path step bad × (new ≡ old)

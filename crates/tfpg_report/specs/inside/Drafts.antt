@@ -179,7 +179,7 @@ draft_after at next (At activation) draft = with_activation activation draft
 draft_after at next (Open number set doubts) draft = with_hypothesis at (Open number set doubts) draft
 draft_after at next (Rejected number set doubts) draft = with_hypothesis at (Rejected number set doubts) draft
 draft_after at next (Counts counts) draft = opened 0 0 0 0
-draft_after at next (Panel panel no_memory) draft = draft
+draft_after at next (Panel panel memory) draft = draft
 
 -- the draft to which the line with this number was added, after which the reader has this stand
 abbrev pub draft_with : ℕ → Stand → ReportLine → Draft → Draft
@@ -197,5 +197,5 @@ completed at (Head terms) draft = fed.Head terms.k terms.doubt terms.budget
 completed at (OldHead k budget) draft = fed.Head k 0 budget
 completed at (Refused line cause) draft = fed.Refused line cause
 completed at (Counts counts) draft = fed.Round (round_of counts at draft)
-completed at (Panel panel no_memory) draft = fed.Lost panel no_memory
+completed at (Panel panel memory) draft = fed.Lost panel memory
 completed at _ draft = fed.More

@@ -114,4 +114,4 @@ Feeds before after line (fed.Refused number cause) = (line.says ≡ Refused numb
 Feeds before after line (fed.Round round) =
     ((counts : _) × (line.says ≡ Counts counts)) × (lines_of_round round ≡ before ++ line ∷ [])
     × All HasLineForEachStep round.parts × (after ≡ [])
-Feeds before after line (fed.Lost panel no_memory) = (line.says ≡ Panel panel no_memory) × (after ≡ [])
+Feeds before after line (fed.Lost panel memory) = (line.says ≡ Panel panel memory) × (after ≡ [])

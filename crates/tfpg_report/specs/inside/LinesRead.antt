@@ -108,8 +108,8 @@ counts_in words =
     option_and_then (λ (ranked : Rest).
     option_and_then (λ (covered : Rest).
     option_and_then (λ (rejected : Rest).
-    option_and_then (λ (left_open : Rest).
-    if_last left_open.1 (says.Counts (record { ranked = ranked.0; covered = covered.0; rejected = rejected.0; left_open = left_open.0 })))
+    option_and_then (λ (unsettled : Rest).
+    if_last unsettled.1 (says.Counts (record { ranked = ranked.0; covered = covered.0; rejected = rejected.0; unsettled = unsettled.0 })))
     (small_after (codes "open") rejected.1))
     (small_after (codes "rejected") covered.1))
     (small_after (codes "covered") ranked.1))

@@ -125,9 +125,9 @@ impl Draft {
                 cause: *cause,
             },
             ReportLine::Counts(counts) => Fed::Round(self.end(alloc, *counts, at)),
-            ReportLine::Panel { panel, no_memory } => Fed::Lost {
+            ReportLine::Panel { panel, memory } => Fed::Lost {
                 panel: *panel,
-                no_memory: *no_memory,
+                memory: *memory,
             },
             _ => Fed::More,
         }

@@ -157,8 +157,8 @@ fn panel_in(words: &[&[u8]]) -> Option<ReportLine>
     ensures { result ≡ panel_in (map (λ word. word.now) words.now) }
 {
     let (panel, words) = number_first(words, MAX_PANEL_NUMBER)?;
-    let no_memory = loss_in(words)?;
-    Some(ReportLine::Panel { panel, no_memory })
+    let memory = loss_in(words)?;
+    Some(ReportLine::Panel { panel, memory })
 }
 
 /// Whether memory ran out for a panel.
@@ -192,13 +192,13 @@ fn counts_in(words: &[&[u8]]) -> Option<ReportLine>
     let (ranked, words) = small_after(words, b"ranked")?;
     let (covered, words) = small_after(words, b"covered")?;
     let (rejected, words) = small_after(words, b"rejected")?;
-    let (left_open, words) = small_after(words, b"open")?;
+    let (unsettled, words) = small_after(words, b"open")?;
     match words {
         [] => Some(ReportLine::Counts(Counts {
             ranked,
             covered,
             rejected,
-            left_open,
+            unsettled,
         })),
         _ => None,
     }

@@ -205,9 +205,9 @@ fn pick_in(words: &[&[u8]]) -> Option<Reason>
     ensures { result ≡ pick_in (map (λ word. word.now) words.now) }
 {
     let (split, words) = number_first(words, MAX_LINE_NUMBER)?;
-    let (constraint, words) = small_first(words)?;
+    let (place, words) = small_first(words)?;
     match words {
-        [] => Some(Reason::Pick { split, constraint }),
+        [] => Some(Reason::Pick { split, place }),
         _ => None,
     }
 }

@@ -25,13 +25,13 @@ left_by (Some round) = numbers_from 0 (λ finding. is_ranked_or_open finding.sta
 
 -- the first line: the time of the last event, and how many hypotheses are ranked and how many open
 abbrev pub counts_line : ℕ → ℕ → ℕ → List ℕ
-counts_line now ranked left_open =
-    text_line (codes "questions" ∷ codes "now" ∷ decimal now ∷ codes "ranked" ∷ decimal ranked ∷ codes "open" ∷ decimal left_open ∷ [])
+counts_line now ranked unsettled =
+    text_line (codes "questions" ∷ codes "now" ∷ decimal now ∷ codes "ranked" ∷ decimal ranked ∷ codes "open" ∷ decimal unsettled ∷ [])
 
 -- the first line after a log, by its last round
 abbrev pub first_line : Logbook → Option Round → List ℕ
 first_line log None = counts_line (now_of log) 0 0
-first_line log (Some round) = counts_line (now_of log) round.counts.ranked round.counts.left_open
+first_line log (Some round) = counts_line (now_of log) round.counts.ranked round.counts.unsettled
 
 -- the line of a question
 abbrev pub question_line : Tfpg → Question → List ℕ

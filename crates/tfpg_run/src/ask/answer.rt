@@ -27,7 +27,7 @@ pub(super) fn append_first_line(
 {
     match last {
         Some(round) => {
-            append_counts_line(log.now(), round.counts.ranked, round.counts.left_open, into)
+            append_counts_line(log.now(), round.counts.ranked, round.counts.unsettled, into)
         }
         None => append_counts_line(log.now(), 0, 0, into),
     }
@@ -37,10 +37,10 @@ pub(super) fn append_first_line(
 fn append_counts_line(
     now: u64,
     ranked: u32,
-    left_open: u32,
+    unsettled: u32,
     into: &mut Vec<u8>,
 ) -> Result<(), NoMemory>
-    ensures { Appends result into.old.items into.new.items (counts_line now ranked left_open) }
+    ensures { Appends result into.old.items into.new.items (counts_line now ranked unsettled) }
 {
     let mut now_digits = Buffer::new();
     let mut ranked_digits = Buffer::new();
@@ -54,7 +54,7 @@ fn append_counts_line(
             b"ranked",
             ranked_digits.format(ranked).as_bytes(),
             b"open",
-            open_digits.format(left_open).as_bytes(),
+            open_digits.format(unsettled).as_bytes(),
         ],
     )
 }

@@ -50,12 +50,12 @@ Meets-greater_items xs ys constraint same one other =
     value_is (greater_items xs ys) constraint.left ∙ ap pos (number_of-greater xs ys constraint.left same) in
     let right : value_of (greater_items xs ys) constraint.right ≡ pos (max (number_of xs constraint.right) (number_of ys constraint.right)) =
     value_is (greater_items xs ys) constraint.right ∙ ap pos (number_of-greater xs ys constraint.right same) in
-    subst (λ (v : ℤ). (v -ℤ value_of (greater_items xs ys) constraint.right) ≤ℤ constraint.bound) (sym left)
-    (subst (λ (v : ℤ). (pos (max (number_of xs constraint.left) (number_of ys constraint.left)) -ℤ v) ≤ℤ constraint.bound) (sym right)
-    (difference_met (number_of xs constraint.left) (number_of xs constraint.right) (number_of ys constraint.left) (number_of ys constraint.right) constraint.bound
+    subst (λ (v : ℤ). (v -ℤ value_of (greater_items xs ys) constraint.right) ≤ℤ constraint.most) (sym left)
+    (subst (λ (v : ℤ). (pos (max (number_of xs constraint.left) (number_of ys constraint.left)) -ℤ v) ≤ℤ constraint.most) (sym right)
+    (difference_met (number_of xs constraint.left) (number_of xs constraint.right) (number_of ys constraint.left) (number_of ys constraint.right) constraint.most
     (as_numbers xs one) (as_numbers ys other)))
   where
-    as_numbers : (times : List ℕ) → Meets times constraint → (pos (number_of times constraint.left) -ℤ pos (number_of times constraint.right)) ≤ℤ constraint.bound
+    as_numbers : (times : List ℕ) → Meets times constraint → (pos (number_of times constraint.left) -ℤ pos (number_of times constraint.right)) ≤ℤ constraint.most
     as_numbers times met =
-        subst (λ (v : ℤ). (v -ℤ pos (number_of times constraint.right)) ≤ℤ constraint.bound) (value_is times constraint.left)
-        (subst (λ (v : ℤ). (value_of times constraint.left -ℤ v) ≤ℤ constraint.bound) (value_is times constraint.right) met)
+        subst (λ (v : ℤ). (v -ℤ pos (number_of times constraint.right)) ≤ℤ constraint.most) (value_is times constraint.left)
+        (subst (λ (v : ℤ). (value_of times constraint.left -ℤ v) ≤ℤ constraint.most) (value_is times constraint.right) met)

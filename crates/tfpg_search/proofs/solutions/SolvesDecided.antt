@@ -32,7 +32,7 @@ use Rattle.tfpg_search.proofs.solutions.GreaterItems.{greater_items, length-grea
 pub Meets-decided : (times : List ℕ) (constraint : Constraint) → IsDecided (Meets times constraint)
 Meets-decided times constraint =
     let difference = value_of times constraint.left -ℤ value_of times constraint.right in
-    by_lt_z constraint.bound difference (λ greater. inr (λ met. omega (arith, ints, greater, met))) (λ within. inl within)
+    by_lt_z constraint.most difference (λ greater. inr (λ met. omega (arith, ints, greater, met))) (λ within. inl within)
 
 -- whether times meet a constraint, where there is one, is decided
 met_if_there : (times : List ℕ) (found : Option Constraint) → IsDecided ((constraint : Constraint) → found ≡ Some constraint → Meets times constraint)

@@ -97,7 +97,7 @@ impl LeafSystem {
         let first = self.entered[split - 1];
         Reason::Pick {
             split: split as u64,
-            constraint: (pick - first + 1) as u32,
+            place: (pick - first + 1) as u32,
         }
     }
 }

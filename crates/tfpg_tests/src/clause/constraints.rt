@@ -28,7 +28,7 @@ const OR_MUST_BOUNDS: [MustRow; 6] = [
         Some(Constraint {
             left: 0,
             right: 1,
-            bound: -11,
+            most: -11,
         }),
     ),
     (
@@ -38,7 +38,7 @@ const OR_MUST_BOUNDS: [MustRow; 6] = [
         Some(Constraint {
             left: 3,
             right: 1,
-            bound: 20,
+            most: 20,
         }),
     ),
     (
@@ -48,7 +48,7 @@ const OR_MUST_BOUNDS: [MustRow; 6] = [
         Some(Constraint {
             left: 3,
             right: 0,
-            bound: 20,
+            most: 20,
         }),
     ),
     ("there is no fourth alternative", 4, 1, None),
@@ -107,7 +107,7 @@ const BOUNDS: [Row; 18] = [
         Constraint {
             left: 3,
             right: 0,
-            bound: 20,
+            most: 20,
         },
     ),
     (
@@ -122,7 +122,7 @@ const BOUNDS: [Row; 18] = [
         Constraint {
             left: 0,
             right: 3,
-            bound: -26,
+            most: -26,
         },
     ),
     (
@@ -137,7 +137,7 @@ const BOUNDS: [Row; 18] = [
         Constraint {
             left: 1,
             right: 3,
-            bound: -10,
+            most: -10,
         },
     ),
     (
@@ -152,7 +152,7 @@ const BOUNDS: [Row; 18] = [
         Constraint {
             left: 0,
             right: 3,
-            bound: -21,
+            most: -21,
         },
     ),
     (
@@ -167,7 +167,7 @@ const BOUNDS: [Row; 18] = [
         Constraint {
             left: 3,
             right: 0,
-            bound: 25,
+            most: 25,
         },
     ),
     (
@@ -182,7 +182,7 @@ const BOUNDS: [Row; 18] = [
         Constraint {
             left: 2,
             right: 3,
-            bound: -5,
+            most: -5,
         },
     ),
     (
@@ -197,7 +197,7 @@ const BOUNDS: [Row; 18] = [
         Constraint {
             left: 0,
             right: 3,
-            bound: -31,
+            most: -31,
         },
     ),
     (
@@ -212,7 +212,7 @@ const BOUNDS: [Row; 18] = [
         Constraint {
             left: 3,
             right: 5,
-            bound: 0,
+            most: 0,
         },
     ),
     (
@@ -227,7 +227,7 @@ const BOUNDS: [Row; 18] = [
         Constraint {
             left: 0,
             right: 5,
-            bound: -26,
+            most: -26,
         },
     ),
     (
@@ -242,7 +242,7 @@ const BOUNDS: [Row; 18] = [
         Constraint {
             left: 0,
             right: 2,
-            bound: -16,
+            most: -16,
         },
     ),
     (
@@ -257,7 +257,7 @@ const BOUNDS: [Row; 18] = [
         Constraint {
             left: 0,
             right: 2,
-            bound: -36,
+            most: -36,
         },
     ),
     (
@@ -272,7 +272,7 @@ const BOUNDS: [Row; 18] = [
         Constraint {
             left: 3,
             right: 2,
-            bound: 5,
+            most: 5,
         },
     ),
     (
@@ -287,7 +287,7 @@ const BOUNDS: [Row; 18] = [
         Constraint {
             left: 3,
             right: 0,
-            bound: 31,
+            most: 31,
         },
     ),
     (
@@ -302,7 +302,7 @@ const BOUNDS: [Row; 18] = [
         Constraint {
             left: 0,
             right: 3,
-            bound: -31,
+            most: -31,
         },
     ),
     (
@@ -317,7 +317,7 @@ const BOUNDS: [Row; 18] = [
         Constraint {
             left: 0,
             right: 4,
-            bound: -31,
+            most: -31,
         },
     ),
     (
@@ -332,7 +332,7 @@ const BOUNDS: [Row; 18] = [
         Constraint {
             left: 5,
             right: 3,
-            bound: 10,
+            most: 10,
         },
     ),
     (
@@ -347,7 +347,7 @@ const BOUNDS: [Row; 18] = [
         Constraint {
             left: 5,
             right: 4,
-            bound: 10,
+            most: 10,
         },
     ),
     (
@@ -362,7 +362,7 @@ const BOUNDS: [Row; 18] = [
         Constraint {
             left: 5,
             right: 0,
-            bound: 10,
+            most: 10,
         },
     ),
 ];

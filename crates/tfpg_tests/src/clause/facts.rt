@@ -25,7 +25,7 @@ const FACTS: [Row; 18] = [
         Ok(Constraint {
             left: 0,
             right: 3,
-            bound: 0,
+            most: 0,
         }),
     ),
     ("zero of no node", Reason::Zero { node: 5 }, Err(NotAFact)),
@@ -35,7 +35,7 @@ const FACTS: [Row; 18] = [
         Ok(Constraint {
             left: 3,
             right: 0,
-            bound: 1_000_000_000_001,
+            most: 1_000_000_000_001,
         }),
     ),
     ("top of no node", Reason::Top { node: 5 }, Err(NotAFact)),
@@ -48,7 +48,7 @@ const FACTS: [Row; 18] = [
         Ok(Constraint {
             left: 0,
             right: 2,
-            bound: -41,
+            most: -41,
         }),
     ),
     (
@@ -60,7 +60,7 @@ const FACTS: [Row; 18] = [
         Ok(Constraint {
             left: 0,
             right: 2,
-            bound: -1,
+            most: -1,
         }),
     ),
     (
@@ -85,7 +85,7 @@ const FACTS: [Row; 18] = [
         Ok(Constraint {
             left: 0,
             right: 3,
-            bound: -28,
+            most: -28,
         }),
     ),
     (
@@ -94,7 +94,7 @@ const FACTS: [Row; 18] = [
         Ok(Constraint {
             left: 3,
             right: 0,
-            bound: 30,
+            most: 30,
         }),
     ),
     (
@@ -114,7 +114,7 @@ const FACTS: [Row; 18] = [
         Ok(Constraint {
             left: 0,
             right: 3,
-            bound: -6,
+            most: -6,
         }),
     ),
     (
@@ -128,7 +128,7 @@ const FACTS: [Row; 18] = [
         Ok(Constraint {
             left: 0,
             right: 5,
-            bound: -8,
+            most: -8,
         }),
     ),
     (
@@ -136,14 +136,7 @@ const FACTS: [Row; 18] = [
         Reason::Quiet { event: 4, node: 2 },
         Err(NotAFact),
     ),
-    (
-        "a pick",
-        Reason::Pick {
-            split: 1,
-            constraint: 1,
-        },
-        Err(NotAFact),
-    ),
+    ("a pick", Reason::Pick { split: 1, place: 1 }, Err(NotAFact)),
 ];
 
 /// Compares what the reason of each row states of the set of the first failure mode.

@@ -101,79 +101,46 @@ fn a_path_goes_on_to_the_next_alternative(rt: HostRuntime) -> Result<(), Fail> {
 const STATED: [(&str, Reason, Option<Constraint>); 9] = [
     (
         "A at least 10 after F",
-        Reason::Pick {
-            split: 1,
-            constraint: 1,
-        },
+        Reason::Pick { split: 1, place: 1 },
         Some(Constraint {
             left: 1,
             right: 2,
-            bound: -10,
+            most: -10,
         }),
     ),
     (
         "A by the end of the span",
-        Reason::Pick {
-            split: 1,
-            constraint: 3,
-        },
+        Reason::Pick { split: 1, place: 3 },
         Some(Constraint {
             left: 2,
             right: 0,
-            bound: 30,
+            most: 30,
         }),
     ),
     (
         "A before the span",
-        Reason::Pick {
-            split: 2,
-            constraint: 1,
-        },
+        Reason::Pick { split: 2, place: 1 },
         Some(Constraint {
             left: 2,
             right: 0,
-            bound: -1,
+            most: -1,
         }),
     ),
     (
         "no such constraint",
-        Reason::Pick {
-            split: 2,
-            constraint: 2,
-        },
+        Reason::Pick { split: 2, place: 2 },
         None,
     ),
-    (
-        "no constraint 0",
-        Reason::Pick {
-            split: 1,
-            constraint: 0,
-        },
-        None,
-    ),
-    (
-        "no split 0",
-        Reason::Pick {
-            split: 0,
-            constraint: 1,
-        },
-        None,
-    ),
-    (
-        "no such split",
-        Reason::Pick {
-            split: 3,
-            constraint: 1,
-        },
-        None,
-    ),
+    ("no constraint 0", Reason::Pick { split: 1, place: 0 }, None),
+    ("no split 0", Reason::Pick { split: 0, place: 1 }, None),
+    ("no such split", Reason::Pick { split: 3, place: 1 }, None),
     (
         "a fact",
         Reason::From { event: 1 },
         Some(Constraint {
             left: 0,
             right: 2,
-            bound: -28,
+            most: -28,
         }),
     ),
     ("no fact", Reason::From { event: 2 }, None),
@@ -196,7 +163,7 @@ fn reasons_state_facts_and_picks(rt: HostRuntime) -> Result<(), Fail> {
     let from_ten = Constraint {
         left: 0,
         right: 2,
-        bound: -10,
+        most: -10,
     };
     assert_eq!(rt; second, Some(from_ten));
     Ok(())

@@ -43,10 +43,7 @@ const BAD: [Row; 13] = [
         name: "an event past the end",
         split: None,
         reasons: &[
-            Reason::Pick {
-                split: 1,
-                constraint: 1,
-            },
+            Reason::Pick { split: 1, place: 1 },
             Reason::From { event: 3 },
         ],
         result: Taken::Bad(BadStep::NotAFact),
@@ -54,28 +51,19 @@ const BAD: [Row; 13] = [
     Row {
         name: "a split past the path",
         split: None,
-        reasons: &[Reason::Pick {
-            split: 2,
-            constraint: 1,
-        }],
+        reasons: &[Reason::Pick { split: 2, place: 1 }],
         result: Taken::Bad(BadStep::NotOnPath),
     },
     Row {
         name: "splits count from 1",
         split: None,
-        reasons: &[Reason::Pick {
-            split: 0,
-            constraint: 1,
-        }],
+        reasons: &[Reason::Pick { split: 0, place: 1 }],
         result: Taken::Bad(BadStep::NotOnPath),
     },
     Row {
         name: "a constraint past the alternative",
         split: None,
-        reasons: &[Reason::Pick {
-            split: 1,
-            constraint: 2,
-        }],
+        reasons: &[Reason::Pick { split: 1, place: 2 }],
         result: Taken::Bad(BadStep::NotOnPath),
     },
     Row {
@@ -83,10 +71,7 @@ const BAD: [Row; 13] = [
         split: None,
         reasons: &[
             Reason::From { event: 1 },
-            Reason::Pick {
-                split: 2,
-                constraint: 1,
-            },
+            Reason::Pick { split: 2, place: 1 },
         ],
         result: Taken::Bad(BadStep::NotAFact),
     },
@@ -94,10 +79,7 @@ const BAD: [Row; 13] = [
         name: "a pick off the path, and then no fact",
         split: None,
         reasons: &[
-            Reason::Pick {
-                split: 2,
-                constraint: 1,
-            },
+            Reason::Pick { split: 2, place: 1 },
             Reason::From { event: 1 },
         ],
         result: Taken::Bad(BadStep::NotOnPath),
@@ -111,10 +93,7 @@ const BAD: [Row; 13] = [
     Row {
         name: "not closed round",
         split: None,
-        reasons: &[Reason::Pick {
-            split: 1,
-            constraint: 1,
-        }],
+        reasons: &[Reason::Pick { split: 1, place: 1 }],
         result: Taken::Bad(BadStep::Unchained),
     },
     Row {
@@ -141,7 +120,7 @@ fn take_bad(alloc: Global, graph: &Graph, log: &Log) -> Result<(), Fail>
         graph,
         log,
         &Step::Split(MAY),
-        Taken::Partial,
+        Taken::Open,
         "the first split",
     )?;
     let unknown = Taken::Bad(BadStep::NotReusable);

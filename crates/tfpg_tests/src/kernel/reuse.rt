@@ -38,70 +38,52 @@ const BELOW_A_SPLIT: [Turn; 11] = [
     Turn {
         name: "split on E by its edge",
         step: Given::Split(MUST_E),
-        result: Taken::Partial,
+        result: Taken::Open,
     },
     Turn {
         name: "split on E",
         step: Given::Split(MAY),
-        result: Taken::Partial,
+        result: Taken::Open,
     },
     Turn {
         name: "E before 0",
         step: Given::Cycle(&[
-            Reason::Pick {
-                split: 2,
-                constraint: 1,
-            },
+            Reason::Pick { split: 2, place: 1 },
             Reason::From { event: 2 },
         ]),
-        result: Taken::Partial,
+        result: Taken::Open,
     },
     Turn {
         name: "E after 10",
         step: Given::Cycle(&[
-            Reason::Pick {
-                split: 2,
-                constraint: 1,
-            },
+            Reason::Pick { split: 2, place: 1 },
             Reason::Upto { event: 2 },
         ]),
-        result: Taken::Partial,
+        result: Taken::Open,
     },
     Turn {
         name: "split on A",
         step: Given::Split(MUST),
-        result: Taken::Partial,
+        result: Taken::Open,
     },
     Turn {
         name: "F too late for A",
         step: Given::Cycle(&[
-            Reason::Pick {
-                split: 2,
-                constraint: 1,
-            },
+            Reason::Pick { split: 2, place: 1 },
             Reason::Upto { event: 2 },
-            Reason::Pick {
-                split: 3,
-                constraint: 1,
-            },
+            Reason::Pick { split: 3, place: 1 },
         ]),
-        result: Taken::Partial,
+        result: Taken::Open,
     },
     Turn {
         name: "A follows F",
         step: Given::Cycle(&[
-            Reason::Pick {
-                split: 3,
-                constraint: 1,
-            },
-            Reason::Pick {
-                split: 2,
-                constraint: 1,
-            },
+            Reason::Pick { split: 3, place: 1 },
+            Reason::Pick { split: 2, place: 1 },
             Reason::Upto { event: 2 },
             Reason::Quiet { event: 1, node: 1 },
         ]),
-        result: Taken::Partial,
+        result: Taken::Open,
     },
     Turn {
         name: "the cycle before cites the third split",
@@ -111,13 +93,10 @@ const BELOW_A_SPLIT: [Turn; 11] = [
     Turn {
         name: "A by the time it is due",
         step: Given::Cycle(&[
-            Reason::Pick {
-                split: 3,
-                constraint: 1,
-            },
+            Reason::Pick { split: 3, place: 1 },
             Reason::Quiet { event: 1, node: 1 },
         ]),
-        result: Taken::Partial,
+        result: Taken::Open,
     },
     Turn {
         name: "the whole subtree cites the second and the third split alone",
@@ -142,12 +121,12 @@ const WITHIN_A_SPLIT: [Turn; 7] = [
     Turn {
         name: "split on E",
         step: Given::Split(MAY),
-        result: Taken::Partial,
+        result: Taken::Open,
     },
     Turn {
         name: "split on E by its edge",
         step: Given::Split(MUST_E),
-        result: Taken::Partial,
+        result: Taken::Open,
     },
     Turn {
         name: "no alternative is before the first",
@@ -157,12 +136,12 @@ const WITHIN_A_SPLIT: [Turn; 7] = [
     Turn {
         name: "E before 0",
         step: Given::Cycle(&TOO_EARLY),
-        result: Taken::Partial,
+        result: Taken::Open,
     },
     Turn {
         name: "it does not cite the inner split",
         step: Given::Again,
-        result: Taken::Partial,
+        result: Taken::Open,
     },
     Turn {
         name: "it cites the outer one",

@@ -261,11 +261,11 @@ impl Proposal<'_> {
         Ok(())
     }
 
-    /// The constraint with this number in the alternative that is taken at the last split.
-    fn pick(&self, constraint: u32) -> Reason {
+    /// The constraint at this place in the alternative that is taken at the last split.
+    fn pick(&self, place: u32) -> Reason {
         Reason::Pick {
             split: self.splits,
-            constraint,
+            place,
         }
     }
 

@@ -85,7 +85,7 @@ returns-in_default-clause-cycle c =
     (Walked-not_found (demands_linked (demands_of c.args.bounds.now c.args.picks.now) c.args.labels.now.links.items) (labelled a) demand.constraint.right demand.constraint.left
     (demand.why ∷ []) c.begin_cycle-in_default.new.cycle.items c.begin_cycle-in_default.result c.if-leads_to.ensures.leads c.begin_cycle-in_default.ensures.walked)
     r.0 r.1
-    (subst (λ (xs : List ℕ). (pos (slice_index xs demand.constraint.right) +ℤ demand.constraint.bound) <ℤ pos (get_or c.args.bounds.now (demand.constraint.left - 1) no_bounds).floor)
+    (subst (λ (xs : List ℕ). (pos (slice_index xs demand.constraint.right) +ℤ demand.constraint.most) <ℤ pos (get_or c.args.bounds.now (demand.constraint.left - 1) no_bounds).floor)
     c.deref-2.ensures.value (c.in_default.ensures.below refl)))
 
 pub returns-clause-kept : goal.returns-clause-kept
@@ -98,6 +98,6 @@ returns-clause-kept c =
     (AreKept-lowered (demands_of c.args.bounds.now c.args.picks.now) c.args.labels.now.values.items c.args.labels.now.links.items c.requires.kept c.args.index
     demand c.in-Some.value (demand.constraint.left - 1) (get_or c.args.bounds.now (demand.constraint.left - 1) no_bounds)
     c.demand_of_pick-demand.ensures b c.if-leads_to.ensures.leads r.0 r.1
-    (subst (λ (xs : List ℕ). pos c.in-Some.value ≡ (pos (slice_index xs demand.constraint.right) +ℤ demand.constraint.bound))
+    (subst (λ (xs : List ℕ). pos c.in-Some.value ≡ (pos (slice_index xs demand.constraint.right) +ℤ demand.constraint.most))
     c.deref-2.ensures.value c.in-Some.ensures.value)
     c.in-Some.ensures.above))

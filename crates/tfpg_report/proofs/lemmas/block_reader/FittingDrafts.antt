@@ -174,7 +174,7 @@ fits_after before draft at (Rejected number set doubts) next fits same =
     (λ may. (tt, (is_settled before draft may fits).steps))
 fits_after before draft at (Counts counts) next fits same =
     then_some_is (λ s. Fits s (draft_after at s (Counts counts) draft)) (may_reject before) (stand.Counts None) next same (λ _. tt)
-fits_after before draft at (Panel panel no_memory) next fits same =
+fits_after before draft at (Panel panel memory) next fits same =
     after_loss_is (λ s. Fits s draft) before next panel same tt
 
 -- ---- what is under way lets the line come
@@ -210,4 +210,4 @@ lets_fit before draft (Ranked number cost alarmed monitored set doubts) next fit
 lets_fit before draft (Open number set doubts) next fits same = refl
 lets_fit before draft (Rejected number set doubts) next fits same = refl
 lets_fit before draft (Counts counts) next fits same = refl
-lets_fit before draft (Panel panel no_memory) next fits same = refl
+lets_fit before draft (Panel panel memory) next fits same = refl

@@ -205,5 +205,5 @@ feeds_after before draft at (Rejected number set doubts) next fits after same =
 feeds_after before draft at (Counts counts) next fits after same =
     then_some_is (FeedsAfter before draft at (Counts counts)) (may_reject before) (stand.Counts None) next same
     (λ may. ((counts, refl), ap (λ lines. lines ++ numbered at (Counts counts) ∷ []) (sym (lines_when_settled before draft may fits)), (is_settled before draft may fits).steps, refl))
-feeds_after before draft at (Panel panel no_memory) next fits number same =
-    after_loss_is (FeedsAfter before draft at (Panel panel no_memory)) before next panel same (refl, refl)
+feeds_after before draft at (Panel panel memory) next fits number same =
+    after_loss_is (FeedsAfter before draft at (Panel panel memory)) before next panel same (refl, refl)

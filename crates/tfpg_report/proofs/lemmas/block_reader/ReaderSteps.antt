@@ -69,7 +69,7 @@ module _ (lines : List ReportLine) (read : ReportLine) (number : ℕ) (next_is :
     completed_is = (feeds.0, record { lines_are = feeds.1 ∙ one_more before are; each_step = feeds.2 });
     begun_is = nothing_begun lines read after (ap is_last feeds.0.1) feeds.3;
   }
-  goes before after (fed.Lost panel no_memory) feeds are = record {
+  goes before after (fed.Lost panel memory) feeds are = record {
     completed_is = feeds.0;
     begun_is = nothing_begun lines read after (ap is_last feeds.0) feeds.1;
   }
@@ -94,7 +94,7 @@ left_with at next (At activation) draft = refl
 left_with at next (Open number set doubts) draft = refl
 left_with at next (Rejected number set doubts) draft = refl
 left_with at next (Counts counts) draft = refl
-left_with at next (Panel panel no_memory) draft = refl
+left_with at next (Panel panel memory) draft = refl
 
 -- A line that may come is taken.
 pub takes : (graph : Tfpg) (lines : List ReportLine) (bytes : List ℕ) (old new : ReaderState) (before next : Stand) (draft after : Draft) (number : ℕ) (read : ReportLine) (completes : Fed)

@@ -40,7 +40,7 @@ nothing_gathered = gathered (record {
   ranked = [];
   unsettled = [];
   rejected = [];
-  counts = record { ranked = 0; covered = 0; rejected = 0; left_open = 0 };
+  counts = record { ranked = 0; covered = 0; rejected = 0; unsettled = 0 };
   counts_line = 0;
 })
 
@@ -95,7 +95,7 @@ with_line_before at (Rejected number set doubts) later = record later {
 }
 with_line_before at (Counts counts) later =
     record later { round = record later.round { counts = counts; counts_line = at } }
-with_line_before at (Panel panel no_memory) later = later
+with_line_before at (Panel panel memory) later = later
 
 -- with all these lines before
 abbrev pub with_lines_before : List NumberedLine → Gathered → Gathered

@@ -98,7 +98,7 @@ saying (Open number set doubts) later =
 saying (Rejected number set doubts) later =
     record later { whole = record later.whole { rejected = record { number = number; set = set; doubts = doubts } ∷ later.whole.rejected } }
 saying (Counts counts) later = record later { whole = record later.whole { counts = counts } }
-saying (Panel panel no_memory) later = later
+saying (Panel panel memory) later = later
 
 -- with all these lines before
 abbrev saying_all : List ReportLine → SaidSoFar → SaidSoFar
@@ -126,7 +126,7 @@ one_said at (At activation) later = refl
 one_said at (Open number set doubts) later = refl
 one_said at (Rejected number set doubts) later = refl
 one_said at (Counts counts) later = refl
-one_said at (Panel panel no_memory) later = refl
+one_said at (Panel panel memory) later = refl
 
 -- So do all lines.
 all_said : (first : ℕ) (lines : List ReportLine) (later : Gathered) → said_so_far (with_lines_before (numbered_from first lines) later) ≡ saying_all lines (said_so_far later)

@@ -97,7 +97,7 @@ module _ (graph : Tfpg) (valid : IsValid graph) where
   some_budget budget some = ne_eqb budget 0 (λ is. omega (arith, some, is))
 
   -- whether memory ran out for a panel
-  loss-reads : (no_memory : Bool) → loss_in (cond no_memory (codes "memory") (codes "lost") ∷ []) ≡ Some no_memory
+  loss-reads : (memory : Bool) → loss_in (cond memory (codes "memory") (codes "lost") ∷ []) ≡ Some memory
   loss-reads true = refl
   loss-reads false = refl
 
@@ -138,10 +138,10 @@ module _ (graph : Tfpg) (valid : IsValid graph) where
   kind_of (Rejected number set doubts) within = inr (inr (inr (record { number = number; hypothesis = hypothesis_with set doubts; is = refl })))
   kind_of (Counts counts) within =
       inl (rw (
-        small_first-reads counts.ranked (codes "covered" ∷ decimal counts.covered ∷ codes "rejected" ∷ decimal counts.rejected ∷ codes "open" ∷ decimal counts.left_open ∷ []) within.ranked,
-        small_first-reads counts.covered (codes "rejected" ∷ decimal counts.rejected ∷ codes "open" ∷ decimal counts.left_open ∷ []) within.covered,
-        small_first-reads counts.rejected (codes "open" ∷ decimal counts.left_open ∷ []) within.rejected,
-        small_first-reads counts.left_open [] within.left_open,
+        small_first-reads counts.ranked (codes "covered" ∷ decimal counts.covered ∷ codes "rejected" ∷ decimal counts.rejected ∷ codes "open" ∷ decimal counts.unsettled ∷ []) within.ranked,
+        small_first-reads counts.covered (codes "rejected" ∷ decimal counts.rejected ∷ codes "open" ∷ decimal counts.unsettled ∷ []) within.covered,
+        small_first-reads counts.rejected (codes "open" ∷ decimal counts.unsettled ∷ []) within.rejected,
+        small_first-reads counts.unsettled [] within.unsettled,
       ) refl)
-  kind_of (Panel panel no_memory) within =
-      inl (rw (number_first-reads MAX_PANEL_NUMBER panel (cond no_memory (codes "memory") (codes "lost") ∷ []) (omega arith) within, loss-reads no_memory) refl)
+  kind_of (Panel panel memory) within =
+      inl (rw (number_first-reads MAX_PANEL_NUMBER panel (cond memory (codes "memory") (codes "lost") ∷ []) (omega arith) within, loss-reads memory) refl)

@@ -291,10 +291,10 @@ module _ (graph : Tfpg) where
       let second = small_after-is (codes "covered") ranked.0.1 covered.0 covered.1.0 in
       let rejected = went_on _ (small_after (codes "rejected") covered.0.1) line covered.1.1 in
       let third = small_after-is (codes "rejected") covered.0.1 rejected.0 rejected.1.0 in
-      let left_open = went_on _ (small_after (codes "open") rejected.0.1) line rejected.1.1 in
-      let fourth = small_after-is (codes "open") rejected.0.1 left_open.0 left_open.1.0 in
-      let said = says.Counts (record { ranked = ranked.0.0; covered = covered.0.0; rejected = rejected.0.0; left_open = left_open.0.0 }) in
-      let end = if_last-is left_open.0.1 said line left_open.1.1 in
+      let unsettled = went_on _ (small_after (codes "open") rejected.0.1) line rejected.1.1 in
+      let fourth = small_after-is (codes "open") rejected.0.1 unsettled.0 unsettled.1.0 in
+      let said = says.Counts (record { ranked = ranked.0.0; covered = covered.0.0; rejected = rejected.0.0; unsettled = unsettled.0.0 }) in
+      let end = if_last-is unsettled.0.1 said line unsettled.1.1 in
       made (codes "counts" ∷ words) said line end.1
       (ap (λ (ws : List (List ℕ)). codes "counts" ∷ ws)
       (first.words_are
@@ -303,20 +303,20 @@ module _ (graph : Tfpg) where
       ∙ onto_both (codes "covered") covered.0.0 covered.0.1 _
       (third.words_are
       ∙ onto_both (codes "rejected") rejected.0.0 rejected.0.1 _
-      (fourth.words_are ∙ onto_both (codes "open") left_open.0.0 left_open.0.1 _ end.0)))))
-      (record { ranked = first.is; covered = second.is; rejected = third.is; left_open = fourth.is })
+      (fourth.words_are ∙ onto_both (codes "open") unsettled.0.0 unsettled.0.1 _ end.0)))))
+      (record { ranked = first.is; covered = second.is; rejected = third.is; unsettled = fourth.is })
 
   -- whether memory ran out for a panel
-  loss-is : (words : List (List ℕ)) (no_memory : Bool) → loss_in words ≡ Some no_memory → words ≡ cond no_memory (codes "memory") (codes "lost") ∷ []
-  loss-is [] no_memory e = absurd cc
-  loss-is (word ∷ words) no_memory e =
-      either_word word (codes "lost") _ _ no_memory (word ∷ words ≡ cond no_memory (codes "memory") (codes "lost") ∷ []) (one (codes "lost") false refl)
-      (either_word word (codes "memory") _ _ no_memory (word ∷ words ≡ cond no_memory (codes "memory") (codes "lost") ∷ []) (one (codes "memory") true refl) (λ none. absurd cc)) e
+  loss-is : (words : List (List ℕ)) (memory : Bool) → loss_in words ≡ Some memory → words ≡ cond memory (codes "memory") (codes "lost") ∷ []
+  loss-is [] memory e = absurd cc
+  loss-is (word ∷ words) memory e =
+      either_word word (codes "lost") _ _ memory (word ∷ words ≡ cond memory (codes "memory") (codes "lost") ∷ []) (one (codes "lost") false refl)
+      (either_word word (codes "memory") _ _ memory (word ∷ words ≡ cond memory (codes "memory") (codes "lost") ∷ []) (one (codes "memory") true refl) (λ none. absurd cc)) e
     where
-      one : (keyword : List ℕ) (said : Bool) → cond said (codes "memory") (codes "lost") ≡ keyword → word ≡ keyword → if_last words said ≡ Some no_memory
-          → word ∷ words ≡ cond no_memory (codes "memory") (codes "lost") ∷ []
+      one : (keyword : List ℕ) (said : Bool) → cond said (codes "memory") (codes "lost") ≡ keyword → word ≡ keyword → if_last words said ≡ Some memory
+          → word ∷ words ≡ cond memory (codes "memory") (codes "lost") ∷ []
       one keyword said is same later =
-          let end = if_last-is words said no_memory later in
+          let end = if_last-is words said memory later in
           (λ i. same i ∷ end.0 i) ∙ ap (λ (w : List ℕ). w ∷ []) (sym is ∙ ap (λ (b : Bool). cond b (codes "memory") (codes "lost")) end.1)
 
   panel-is : (words : List (List ℕ)) (line : ReportLine) → panel_in words ≡ Some line → HasWords graph (codes "panel" ∷ words) line

@@ -60,7 +60,7 @@ robust alarmed monitored =
     (All-append (λ byte. eqb byte 32 ≡ false) (decimal alarmed) (codes "/") (number alarmed) (lacks_checked 32 (codes "/") refl)) (number monitored)
 
 -- whether memory ran out
-loss : (no_memory : Bool) → Lacks 32 (cond no_memory (codes "memory") (codes "lost"))
+loss : (memory : Bool) → Lacks 32 (cond memory (codes "memory") (codes "lost"))
 loss true = lacks_checked 32 (codes "memory") refl
 loss false = lacks_checked 32 (codes "lost") refl
 
@@ -196,7 +196,7 @@ module _ (graph : Tfpg) (valid : IsValid graph) where
               number counts.covered,
               (
                 lacks_checked 32 (codes "rejected") refl,
-                (number counts.rejected, (lacks_checked 32 (codes "open") refl, (number counts.left_open, tt))),
+                (number counts.rejected, (lacks_checked 32 (codes "open") refl, (number counts.unsettled, tt))),
               ),
             ),
           ),
@@ -204,8 +204,8 @@ module _ (graph : Tfpg) (valid : IsValid graph) where
       ),
     );
   }
-  line_clean (Panel panel no_memory) within =
-      record { some = omega arith; few = omega arith; clean = (lacks_checked 32 (codes "panel") refl, (number panel, (loss no_memory, tt))) }
+  line_clean (Panel panel memory) within =
+      record { some = omega arith; few = omega arith; clean = (lacks_checked 32 (codes "panel") refl, (number panel, (loss memory, tt))) }
 
   -- The words of a written line are those that it is written with.
   pub words_of-line : (line : ReportLine) → IsLineWithin graph line → words_of (written_line graph line) ≡ line_words graph line

@@ -2,9 +2,9 @@ use Rattle.std.proofs.Common.{refl}
 use Rattle.tfpg_whatif.proofs.Judging.{has_taken}
 use Rattle.tfpg_whatif.proofs.early.takes.Goals as goal
 
-pub returns-in-Partial : goal.returns-in-Partial
-returns-in-Partial c right =
-    has_taken c.args.graph.now c.args.log.now c.args.step.now c.args.checker.now c.reserve.new.self c.take.new.self c.take.result _ c.reserve.ensures.same c.in-Partial.is (λ steps. refl) c.take.ensures.reach
+pub returns-in-Open : goal.returns-in-Open
+returns-in-Open c right =
+    has_taken c.args.graph.now c.args.log.now c.args.step.now c.args.checker.now c.reserve.new.self c.take.new.self c.take.result _ c.reserve.ensures.same c.in-Open.is (λ steps. refl) c.take.ensures.reach
     c.take.ensures.represents
 
 pub returns-in-Closed : goal.returns-in-Closed

@@ -9,12 +9,12 @@ pub invariant_of-result : goal.invariant_of-result
 invariant_of-result c = or_lt 64 c.self.inside.bits _ c.self.invariant (mod_below _ _ (lit< tt))
 
 pub returns-clause-list : goal.returns-clause-list
-returns-clause-list c = members_of-set c.self.inside.bits c.args.position c.requires ∙ ap (with_member c.args.position) c.self.view_is
+returns-clause-list c = members_of-set c.self.inside.bits c.args.place c.requires ∙ ap (with_member c.args.place) c.self.view_is
 
 pub returns-clause-members : goal.returns-clause-members
 returns-clause-members c =
-    λ other. subst (λ members. Contains members other ↔ ((c.args.position ≡ other) ⊎ Contains c.args.self other))
-    (sym (members_of-set c.self.inside.bits c.args.position c.requires ∙ ap (with_member c.args.position) c.self.view_is)) (members-with_member c.args.position c.args.self other)
+    λ other. subst (λ members. Contains members other ↔ ((c.args.place ≡ other) ⊎ Contains c.args.self other))
+    (sym (members_of-set c.self.inside.bits c.args.place c.requires ∙ ap (with_member c.args.place) c.self.view_is)) (members-with_member c.args.place c.args.self other)
 
 pub returns-clause-set : goal.returns-clause-set
 returns-clause-set c = IsSet-members_of _

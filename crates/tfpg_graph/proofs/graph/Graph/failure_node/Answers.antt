@@ -6,4 +6,4 @@ use Rattle.tfpg_graph.proofs.graph.Graph.failure_node.Goals as goal
 pub returns-clause-within : goal.returns-clause-within
 returns-clause-within c =
     subst (λ (g : Tfpg). c.failure_node.result < length g.nodes) c.self.view_is
-    (failure_at-below c.self.inside.declared c.args.position c.failure_node.result c.failure_node.ensures)
+    (failure_at-below c.self.inside.declared c.args.place c.failure_node.result c.failure_node.ensures)

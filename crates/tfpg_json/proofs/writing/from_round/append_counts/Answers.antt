@@ -9,7 +9,7 @@ pub returns-clause-ok : goal.returns-clause-ok
 returns-clause-ok c =
     let counts = c.args.counts in
     let covered = member_tokens (codes "covered") (whole counts.covered) in
-    let opened = member_tokens (codes "open") (whole counts.left_open) in
+    let opened = member_tokens (codes "open") (whole counts.unsettled) in
     let ranked = member_tokens (codes "ranked") (whole counts.ranked) in
     let rejected = member_tokens (codes "rejected") (whole counts.rejected) in
     let end = end_object ∷ [] in

@@ -9,7 +9,7 @@ pub struct Fraction {
 
 /// By what a ranked hypothesis is ordered: its cost, then its robustness, then its number.
 #[derive(Clone, Copy, Debug, PartialEq, Eq)]
-pub struct RankingKey {
+pub struct Place {
     pub cost: u64,
     pub robust: Fraction,
     pub number: u32,
