@@ -12,19 +12,19 @@ use tfpg_base::{Doubts, Items, NoMemory, Set, Trace};
 /// The status of a hypothesis in a round.
 #[derive(Drop)]
 pub enum Status {
-    /// The trace explains the log from the set, and no proper subset of it is ranked. `cost` is the sum of the rarities of
-    /// its members; of the `monitored` nodes in its reach `alarmed` have an alarm.
+    /// The trace explains the log, its doubts ignored, from its failure modes, and no proper part is ranked. `cost` is the sum of their
+    /// rarities, and 1,000 for each doubt; of the `monitored` nodes in its reach that it does not doubt `alarmed` have an alarm.
     Ranked {
         trace: Trace,
         cost: u64,
         alarmed: u32,
         monitored: u32,
     },
-    /// A proper subset of the set is ranked; `by` is the least number of one.
+    /// A proper part of it is ranked; `by` is the least number of one.
     Covered {
         by: u32,
     },
-    /// The steps of all rounds so far refute the set.
+    /// The steps of all rounds so far refute it.
     Rejected,
     /// The budget of this round was spent on splits, and the tree is unsettled.
     Open,
@@ -72,7 +72,7 @@ pub struct Finding {
     pub number: u32,
     /// The failure modes of the hypothesis.
     pub set: Set,
-    /// The monitors that it does not believe: for now none.
+    /// The monitors that it does not believe.
     pub doubts: Doubts,
     pub steps: StepList,
     pub status: Status,

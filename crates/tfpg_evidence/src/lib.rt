@@ -1,7 +1,7 @@
 //! The evidence that every round carries, as plain values.
 //!
-//! - [`Step`] is a step of a refutation: it splits on a clause, which a [`ClauseName`] names, or closes a leaf by a
-//!   cycle of [`Reason`]s.
+//! - [`Step`] is a step of a refutation: it splits on a clause, which a [`ClauseName`] names, closes a leaf by a cycle of [`Reason`]s,
+//!   or reuses a subtree.
 //! - [`Finding`] is what a round says of one hypothesis: its [`Status`] and its steps of this round. [`finding_numbered`] is the
 //!   one of a number.
 //! - [`Round`] is what one accepted line of the log brings: a finding for each hypothesis, their order and [`Counts`].

@@ -12,11 +12,11 @@ pub enum Reason {
     Top { node: u32 },
     /// The set does not reach the node, so the node is not active by the horizon.
     Unreached { node: u32, horizon: u64 },
-    /// The alarm of this event says that its node became active at most the node's lag before the alarm.
+    /// The alarm of this event says that its node became active at most the node's greatest lag before the alarm.
     From { event: u32 },
-    /// The alarm of this event says that its node was active at the time of the alarm.
+    /// The alarm of this event says that its node became active at least the node's least lag before the alarm.
     Upto { event: u32 },
-    /// This event, a silence or a sweep, says that the node was not active at its time.
+    /// This event, a silence or a sweep, says that the node was not active its least lag before.
     Quiet { event: u32, node: u32 },
     /// The constraint at this place in the alternative taken at this split of the path. Both are numbered from 1.
     Pick { split: u64, place: u32 },
