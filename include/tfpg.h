@@ -30,7 +30,8 @@ extern "C" {
 enum {
     /* It is done. */
     TFPG_DONE = 0,
-    /* The report is not accepted: `line` is the first line of it that is wrong, and `cause` says why. */
+    /* The report is not accepted: `line` and `cause` are those of the first test that it fails. A block is tested once all its lines are
+     * there, so a line before that one may be wrong too. */
     TFPG_NOT_ACCEPTED = 1,
     /* `k` is more than 64, `doubt` more than 4, or the budget 0 or more than 10^12. */
     TFPG_OUT_OF_RANGE = 2,

@@ -64,8 +64,8 @@ impl Judge {
     }
 
     /// Takes the next line of the report, without its line end. The first one has the number 1, each later one the next number. The
-    /// fault says which line of the report is the first that is wrong, and why; or that there are too many hypotheses on the terms of
-    /// the first line. Each later call returns the same fault.
+    /// fault has the line and the cause of the first test that fails, where a block is tested with its last line; or it says that there
+    /// are too many hypotheses on the terms of the first line. Each later call returns the same fault.
     ///
     /// It costs a pass over the line. What a block costs besides comes with its last line: that of the head looks once at each two
     /// hypotheses, for what is a proper part of what; a round costs what its steps and traces cost, and a pass over the hypotheses,

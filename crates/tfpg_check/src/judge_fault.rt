@@ -8,7 +8,7 @@ use tfpg_report::ReadRefusal;
 /// Why a report is not accepted, or not judged.
 #[derive(Clone, Copy, Debug, PartialEq, Eq)]
 pub enum JudgeFault {
-    /// This line of the report is the first that is wrong, for this cause.
+    /// The first test of the report that fails says this line and this cause.
     NotAccepted { line: u64, cause: CheckCause },
     /// The first line gives more than [`MAX_HYPOTHESES`](tfpg_hyp::MAX_HYPOTHESES) hypotheses, exactly this many.
     TooMany { count: u128 },

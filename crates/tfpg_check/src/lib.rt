@@ -2,7 +2,7 @@
 //!
 //! - [`Judge`] takes a report line by line, and judges it by a graph and the text of a log. It keeps what the next lines are judged
 //!   by, and not the report.
-//! - [`JudgeFault`] is why a report is not accepted, and [`CheckCause`] the cause of its first wrong line.
+//! - [`JudgeFault`] is why a report is not accepted, and [`CheckCause`] the first test that it fails.
 //!
 //! [`laws`] says how far a report has come after each block, that equal reports say the same, that each line of a report can be read,
 //! that a report whose lines can be read has no cause for which it would not be accepted, and that no lines have more than one.

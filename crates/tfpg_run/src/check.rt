@@ -49,7 +49,7 @@ pub(crate) fn check_by_files<F: Shelf, S: Source, K: Sink>(
 ///
 /// # Errors
 ///
-/// The first line of the report that is wrong, and why. No line of a report is too long, so one that is says no line of it.
+/// The line and the cause of the first test that fails. No line of a report is too long, so one that is says no line of it.
 fn check_report<S: Source, K: Sink>(
     alloc: Global,
     graph: Graph,

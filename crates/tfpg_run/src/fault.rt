@@ -153,7 +153,7 @@ impl From<Failed> for ExplainFault {
 /// Why the report of the input was not accepted, or that it is accepted was not written.
 #[derive(Clone, Copy, Debug, PartialEq, Eq)]
 pub(crate) enum CheckFault {
-    /// This line of the report is the first that is wrong, for this cause.
+    /// The first test of the report that fails says this line and this cause.
     NotAccepted { line: u64, cause: CheckCause },
     /// The first line gives more than [`MAX_HYPOTHESES`](tfpg_hyp::MAX_HYPOTHESES) hypotheses, exactly this many.
     TooMany { count: u128 },

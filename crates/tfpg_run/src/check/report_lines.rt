@@ -21,7 +21,7 @@ pub(super) enum NextReportLine {
 ///
 /// # Errors
 ///
-/// `NotAccepted` at the first line that is wrong, or after the last line; `TooMany` at the first line.
+/// `NotAccepted` with the line of the first test that fails, or with the one after the last; `TooMany` at the first line.
 pub(super) fn judge_lines<S: Source>(
     alloc: Global,
     judge: &mut Judge,

@@ -24,7 +24,7 @@ use tfpg_report::laws::a_report_line_says_one_thing;
 ///
 /// # Errors
 ///
-/// The first line of the report that is wrong, and why.
+/// The line and the cause of the first test of the report that fails, or why it is not judged.
 pub fn check_texts(
     alloc: Global,
     graph_text: &[u8],

@@ -87,7 +87,7 @@ impl From<NoMemory> for ReportFault {
 pub enum CheckTextsFault {
     /// This is the first fault of the graph's text.
     Graph(GraphFault),
-    /// This line of the report is the first that is wrong, for this cause.
+    /// The first test of the report that fails says this line and this cause.
     NotAccepted { line: u64, cause: CheckCause },
     /// The first line gives more than [`MAX_HYPOTHESES`](tfpg_hyp::MAX_HYPOTHESES) hypotheses, exactly this many.
     TooManyHypotheses { count: u128 },
