@@ -1,6 +1,6 @@
 #!/usr/bin/env bash
-# Compares what the program writes on each example with the report or the verdict beside it, byte for byte, lets it judge each of
-# these reports, and compares its stored run with the example of the pump. Ends with status 1 where something differs.
+# Compares what the program writes on each example with the report or the verdict beside it, byte for byte, and lets it judge each of
+# these reports. Ends with status 1 where something differs.
 set -u
 
 top=$(dirname "$(dirname "$(readlink -f "${BASH_SOURCE[0]}")")")
@@ -24,10 +24,5 @@ for verdict in "$top"/examples/*.verdict; do
     system=$top/examples/${name%%-*}
     "$top/tfpg" explain "$system.tfpg" "$system.log" < "${verdict%.verdict}.map" | cmp -s - "$verdict" || differs "$name"
 done
-
-stored=$top/crates/tfpg
-cmp -s "$stored/data/pump.tfpg" "$top/examples/pump.tfpg" || differs "the stored graph"
-cmp -s "$stored/stdin" "$top/examples/pump.log" || differs "the stored log"
-cmp -s "$stored/stdout" "$top/examples/pump.report" || differs "the stored report"
 
 exit "$status"
