@@ -24,7 +24,7 @@ pub fn a_report_goes_on_block_by_block()
 {}
 
 /// Equal reports of one graph and one list of lines say the same: they are on the same terms, and for each line both refuse it for the
-/// same cause, or give each set the same status, and each ranked set the same trace.
+/// same cause, or give each hypothesis the same status, and each ranked one the same trace.
 pub fn equal_reports_say_the_same()
     ensures { EqualReportsSayTheSame }
 {

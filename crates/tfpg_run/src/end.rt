@@ -21,7 +21,7 @@ use tfpg_hyp::TableFault;
 use tfpg_words::{PlanFault, UsageCause};
 
 /// How a run ends. Of several that would hold, the first in the order of the work decides: the words, the files in their order,
-/// the graph, the script, the number of sets, and then input and output line by line.
+/// the graph, the script, the number of hypotheses, and then input and output line by line.
 #[derive(Clone, Copy, Debug, PartialEq, Eq)]
 pub enum End {
     /// All was written, and where the input is read, it was read to its end.

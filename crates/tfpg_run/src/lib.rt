@@ -2,7 +2,7 @@
 //!
 //! [`run`] is the call that the program makes. It says how it ended by an [`End`], which has an exit code and a line.
 //! [`laws`] says that lines spell at most one map, that the text of a map spells it, that a simulated set is rejected in no
-//! round, that a rejected set stays rejected, that what `diagnose` wrote is accepted by `check`, and that a graph that is converted to
+//! round, that a rejected hypothesis stays rejected, that what `diagnose` wrote is accepted by `check`, and that a graph that is converted to
 //! JSON and back is the same graph. [`panel_line`] appends the line that a file panel writes for a round.
 //!
 //! For programs that have no files and no streams there are calls over texts in memory: [`diagnose_texts`], [`check_texts`], and a

@@ -19,8 +19,8 @@ use tfpg_json::write_round;
 use tfpg_report::{append_counts, append_set};
 use tfpg_words::PanelKind;
 
-/// Appends the line that a panel of this kind writes for a round of the graph: the best of the ranked sets and its cost, how many
-/// sets have each status, or the round as JSON. Where memory runs out, a part of the line may stand after the old bytes. Takes time
+/// Appends the line that a panel of this kind writes for a round of the graph: the first of the ranked hypotheses and its cost, how
+/// many have each status, or the round as JSON. Where memory runs out, a part of the line may stand after the old bytes. Takes time
 /// linear in the number of findings and in the line; for JSON see [`write_round`](tfpg_json::write_round).
 pub fn panel_line(
     kind: PanelKind,
@@ -38,7 +38,7 @@ pub fn panel_line(
     }
 }
 
-/// Appends the line of the best of the ranked sets.
+/// Appends the line of the first of the ranked hypotheses.
 fn append_top(graph: &Graph, round: &Round, into: &mut Vec<u8>) -> Result<(), NoMemory>
     requires { IsRoundOf (sizes_of graph.now) round.now }
     ensures { Appends result into.old.items into.new.items (top_line graph.now round.entry.now) }
@@ -49,7 +49,7 @@ fn append_top(graph: &Graph, round: &Round, into: &mut Vec<u8>) -> Result<(), No
     }
 }
 
-/// The finding on the best of the ranked sets, where there is one.
+/// The finding on the first of the ranked hypotheses, where there is one.
 fn best_of<'a>(graph: &Graph, round: &'a Round) -> Option<&'a Finding>
     requires { IsRoundOf (sizes_of graph.now) round.now }
     ensures best { option_copied result ≡ slice_get (ranked_in_order round.entry.now) 0 }
@@ -84,7 +84,7 @@ fn append_best(
     append_ranked(number, &set, *cost, into)
 }
 
-/// Appends the line of a best set, by its text.
+/// Appends the line of the first hypothesis, by the text of its set.
 fn append_ranked(number: u32, set: &[u8], cost: u64, into: &mut Vec<u8>) -> Result<(), NoMemory>
     ensures { Appends result into.old.items into.new.items
         (text_line (codes "round" ∷ decimal number ∷ codes "best" ∷ set.now ∷ codes "cost" ∷ decimal cost ∷ [])) }
@@ -96,7 +96,7 @@ fn append_ranked(number: u32, set: &[u8], cost: u64, into: &mut Vec<u8>) -> Resu
     append_line(into, &[b"round", number, b"best", set, b"cost", cost])
 }
 
-/// Appends the line of a round that ranks no set.
+/// Appends the line of a round that ranks no hypothesis.
 fn append_none(number: u32, into: &mut Vec<u8>) -> Result<(), NoMemory>
     ensures { Appends result into.old.items into.new.items
         (text_line (codes "round" ∷ decimal number ∷ codes "best" ∷ none_words)) }
@@ -106,7 +106,7 @@ fn append_none(number: u32, into: &mut Vec<u8>) -> Result<(), NoMemory>
     append_line(into, &[b"round", number, b"best", b"none"])
 }
 
-/// Appends the line of how many sets have each status.
+/// Appends the line of how many hypotheses have each status.
 fn append_count(round: &Round, into: &mut Vec<u8>) -> Result<(), NoMemory>
     ensures { Appends result into.old.items into.new.items (count_line round.entry.now) }
 {

@@ -13,8 +13,8 @@ use Rattle.tfpg_check.specs.Report.{Progress, IsReport, progress_of, rounds_of}
 use Rattle.tfpg_base.specs.declared.terms.Terms.{Terms}
 use Rattle.tfpg_run.specs.diagnose.TellsPanels.{Desks, TellsPanels, rounds_in}
 
--- What a round says of this log, where it comes after these rounds. Its steps are earned. Its statuses say which sets
--- fit. Where no set is open, they are those of the minimal sets that fit. With a budget that is enough, no set is open.
+-- What a round says of this log, where it comes after these rounds. Its steps are earned. Its statuses say which hypotheses
+-- fit. Where none is open, they are those of the minimal ones that fit. With a budget that is enough, none is open.
 pub record RoundSays (graph : Tfpg) (terms : Terms) (rounds : List Round) (log : Logbook) (round : Round) : Type 0 where
   pub earned : AreEarned graph log terms rounds round
   pub fitting : SayWhichSetsFit graph log terms round.findings

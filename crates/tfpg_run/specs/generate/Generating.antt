@@ -19,7 +19,7 @@ use Rattle.tfpg_run.specs.generate.Summary.{drawing, summary_text}
 use Rattle.tfpg_run.specs.World.{World}
 
 -- The text says what was drawn by the number and the size, and what the last of the rounds of the simulated log says:
--- how many sets have each status, and the status of the simulated set, which is never rejected. A set has at most
+-- how many hypotheses have each status, and the status of the simulated set, which is never rejected. A hypothesis has at most
 -- `GENERATED_K` failure modes, and at most `GENERATED_BUDGET` splits in a round.
 pub record HasSummary (number size : ℕ) (text : List ℕ) : Type 0 where
   pub simulated : Simulated

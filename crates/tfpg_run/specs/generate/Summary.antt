@@ -35,7 +35,7 @@ drawn_text drawn =
     ∷ codes "nodes" ∷ decimal (length drawn.graph.nodes) ∷ codes "edges" ∷ decimal (length drawn.graph.edges)
     ∷ codes "lines" ∷ decimal drawn.lines ∷ [])
 
--- the line that says how many rounds there were, and how many sets have each status
+-- the line that says how many rounds there were, and how many hypotheses have each status
 abbrev pub rounds_text : ℕ → Counts → List ℕ
 rounds_text rounds counts = text_line (codes "rounds" ∷ decimal rounds ∷ counts_words counts)
 
