@@ -1,5 +1,4 @@
 -- That the code judges a round as the definitions say.
-pub mod SetTests
 pub mod NotedParts
 pub mod Listed
 pub mod TestsInTurn

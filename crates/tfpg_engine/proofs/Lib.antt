@@ -3,7 +3,6 @@ mod KeptStaysRight
 pub mod NewFindingIsRight
 mod FindingsMakeRound
 mod EventBringsRound
-mod Parts
 pub mod Ignoring
 pub mod EnoughIgnoring
 mod FindingWork

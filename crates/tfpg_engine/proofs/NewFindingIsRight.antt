@@ -1,7 +1,7 @@
 -- What a round finds of one hypothesis.
 use Rattle.std.proofs.Common.{◌≡◌, ℕ, ◌+◌, ◌<◌, ◌≤◌, ◌⊎◌, inl, inr, ◌↔◌, Bool, true, false, cond, List, [], ◌∷◌, ◌++◌, length, get_or, take, Option, None, set as set_at, refl, sym, ap, subst, ◌∙◌, arith}
 use Rattle.std.proofs.Math.Arith.{lt_of_le-ne}
-use Rattle.std.specs.Prelude.{IsTrue, ◌==◌, ◌||◌, Result, Ok, Some, slice_get, option_map}
+use Rattle.std.specs.Prelude.{IsTrue, ◌==◌, ◌||◌, Result, Ok, Some, slice_get}
 use Rattle.std.proofs.lemmas.List.{append-nil, length-append, length-set, take-append-le, take_at}
 use Rattle.std.proofs.lemmas.Option.{slice_get-get_or, slice_get_within, get_or_from_slice_get, same_Some}
 use Rattle.tfpg_base.proofs.lists.Sequences.{below_or_last}
@@ -288,12 +288,6 @@ same_row table one other is also same = λ i. record {
   hypothesis = same_Some one.hypothesis other.hypothesis (sym is.hypothesis ∙ ap (slice_get table.hypotheses) same ∙ also.hypothesis) i;
   reach = same_Some one.reach other.reach (sym is.reach ∙ ap (slice_get table.reaches) same ∙ also.reach) i;
 }
-
--- the hypothesis of a number, by its failure modes and its doubts
-pub hypothesis_at : (at : Option Hypothesis) (set doubts : List ℕ) → option_map (λ (h : Hypothesis). h.set) at ≡ Some set → option_map (λ (h : Hypothesis). h.doubts) at ≡ Some doubts
-    → at ≡ Some (record { set = set; doubts = doubts })
-hypothesis_at None set doubts set_is doubts_are = cc
-hypothesis_at (Some h) set doubts set_is doubts_are = λ i. Some (record { set = same_Some h.set set set_is i; doubts = same_Some h.doubts doubts doubts_are i })
 
 pub none_found : (inquiry : Inquiry) (table : Hypotheses) (slots : List Slot) → AreFirstFindings inquiry table slots slots [] 0
 none_found inquiry table slots =

@@ -4,7 +4,7 @@ ghost use Rattle.std.specs.Prelude.{◌≡◌, ◌<◌, ◌^◌, List, [], lengt
 ghost use Rattle.tfpg_evidence.specs.declared.finding.Finding.{Finding};
 ghost use Rattle.tfpg_hyp.specs.Ranking.{cost_of, robustness_of};
 ghost use Rattle.tfpg_hyp.specs.Rounds.{HasRankedPart, IsLeastPart};
-ghost use Rattle.tfpg_engine.specs.inside.Inquiries.{IsInquiry, IsRowOfGraph, case_of_row, hypothesis_listed, row_of, inquiry_of};
+ghost use Rattle.tfpg_engine.specs.inside.Inquiries.{IsInquiry, IsRowOfGraph, case_of_row, row_of, inquiry_of};
 ghost use Rattle.tfpg_engine.specs.inside.Slots.{CanGoOn};
 ghost use Rattle.tfpg_engine.specs.inside.NewFindings.{IsNewFinding, status_by};
 ghost use Rattle.tfpg_engine.specs.inside.SlotWork.{IsSlotWithin};
@@ -38,11 +38,11 @@ pub(crate) fn new_finding<L: Ledger>(
     work: &mut Steps<L>,
 ) -> Result<Finding, NoMemory>
     requires inquiry { IsInquiry (inquiry_of inquiry.now log.now) }
-    requires ignores { log.now.ignored ≡ listed.now.doubts }
+    requires ignores { log.now.ignored ≡ listed.now.hypothesis.doubts }
     requires row { IsRowOfGraph inquiry.now.graph.now (row_of listed.now) }
     requires few { length findings.now < 2 ^ 32 }
     requires goes_on { CanGoOn (case_of_row (inquiry_of inquiry.now log.now) (row_of listed.now))
-        (hypothesis_listed listed.now) slot.old }
+        listed.now.hypothesis slot.old }
     ensures found { IfOk result (IsNewFinding (inquiry_of inquiry.now log.now) (row_of listed.now)
         findings.now slot.old slot.new) }
     ensures work { IfOk result (IsSlotWithin (case_of_row (inquiry_of inquiry.now log.now) (row_of listed.now))
@@ -54,7 +54,7 @@ pub(crate) fn new_finding<L: Ledger>(
     if slot.is_rejected() {
         return Ok(passed_over(alloc, listed, Status::Rejected));
     }
-    match covering(findings, listed) {
+    match covering(findings, listed.hypothesis) {
         Some(by) => Ok(passed_over(alloc, listed, Status::Covered { by })),
         None => search_on(alloc, inquiry, log, listed, slot, work),
     }
@@ -64,8 +64,8 @@ pub(crate) fn new_finding<L: Ledger>(
 fn passed_over(alloc: Global, listed: &Listed<'_>, status: Status) -> Finding
     ensures { result ≡ record {
       number = listed.now.number;
-      set = listed.now.set;
-      doubts = listed.now.doubts;
+      set = listed.now.hypothesis.set;
+      doubts = listed.now.hypothesis.doubts;
       steps = [];
       status = status;
     } }
@@ -77,16 +77,16 @@ fn passed_over(alloc: Global, listed: &Listed<'_>, status: Status) -> Finding
 fn finding_on(listed: &Listed<'_>, steps: StepList, status: Status) -> Finding
     ensures { result ≡ record {
       number = listed.now.number;
-      set = listed.now.set;
-      doubts = listed.now.doubts;
+      set = listed.now.hypothesis.set;
+      doubts = listed.now.hypothesis.doubts;
       steps = steps;
       status = status;
     } }
 {
     Finding {
         number: listed.number,
-        set: listed.set,
-        doubts: listed.doubts,
+        set: listed.hypothesis.set,
+        doubts: listed.hypothesis.doubts,
         steps,
         status,
     }
@@ -103,13 +103,13 @@ fn search_on<L: Ledger>(
     work: &mut Steps<L>,
 ) -> Result<Finding, NoMemory>
     requires inquiry { IsInquiry (inquiry_of inquiry.now log.now) }
-    requires ignores { log.now.ignored ≡ listed.now.doubts }
+    requires ignores { log.now.ignored ≡ listed.now.hypothesis.doubts }
     requires row { IsRowOfGraph inquiry.now.graph.now (row_of listed.now) }
     requires not_rejected { is_rejected_slot slot.old ≡ false }
     requires goes_on { CanGoOn (case_of_row (inquiry_of inquiry.now log.now) (row_of listed.now))
-        (hypothesis_listed listed.now) slot.old }
+        listed.now.hypothesis slot.old }
     ensures found { IfOk result (λ finding. (findings : List Finding) →
-        (HasRankedPart findings (hypothesis_listed listed.now) → ⊥) →
+        (HasRankedPart findings listed.now.hypothesis → ⊥) →
         IsNewFinding (inquiry_of inquiry.now log.now) (row_of listed.now) findings slot.old slot.new finding) }
     ensures work { IfOk result (IsSlotWithin (case_of_row (inquiry_of inquiry.now log.now) (row_of listed.now))
         slot.old work.old work.new) }
@@ -127,15 +127,15 @@ fn search_on<L: Ledger>(
 /// The status of a hypothesis by what its search found.
 fn status(graph: &Graph, log: &Log, listed: &Listed<'_>, found: Found) -> Status
     requires { IsRowOfGraph graph.now (row_of listed.now) }
-    ensures { result ≡ status_by (cost_of graph.now (hypothesis_listed listed.now))
-        (robustness_of graph.now log.now listed.now.reach.now listed.now.doubts) found }
+    ensures { result ≡ status_by (cost_of graph.now listed.now.hypothesis)
+        (robustness_of graph.now log.now listed.now.reach.now listed.now.hypothesis.doubts) found }
 {
     match found {
         Found::Shown(trace) => {
-            let robust = robust(graph, log, listed.reach, listed.doubts);
+            let robust = robust(graph, log, listed.reach, listed.hypothesis.doubts);
             Status::Ranked {
                 trace,
-                cost: cost(graph, listed.set, listed.doubts),
+                cost: cost(graph, listed.hypothesis.set, listed.hypothesis.doubts),
                 alarmed: robust.alarmed,
                 monitored: robust.monitored,
             }

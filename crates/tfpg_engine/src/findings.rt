@@ -42,11 +42,10 @@ pub(crate) fn new_findings<L: Ledger>(
     for number in 0..table.len() {
         let listed = Listed {
             number,
-            set: table.set(number),
-            doubts: table.doubts(number),
+            hypothesis: table.hypothesis(number),
             reach: table.reach(number),
         };
-        log.ignore(listed.doubts);
+        log.ignore(listed.hypothesis.doubts);
         let slot = &mut slots[number as usize];
         let finding = new_finding(alloc, inquiry, log, &listed, &findings, slot, work)?;
         findings.push(finding)?;

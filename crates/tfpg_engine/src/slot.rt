@@ -6,7 +6,7 @@ ghost use Rattle.tfpg_clause.specs.Case.{case_of};
 ghost use Rattle.tfpg_clause.specs.Trees.{Judged};
 ghost use Rattle.tfpg_search.specs.Represents.{SearchRepresents};
 ghost use Rattle.tfpg_engine.specs.EngineState.{SlotRepresents, is_rejected_slot, seen_by};
-ghost use Rattle.tfpg_engine.specs.inside.Inquiries.{IsRowOfGraph, hypothesis_listed, row_of};
+ghost use Rattle.tfpg_engine.specs.inside.Inquiries.{IsRowOfGraph, row_of};
 ghost use Rattle.tfpg_engine.specs.inside.NewFindings.{kept};
 
 use crate::listed::Listed;
@@ -59,16 +59,16 @@ impl Slot {
         requires { IsRowOfGraph graph.now (row_of listed.now) }
         ensures represents { IfOk result (λ search. (log : Logbook) (steps : List Judged) →
             is_rejected_slot self ≡ false →
-            SlotRepresents (case_of graph.now log listed.now.reach.now) (hypothesis_listed listed.now)
+            SlotRepresents (case_of graph.now log listed.now.reach.now) listed.now.hypothesis
             self steps →
-            SlotRepresents (case_of graph.now log listed.now.reach.now) (hypothesis_listed listed.now)
+            SlotRepresents (case_of graph.now log listed.now.reach.now) listed.now.hypothesis
             (Slot.Searched search) steps) }
         ensures seen { IfOk result (λ search. search.seen ≡ seen_by self) }
     {
         match self {
             Slot::Searched(search) => Ok(search),
-            Slot::Untouched => Search::new(alloc, graph, listed.set, *listed.reach),
-            Slot::Rejected => Search::new(alloc, graph, listed.set, *listed.reach),
+            Slot::Untouched => Search::new(alloc, graph, listed.hypothesis.set, *listed.reach),
+            Slot::Rejected => Search::new(alloc, graph, listed.hypothesis.set, *listed.reach),
         }
     }
 }

@@ -2,12 +2,13 @@
 
 ghost use Rattle.std.specs.Prelude.{◌≡◌, ◌<◌, AllPairs, IfOk};
 ghost use Rattle.std.specs.Option.{option_copied};
+ghost use Rattle.tfpg_evidence.specs.Findings.{hypothesis_of};
 ghost use Rattle.tfpg_evidence.specs.RoundOf.{finding_numbered, is_ranked};
 
 use crate::StepList;
 use crate::step::copy_steps;
 use std::alloc::Global;
-use tfpg_base::{Doubts, Items, NoMemory, Set, Trace};
+use tfpg_base::{Doubts, Hypothesis, Items, NoMemory, Set, Trace};
 
 /// The status of a hypothesis in a round.
 #[derive(Drop)]
@@ -82,6 +83,16 @@ pub struct Finding {
 pub type Findings = Items<Finding>;
 
 impl Finding {
+    /// The hypothesis that it is on.
+    pub fn hypothesis(&self) -> Hypothesis
+        ensures { result ≡ hypothesis_of self.now }
+    {
+        Hypothesis {
+            set: self.set,
+            doubts: self.doubts,
+        }
+    }
+
     /// An equal finding.
     fn copy(&self, alloc: Global) -> Result<Finding, NoMemory>
         ensures { IfOk result (λ copy. copy ≡ self.now) }

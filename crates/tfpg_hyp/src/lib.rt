@@ -27,7 +27,6 @@ mod counting;
 pub mod laws;
 mod limits;
 mod listing;
-mod members;
 mod monitors;
 mod place;
 mod ranking;

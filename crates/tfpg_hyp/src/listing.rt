@@ -6,9 +6,8 @@ ghost use Rattle.tfpg_base.specs.declared.limits.TheConstants.{MAX_DOUBT};
 ghost use Rattle.tfpg_graph.specs.declared.limits.TheConstants.{MAX_FAILURES};
 ghost use Rattle.tfpg_hyp.specs.inside.Choices.{chosen, chosen_below, doubted};
 
-use crate::members::Members;
 use std::alloc::Global;
-use tfpg_base::{NoMemory, Set};
+use tfpg_base::{Hypothesis, NoMemory, Set};
 
 /// The hypotheses of at most `k` members, which are positions below `count` and monitors, at most `doubt` of them monitors.
 pub(crate) fn list_hypotheses(
@@ -17,7 +16,7 @@ pub(crate) fn list_hypotheses(
     monitors: &[u32],
     k: u32,
     doubt: u32,
-) -> Result<Vec<Members>, NoMemory>
+) -> Result<Vec<Hypothesis>, NoMemory>
     requires few_failures { count ≤ MAX_FAILURES }
     requires few_doubts { doubt ≤ MAX_DOUBT }
     requires monitors { IsNodeSet monitors.now }
@@ -34,7 +33,7 @@ pub(crate) fn list_hypotheses(
 /// Appends the hypotheses that have these failure modes and `size` members more: of the `count` positions from `least` on,
 /// and of the monitors, at most `doubt` of them. First come those with the position `least`.
 fn append_hypotheses(
-    list: &mut Vec<Members>,
+    list: &mut Vec<Hypothesis>,
     set: Set,
     least: u32,
     count: u32,
@@ -52,14 +51,14 @@ fn append_hypotheses(
         (chosen monitors.now doubt count size least)) }
 {
     if size == 0 {
-        list.push(Members::believing(set))?;
+        list.push(Hypothesis::believing(set))?;
         return Ok(());
     }
     if count == 0 {
         if doubt < size {
             return Ok(());
         }
-        return append_doubts(list, Members::believing(set), monitors, size);
+        return append_doubts(list, Hypothesis::believing(set), monitors, size);
     }
     if count + doubt < size || count as usize + monitors.len() < size as usize {
         return Ok(());
@@ -77,22 +76,22 @@ fn append_hypotheses(
     append_hypotheses(list, set, least + 1, count - 1, size, monitors, doubt)
 }
 
-/// Appends the hypotheses that have these members and doubt `size` of the monitors besides. First come those that doubt the
-/// first monitor.
+/// Appends the hypotheses that have the members of this one and doubt `size` of the monitors besides. First come those that doubt
+/// the first monitor.
 fn append_doubts(
-    list: &mut Vec<Members>,
-    members: Members,
+    list: &mut Vec<Hypothesis>,
+    hypothesis: Hypothesis,
     monitors: &[u32],
     size: u32,
 ) -> Result<(), NoMemory>
     requires monitors { IsNodeSet monitors.now }
-    requires below { All (λ doubt. All (λ node. doubt < node) monitors.now) members.doubts }
+    requires below { All (λ doubt. All (λ node. doubt < node) monitors.now) hypothesis.doubts }
     ensures { OnOk result
         (list.new.items ≡ list.old.items
-        ++ map (λ nodes. record { set = members.set; doubts = members.doubts ++ nodes }) (doubted size monitors.now)) }
+        ++ map (λ nodes. record { set = hypothesis.set; doubts = hypothesis.doubts ++ nodes }) (doubted size monitors.now)) }
 {
     if size == 0 {
-        list.push(members)?;
+        list.push(hypothesis)?;
         return Ok(());
     }
     if monitors.len() < size as usize {
@@ -101,8 +100,8 @@ fn append_doubts(
     match monitors.split_first() {
         None => Ok(()),
         Some((node, others)) => {
-            append_doubts(list, members.doubting(*node), others, size - 1)?;
-            append_doubts(list, members, others, size)
+            append_doubts(list, hypothesis.doubting(*node), others, size - 1)?;
+            append_doubts(list, hypothesis, others, size)
         }
     }
 }

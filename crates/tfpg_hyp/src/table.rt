@@ -14,11 +14,10 @@ ghost use Rattle.tfpg_hyp.specs.inside.Choices.{counted_below};
 use crate::counting::count_hypotheses;
 use crate::limits::MAX_HYPOTHESES;
 use crate::listing::list_hypotheses;
-use crate::members::Members;
 use crate::monitors::{monitor_count, monitors_of};
 use std::alloc::Global;
 use std::marker::Model;
-use tfpg_base::{Doubts, NoMemory, Set};
+use tfpg_base::{Doubts, Hypothesis, NoMemory, Set};
 use tfpg_graph::{Graph, NodeSet};
 
 /// Why there is no table.
@@ -47,7 +46,7 @@ impl From<NoMemory> for TableFault {
 /// Contracts see the list of the hypotheses and that of their reaches. No look-up allocates; each takes constant time.
 #[derive(Drop)]
 pub struct Table {
-    hypotheses: Vec<Members>,
+    hypotheses: Vec<Hypothesis>,
     reaches: Vec<NodeSet>,
 }
 
@@ -107,6 +106,14 @@ impl Table {
         self.hypotheses.len() as u32
     }
 
+    /// The hypothesis of this number.
+    pub fn hypothesis(&self, number: u32) -> Hypothesis
+        requires { number < length self.now.hypotheses }
+        ensures { slice_get self.now.hypotheses number ≡ Some result }
+    {
+        self.hypotheses[number as usize]
+    }
+
     /// The failure modes of the hypothesis of this number.
     pub fn set(&self, number: u32) -> Set
         requires { number < length self.now.hypotheses }
@@ -153,7 +160,7 @@ impl Table {
 fn reaches_of(
     alloc: Global,
     graph: &Graph,
-    hypotheses: &[Members],
+    hypotheses: &[Hypothesis],
 ) -> Result<Vec<NodeSet>, NoMemory>
     requires { All (λ (hypothesis : Hypothesis). AreFailures graph.now hypothesis.set) hypotheses.now }
     ensures { IfOk result (λ reaches. AreReaches graph.now hypotheses.now reaches.items) }

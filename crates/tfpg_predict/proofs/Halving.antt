@@ -14,7 +14,7 @@ use Rattle.tfpg_predict.proofs.AsProbed.{by_its_end}
 
 module _ (quest : Quest) where
   -- at the beginning nothing is excluded
-  pub halved_none : (high : ℕ) (trace : List Activation) (earlier : List Step) → FitsBy (asked_by quest) quest.set quest.to trace → time_of trace quest.node ≡ Some high → high ≤ quest.to
+  pub halved_none : (high : ℕ) (trace : List Activation) (earlier : List Step) → FitsBy (asked_by quest) quest.hypothesis.set quest.to trace → time_of trace quest.node ≡ Some high → high ≤ quest.to
       → earlier ≡ [] → IsHalved quest 0 high trace earlier
   halved_none high trace earlier fits at within none = record {
     in_order = omega arith;
@@ -31,7 +31,7 @@ module _ (quest : Quest) where
     bound_within = let between = middle-between low high open_yet in (omega (arith, middle, between.0), omega (arith, middle, between.1))
 
     -- a trace leaves the lower half
-    pub halved_lower : (other : List Activation) (time : ℕ) → FitsBy (asked_by quest) quest.set bound other → time_of other quest.node ≡ Some time → time ≤ bound → low ≤ time
+    pub halved_lower : (other : List Activation) (time : ℕ) → FitsBy (asked_by quest) quest.hypothesis.set bound other → time_of other quest.node ≡ Some time → time ≤ bound → low ≤ time
         → IsHalved quest low time other earlier
     halved_lower other time fits at early from = record {
       in_order = from;
@@ -43,26 +43,26 @@ module _ (quest : Quest) where
     }
 
     -- no trace has a time below the range
-    pub not_below : (other : List Activation) (time : ℕ) → ExplainsContinued (asked_by quest) quest.set other → time_of other quest.node ≡ Some time → low ≤ time
+    pub not_below : (other : List Activation) (time : ℕ) → ExplainsContinued (asked_by quest) quest.hypothesis.set other → time_of other quest.node ≡ Some time → low ≤ time
     not_below other time explained at = ⊎_elim
         (λ less. absurd ((halved.none_before (omega (arith, less))).none other time explained at (omega (arith, less))))
         (λ from. from)
         (cases_lt time low)
 
     -- a refutation leaves the upper half
-    pub halved_upper : (steps : List Step) → IsOutBy (asked_by quest) quest.set bound quest.budget steps → IsHalved quest (bound + 1) high trace steps
+    pub halved_upper : (steps : List Step) → IsOutBy (asked_by quest) quest.hypothesis.set bound quest.budget steps → IsHalved quest (bound + 1) high trace steps
     halved_upper steps none = record {
       in_order = let between = bound_within.1 in omega (arith, between);
       within = halved.within;
       explains = halved.explains;
       attained = halved.attained;
-      none_before = λ some. let same : bound ≡ bound + 1 - 1 = omega arith in subst (λ (n : ℕ). IsOutBy (asked_by quest) quest.set n quest.budget steps) same none;
+      none_before = λ some. let same : bound ≡ bound + 1 - 1 = omega arith in subst (λ (n : ℕ). IsOutBy (asked_by quest) quest.hypothesis.set n quest.budget steps) same none;
       at_zero = λ zero. absurd (omega (arith, zero));
     }
 
   -- At the end the time is the least.
   pub halved_all : (low high : ℕ) (trace : List Activation) (earlier : List Step) → IsHalved quest low high trace earlier → high ≤ low
-      → IsEarliest (asked_by quest) quest.set quest.budget high trace earlier
+      → IsEarliest (asked_by quest) quest.hypothesis.set quest.budget high trace earlier
   halved_all low high trace earlier halved done =
       let same : low ≡ high = (let upto = halved.in_order in omega (arith, upto, done)) in
       record {
@@ -74,7 +74,7 @@ module _ (quest : Quest) where
               (λ from. from)
               (cases_lt at high);
         };
-        refuted = λ some. subst (λ (n : ℕ). IsRefutedAt (asked_by quest) quest.set n quest.budget earlier) (omega (arith, same)) (halved.none_before (omega (arith, some, same))).refuted;
+        refuted = λ some. subst (λ (n : ℕ). IsRefutedAt (asked_by quest) quest.hypothesis.set n quest.budget earlier) (omega (arith, same)) (halved.none_before (omega (arith, some, same))).refuted;
         at_zero = λ zero. halved.at_zero (omega (arith, zero, same));
       }
 

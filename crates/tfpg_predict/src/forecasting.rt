@@ -16,7 +16,7 @@ use crate::quest::Quest;
 use crate::trial::{Tried, try_bound};
 use std::alloc::Global;
 use std::sync::ledger::Ledger;
-use tfpg_base::{Doubts, NoMemory, Set, Steps, Trace};
+use tfpg_base::{Doubts, Hypothesis, NoMemory, Set, Steps, Trace};
 use tfpg_evidence::StepList;
 use tfpg_graph::Graph;
 use tfpg_log::Log;
@@ -46,8 +46,7 @@ pub fn forecast<L: Ledger>(
     let quest = Quest {
         graph,
         log,
-        set,
-        doubts,
+        hypothesis: Hypothesis { set, doubts },
         node,
         to,
         budget,
@@ -74,7 +73,7 @@ fn halve<L: Ledger>(
 ) -> Result<Outlook, NoMemory>
     requires quest { IsQuest quest.now }
     requires halved { IsHalved quest.now low high trace earlier }
-    ensures { IfOk result (IsOutlook (asked_by quest.now) quest.now.set quest.now.budget) }
+    ensures { IfOk result (IsOutlook (asked_by quest.now) quest.now.hypothesis.set quest.now.budget) }
 {
     if low >= high {
         return Ok(Outlook::Earliest {

@@ -1,16 +1,16 @@
-//! What is tried with one bound after the other: a look ahead from a set, lent.
+//! What is tried with one bound after the other: a look ahead by a hypothesis, lent.
 
-use tfpg_base::{Doubts, Set};
+use tfpg_base::Hypothesis;
 use tfpg_graph::Graph;
 use tfpg_log::Log;
 
-/// A look ahead from a set, by the log that ignores the doubted monitors, and the budget of each search.
+/// A look ahead by a hypothesis, from its failure modes and by the log that ignores the monitors that it doubts, and the budget of
+/// each search.
 #[derive(Clone, Copy)]
 pub(crate) struct Quest<'a> {
     pub(crate) graph: &'a Graph,
     pub(crate) log: &'a Log,
-    pub(crate) set: Set,
-    pub(crate) doubts: Doubts,
+    pub(crate) hypothesis: Hypothesis,
     pub(crate) node: u32,
     /// The time in milliseconds to which the log is continued.
     pub(crate) to: u64,

@@ -34,10 +34,10 @@ pub(crate) fn try_bound<L: Ledger>(
 ) -> Result<Tried, NoMemory>
     requires quest { IsQuest quest.now }
     requires bound { bound ≤ quest.now.to }
-    ensures { IfOk result (IsTried (asked_by quest.now) quest.now.set quest.now.budget bound) }
+    ensures { IfOk result (IsTried (asked_by quest.now) quest.now.hypothesis.set quest.now.budget bound) }
 {
     let mut probed = probed(alloc, quest.graph, quest.log, quest.node, quest.to, bound)?;
-    probed.log.ignore(quest.doubts);
+    probed.log.ignore(quest.hypothesis.doubts);
     let mut steps = StepList::new(alloc);
     let found = search(alloc, quest, &probed, bound, &mut steps, work)?;
     match found {
@@ -63,14 +63,14 @@ fn search<L: Ledger>(
     requires bound { bound ≤ quest.now.to }
     requires probed { IsProbed (asked_by quest.now) bound probed.now.graph probed.now.log }
     requires steps { steps.old ≡ [] }
-    ensures { IfOk result (IsFoundAs (asked_by quest.now) quest.now.set quest.now.budget bound steps.new) }
+    ensures { IfOk result (IsFoundAs (asked_by quest.now) quest.now.hypothesis.set quest.now.budget bound steps.new) }
 {
     quest.graph.is_always_valid();
     quest.log.is_always_ordered();
     probed.graph.is_always_valid();
     probed.log.is_always_ordered();
-    let reach = probed.graph.reach(quest.set);
-    let mut search = Search::new(alloc, &probed.graph, quest.set, reach)?;
+    let reach = probed.graph.reach(quest.hypothesis.set);
+    let mut search = Search::new(alloc, &probed.graph, quest.hypothesis.set, reach)?;
     let found = search.round(&probed.graph, &probed.log, quest.budget, steps, work)?;
     Ok(found)
 }

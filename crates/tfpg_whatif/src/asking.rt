@@ -6,7 +6,7 @@ ghost use Rattle.tfpg_whatif.specs.Laws.{IsWellAsked};
 ghost use Rattle.tfpg_whatif.specs.inside.Asking.{IsAsking, asked_by};
 
 use crate::outcome::Outcome;
-use tfpg_base::{NumberList, Set};
+use tfpg_base::{Hypothesis, NumberList};
 use tfpg_engine::Engine;
 use tfpg_graph::{Graph, NodeSet};
 use tfpg_log::{Event, Log};
@@ -26,8 +26,8 @@ pub(crate) struct Asking<'a> {
 pub(crate) struct Subject<'a> {
     pub(crate) graph: &'a Graph,
     pub(crate) log: &'a Log,
-    pub(crate) set: Set,
-    /// What the set reaches.
+    pub(crate) hypothesis: Hypothesis,
+    /// What it reaches.
     pub(crate) reach: NodeSet,
     /// Its search in the engine, where there is one.
     pub(crate) kept: Option<&'a Search>,

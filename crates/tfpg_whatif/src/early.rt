@@ -37,7 +37,7 @@ pub(crate) fn refuted_early(
 ) -> Result<Option<StepList>, NoMemory>
     requires { IsSubject subject.now }
     ensures { IfOk result (λ found. IfSome found (λ steps.
-        HasOutcomeEvidence (case_asked subject.now) subject.now.set subject.now.budget (Out steps))) }
+        HasOutcomeEvidence (case_asked subject.now) subject.now.hypothesis.set subject.now.budget (Out steps))) }
 {
     match proposed(alloc, subject, event)? {
         Some(steps) => judged(alloc, subject, steps),
@@ -53,7 +53,7 @@ fn judged(
 ) -> Result<Option<StepList>, NoMemory>
     requires { IsSubject subject.now }
     ensures { IfOk result (λ found. IfSome found (λ steps.
-        HasOutcomeEvidence (case_asked subject.now) subject.now.set subject.now.budget (Out steps))) }
+        HasOutcomeEvidence (case_asked subject.now) subject.now.hypothesis.set subject.now.budget (Out steps))) }
 {
     if split_count(steps.as_slice()) > subject.budget {
         return Ok(None);

@@ -56,9 +56,8 @@ fn outcome_of<L: Ledger>(
     ensures events { log.new.events ≡ log.old.events }
 {
     let table = asking.engine.table();
-    let doubts = table.doubts(number);
-    log.ignore(doubts);
-    let set = table.set(number);
+    let hypothesis = table.hypothesis(number);
+    log.ignore(hypothesis.doubts);
     let reach = *table.reach(number);
     let graph = asking.engine.graph();
     match outcome_at_once(alloc, graph, log, &reach, last, index)? {
@@ -67,7 +66,7 @@ fn outcome_of<L: Ledger>(
             let subject = Subject {
                 graph,
                 log,
-                set,
+                hypothesis,
                 reach,
                 kept: asking.engine.search(number),
                 budget: asking.budget,
@@ -85,7 +84,7 @@ fn find_outcome<L: Ledger>(
     work: &mut Steps<L>,
 ) -> Result<Outcome, NoMemory>
     requires { IsSubject subject.now }
-    ensures { IfOk result (IsShown (case_asked subject.now) subject.now.set subject.now.budget) }
+    ensures { IfOk result (IsShown (case_asked subject.now) subject.now.hypothesis.set subject.now.budget) }
 {
     match refuted_early(alloc, subject, last)? {
         Some(steps) => Ok(Outcome::Out(steps)),
@@ -100,7 +99,7 @@ fn search<L: Ledger>(
     work: &mut Steps<L>,
 ) -> Result<Outcome, NoMemory>
     requires { IsSubject subject.now }
-    ensures { IfOk result (IsShown (case_asked subject.now) subject.now.set subject.now.budget) }
+    ensures { IfOk result (IsShown (case_asked subject.now) subject.now.hypothesis.set subject.now.budget) }
 {
     match continued(alloc, subject, work)? {
         Some(trace) => Ok(Outcome::Fits(trace)),
@@ -116,7 +115,7 @@ fn continued<L: Ledger>(
 ) -> Result<Option<Trace>, NoMemory>
     requires { IsSubject subject.now }
     ensures { IfOk result (λ found. IfSome found (λ trace.
-        Explains subject.now.graph.now subject.now.log.now subject.now.set trace)) }
+        Explains subject.now.graph.now subject.now.log.now subject.now.hypothesis.set trace)) }
 {
     let Some(search) = subject.kept else {
         return Ok(None);
@@ -146,9 +145,9 @@ fn search_anew<L: Ledger>(
     work: &mut Steps<L>,
 ) -> Result<Outcome, NoMemory>
     requires { IsSubject subject.now }
-    ensures { IfOk result (IsShown (case_asked subject.now) subject.now.set subject.now.budget) }
+    ensures { IfOk result (IsShown (case_asked subject.now) subject.now.hypothesis.set subject.now.budget) }
 {
-    let mut search = Search::new(alloc, subject.graph, subject.set, subject.reach)?;
+    let mut search = Search::new(alloc, subject.graph, subject.hypothesis.set, subject.reach)?;
     let mut steps = StepList::new(alloc);
     let found = search.round(subject.graph, subject.log, subject.budget, &mut steps, work)?;
     Ok(outcome(found, steps))

@@ -1,87 +1,26 @@
 -- Proper parts of hypotheses by their numbers, and of which hypotheses the flag of a proper part is up.
 use Rattle.std.proofs.Common.{◌≡◌, ◌↔◌, ◌<◌, ◌≤◌, ◌+◌, ◌||◌, ◌∷◌, ◌++◌, ◌⊎◌, ℕ, List, Bool, Some, [], length, false, slice_get, inl, inr, sym, ap, subst, ⊎_elim, arith, ◌∙◌, length-append}
 use Rattle.std.specs.List.{Contains, list_any}
-use Rattle.std.specs.Prelude.{IsTrue, option_map}
+use Rattle.std.specs.Prelude.{IsTrue}
 use Rattle.std.proofs.lemmas.Bool.{or_cases, or_left, or_right}
 use Rattle.std.proofs.lemmas.List.Elements.{All-contains, All-push, All-nil, All-weaker, Contains-append_left, Contains-append_right}
 use Rattle.std.proofs.lemmas.Option.{same_Some}
 use Rattle.tfpg_base.specs.Hypothesis.{Hypothesis, IsProperPart}
-use Rattle.tfpg_base.specs.Set.{IsSubset, IsProperSubset}
-use Rattle.tfpg_base.proofs.lists.Elements.{Contains-at, Contains-head, list_any-found, list_any-passes, slice_get-there}
+use Rattle.tfpg_base.specs.Set.{IsSubset}
+use Rattle.tfpg_base.proofs.lists.Elements.{Contains-at, Contains-head, list_any-found, list_any-passes}
 use Rattle.tfpg_base.proofs.lists.Written.{each_get_or-push, slice_get-append_some, slice_get-push_cases}
 use Rattle.tfpg_check.specs.inside.Hearings.{flag_at}
 use Rattle.tfpg_check.specs.inside.LargestParts.{IsPartAmong, IsPartOfOne, AreLargestFrom, AreLargestBelow, ListsLargestParts, ArePartsBefore, HasFlaggedPart, SayFlaggedParts}
-use Rattle.tfpg_check.proofs.judging.SetTests.{part_by_doubts, part_by_set}
 
--- ---- whether one is a proper part
-
-module _ (hypotheses : List Hypothesis) (number : ℕ) (hypothesis : Hypothesis) (at : slice_get hypotheses number ≡ Some hypothesis) where
-  set_is : (set : List ℕ) → option_map (λ (h : Hypothesis). h.set) (slice_get hypotheses number) ≡ Some set → hypothesis.set ≡ set
-  set_is set is = same_Some hypothesis.set set (ap (option_map (λ (h : Hypothesis). h.set)) (sym at) ∙ is)
-
-  doubts_are : (doubts : List ℕ) → option_map (λ (h : Hypothesis). h.doubts) (slice_get hypotheses number) ≡ Some doubts → hypothesis.doubts ≡ doubts
-  doubts_are doubts are = same_Some hypothesis.doubts doubts (ap (option_map (λ (h : Hypothesis). h.doubts)) (sym at) ∙ are)
-
-module _ (hypotheses : List Hypothesis) (part whole : ℕ) (set of : List ℕ) (in_part : part < length hypotheses) (in_whole : whole < length hypotheses)
-    (set_read : option_map (λ (h : Hypothesis). h.set) (slice_get hypotheses part) ≡ Some set)
-    (of_read : option_map (λ (h : Hypothesis). h.set) (slice_get hypotheses whole) ≡ Some of) where
-  less : (h : Hypothesis) × (slice_get hypotheses part ≡ Some h)
-  less = slice_get-there hypotheses part in_part
-
-  more : (h : Hypothesis) × (slice_get hypotheses whole ≡ Some h)
-  more = slice_get-there hypotheses whole in_whole
-
-  among : (test : Bool) → IsTrue test ↔ IsProperPart less.0 more.0 → IsTrue test ↔ IsPartAmong hypotheses part whole
-  among test exact = (
-    λ up. record { less = less.0; less_at = less.1; more = more.0; more_at = more.1; proper = exact.0 up },
-    λ is. exact.1
-        (subst (λ (h : Hypothesis). IsProperPart h more.0) (same_Some is.less less.0 (sym is.less_at ∙ less.1))
-        (subst (λ (h : Hypothesis). IsProperPart is.less h) (same_Some is.more more.0 (sym is.more_at ∙ more.1)) is.proper)),
-  )
-
-  same_set : less.0.set ≡ set
-  same_set = set_is hypotheses part less.0 less.1 set set_read
-
-  same_of : more.0.set ≡ of
-  same_of = set_is hypotheses whole more.0 more.1 of of_read
-
-  differ : (set ≡ of → ⊥) → less.0.set ≡ more.0.set → ⊥
-  differ not same = not (sym same_set ∙ same ∙ same_of)
-
-  module _ (doubts others : List ℕ) (doubts_read : option_map (λ (h : Hypothesis). h.doubts) (slice_get hypotheses part) ≡ Some doubts)
-      (others_read : option_map (λ (h : Hypothesis). h.doubts) (slice_get hypotheses whole) ≡ Some others) (test : Bool) where
-    same_doubts : less.0.doubts ≡ doubts
-    same_doubts = doubts_are hypotheses part less.0 less.1 doubts doubts_read
-
-    same_others : more.0.doubts ≡ others
-    same_others = doubts_are hypotheses whole more.0 more.1 others others_read
-
-    -- on the same failure modes by the doubts,
-    pub among_by_doubts : set ≡ of → IsTrue test ↔ IsProperSubset doubts others → IsTrue test ↔ IsPartAmong hypotheses part whole
-    among_by_doubts same exact =
-        among test
-        (part_by_doubts test less.0 more.0 (same_set ∙ same ∙ sym same_of)
-        (subst (λ (ds : List ℕ). IsTrue test ↔ IsProperSubset ds more.0.doubts) (sym same_doubts)
-        (subst (λ (ds : List ℕ). IsTrue test ↔ IsProperSubset doubts ds) (sym same_others) exact)))
-
-    -- and on fewer by the doubts too,
-    pub among_by_sets : (set ≡ of → ⊥) → IsProperSubset set of → IsTrue test ↔ IsSubset doubts others → IsTrue test ↔ IsPartAmong hypotheses part whole
-    among_by_sets not fewer exact =
-        let sets : IsProperSubset less.0.set more.0.set =
-        subst (λ (s : List ℕ). IsProperSubset s more.0.set) (sym same_set) (subst (λ (s : List ℕ). IsProperSubset set s) (sym same_of) fewer) in
-        let subset : IsTrue test ↔ IsSubset less.0.doubts more.0.doubts =
-        subst (λ (ds : List ℕ). IsTrue test ↔ IsSubset ds more.0.doubts) (sym same_doubts) (subst (λ (ds : List ℕ). IsTrue test ↔ IsSubset doubts ds) (sym same_others) exact) in
-        among test (part_by_set test less.0 more.0 (differ not) (λ up. (sets, subset.0 up), λ both. subset.1 both.1))
-
-  -- and on others it is none.
-  pub not_among : (test : Bool) → (IsTrue test → ⊥) → (set ≡ of → ⊥) → (IsProperSubset set of → ⊥) → IsTrue test ↔ IsPartAmong hypotheses part whole
-  not_among test down not none =
-      among test
-      (part_by_set test less.0 more.0 (differ not) (
-        λ up. absurd (down up),
-        λ both. absurd
-            (none (subst (λ (s : List ℕ). IsProperSubset s of) same_set (subst (λ (s : List ℕ). IsProperSubset less.0.set s) same_of both.0))),
-      ))
+-- A test of the hypotheses of two numbers says whether the one is a proper part of the other.
+pub among : (hypotheses : List Hypothesis) (part whole : ℕ) (less more : Hypothesis) (test : Bool) → slice_get hypotheses part ≡ Some less → slice_get hypotheses whole ≡ Some more
+    → IsTrue test ↔ IsProperPart less more → IsTrue test ↔ IsPartAmong hypotheses part whole
+among hypotheses part whole less more test less_at more_at exact = (
+  λ up. record { less = less; less_at = less_at; more = more; more_at = more_at; proper = exact.0 up },
+  λ is. exact.1
+      (subst (λ (h : Hypothesis). IsProperPart h more) (same_Some is.less less (sym is.less_at ∙ less_at))
+      (subst (λ (h : Hypothesis). IsProperPart is.less h) (same_Some is.more more (sym is.more_at ∙ more_at)) is.proper)),
+)
 
 -- ---- the largest ones
 

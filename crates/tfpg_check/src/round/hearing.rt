@@ -3,13 +3,12 @@
 ghost use Rattle.std.specs.Prelude.{◌≡◌, ◌↔◌, ◌<◌, ◌||◌, ◌==◌, ℕ, length, get_or, map, replicate, IsTrue, IfOk, Some, None, false, option_map, option_and_then, slice_get};
 ghost use Rattle.std.specs.List.{list_any};
 ghost use Rattle.tfpg_kernel.specs.CheckerState.{CheckerState};
-ghost use Rattle.tfpg_report.specs.ReportLines.{hypothesis_with};
 ghost use Rattle.tfpg_report.specs.declared.read_round.RankedLine.{RankedLine as RankedRead};
 ghost use Rattle.tfpg_report.specs.declared.read_round.NamedSet.{NamedSet as NamedRead};
 ghost use Rattle.tfpg_check.specs.inside.Hearings.{flag_at, part_index, noted, is_newly_closed};
 
 use std::alloc::Global;
-use tfpg_base::{Doubts, NoMemory, Set};
+use tfpg_base::{Hypothesis, NoMemory};
 use tfpg_graph::Graph;
 use tfpg_hyp::Table;
 use tfpg_kernel::Checker;
@@ -42,13 +41,10 @@ pub(crate) struct Hearing<'a> {
 
 impl<'a> Hearing<'a> {
     /// Whether the table has this hypothesis at this number.
-    pub(crate) fn is_listed(&self, number: u32, set: Set, doubts: Doubts) -> bool
-        ensures { IsTrue result ↔ (slice_get self.now.table.now.hypotheses number ≡ Some (hypothesis_with set doubts)) }
+    pub(crate) fn is_listed(&self, number: u32, hypothesis: Hypothesis) -> bool
+        ensures { IsTrue result ↔ (slice_get self.now.table.now.hypotheses number ≡ Some hypothesis) }
     {
-        if number >= self.table.len() {
-            return false;
-        }
-        self.table.set(number) == set && are_equal(self.table.doubts(number), doubts)
+        number < self.table.len() && self.table.hypothesis(number) == hypothesis
     }
 
     /// Whether the tree of the hypothesis of this number is closed.
@@ -96,13 +92,6 @@ impl<'a> Hearing<'a> {
             _ => None,
         }
     }
-}
-
-/// Whether the doubts are the same.
-fn are_equal(one: Doubts, other: Doubts) -> bool
-    ensures { IsTrue result ↔ (one ≡ other) }
-{
-    one.len() == other.len() && one.is_subset(other)
 }
 
 /// The flag of a number. Past the end all are down.

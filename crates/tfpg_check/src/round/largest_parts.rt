@@ -3,14 +3,13 @@
 ghost use Rattle.std.specs.Prelude.{◌≡◌, ◌↔◌, ◌<◌, ◌||◌, ℕ, List, length, All, IsTrue, IfOk, Some, slice_get};
 ghost use Rattle.std.specs.List.{list_any};
 ghost use Rattle.tfpg_base.specs.Hypothesis.{Hypothesis};
-ghost use Rattle.tfpg_base.specs.Set.{IsProperSubset};
 ghost use Rattle.tfpg_check.specs.inside.Hearings.{flag_at};
 ghost use Rattle.tfpg_check.specs.inside.LargestParts.{IsPartAmong, IsPartOfOne, AreLargestFrom, ListsLargestParts, ArePartsBefore, SayFlaggedParts};
 
 use crate::round::hearing::flag;
 use std::alloc::Global;
 use std::marker::Model;
-use tfpg_base::{Doubts, NoMemory};
+use tfpg_base::NoMemory;
 use tfpg_hyp::Table;
 
 /// For each hypothesis of a table, the numbers of its largest proper parts: those that are no proper part of another one. Each
@@ -106,27 +105,14 @@ fn is_part_of_any(table: &Table, part: u32, wholes: &[u32]) -> bool
     false
 }
 
-/// Whether the hypothesis of the one number is a proper part of that of the other: of the same failure modes with fewer doubts,
-/// or of fewer failure modes with no other doubt. Inlined, since a table asks it of each two hypotheses.
+/// Whether the hypothesis of the one number is a proper part of that of the other. Inlined, since a table asks it of each two
+/// hypotheses.
 #[inline(always)]
 fn is_part(table: &Table, part: u32, whole: u32) -> bool
     requires part { part < length table.now.hypotheses }
     requires whole { whole < length table.now.hypotheses }
     ensures { IsTrue result ↔ IsPartAmong table.now.hypotheses part whole }
 {
-    let set = table.set(part);
-    let of = table.set(whole);
-    if set == of {
-        return is_proper_subset(table.doubts(part), table.doubts(whole));
-    }
-    set.is_proper_part(of) && table.doubts(part).is_subset(table.doubts(whole))
-}
-
-/// Whether each of the doubts is one of the others, and there are more of the others.
-fn is_proper_subset(doubts: Doubts, of: Doubts) -> bool
-    ensures { IsTrue result ↔ IsProperSubset doubts of }
-{
-    let count = doubts.len();
-    let limit = of.len();
-    count < limit && doubts.is_subset(of)
+    let of = table.hypothesis(whole);
+    table.hypothesis(part).is_proper_part(of)
 }

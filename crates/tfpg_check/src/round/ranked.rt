@@ -87,7 +87,7 @@ fn may_be_ranked(hearing: &Hearing<'_>, log: &Log, last: Option<Place>, r: &Rank
     ensures right { IsTrue result ↔ SaysRight hearing.now log.now last r.now }
     ensures fraction { IsTrue result → 1 ≤ r.now.monitored }
 {
-    hearing.is_listed(r.number, r.set, r.doubts)
+    hearing.is_listed(r.number, r.hypothesis())
         && !hearing.is_closed(r.number)
         && cost(hearing.graph, r.set, r.doubts) == r.cost
         && has_robustness(hearing, log, r)

@@ -69,9 +69,7 @@ fn names(hearing: &Hearing<'_>, index: usize, number: u32) -> bool
         Names hearing.now.table.now.hypotheses number (slice_get hearing.now.read.now.rejected index) }
 {
     match hearing.read.rejected.as_slice().get(index) {
-        Some(named) => {
-            named.number == number && hearing.is_listed(number, named.set, named.doubts)
-        }
+        Some(named) => named.number == number && hearing.is_listed(number, named.hypothesis()),
         None => false,
     }
 }

@@ -56,7 +56,7 @@ fn may_be_open(hearing: &Hearing<'_>, next: u64, named: &NamedSet) -> bool
     ensures { IsTrue result ↔ IsLeftOpen hearing.now next named.now }
 {
     next <= u64::from(named.number)
-        && hearing.is_listed(named.number, named.set, named.doubts)
+        && hearing.is_listed(named.number, named.hypothesis())
         && !hearing.is_closed(named.number)
         && !hearing.is_ranked(named.number)
         && !hearing.has_ranked_part(named.number)

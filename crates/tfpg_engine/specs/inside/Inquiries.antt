@@ -1,6 +1,5 @@
 -- What a round is made for, and of which hypotheses.
 use Rattle.std.specs.Prelude.{◌≤◌, length}
-use Rattle.tfpg_base.specs.Hypothesis.{Hypothesis}
 use Rattle.tfpg_graph.specs.Graph.{Tfpg, AreFailures}
 use Rattle.tfpg_log.specs.Log.{Logbook, IsLogOf}
 use Rattle.tfpg_clause.specs.Case.{Case}
@@ -14,14 +13,10 @@ use Rattle.tfpg_engine.specs.declared.listed.Listed.{Listed}
 abbrev pub inquiry_of : LentInquiry → Logbook → Inquiry
 inquiry_of inquiry log = record { graph = inquiry.graph.now; log = log; terms = inquiry.terms }
 
--- the hypothesis that the code asks for
-abbrev pub hypothesis_listed : Listed → Hypothesis
-hypothesis_listed listed = record { set = listed.set; doubts = listed.doubts }
-
 -- the row of the table that the code asks for
 abbrev pub row_of : Listed → Row
 row_of listed =
-    record { number = listed.number; hypothesis = hypothesis_listed listed; reach = listed.reach.now }
+    record { number = listed.number; hypothesis = listed.hypothesis; reach = listed.reach.now }
 
 -- what the evidence on a row is about
 abbrev pub case_of_row : Inquiry → Row → Case

@@ -12,11 +12,11 @@ lookahead_by_log quest = lookahead_of quest.graph.now quest.log.now quest.node q
 
 -- the look ahead that the code makes, by the log that ignores the doubted monitors
 abbrev pub asked_by : Quest → Lookahead
-asked_by quest = lookahead_of quest.graph.now (ignoring quest.log.now quest.doubts) quest.node quest.to
+asked_by quest = lookahead_of quest.graph.now (ignoring quest.log.now quest.hypothesis.doubts) quest.node quest.to
 
--- The look ahead allows a probe, the set and the doubts are of the graph, and the budget is not 0.
+-- The look ahead allows a probe, the failure modes and the doubts are of the graph, and the budget is not 0.
 pub record IsQuest (quest : Quest) : Type 0 where
   pub probeable : IsProbeable (lookahead_by_log quest)
-  pub members : AreFailures quest.graph.now quest.set
-  pub doubts : All (λ node. IsTrue (is_monitored quest.graph.now node)) quest.doubts
+  pub members : AreFailures quest.graph.now quest.hypothesis.set
+  pub doubts : All (λ node. IsTrue (is_monitored quest.graph.now node)) quest.hypothesis.doubts
   pub budget : 1 ≤ quest.budget

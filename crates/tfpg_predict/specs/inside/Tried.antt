@@ -47,7 +47,7 @@ IsTried asked set budget bound (Spent steps) = IsSpentAt asked set bound budget 
 pub record IsHalved (quest : Quest) (low high : ℕ) (trace : List Activation) (earlier : List Step) : Type 0 where
   pub in_order : low ≤ high
   pub within : high ≤ quest.to
-  pub explains : ExplainsContinued (asked_by quest) quest.set trace
+  pub explains : ExplainsContinued (asked_by quest) quest.hypothesis.set trace
   pub attained : time_of trace quest.node ≡ Some high
-  pub none_before : 0 < low → IsOutBy (asked_by quest) quest.set (low - 1) quest.budget earlier
+  pub none_before : 0 < low → IsOutBy (asked_by quest) quest.hypothesis.set (low - 1) quest.budget earlier
   pub at_zero : low ≡ 0 → earlier ≡ []

@@ -57,9 +57,9 @@ case_asked subject = case_of subject.graph.now subject.log.now subject.reach
 pub record IsSubject (subject : Subject) : Type 0 where
   pub of : IsLogOf subject.graph.now subject.log.now
   pub event : 1 ≤ length subject.log.now.events
-  pub members : AreFailures subject.graph.now subject.set
-  pub reaches : IsReach subject.graph.now subject.set subject.reach
-  pub kept : IfSome subject.kept (λ search. CanContinue subject.graph.now subject.log.now subject.set search.now)
+  pub members : AreFailures subject.graph.now subject.hypothesis.set
+  pub reaches : IsReach subject.graph.now subject.hypothesis.set subject.reach
+  pub kept : IfSome subject.kept (λ search. CanContinue subject.graph.now subject.log.now subject.hypothesis.set search.now)
   pub budget : 1 ≤ subject.budget
 
 -- These are outcomes of the first hypotheses that are asked about.

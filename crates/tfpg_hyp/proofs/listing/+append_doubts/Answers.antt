@@ -8,7 +8,7 @@ use Rattle.tfpg_hyp.proofs.listing.+append_doubts.Goals as goal
 
 pub returns-then-monitors-size : goal.returns-then-monitors-size
 returns-then-monitors-size t c =
-    sym (ap (λ sets. c.args.list.now.items ++ map (doubting_after c.args.members) sets) (doubted-past c.args.size c.args.monitors.now c.if-monitors-size.true) ∙ append-nil c.args.list.now.items)
+    sym (ap (λ sets. c.args.list.now.items ++ map (doubting_after c.args.hypothesis) sets) (doubted-past c.args.size c.args.monitors.now c.if-monitors-size.true) ∙ append-nil c.args.list.now.items)
 
 pub append_doubts-requires : goal.append_doubts-requires
 append_doubts-requires t c =
@@ -16,8 +16,8 @@ append_doubts-requires t c =
       omega (arith, c.decreases, ap length are),
       (
         IsNodeSet-later c.args.monitors.now c.in-Some.node.now c.in-Some.others.now are c.requires.monitors,
-        subst (λ (members : Hypothesis). AreBelow c.in-Some.others.now members.doubts) (sym c.doubting.ensures)
-            (below_with_first c.args.monitors.now c.in-Some.node.now c.in-Some.others.now c.args.members.doubts are c.requires.below c.requires.monitors),
+        subst (λ (h : Hypothesis). AreBelow c.in-Some.others.now h.doubts) (sym c.doubting.ensures)
+            (below_with_first c.args.monitors.now c.in-Some.node.now c.in-Some.others.now c.args.hypothesis.doubts are c.requires.below c.requires.monitors),
       ),
     )
 
@@ -27,7 +27,7 @@ append_doubts-requires-in-Some t c =
       omega (arith, c.decreases, ap length are),
       (
         IsNodeSet-later c.args.monitors.now c.in-Some.node.now c.in-Some.others.now are c.requires.monitors,
-        below_later c.args.monitors.now c.in-Some.node.now c.in-Some.others.now c.args.members.doubts are c.requires.below,
+        below_later c.args.monitors.now c.in-Some.node.now c.in-Some.others.now c.args.hypothesis.doubts are c.requires.below,
       ),
     )
 
@@ -35,6 +35,6 @@ pub returns-in_ok-append_doubts-in-Some : goal.returns-in_ok-append_doubts-in-So
 returns-in_ok-append_doubts-in-Some t c =
     let are : c.args.monitors.now ≡ c.in-Some.node.now ∷ c.in-Some.others.now = c.in-Some.ensures.cases.0 in
     on_ok_weaker c.append_doubts-in-Some.result
-    (doubted-next c.args.list.now.items c.append_doubts.new.list.items c.append_doubts-in-Some.new.list.items c.args.members c.doubting.result c.args.monitors.now c.in-Some.node.now c.in-Some.others.now c.args.size
-    are (omega (arith, c.if-size-eq0.false)) (below_first c.args.monitors.now c.in-Some.node.now c.in-Some.others.now c.args.members.doubts are c.requires.below) c.doubting.ensures c.in_ok-append_doubts-in-Some.ensures)
+    (doubted-next c.args.list.now.items c.append_doubts.new.list.items c.append_doubts-in-Some.new.list.items c.args.hypothesis c.doubting.result c.args.monitors.now c.in-Some.node.now c.in-Some.others.now c.args.size
+    are (omega (arith, c.if-size-eq0.false)) (below_first c.args.monitors.now c.in-Some.node.now c.in-Some.others.now c.args.hypothesis.doubts are c.requires.below) c.doubting.ensures c.in_ok-append_doubts-in-Some.ensures)
     c.append_doubts-in-Some.ensures

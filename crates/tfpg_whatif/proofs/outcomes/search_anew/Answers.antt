@@ -9,7 +9,7 @@ round-requires-clause-represents g c = represents_some c.args.subject.now.graph.
 
 pub returns : goal.returns
 returns g c =
-    subst (IsShown (case_of c.args.subject.now.graph.now c.args.subject.now.log.now c.args.subject.now.reach) c.args.subject.now.set c.args.subject.now.budget) (sym c.outcome.ensures)
-    (is_shown c.args.subject.now.graph.now c.args.subject.now.log.now c.in_ok-search.search c.in_ok-search.ensures.seen c.in_ok-search.ensures.represents c.args.subject.now.set c.args.subject.now.reach c.args.subject.now.budget c.in_ok-search.ensures.set
+    subst (IsShown (case_of c.args.subject.now.graph.now c.args.subject.now.log.now c.args.subject.now.reach) c.args.subject.now.hypothesis.set c.args.subject.now.budget) (sym c.outcome.ensures)
+    (is_shown c.args.subject.now.graph.now c.args.subject.now.log.now c.in_ok-search.search c.in_ok-search.ensures.seen c.in_ok-search.ensures.represents c.args.subject.now.hypothesis.set c.args.subject.now.reach c.args.subject.now.budget c.in_ok-search.ensures.set
     c.in_ok-search.ensures.reach c.round.new.self c.round.ensures.set c.round.ensures.reach c.new-steps.result c.round.new.steps c.new-steps.ensures c.in_ok-found.found c.in_ok-found.ensures.searched
     c.in_ok-found.ensures.enough)

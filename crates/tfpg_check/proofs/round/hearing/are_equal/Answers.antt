@@ -1,7 +1,0 @@
-use Rattle.std.proofs.Common.{sym, ◌∙◌}
-use Rattle.tfpg_check.proofs.judging.SetTests.{equal_exactly}
-use Rattle.tfpg_check.proofs.round.hearing.are_equal.Goals as goal
-
-pub returns-then-len : goal.returns-then-len
-returns-then-len c =
-    equal_exactly _ c.args.one c.args.other c.len.ensures.set c.len-2.ensures.set (sym c.len.ensures.count ∙ c.if-len.true ∙ c.len-2.ensures.count) c.is_subset.ensures
