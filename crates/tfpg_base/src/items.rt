@@ -54,6 +54,11 @@ impl<T> Items<T> {
         items
     }
 
+    /// Where it takes its memory from.
+    pub fn allocator(&self) -> Global {
+        *self.items.allocator()
+    }
+
     /// Lends the items.
     pub fn as_slice(&self) -> &[T]
         ensures { result.now ≡ self.now }
@@ -64,10 +69,10 @@ impl<T> Items<T> {
 
 impl<T: Copy> Items<T> {
     /// A list of the same items. Takes time and memory linear in the length.
-    pub fn copy(&self, alloc: Global) -> Result<Items<T>, NoMemory>
+    pub fn copy(&self) -> Result<Items<T>, NoMemory>
         ensures { IfOk result (λ copy. copy ≡ self.now) }
     {
-        let mut items = Vec::new(alloc);
+        let mut items = Vec::new(self.allocator());
         items.extend_from_slice(self.items.as_slice())?;
         Ok(Items { items })
     }

@@ -63,10 +63,10 @@ impl Trace {
     }
 
     /// A trace with the same activations. Takes time and memory linear in the length.
-    pub fn copy(&self, alloc: Global) -> Result<Trace, NoMemory>
+    pub fn copy(&self) -> Result<Trace, NoMemory>
         ensures { IfOk result (λ copy. copy ≡ self.now) }
     {
-        let mut items = Vec::new(alloc);
+        let mut items = Vec::new(*self.items.allocator());
         items.extend_from_slice(&self.items)?;
         Ok(Trace { items })
     }

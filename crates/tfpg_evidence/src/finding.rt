@@ -45,7 +45,7 @@ impl Status {
     }
 
     /// An equal status.
-    fn copy(&self, alloc: Global) -> Result<Status, NoMemory>
+    fn copy(&self) -> Result<Status, NoMemory>
         ensures { IfOk result (λ copy. copy ≡ self.now) }
     {
         match self {
@@ -55,7 +55,7 @@ impl Status {
                 alarmed,
                 monitored,
             } => Ok(Status::Ranked {
-                trace: trace.copy(alloc)?,
+                trace: trace.copy()?,
                 cost: *cost,
                 alarmed: *alarmed,
                 monitored: *monitored,
@@ -94,11 +94,11 @@ impl Finding {
     }
 
     /// An equal finding.
-    fn copy(&self, alloc: Global) -> Result<Finding, NoMemory>
+    fn copy(&self) -> Result<Finding, NoMemory>
         ensures { IfOk result (λ copy. copy ≡ self.now) }
     {
-        let steps = copy_steps(alloc, &self.steps)?;
-        let status = self.status.copy(alloc)?;
+        let steps = copy_steps(&self.steps)?;
+        let status = self.status.copy()?;
         Ok(Finding {
             number: self.number,
             set: self.set,
@@ -121,10 +121,10 @@ pub fn finding_numbered(findings: &[Finding], number: u32) -> Option<&Finding>
 }
 
 /// Equal findings in the same order.
-pub(crate) fn copy_findings(alloc: Global, findings: &Findings) -> Result<Findings, NoMemory>
+pub(crate) fn copy_findings(findings: &Findings) -> Result<Findings, NoMemory>
     ensures { IfOk result (λ copy. copy ≡ findings.now) }
 {
-    Ok(Findings::from_vec(copies_of(alloc, findings.as_slice())?))
+    Ok(Findings::from_vec(copies_of(findings.allocator(), findings.as_slice())?))
 }
 
 /// A copy of each finding, in order.
@@ -133,7 +133,7 @@ fn copies_of(alloc: Global, findings: &[Finding]) -> Result<Vec<Finding>, NoMemo
 {
     let mut copies = Vec::with_capacity(alloc, findings.len())?;
     for finding in findings {
-        copies.push(finding.copy(alloc)?)?;
+        copies.push(finding.copy()?)?;
     }
     Ok(copies)
 }

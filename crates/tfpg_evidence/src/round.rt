@@ -4,7 +4,6 @@ ghost use Rattle.std.specs.Prelude.{◌≡◌, IfOk};
 
 use crate::Findings;
 use crate::finding::copy_findings;
-use std::alloc::Global;
 use tfpg_base::{NoMemory, NumberList};
 
 /// How many hypotheses have each status. A hypothesis is open where its budget was spent.
@@ -34,11 +33,11 @@ pub struct Round {
 
 impl Round {
     /// An equal round, for whoever keeps rounds. Takes time and memory linear in the round.
-    pub fn copy(&self, alloc: Global) -> Result<Round, NoMemory>
+    pub fn copy(&self) -> Result<Round, NoMemory>
         ensures { IfOk result (λ copy. copy ≡ self.entry.now) }
     {
-        let findings = copy_findings(alloc, &self.findings)?;
-        let order = self.order.copy(alloc)?;
+        let findings = copy_findings(&self.findings)?;
+        let order = self.order.copy()?;
         Ok(Round {
             number: self.number,
             line: self.line,

@@ -22,22 +22,22 @@ pub type StepList = Items<Step>;
 
 impl Step {
     /// An equal step.
-    fn copy(&self, alloc: Global) -> Result<Step, NoMemory>
+    fn copy(&self) -> Result<Step, NoMemory>
         ensures { IfOk result (λ copy. copy ≡ self.now) }
     {
         match self {
             Step::Split(name) => Ok(Step::Split(*name)),
-            Step::Cycle(reasons) => Ok(Step::Cycle(reasons.copy(alloc)?)),
+            Step::Cycle(reasons) => Ok(Step::Cycle(reasons.copy()?)),
             Step::Again => Ok(Step::Again),
         }
     }
 }
 
 /// Equal steps in the same order.
-pub(crate) fn copy_steps(alloc: Global, steps: &StepList) -> Result<StepList, NoMemory>
+pub(crate) fn copy_steps(steps: &StepList) -> Result<StepList, NoMemory>
     ensures { IfOk result (λ copy. copy ≡ steps.now) }
 {
-    Ok(StepList::from_vec(copies_of(alloc, steps.as_slice())?))
+    Ok(StepList::from_vec(copies_of(steps.allocator(), steps.as_slice())?))
 }
 
 /// A copy of each step, in order.
@@ -46,7 +46,7 @@ fn copies_of(alloc: Global, steps: &[Step]) -> Result<Vec<Step>, NoMemory>
 {
     let mut copies = Vec::with_capacity(alloc, steps.len())?;
     for step in steps {
-        copies.push(step.copy(alloc)?)?;
+        copies.push(step.copy()?)?;
     }
     Ok(copies)
 }

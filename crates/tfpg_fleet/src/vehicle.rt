@@ -60,7 +60,7 @@ impl Vehicle {
         ensures name { IfOk result (λ vehicle. vehicle.name ≡ name.now) }
         ensures new { IfOk result (IsNew graph.now terms) }
     {
-        let name = name.copy(alloc)?;
+        let name = name.copy()?;
         let graph = graph.copy()?;
         // There are few hypotheses, so that memory alone can run out.
         let Ok(engine) = Engine::new(alloc, graph, terms) else {

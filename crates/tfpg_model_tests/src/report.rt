@@ -172,7 +172,7 @@ fn round_of_alarm(alloc: Global) -> Result<Round, NoMemory>
 fn text_of_copy(alloc: Global, graph: &Graph, round: &Round) -> Result<Vec<u8>, NoMemory>
     requires { IsRoundOf (sizes_of graph.now) round.now }
 {
-    let copy = round.copy(alloc)?;
+    let copy = round.copy()?;
     let mut text = Vec::new(alloc);
     render(graph, &copy, &mut text)?;
     Ok(text)

@@ -37,7 +37,7 @@ pub(crate) fn outcome_at_once(
     if let Some(steps) = refuted_by_alarm(alloc, graph, log, reach, last.event)? {
         return Ok(Some(Outcome::Out(steps)));
     }
-    match kept_trace(alloc, graph, log, last, index)? {
+    match kept_trace(graph, log, last, index)? {
         Some(trace) => Ok(Some(Outcome::Fits(trace))),
         None => Ok(None),
     }
@@ -91,7 +91,6 @@ fn unreached_steps(alloc: Global, node: u32, horizon: u64, event: u32) -> Result
 
 /// The trace that is known from before the last event of the hypothesis at this index, where it shows the event.
 fn kept_trace(
-    alloc: Global,
     graph: &Graph,
     log: &Log,
     last: &LastEvent<'_>,
@@ -105,7 +104,7 @@ fn kept_trace(
     if !shows_answer(graph, log, trace, last.event) {
         return Ok(None);
     }
-    let copy = trace.copy(alloc)?;
+    let copy = trace.copy()?;
     Ok(Some(copy))
 }
 

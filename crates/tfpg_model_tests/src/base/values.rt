@@ -75,7 +75,7 @@ fn a_trace_keeps_the_last_time_by_rising_nodes(rt: HostRuntime) -> Result<(), Fa
     assert_eq!(rt; trace.at(7), Some(30));
     assert_eq!(rt; trace.at(8), None);
     assert_eq!(rt; trace.clone()?.as_slice(), trace.as_slice());
-    assert_eq!(rt; trace.copy(rt.alloc())?.as_slice(), expected.as_slice());
+    assert_eq!(rt; trace.copy()?.as_slice(), expected.as_slice());
     Ok(())
 }
 
