@@ -1,5 +1,5 @@
 -- What tests of sets and of hypotheses by the subsets of both lists come to.
-use Rattle.std.proofs.Common.{◌≡◌, ◌↔◌, ◌<◌, Bool, true, false, List, ℕ, length, ⊎_elim, ap, subst, sym, arith, IsTrue}
+use Rattle.std.proofs.Common.{◌≡◌, ◌↔◌, Bool, true, false, List, ℕ, length, ⊎_elim, subst, arith, IsTrue}
 use Rattle.std.specs.Prelude.{Contains}
 use Rattle.tfpg_base.proofs.lists.Elements.{All-from_members}
 use Rattle.tfpg_base.proofs.Sets.{IsSubset-cases}

@@ -50,19 +50,14 @@ abbrev pub filled : List ℕ → List ℕ → Result ℕ Failed → List ℕ
 filled left room (Ok count) = take count left ++ drop count room
 filled left room (Err failed) = room
 
--- The bytes of a sink that fails at chosen calls: all of them so far, for how many it was made with room, the limit of
--- one call, the numbers of the calls that are to fail, how many calls came, and how many failed.
+-- The bytes of a sink that fails at chosen calls: all of them so far, the limit of one call, the numbers of the calls
+-- that are to fail, how many calls came, and how many failed.
 pub record MemorySinkState : Type 0 where
   pub holds : List ℕ
-  pub room : ℕ
   pub limit : ℕ
   pub failing : List ℕ
   pub calls : ℕ
   pub faults : ℕ
-
--- What the sink holds and what a call takes of this piece fit the room that it was made with.
-abbrev pub FitsRoom : MemorySinkState → List ℕ → Type 0
-FitsRoom sink piece = length sink.holds + min (length piece) sink.limit ≤ sink.room
 
 -- a sink after a call for this piece
 abbrev pub after_put : MemorySinkState → List ℕ → Result ℕ Failed → MemorySinkState

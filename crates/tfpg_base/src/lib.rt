@@ -2,12 +2,12 @@
 //! lines of bytes, the words on a line, sets of failure modes, traces and difference constraints.
 //!
 //! - [`Source`], [`Sink`] and [`Shelf`] are the outside. Each counts the calls that failed, and contracts may know its
-//!   contents. [`MemorySource`], [`MemorySink`] and [`MemoryShelf`] are each in memory; [`SteadySource`]
-//!   and [`Discard`] never fail. [`FaultCount`] is such a count. [`Failed`] and [`ShelfFault`] say why a call failed.
+//!   contents. [`MemorySource`], [`MemorySink`] and [`MemoryShelf`] are each in memory; a [`SteadySource`]
+//!   never fails. [`FaultCount`] is such a count. [`Failed`] and [`ShelfFault`] say why a call failed.
 //! - [`Lines`] cuts what a source gives into lines. [`without_last_line_end`] returns a text without the line end
 //!   at its end. [`LineFault`] says why there is no line.
 //! - [`append_to_file`] appends a part of a file, as far as a file may go.
-//! - [`Words`] cuts a line into words, [`parts_at_commas`] a word into parts, and [`has_empty_word`] finds an empty word.
+//! - [`Words`] cuts a line into words, and [`parts_at_commas`] a word into parts.
 //!   [`read_name`] and [`read_number`] know the two forms of words that every text format uses; [`Number`] says what is read.
 //! - [`Set`] is a set of failure modes, [`Doubts`] one of monitors that may be wrong, and a [`Hypothesis`] has both;
 //!   [`NodeNumbers`] is what sets of nodes stand on. [`Trace`] says when which node became active, with an [`Activation`] for each.
@@ -77,7 +77,7 @@ pub use limits::{
 };
 pub use line::{Line, LineFault};
 pub use lines::Lines;
-pub use memory::{Discard, MemoryShelf, MemorySink, MemorySource, SteadySource};
+pub use memory::{MemoryShelf, MemorySink, MemorySource, SteadySource};
 pub use no_memory::NoMemory;
 pub use node_numbers::NodeNumbers;
 pub use outside::{Failed, Shelf, ShelfFault, Sink, Source};
@@ -89,4 +89,4 @@ pub use text_line::{append_line, append_part, append_words};
 pub use times::earlier;
 pub use trace::Trace;
 pub use word::{Number, read_name, read_number};
-pub use words::{Words, has_empty_word, parts_at_commas};
+pub use words::{Words, parts_at_commas};

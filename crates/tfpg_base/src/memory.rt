@@ -2,17 +2,15 @@
 //!
 //! Contracts know the contents of [`MemorySource`], [`MemorySink`] and [`MemoryShelf`]. Each is made with the numbers
 //! of the calls at which it fails. Calls are numbered from 1. A count of faults stands still at the last value of its
-//! type. [`SteadySource`] and [`Discard`] never fail.
+//! type. A [`SteadySource`] never fails.
 
 mod bytes_left;
-mod discard;
 mod failing_calls;
 mod memory_shelf;
 mod memory_sink;
 mod memory_source;
 mod steady_source;
 
-pub use discard::Discard;
 pub use memory_shelf::MemoryShelf;
 pub use memory_sink::MemorySink;
 pub use memory_source::MemorySource;

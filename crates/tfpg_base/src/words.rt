@@ -69,7 +69,7 @@ impl<'a> Words<'a> {
 }
 
 /// Whether one of the words is empty, as one is where a line has a space at an end, or two in a row.
-pub fn has_empty_word(words: &[&[u8]]) -> bool
+fn has_empty_word(words: &[&[u8]]) -> bool
     ensures { result ≡ has_empty_word (map (λ word. word.now) words.now) }
 {
     any_is_empty(words)

@@ -2,10 +2,10 @@
 
 ghost use Rattle.std.specs.Prelude.{◌≡◌, ◌<◌, ◌↔◌, [], min, length, IsErr, IfOk, OnErr};
 ghost use Rattle.tfpg_base.specs.Outside.{Rose};
-ghost use Rattle.tfpg_base.specs.Memory.{FailsNext, FitsRoom, after_put};
+ghost use Rattle.tfpg_base.specs.Memory.{FailsNext, after_put};
 
 use super::failing_calls::FailingCalls;
-use crate::{Failed, NoMemory, Sink};
+use crate::{Failed, Sink};
 use std::alloc::Global;
 use std::marker::Model;
 
@@ -14,27 +14,25 @@ use std::marker::Model;
 #[derive(Debug, Drop)]
 pub struct MemorySink<'a> {
     bytes: Vec<u8>,
-    room: usize,
     limit: usize,
     calls: FailingCalls<'a>,
 }
 
 impl<'a> Model for MemorySink<'a> {
-    ghost use Rattle.std.specs.Prelude.{◌<◌, ◌≤◌, vec_capacity};
+    ghost use Rattle.std.specs.Prelude.{◌<◌};
     ghost use Rattle.tfpg_base.specs.Memory.{MemorySinkState};
 
     ghost Value = { MemorySinkState };
 
     ghost view = { λ sink. record {
       holds = sink.bytes.items;
-      room = sink.room;
       limit = sink.limit;
       failing = sink.calls.failing.now;
       calls = sink.calls.calls;
       faults = sink.calls.faults.count;
     } };
 
-    ghost invariant = { λ sink. (0 < sink.limit) × (sink.room ≤ vec_capacity sink.bytes) };
+    ghost invariant = { λ sink. 0 < sink.limit };
 }
 
 impl<'a> MemorySink<'a> {
@@ -44,7 +42,6 @@ impl<'a> MemorySink<'a> {
         requires { 0 < limit }
         ensures { result ≡ record {
           holds = [];
-          room = 0;
           limit = limit;
           failing = failing.now;
           calls = 0;
@@ -53,36 +50,9 @@ impl<'a> MemorySink<'a> {
     {
         MemorySink {
             bytes: Vec::new(alloc),
-            room: 0,
             limit,
             calls: FailingCalls::new(failing),
         }
-    }
-
-    /// A sink as [`MemorySink::new`] makes it, with room for so many bytes. Until it holds more it fails exactly at the
-    /// calls with these numbers.
-    pub fn with_room(
-        alloc: Global,
-        room: usize,
-        limit: usize,
-        failing: &'a [u64],
-    ) -> Result<MemorySink<'a>, NoMemory>
-        requires { 0 < limit }
-        ensures { IfOk result (λ sink. sink ≡ record {
-          holds = [];
-          room = room;
-          limit = limit;
-          failing = failing.now;
-          calls = 0;
-          faults = 0;
-        }) }
-    {
-        Ok(MemorySink {
-            bytes: Vec::with_capacity(alloc, room)?,
-            room,
-            limit,
-            calls: FailingCalls::new(failing),
-        })
     }
 
     /// All the bytes so far.
@@ -90,6 +60,13 @@ impl<'a> MemorySink<'a> {
         ensures { result.now ≡ self.now.holds }
     {
         &self.bytes
+    }
+
+    /// All the bytes so far, which are moved out. Takes no memory.
+    pub fn into_bytes(self) -> Vec<u8>
+        ensures { result.items ≡ self.entry.holds }
+    {
+        self.bytes
     }
 
     /// How often putting has failed.
@@ -100,11 +77,10 @@ impl<'a> MemorySink<'a> {
     }
 
     /// Appends the first bytes of the piece, and returns how many, as [`Sink::put`] does. It fails at the chosen calls, and
-    /// where it runs out of memory. While what it holds fits its room it fails exactly at the chosen calls.
+    /// else only where it runs out of memory, which no empty piece does.
     pub fn put(&mut self, piece: &[u8]) -> Result<usize, Failed>
         ensures fails { FailsNext self.old.failing self.old.calls → IsErr result }
-        ensures exact { FitsRoom self.old piece.now →
-            (IsErr result ↔ FailsNext self.old.failing self.old.calls) }
+        ensures empty { piece.now ≡ [] → (IsErr result ↔ FailsNext self.old.failing self.old.calls) }
         ensures count { IfOk result (λ count. count ≡ min (length piece.now) self.old.limit) }
         ensures now { self.new ≡ after_put self.old piece.now result }
         ensures progress { 0 < length piece.now → IfOk result (λ count. 0 < count) }

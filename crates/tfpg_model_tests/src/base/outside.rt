@@ -65,21 +65,7 @@ fn a_memory_sink_keeps_what_it_takes(rt: HostRuntime) {
     }
     assert_eq!(rt; sink.bytes(), b"abc".as_slice());
     assert_eq!(rt; sink.faults(), 1);
-    assert_eq!(rt; put(&mut Discard, b"abc"), Ok(3));
-}
-
-#[test]
-fn a_memory_sink_with_room_fails_where_it_is_to(rt: HostRuntime) -> Result<(), Fail> {
-    let mut sink = MemorySink::with_room(rt.alloc(), 3, 2, &[2])?;
-    for (row, piece, count) in [
-        ("as much as fits a call", b"abc".as_slice(), Ok(2)),
-        ("a call that is to fail", b"c", Err(Failed)),
-        ("the rest", b"c", Ok(1)),
-    ] {
-        assert_eq!(rt; put(&mut sink, piece), count, "{row}");
-    }
-    assert_eq!(rt; sink.bytes(), b"abc".as_slice());
-    Ok(())
+    assert_eq!(rt; sink.into_bytes().as_slice(), b"abc".as_slice());
 }
 
 /// What one call of a shelf returns, through the bound.

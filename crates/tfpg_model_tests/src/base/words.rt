@@ -10,7 +10,6 @@ fn words_are_cut_at_each_space(rt: HostRuntime) {
         [b"5", b"alarm", b"", b"N\t", b""] => {}
         other => panic!(&rt; "{other:?}"),
     }
-    assert!(rt; has_empty_word(words.as_slice()));
     assert!(rt; Words::of(b"1 2 3 4 5 6 7 8 9").is_some());
     assert!(rt; Words::of(b"1 2 3 4 5 6 7 8 9 ").is_none());
 }
