@@ -31,7 +31,7 @@ use Rattle.tfpg_hyp.specs.Fitting.{SayWhichSetsFit}
 use Rattle.tfpg_hyp.specs.Rounds.{IsRound, key_of_status}
 use Rattle.tfpg_hyp.specs.declared.place.Place.{Place}
 use Rattle.tfpg_hyp.proofs.FindingsOfRound.{HasFindingAt, evidence}
-use Rattle.tfpg_report.specs.declared.refused_line.RefusedLine.{RefusedLine}
+use Rattle.tfpg_log.specs.declared.refused_line.RefusedLine.{RefusedLine}
 use Rattle.tfpg_report.specs.SetText.{set_word}
 use Rattle.tfpg_report.specs.Blocks.{Block, Loss, RoundBlock}
 use Rattle.tfpg_report.specs.LineWords.{activation_line, robustness_word}

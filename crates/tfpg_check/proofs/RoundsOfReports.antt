@@ -16,8 +16,8 @@ use Rattle.tfpg_log.specs.LogOfLines.{log_after_reply, log_after, log_of_lines}
 use Rattle.tfpg_log.proofs.logs_of_lines.LogsOfLines.{log_of_lines-push}
 use Rattle.tfpg_evidence.specs.declared.round.Round.{Round}
 use Rattle.tfpg_hyp.specs.Rounds.{IsRound}
-use Rattle.tfpg_report.specs.declared.refused_line.RefusedLine.{RefusedLine}
-use Rattle.tfpg_report.specs.declared.refused_line.RefusedLine.TheVariants.{TooLong}
+use Rattle.tfpg_log.specs.declared.refused_line.RefusedLine.{RefusedLine}
+use Rattle.tfpg_log.specs.declared.refused_line.RefusedLine.TheVariants.{TooLong}
 use Rattle.tfpg_report.specs.Blocks.{Block, Loss, RoundBlock}
 use Rattle.tfpg_check.specs.Report.{Progress, IsBlockOf, AreBlocks, event_of_reply, event_of_line, rounds_of, progress_of}
 

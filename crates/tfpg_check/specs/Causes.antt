@@ -8,7 +8,7 @@ use Rattle.tfpg_log.specs.declared.event.Event.{Event}
 use Rattle.tfpg_log.specs.Log.{with_event}
 use Rattle.tfpg_hyp.specs.Table.{IsTable}
 use Rattle.tfpg_hyp.specs.Rounds.{steps_so_far}
-use Rattle.tfpg_report.specs.declared.refused_line.RefusedLine.{RefusedLine}
+use Rattle.tfpg_log.specs.declared.refused_line.RefusedLine.{RefusedLine}
 use Rattle.tfpg_report.specs.declared.read_round.ReadRound.{ReadRound}
 use Rattle.tfpg_report.specs.declared.stand.Stand.{Stand}
 use Rattle.tfpg_report.specs.declared.report_line.ReportLine.{ReportLine}

@@ -15,8 +15,8 @@ use Rattle.tfpg_evidence.specs.declared.round.Round.{Round}
 use Rattle.tfpg_hyp.specs.Hypotheses.{HasHypotheses}
 use Rattle.tfpg_hyp.specs.Rounds.{IsRound}
 use Rattle.tfpg_hyp.specs.declared.limits.TheConstants.{MAX_HYPOTHESES}
-use Rattle.tfpg_report.specs.declared.refused_line.RefusedLine.{RefusedLine}
-use Rattle.tfpg_report.specs.declared.refused_line.RefusedLine.TheVariants.{TooLong, Offer}
+use Rattle.tfpg_log.specs.declared.refused_line.RefusedLine.{RefusedLine}
+use Rattle.tfpg_log.specs.declared.refused_line.RefusedLine.TheVariants.{TooLong, Offer}
 use Rattle.tfpg_report.specs.Blocks.{head_text, Loss, Block, RefusedBlock, RoundBlock, block_text}
 
 -- the event of a log's reply, or why there is none

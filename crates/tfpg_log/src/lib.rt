@@ -1,10 +1,10 @@
 //! The log of alarms, silences and mode changes, and what it means for a trace to explain it.
 //!
-//! - [`Log`] is the log of accepted lines, with its look-ups.
+//! - [`Log`] is the log of accepted lines, with its look-ups. It is offered lines, or takes events that may come next.
 //! - [`Event`] is what a line of the log says, once it is accepted, and [`Offered`] what becomes of a line.
 //! - [`append_event`] writes the line of an event.
 //! - [`Interval`] has the instants that an alarm leaves for the activation of its node.
-//! - [`Refusal`] says why a line is refused.
+//! - [`Refusal`] says why a line is refused, and [`RefusedLine`] also that it is too long, as [`is_too_long`] says.
 //! - [`MAX_EVENTS`] and [`MAX_MODE_CHANGES`] say how much a log may have.
 //! - [`Span`] is a run of instants of one mode, and [`Window`] a run of spans in which an edge is active.
 //! - [`laws`] has what the definitions come to: what ages, spans and windows are in other words, how ages follow from
@@ -33,6 +33,7 @@ mod log_line;
 mod mode_change;
 mod node_events;
 mod refusal;
+mod refused_line;
 mod reply;
 mod span;
 mod spans;
@@ -44,4 +45,5 @@ pub use interval::Interval;
 pub use limits::{MAX_EVENTS, MAX_MODE_CHANGES};
 pub use log::Log;
 pub use refusal::Refusal;
+pub use refused_line::{RefusedLine, is_too_long};
 pub use span::{Span, Window};

@@ -26,7 +26,7 @@ use Rattle.tfpg_evidence.specs.declared.finding.Finding.{Finding}
 use Rattle.tfpg_evidence.specs.declared.round.Counts.{Counts}
 use Rattle.tfpg_evidence.specs.declared.round.Round.{Round}
 use Rattle.tfpg_evidence.specs.Findings.{hypothesis_of, ranked_in_order, open_in, newly_rejected}
-use Rattle.tfpg_report.specs.declared.refused_line.RefusedLine.{RefusedLine}
+use Rattle.tfpg_log.specs.declared.refused_line.RefusedLine.{RefusedLine}
 use Rattle.tfpg_report.proofs.CleanLines.{after, cause_clean, clause_clean, clean_line, name, number, robustness, set, words}
 use Rattle.tfpg_report.proofs.WrittenLines.{written_losses}
 use Rattle.tfpg_report.specs.SetText.{set_word}

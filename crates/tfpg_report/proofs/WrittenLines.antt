@@ -13,7 +13,7 @@ use Rattle.tfpg_evidence.specs.declared.finding.Status.TheVariants as status
 use Rattle.tfpg_evidence.specs.declared.finding.Finding.{Finding}
 use Rattle.tfpg_evidence.specs.declared.round.Round.{Round}
 use Rattle.tfpg_evidence.specs.Findings.{ranked_in_order, open_in, newly_rejected}
-use Rattle.tfpg_report.specs.declared.refused_line.RefusedLine.{RefusedLine}
+use Rattle.tfpg_log.specs.declared.refused_line.RefusedLine.{RefusedLine}
 use Rattle.tfpg_report.specs.declared.report_line.ReportLine.{ReportLine}
 use Rattle.tfpg_report.specs.declared.report_line.ReportLine.TheVariants as line
 use Rattle.tfpg_report.specs.ReportLines.{written_line, lines_text}

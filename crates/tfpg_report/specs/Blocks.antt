@@ -8,7 +8,7 @@ use Rattle.tfpg_evidence.specs.declared.finding.Status.TheVariants as status
 use Rattle.tfpg_evidence.specs.declared.finding.Finding.{Finding}
 use Rattle.tfpg_evidence.specs.declared.round.Round.{Round as RoundOf}
 use Rattle.tfpg_evidence.specs.Findings.{ranked_in_order, open_in, newly_rejected}
-use Rattle.tfpg_report.specs.declared.refused_line.RefusedLine.{RefusedLine}
+use Rattle.tfpg_log.specs.declared.refused_line.RefusedLine.{RefusedLine}
 use Rattle.tfpg_report.specs.declared.report_line.ReportLine.{ReportLine}
 use Rattle.tfpg_report.specs.declared.report_line.ReportLine.TheVariants.{Refused, Round, Hyp, Ranked, At, Open, Rejected, Counts, Panel}
 use Rattle.tfpg_report.specs.LineWords.{head_words, refused_words, lost_words}

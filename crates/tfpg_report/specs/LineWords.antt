@@ -14,8 +14,8 @@ use Rattle.tfpg_evidence.specs.declared.reason.Reason.{Reason}
 use Rattle.tfpg_evidence.specs.declared.reason.Reason.TheVariants.{Zero, Top, Unreached, From, Upto, Quiet, Pick}
 use Rattle.tfpg_evidence.specs.declared.round.Counts.{Counts}
 use Rattle.tfpg_report.specs.SetText.{set_word}
-use Rattle.tfpg_report.specs.declared.refused_line.RefusedLine.{RefusedLine}
-use Rattle.tfpg_report.specs.declared.refused_line.RefusedLine.TheVariants.{TooLong, Offer}
+use Rattle.tfpg_log.specs.declared.refused_line.RefusedLine.{RefusedLine}
+use Rattle.tfpg_log.specs.declared.refused_line.RefusedLine.TheVariants.{TooLong, Offer}
 
 -- the words of the first line of a report on these terms
 abbrev pub head_words : Terms → List (List ℕ)

@@ -13,8 +13,8 @@ use Rattle.tfpg_evidence.specs.declared.reason.Reason.TheVariants.{Zero, Top, Un
 use Rattle.tfpg_evidence.specs.declared.round.Counts.{Counts as CountsOf}
 use Rattle.tfpg_report.specs.SetText.{IsHypothesisOf, set_word}
 use Rattle.tfpg_report.specs.LineWords.{head_words, old_head_words, refused_words, refusal_time, clause_words, reason_words, numbered_set_words, robustness_word, counts_words, lost_words}
-use Rattle.tfpg_report.specs.declared.refused_line.RefusedLine.{RefusedLine}
-use Rattle.tfpg_report.specs.declared.refused_line.RefusedLine.TheVariants.{TooLong, Offer}
+use Rattle.tfpg_log.specs.declared.refused_line.RefusedLine.{RefusedLine}
+use Rattle.tfpg_log.specs.declared.refused_line.RefusedLine.TheVariants.{TooLong, Offer}
 use Rattle.tfpg_report.specs.declared.report_line.ReportLine.{ReportLine}
 use Rattle.tfpg_report.specs.declared.report_line.ReportLine.TheVariants.{Head, OldHead, Refused, Round, Hyp, Split, Cycle, Why, Again, Ranked, At, Open, Rejected, Counts, Panel}
 

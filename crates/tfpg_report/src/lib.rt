@@ -35,7 +35,6 @@ mod read_round;
 mod reading;
 mod reason_line;
 mod refused_block;
-mod refused_line;
 mod report_line;
 mod round_block;
 mod sections;
@@ -55,9 +54,9 @@ pub use read_round::{
 };
 pub use reading::{LineRefusal, Members, read_report_line, read_set};
 pub use refused_block::refused;
-pub use refused_line::RefusedLine;
 pub use report_line::ReportLine;
 pub use round_block::{append_counts, render};
 pub use set_line::{append_set, append_set_line};
 pub use stand::Stand;
 pub use steps_block::append_steps;
+pub use tfpg_log::RefusedLine;

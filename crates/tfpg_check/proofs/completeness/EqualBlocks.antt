@@ -11,7 +11,7 @@ use Rattle.tfpg_base.proofs.lists.Images.{flat_map-same, map-injective}
 use Rattle.tfpg_graph.specs.Graph.{Tfpg}
 use Rattle.tfpg_log.specs.declared.event.Event.{Event}
 use Rattle.tfpg_log.specs.Log.{with_event}
-use Rattle.tfpg_report.specs.declared.refused_line.RefusedLine.{RefusedLine}
+use Rattle.tfpg_log.specs.declared.refused_line.RefusedLine.{RefusedLine}
 use Rattle.tfpg_report.specs.declared.report_line.ReportLine.{ReportLine}
 use Rattle.tfpg_report.specs.declared.report_line.ReportLine.TheVariants.{Head, OldHead}
 use Rattle.tfpg_report.specs.Blocks.{Block, RoundBlock, Loss, block_lines, loss_line, round_lines}

@@ -16,7 +16,7 @@ use Rattle.tfpg_log.specs.Log.{Logbook, with_event}
 use Rattle.tfpg_evidence.specs.declared.round.Round.{Round as RoundOf}
 use Rattle.tfpg_evidence.specs.declared.round.Counts.{Counts as CountsOf}
 use Rattle.tfpg_hyp.specs.Rounds.{IsRound}
-use Rattle.tfpg_report.specs.declared.refused_line.RefusedLine.{RefusedLine}
+use Rattle.tfpg_log.specs.declared.refused_line.RefusedLine.{RefusedLine}
 use Rattle.tfpg_report.specs.declared.read_round.ReadRound.{ReadRound}
 use Rattle.tfpg_report.specs.declared.report_line.ReportLine.{ReportLine}
 use Rattle.tfpg_report.specs.declared.report_line.ReportLine.TheVariants.{Refused, Counts}

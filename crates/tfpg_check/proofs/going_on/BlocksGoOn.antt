@@ -14,7 +14,7 @@ use Rattle.tfpg_kernel.specs.Represents.{CheckerRepresents}
 use Rattle.tfpg_hyp.specs.Hypotheses.{IsTableOf}
 use Rattle.tfpg_hyp.specs.Rounds.{IsRound, steps_so_far}
 use Rattle.tfpg_hyp.specs.Views.{log_for}
-use Rattle.tfpg_report.specs.declared.refused_line.RefusedLine.{RefusedLine}
+use Rattle.tfpg_log.specs.declared.refused_line.RefusedLine.{RefusedLine}
 use Rattle.tfpg_report.specs.declared.report_line.ReportLine.{ReportLine}
 use Rattle.tfpg_report.specs.Blocks.{Block, Loss, RefusedBlock, RoundBlock, block_lines}
 use Rattle.tfpg_report.specs.Reading.{begun_in, is_last}

@@ -9,7 +9,7 @@ use Rattle.tfpg_log.specs.Log.{Logbook, IsLogOf, GoesOn}
 use Rattle.tfpg_log.specs.LogOfLines.{log_after}
 use Rattle.tfpg_hyp.specs.Hypotheses.{HasHypotheses, Hypotheses, IsTableOf}
 use Rattle.tfpg_hyp.specs.declared.limits.TheConstants.{MAX_HYPOTHESES}
-use Rattle.tfpg_report.specs.declared.refused_line.RefusedLine.{RefusedLine}
+use Rattle.tfpg_log.specs.declared.refused_line.RefusedLine.{RefusedLine}
 use Rattle.tfpg_report.specs.declared.read_round.ReadRound.{ReadRound}
 use Rattle.tfpg_check.specs.declared.cause.CheckCause.{CheckCause}
 use Rattle.tfpg_check.specs.declared.block_judge.NextLine.TheVariants as next

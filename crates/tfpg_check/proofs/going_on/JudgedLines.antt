@@ -15,7 +15,7 @@ use Rattle.tfpg_evidence.specs.declared.round.Counts.{Counts as CountsOf}
 use Rattle.tfpg_hyp.specs.Hypotheses.{HasHypotheses}
 use Rattle.tfpg_report.specs.declared.fed.Fed.{Fed}
 use Rattle.tfpg_report.specs.declared.fed.Fed.TheVariants as fed
-use Rattle.tfpg_report.specs.declared.refused_line.RefusedLine.{RefusedLine}
+use Rattle.tfpg_log.specs.declared.refused_line.RefusedLine.{RefusedLine}
 use Rattle.tfpg_report.specs.declared.stand.Stand.{Stand}
 use Rattle.tfpg_report.specs.declared.stand.Stand.TheVariants as stand
 use Rattle.tfpg_report.specs.declared.read_round.ReadRound.{ReadRound}

@@ -12,7 +12,7 @@ use Rattle.tfpg_clause.specs.Paths.{with_steps}
 use Rattle.tfpg_hyp.specs.Table.{IsTable}
 use Rattle.tfpg_hyp.specs.Rounds.{IsRound, steps_so_far}
 use Rattle.tfpg_hyp.proofs.FindingsOfRound.{steps_so_far-push}
-use Rattle.tfpg_report.specs.declared.refused_line.RefusedLine.TheVariants.{TooLong}
+use Rattle.tfpg_log.specs.declared.refused_line.RefusedLine.TheVariants.{TooLong}
 use Rattle.tfpg_report.specs.declared.stand.Stand.{Stand}
 use Rattle.tfpg_report.specs.declared.stand.Stand.TheVariants as stand
 use Rattle.tfpg_report.specs.declared.read_round.ReadRound.{ReadRound}

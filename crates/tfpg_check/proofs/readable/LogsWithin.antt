@@ -24,8 +24,8 @@ use Rattle.tfpg_log.specs.LogOfLines.{log_after, log_after_reply, log_of_lines, 
 use Rattle.tfpg_log.specs.LogStatements.{LogStatement, Alarm, Silent, Sweep, Tick, Mode, log_statement_of}
 use Rattle.tfpg_log.proofs.logs_of_lines.Accepting.{accepted_may_come}
 use Rattle.tfpg_log.proofs.logs_of_lines.LogsOfLines.{ordered-log_of_lines}
-use Rattle.tfpg_report.specs.declared.refused_line.RefusedLine.{RefusedLine}
-use Rattle.tfpg_report.specs.declared.refused_line.RefusedLine.TheVariants.{TooLong, Offer}
+use Rattle.tfpg_log.specs.declared.refused_line.RefusedLine.{RefusedLine}
+use Rattle.tfpg_log.specs.declared.refused_line.RefusedLine.TheVariants.{TooLong, Offer}
 use Rattle.tfpg_report.specs.ReportLines.{IsCauseWithin}
 use Rattle.tfpg_check.specs.Report.{event_of_line, event_of_reply}
 use Rattle.tfpg_check.proofs.readable.StepNumbers.{IsWithin}

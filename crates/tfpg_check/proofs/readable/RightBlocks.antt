@@ -20,7 +20,7 @@ use Rattle.tfpg_clause.specs.Trees.{Judged}
 use Rattle.tfpg_hyp.specs.Rounds.{HasEvidence, steps_so_far}
 use Rattle.tfpg_hyp.specs.Views.{case_for}
 use Rattle.tfpg_hyp.proofs.FindingsOfRound.{evidence}
-use Rattle.tfpg_report.specs.declared.refused_line.RefusedLine.{RefusedLine}
+use Rattle.tfpg_log.specs.declared.refused_line.RefusedLine.{RefusedLine}
 use Rattle.tfpg_report.specs.declared.report_line.ReportLine.TheVariants.{Refused}
 use Rattle.tfpg_report.specs.Blocks.{Block, Loss, RefusedBlock, RoundBlock, block_lines, loss_line, round_lines}
 use Rattle.tfpg_report.specs.InOrder.{HasRisingTrace, HasRisingTraces, IsInOrder}

@@ -10,7 +10,7 @@ use Rattle.tfpg_hyp.specs.Hypotheses.{HasHypotheses, IsTableOf}
 use Rattle.tfpg_hyp.specs.declared.limits.TheConstants.{MAX_HYPOTHESES}
 use Rattle.tfpg_report.specs.declared.fed.Fed.{Fed}
 use Rattle.tfpg_report.specs.declared.fed.Fed.TheVariants as fed
-use Rattle.tfpg_report.specs.declared.refused_line.RefusedLine.{RefusedLine}
+use Rattle.tfpg_log.specs.declared.refused_line.RefusedLine.{RefusedLine}
 use Rattle.tfpg_report.specs.declared.read_round.ReadRound.{ReadRound}
 use Rattle.tfpg_check.specs.declared.cause.CheckCause.{CheckCause}
 use Rattle.tfpg_check.specs.declared.cause.CheckCause.TheVariants as cause

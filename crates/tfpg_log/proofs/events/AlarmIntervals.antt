@@ -1,5 +1,5 @@
 -- The instants that an alarm of a node leaves for its activation.
-use Rattle.std.proofs.Common.{◌≡◌, ℕ, ◌-◌, ◌≤◌, Bool, false, true, not, Option, Some, None, refl, sym, ap, ◌∙◌, arith}
+use Rattle.std.proofs.Common.{◌≡◌, ℕ, ◌-◌, false, not, Some, None, sym, ap}
 use Rattle.std.specs.Bool.{then_some}
 use Rattle.std.proofs.lemmas.Bool.{not-true}
 use Rattle.tfpg_base.proofs.lists.Choices.{then_some-true}

@@ -1,6 +1,6 @@
 -- What an accepted event is, and that a log with it is of its graph.
-use Rattle.std.proofs.Common.{◌≡◌, ℕ, ◌<◌, ◌≤◌, List, [], ◌++◌, length, Option, Some, None, refl, sym, ap, subst, ◌∙◌, arith}
-use Rattle.std.specs.Prelude.{IsTrue, count_by, not, is_some, is_none, nat_lt, nat_le, bytes_eq, option_map, option_and_then, unwrap_or}
+use Rattle.std.proofs.Common.{◌≡◌, ℕ, ◌<◌, ◌≤◌, List, [], ◌++◌, length, Option, Some, None, refl, sym, subst, arith}
+use Rattle.std.specs.Prelude.{Result, Ok, Err, OnOk, OnErr, IsTrue, count_by, not, is_some, is_none, nat_lt, nat_le, bytes_eq, option_and_then, unwrap_or}
 use Rattle.std.specs.Bool.{then_some}
 use Rattle.std.specs.Option.{option_map_or}
 use Rattle.std.specs.Str.Parse.{digits_value}
@@ -9,8 +9,9 @@ use Rattle.std.proofs.lemmas.Bool.{false≢true, ltb-false, leb-false, not-false
 use Rattle.std.proofs.lemmas.List.Elements.{All-push, recursion_from_All}
 use Rattle.std.proofs.lemmas.List.Quantifiers.{position-Some}
 use Rattle.tfpg_base.specs.Choice.{first_of, unless_refused}
-use Rattle.tfpg_base.proofs.lists.Choices.{is_some-there, then_some-none, first_of-none, option_map-none}
+use Rattle.tfpg_base.proofs.lists.Choices.{is_some-there, then_some-none, first_of-none}
 use Rattle.tfpg_base.specs.declared.limits.TheConstants.{MAX_TIME}
+use Rattle.tfpg_base.specs.declared.no_memory.NoMemory.{NoMemory}
 use Rattle.tfpg_graph.specs.Graph.{Tfpg, node_named, mode_named, is_monitored}
 use Rattle.tfpg_log.specs.declared.event.Event.{Event}
 use Rattle.tfpg_log.specs.declared.event.Event.TheVariants as kinds
@@ -107,3 +108,9 @@ accepted_may_come graph log line event e = by_statement graph log event (log_sta
 -- A log with one more event that may come is of the graph.
 pub of-with_event : (graph : Tfpg) (log : Logbook) (event : Event) → IsLogOf graph log → IsNextEvent graph log event → IsLogOf graph (with_event log event)
 of-with_event graph log event of may = record { own = All-push (IsEventOf graph) log.events event of.own may.own; ignored = of.ignored }
+
+-- So is a log that such an event was to be added to.
+pub of-added : (graph : Tfpg) (old new : Logbook) (event : Event) (result : Result (Unit {0}) NoMemory) → IsLogOf graph old → IsNextEvent graph old event → OnOk result (new ≡ with_event old event)
+    → OnErr result (new ≡ old) → IsLogOf graph new
+of-added graph old new event (Ok done) of may ok err = subst (IsLogOf graph) (sym ok) (of-with_event graph old event of may)
+of-added graph old new event (Err fault) of may ok err = subst (IsLogOf graph) (sym err) of

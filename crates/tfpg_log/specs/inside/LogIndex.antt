@@ -1,11 +1,9 @@
 -- What a log keeps beside its events: which of them bound when each node became active, the last sweep, and the changes
 -- that begin its spans.
-use Rattle.std.specs.Prelude.{◌≡◌, ℕ, ◌+◌, ◌<◌, ◌≤◌, List, length, count_by, Option, Some, None}
+use Rattle.std.specs.Prelude.{◌≡◌, ℕ, ◌+◌, ◌<◌, ◌≤◌, List, length, count_by, Option}
 use Rattle.std.specs.List.Sorted.{IsNonDecreasingBy}
-use Rattle.tfpg_log.specs.declared.event.Event.{Event}
-use Rattle.tfpg_log.specs.declared.event.Event.TheVariants.{Alarm, Silent, Sweep, Tick, Mode}
 use Rattle.tfpg_log.specs.declared.mode_change.ModeChange.{ModeChange}
-use Rattle.tfpg_log.specs.Log.{Logbook, IsOrdered, now_of, event_at, alarm_of, alarm_event, is_mode_change, mode_after}
+use Rattle.tfpg_log.specs.Log.{Logbook, IsOrdered, now_of, is_mode_change, mode_after}
 use Rattle.tfpg_base.specs.declared.limits.TheConstants.{MAX_TIME}
 use Rattle.tfpg_log.specs.declared.limits.TheConstants.{MAX_EVENTS, MAX_MODE_CHANGES}
 use Rattle.tfpg_log.specs.declared.node_events.NodeEvents.{NodeEvents}

@@ -1,7 +1,8 @@
 //! How a log takes one more event, and keeps its indexes.
 
 ghost use Rattle.std.specs.Prelude.{◌≡◌, ◌<◌, ◌≤◌, count_by, IsTrue, OnOk, OnErr, vec_len};
-ghost use Rattle.tfpg_log.specs.Log.{with_event, time_of_event, is_mode_change};
+ghost use Rattle.tfpg_log.specs.EventLines.{IsNextEvent};
+ghost use Rattle.tfpg_log.specs.Log.{IsLogOf, with_event, time_of_event, is_mode_change};
 ghost use Rattle.tfpg_log.specs.declared.limits.TheConstants.{MAX_MODE_CHANGES};
 ghost use Rattle.tfpg_log.specs.inside.LogIndex.{MayComeAt};
 ghost use Rattle.tfpg_log.specs.inside.NodeEvents.{AreSameOfNodes};
@@ -11,8 +12,21 @@ use crate::log::Log;
 use crate::node_events::NodeEvents;
 use crate::spans::take_change;
 use tfpg_base::NoMemory;
+use tfpg_graph::Graph;
 
 impl Log {
+    /// Adds an event that may come next in a log of the graph: it is then the last. Where memory runs out, the log stays as it
+    /// was. Costs what [`Log::offer`] does of a line that is accepted, without the reading of its text.
+    pub fn add(&mut self, graph: &Graph, event: Event) -> Result<(), NoMemory>
+        requires of { IsLogOf graph.now self.old }
+        requires next { IsNextEvent graph.now self.old event }
+        ensures ok { OnOk result (self.new ≡ with_event self.old event) }
+        ensures err { OnErr result (self.new ≡ self.old) }
+        ensures of { IsLogOf graph.now self.new }
+    {
+        self.accept(event)
+    }
+
     /// Takes the event as its last. Where there is no memory for it, the log stays as it was.
     pub(crate) fn accept(&mut self, event: Event) -> Result<(), NoMemory>
         requires may_come { MayComeAt self.old (time_of_event event) }

@@ -8,8 +8,8 @@ use Rattle.tfpg_evidence.specs.declared.clause_name.ClauseName.{ClauseName}
 use Rattle.tfpg_evidence.specs.declared.clause_name.ClauseName.TheVariants as clause
 use Rattle.tfpg_evidence.specs.declared.reason.Reason.{Reason}
 use Rattle.tfpg_evidence.specs.declared.reason.Reason.TheVariants as reason
-use Rattle.tfpg_report.specs.declared.refused_line.RefusedLine.{RefusedLine}
-use Rattle.tfpg_report.specs.declared.refused_line.RefusedLine.TheVariants as refused
+use Rattle.tfpg_log.specs.declared.refused_line.RefusedLine.{RefusedLine}
+use Rattle.tfpg_log.specs.declared.refused_line.RefusedLine.TheVariants as refused
 use Rattle.tfpg_report.specs.declared.report_line.ReportLine.{ReportLine}
 use Rattle.tfpg_report.specs.declared.report_line.ReportLine.TheVariants as says
 use Rattle.tfpg_report.specs.inside.FirstWords.{small, number_first, small_first, node_first, edge_first, after_word, number_after, small_after, if_last, set_last}

@@ -3,7 +3,7 @@
 ghost use Rattle.std.specs.Prelude.{◌≡◌, ℕ, List, [], ◌∷◌, ◌++◌, All, map, flat_map, true, Option, Some, None};
 ghost use Rattle.tfpg_base.specs.declared.terms.Terms.{Terms};
 ghost use Rattle.tfpg_evidence.specs.declared.round.Round.{Round};
-ghost use Rattle.tfpg_report.specs.declared.refused_line.RefusedLine.{RefusedLine};
+ghost use Rattle.tfpg_log.specs.declared.refused_line.RefusedLine.{RefusedLine};
 ghost use Rattle.tfpg_report.specs.declared.report_line.ReportLine.{ReportLine};
 ghost use Rattle.tfpg_report.specs.declared.stand.Stand.{Stand};
 ghost use Rattle.tfpg_report.specs.Blocks.{Block, RefusedBlock, Loss, block_lines, loss_line, lines_before_counts, round_lines};

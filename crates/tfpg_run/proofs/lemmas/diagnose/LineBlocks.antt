@@ -21,7 +21,7 @@ use Rattle.tfpg_engine.specs.EngineState.{EngineState, GivesRound, Brings, Count
 use Rattle.tfpg_engine.specs.Work.{IsRoundLimit, IsRoundWithin}
 use Rattle.tfpg_engine.specs.declared.told.Told.{Told}
 use Rattle.tfpg_engine.specs.declared.told.Told.TheVariants as told
-use Rattle.tfpg_report.specs.declared.refused_line.RefusedLine.TheVariants.{TooLong, Offer}
+use Rattle.tfpg_log.specs.declared.refused_line.RefusedLine.TheVariants.{TooLong, Offer}
 use Rattle.tfpg_report.specs.Blocks.{RefusedBlock, RoundBlock, refused_text, round_text}
 use Rattle.tfpg_report.proofs.WrittenLines.{written_alone, written_refusal}
 use Rattle.tfpg_check.specs.Report.{Progress, IsBlockOf, event_of_line, event_of_reply}

@@ -18,7 +18,7 @@ use Rattle.tfpg_base.proofs.ReadingOn.{GaveLine, Continues-turn, Continues-text,
 use Rattle.tfpg_graph.specs.Graph.{Tfpg}
 use Rattle.std.proofs.lemmas.List.Elements.{All-nil}
 use Rattle.tfpg_base.proofs.lists.Written.{slice_get-push_before, slice_get-push_at}
-use Rattle.tfpg_report.specs.declared.refused_line.RefusedLine.TheVariants.{TooLong}
+use Rattle.tfpg_log.specs.declared.refused_line.RefusedLine.TheVariants.{TooLong}
 use Rattle.tfpg_report.specs.Blocks.{Block, block_text, head_text, refused_text}
 use Rattle.tfpg_check.specs.Report.{Progress, HasReports, IsBlock, AreBlocks, report_text, progress_of, new_progress, progress_after, rounds_of}
 use Rattle.tfpg_engine.specs.EngineState.{EngineState}

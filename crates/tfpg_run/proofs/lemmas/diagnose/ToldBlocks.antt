@@ -21,7 +21,7 @@ use Rattle.tfpg_panel.specs.declared.panel.PanelFault.TheVariants.{Lost, NoMemor
 use Rattle.tfpg_panel.specs.declared.lost_panel.LostPanel.{LostPanel}
 use Rattle.tfpg_panel.specs.Desk.{DeskState, IsTold, losses_of}
 use Rattle.tfpg_panel.specs.ToldRounds.{AreLossesAt, HasTold}
-use Rattle.tfpg_report.specs.declared.refused_line.RefusedLine.{RefusedLine}
+use Rattle.tfpg_log.specs.declared.refused_line.RefusedLine.{RefusedLine}
 use Rattle.tfpg_report.specs.Blocks.{Block, Loss, RefusedBlock, RoundBlock, block_text, head_text, lost_text, round_text}
 use Rattle.tfpg_report.specs.inside.Texts.{written_round}
 use Rattle.tfpg_report.proofs.WrittenLines.{written_losses, written_rounds}

@@ -16,7 +16,7 @@ use Rattle.tfpg_log.specs.LogOfLines.{new_log, log_of_lines}
 use Rattle.tfpg_evidence.specs.declared.round.Round.{Round}
 use Rattle.tfpg_hyp.specs.Rounds.{IsRound}
 use Rattle.tfpg_engine.specs.EngineState.{EngineState, EngineRepresents, GivesRound}
-use Rattle.tfpg_report.specs.declared.refused_line.RefusedLine.TheVariants.{TooLong, Offer}
+use Rattle.tfpg_log.specs.declared.refused_line.RefusedLine.TheVariants.{TooLong, Offer}
 use Rattle.tfpg_report.specs.Blocks.{refused_text, round_text}
 use Rattle.tfpg_check.specs.Report.{Progress, progress_of, rounds_of}
 use Rattle.tfpg_check.proofs.Progressing.{progress_of-push}

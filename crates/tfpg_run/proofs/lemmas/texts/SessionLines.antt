@@ -9,7 +9,7 @@ use Rattle.tfpg_graph.specs.Graph.{Tfpg}
 use Rattle.tfpg_graph.specs.Valid.{IsValid}
 use Rattle.tfpg_evidence.specs.declared.round.Round.{Round}
 use Rattle.tfpg_engine.specs.EngineState.{EngineState}
-use Rattle.tfpg_report.specs.declared.refused_line.RefusedLine.TheVariants.{TooLong}
+use Rattle.tfpg_log.specs.declared.refused_line.RefusedLine.TheVariants.{TooLong}
 use Rattle.tfpg_report.specs.Blocks.{Block, block_text, head_text, refused_text}
 use Rattle.tfpg_panel.specs.declared.lost_panel.LostPanel.{LostPanel}
 use Rattle.tfpg_check.specs.Report.{HasReports, Progress, progress_of, report_text, rounds_of}

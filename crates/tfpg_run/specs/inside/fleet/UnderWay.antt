@@ -13,7 +13,7 @@ use Rattle.tfpg_engine.specs.declared.told.Told.{Told}
 use Rattle.tfpg_engine.specs.declared.told.Told.TheVariants as told
 use Rattle.tfpg_fleet.specs.Belonging.{addressee, lines_for}
 use Rattle.tfpg_fleet.specs.FleetState.{FleetRepresents, names_of}
-use Rattle.tfpg_report.specs.declared.refused_line.RefusedLine.TheVariants.{Offer}
+use Rattle.tfpg_log.specs.declared.refused_line.RefusedLine.TheVariants.{Offer}
 use Rattle.tfpg_report.specs.Blocks.{Block, refused_text, round_text}
 use Rattle.tfpg_check.specs.Report.{AreBlocks, HasReports}
 use Rattle.tfpg_run.specs.declared.fault.StreamFault.{StreamFault}
