@@ -3,10 +3,6 @@
 /// Why a line of the input or of the script is refused.
 #[derive(Clone, Copy, Debug, PartialEq, Eq)]
 pub enum CheckCause {
-    /// A step of a refutation comes after its tree was closed.
-    AfterClosed,
-    /// A step uses a subtree again where that is not allowed.
-    NotReusable,
     /// The name of a split is not allowed.
     NotAClause,
     /// A reason is neither a pick nor a fact of the log.
@@ -17,6 +13,10 @@ pub enum CheckCause {
     Unchained,
     /// The sum of their bounds is 0 or more.
     NotNegative,
+    /// A step of a refutation comes after its tree was closed.
+    AfterClosed,
+    /// A step uses a subtree again where that is not allowed.
+    NotReusable,
     /// No report begins with the lines up to this one.
     BadReport,
     /// A block comes after that of the last line of the log.

@@ -9,7 +9,7 @@ use Rattle.std.proofs.lemmas.List.Elements.{All-nil, All-cons, All-push}
 use Rattle.tfpg_diff.specs.declared.demand.Demand.{Demand}
 use Rattle.tfpg_diff.specs.declared.why.Why.{Why}
 use Rattle.tfpg_diff.specs.declared.why.Why.TheVariants.{Given}
-use Rattle.tfpg_diff.specs.declared.bounds.Bounds.{Bounds}
+use Rattle.tfpg_diff.specs.VariableBounds.{VariableBounds}
 use Rattle.tfpg_diff.specs.declared.pick.Pick.{Pick}
 use Rattle.tfpg_base.specs.Constraint.{Meets}
 use Rattle.tfpg_base.specs.Bounds.{at_most}
@@ -29,18 +29,18 @@ use Rattle.tfpg_diff.proofs.Linked.{length-demands_linked, demands_linked-at, de
 use Rattle.tfpg_diff.proofs.Changes.{IsKept-moved, Demanded-pick_cases, Bounded-set, Bounded-set_other, Bounded-set_same}
 
 -- the bounds with this ceiling
-abbrev pub under : Bounds → ℕ → ℕ → Bounds
+abbrev pub under : VariableBounds → ℕ → ℕ → VariableBounds
 under old ceiling tag = record { floor = old.floor; floor_why = old.floor_why; ceiling = ceiling; ceiling_why = Given tag }
 
 -- the bounds with this floor
-abbrev pub over : Bounds → ℕ → ℕ → Bounds
+abbrev pub over : VariableBounds → ℕ → ℕ → VariableBounds
 over old least tag = record { floor = least; floor_why = Given tag; ceiling = old.ceiling; ceiling_why = old.ceiling_why }
 
 -- the ceiling as a pick
 abbrev pub ceiling_pick : ℕ → ℕ → ℕ → Pick
 ceiling_pick v ceiling tag = record { constraint = at_most v (pos ceiling); tag = tag }
 
-module _ (bounds : List Bounds) (picks : List Pick) (v : ℕ) (old new : Bounds) (at_v : Bounded (demands_of bounds picks) v old) where
+module _ (bounds : List VariableBounds) (picks : List Pick) (v : ℕ) (old new : VariableBounds) (at_v : Bounded (demands_of bounds picks) v old) where
   -- a solution stays one where the bounds of the variable get looser
   IsSolution-looser : ((time : ℕ) → IsBetween new time → IsBetween old time) → (times : List ℕ) →
       IsSolution (demands_of (set bounds v new) picks) times → IsSolution (demands_of bounds picks) times
@@ -52,7 +52,7 @@ module _ (bounds : List Bounds) (picks : List Pick) (v : ℕ) (old new : Bounds)
         let here : IsBetween old (slice_index times v) =
         looser (slice_index times v) (solution.between v new (Bounded-set_same bounds picks v old new at_v)) in
         subst (λ (n : ℕ). IsBetween b (slice_index times n)) (sym same)
-        (subst (λ (c : Bounds). IsBetween c (slice_index times v)) own here))
+        (subst (λ (c : VariableBounds). IsBetween c (slice_index times v)) own here))
         (λ (other : u ≢ v). solution.between u b (Bounded-set_other bounds picks v new u b other at))
         (cases_eq u v);
     met = solution.met;
@@ -60,12 +60,12 @@ module _ (bounds : List Bounds) (picks : List Pick) (v : ℕ) (old new : Bounds)
 
   -- values that lie between the bounds do so after the change too, where the value of the variable does
   IsBetween-changed : (values : List ℕ) →
-      ((u : ℕ) (b : Bounds) → Bounded (demands_of bounds picks) u b → IsBetween b (slice_index values (u + 1))) →
+      ((u : ℕ) (b : VariableBounds) → Bounded (demands_of bounds picks) u b → IsBetween b (slice_index values (u + 1))) →
       IsBetween new (slice_index values (v + 1)) →
-      (u : ℕ) (b : Bounds) → Bounded (demands_of (set bounds v new) picks) u b → IsBetween b (slice_index values (u + 1))
+      (u : ℕ) (b : VariableBounds) → Bounded (demands_of (set bounds v new) picks) u b → IsBetween b (slice_index values (u + 1))
   IsBetween-changed values between own u b at = ⊎_elim
       (λ (is : (u ≡ v) × (b ≡ new)).
-      subst (λ (c : Bounds). IsBetween c (slice_index values (u + 1))) (sym is.1)
+      subst (λ (c : VariableBounds). IsBetween c (slice_index values (u + 1))) (sym is.1)
       (subst (λ (n : ℕ). IsBetween new (slice_index values (n + 1))) (sym is.0) own))
       (λ (is : (u ≢ v) × Bounded (demands_of bounds picks) u b). between u b is.1)
       (Bounded-set bounds picks v new u b at)
@@ -76,30 +76,30 @@ module _ (bounds : List Bounds) (picks : List Pick) (v : ℕ) (old new : Bounds)
       (e ≡ floor_of v old → Demanded (demands_of (set bounds v new) picks) e) →
       Demanded (demands_of (set bounds v new) picks) e
   Demanded-changed e demanded ceiling floor =
-      let own : (u : ℕ) (b : Bounds) → Bounded (demands_of bounds picks) u b → u ≡ v → b ≡ old =
+      let own : (u : ℕ) (b : VariableBounds) → Bounded (demands_of bounds picks) u b → u ≡ v → b ≡ old =
       λ u b at same. sym (same_Some old b (sym at_v ∙ ap (slice_get bounds) (sym same) ∙ at)) in
       elim demanded [
         | inl is ↦ ⊎_elim
             (λ (same : is.0 ≡ v).
-            ceiling (is.3 ∙ ap (λ (n : ℕ). ceiling_of n is.1) same ∙ ap (λ (b : Bounds). ceiling_of v b) (own is.0 is.1 is.2 same)))
+            ceiling (is.3 ∙ ap (λ (n : ℕ). ceiling_of n is.1) same ∙ ap (λ (b : VariableBounds). ceiling_of v b) (own is.0 is.1 is.2 same)))
             (λ (other : is.0 ≢ v). inl (is.0, is.1, Bounded-set_other bounds picks v new is.0 is.1 other is.2, is.3))
             (cases_eq is.0 v)
         | inr others ↦ elim others [
           | inl is ↦ ⊎_elim
               (λ (same : is.0 ≡ v).
-              floor (is.3 ∙ ap (λ (n : ℕ). floor_of n is.1) same ∙ ap (λ (b : Bounds). floor_of v b) (own is.0 is.1 is.2 same)))
+              floor (is.3 ∙ ap (λ (n : ℕ). floor_of n is.1) same ∙ ap (λ (b : VariableBounds). floor_of v b) (own is.0 is.1 is.2 same)))
               (λ (other : is.0 ≢ v). inr (inl (is.0, is.1, Bounded-set_other bounds picks v new is.0 is.1 other is.2, is.3)))
               (cases_eq is.0 v)
           | inr is ↦ inr (inr is)
         ]
       ]
 
-module _ (bounds : List Bounds) (picks : List Pick) (v : ℕ) (old : Bounds) (at_v : Bounded (demands_of bounds picks) v old) where
+module _ (bounds : List VariableBounds) (picks : List Pick) (v : ℕ) (old : VariableBounds) (at_v : Bounded (demands_of bounds picks) v old) where
   -- a solution under a lower ceiling meets the higher one, and the lower one as a pick
   IsSolution-ceiling : (ceiling tag : ℕ) → ceiling < old.ceiling → (times : List ℕ) → IsSolution (demands_of (set bounds v (under old ceiling tag)) picks) times →
       IsSolution (demands_of bounds (picks ++ ceiling_pick v ceiling tag ∷ [])) times
   IsSolution-ceiling ceiling tag tighter times solution =
-      let low : Bounds = under old ceiling tag in
+      let low : VariableBounds = under old ceiling tag in
       let looser : (time : ℕ) → IsBetween low time → IsBetween old time =
       λ time b. (let a = b.above in let c = b.below in record { above = omega arith; below = omega arith }) in
       let without : IsSolution (demands_of bounds picks) times = IsSolution-looser bounds picks v old low at_v looser times solution in
@@ -119,7 +119,7 @@ module _ (bounds : List Bounds) (picks : List Pick) (v : ℕ) (old : Bounds) (at
       IsKept (demands_of bounds (picks ++ ceiling_pick v ceiling tag ∷ [])) values links →
       IsKept (demands_of (set bounds v (under old ceiling tag)) picks) values links
   IsKept-ceiling ceiling tag values links tighter above low kept =
-      let lower : Bounds = under old ceiling tag in
+      let lower : VariableBounds = under old ceiling tag in
       let new : Demands = demands_of (set bounds v lower) picks in
       IsKept-moved (demands_of bounds (picks ++ ceiling_pick v ceiling tag ∷ [])) new values links kept (length-set bounds v lower)
       (IsSolution-ceiling ceiling tag tighter)
@@ -159,7 +159,7 @@ module _ (bounds : List Bounds) (picks : List Pick) (v : ℕ) (old : Bounds) (at
   Demanded-floor : (least tag : ℕ) (values : List ℕ) (links : List Demand) → IsKept (demands_of bounds picks) values links →
       (x : ℕ) (e : Demand) → 0 < x → slice_get links x ≡ Some e → Demanded (demands_of (set bounds v (over old least tag)) picks) e
   Demanded-floor least tag values links kept x e up at =
-      let higher : Bounds = over old least tag in
+      let higher : VariableBounds = over old least tag in
       let link : IsLink (demands_of bounds picks) values x e = kept.linked x e up at in
       Demanded-changed bounds picks v old higher at_v e link.demanded
       (λ (is : e ≡ ceiling_of v old). inl (v, higher, Bounded-set_same bounds picks v old higher at_v, is))
@@ -171,7 +171,7 @@ module _ (bounds : List Bounds) (picks : List Pick) (v : ℕ) (old : Bounds) (at
   pub IsKept-floor : (least tag : ℕ) (values : List ℕ) (links : List Demand) → old.floor < least → least ≤ slice_index values (v + 1) →
       IsKept (demands_of bounds picks) values links → IsKept (demands_of (set bounds v (over old least tag)) picks) values links
   IsKept-floor least tag values links tighter high kept =
-      let higher : Bounds = over old least tag in
+      let higher : VariableBounds = over old least tag in
       let was : IsBetween old (slice_index values (v + 1)) = kept.within v old at_v in
       let looser : (time : ℕ) → IsBetween higher time → IsBetween old time =
       λ time b. (let a = b.above in let c = b.below in record { above = omega arith; below = omega arith }) in
@@ -194,7 +194,7 @@ module _ (bounds : List Bounds) (picks : List Pick) (v : ℕ) (old : Bounds) (at
       walked
 
 -- one more variable at its ceiling
-pub AreAtCeilings-more : (bounds : List Bounds) (values : List ℕ) (links : List Link) (v : ℕ) → v < length bounds → AreAtCeilings bounds values links v →
+pub AreAtCeilings-more : (bounds : List VariableBounds) (values : List ℕ) (links : List Link) (v : ℕ) → v < length bounds → AreAtCeilings bounds values links v →
     AreAtCeilings bounds (set values (v + 1) (get_or bounds v no_bounds).ceiling) (set links (v + 1) Ceiling) (v + 1)
 AreAtCeilings-more bounds values links v inside start =
     let ceiling : ℕ = (get_or bounds v no_bounds).ceiling in
@@ -207,7 +207,7 @@ AreAtCeilings-more bounds values links v inside start =
       values_are = λ u limits below at. ⊎_elim
           (λ (is : u ≡ v).
           ap (λ (n : ℕ). slice_index (set values (v + 1) ceiling) (n + 1)) is ∙ get_or-set_same values (v + 1) ceiling 0 (omega arith)
-          ∙ ap (λ (b : Bounds). b.ceiling) (get_or_from_slice_get bounds v limits no_bounds (ap (slice_get bounds) (sym is) ∙ at)))
+          ∙ ap (λ (b : VariableBounds). b.ceiling) (get_or_from_slice_get bounds v limits no_bounds (ap (slice_get bounds) (sym is) ∙ at)))
           (λ (other : u ≢ v).
           get_or-set_other values (v + 1) (u + 1) ceiling 0 (λ same. other (omega arith)) ∙ start.values_are u limits (omega arith) at)
           (cases_eq u v);
@@ -219,24 +219,24 @@ AreAtCeilings-more bounds values links v inside start =
     }
 
 -- the way from each number is its ceiling
-start_way : (bounds : List Bounds) (links : List Demand) → length links ≡ length bounds + 1 →
-    ((v : ℕ) (b : Bounds) → v < length bounds → slice_get bounds v ≡ Some b → slice_get links (v + 1) ≡ Some (ceiling_of v b)) →
+start_way : (bounds : List VariableBounds) (links : List Demand) → length links ≡ length bounds + 1 →
+    ((v : ℕ) (b : VariableBounds) → v < length bounds → slice_get bounds v ≡ Some b → slice_get links (v + 1) ≡ Some (ceiling_of v b)) →
     IsRooted links
 start_way bounds links len are zero inside = ([], refl)
 start_way bounds links len are (suc v) inside =
     let below : v < length bounds = omega arith in
-    let b : Bounds = get_or bounds v no_bounds in
+    let b : VariableBounds = get_or bounds v no_bounds in
     let at : slice_get links (suc v) ≡ Some (ceiling_of v b) =
     ap (slice_get links) (omega arith) ∙ are v b below (slice_get-get_or bounds v no_bounds below) in
     (ceiling_of v b ∷ [], (omega arith, at, refl))
 
 -- every solution is at most the ceilings
-start_greatest : (bounds : List Bounds) (picks : List Pick) (values : List ℕ) (links : List Link) → AreAtCeilings bounds values links (length bounds) →
+start_greatest : (bounds : List VariableBounds) (picks : List Pick) (values : List ℕ) (links : List Link) → AreAtCeilings bounds values links (length bounds) →
     (times : List ℕ) → IsSolution (demands_of bounds picks) times → (x : ℕ) → slice_index (0 ∷ times) x ≤ slice_index values x
 start_greatest bounds picks values links start times solution zero = omega arith
 start_greatest bounds picks values links start times solution (suc v) = ⊎_elim
     (λ (inside : v < length bounds).
-    let b : Bounds = get_or bounds v no_bounds in
+    let b : VariableBounds = get_or bounds v no_bounds in
     let at = slice_get-get_or bounds v no_bounds inside in
     let met : IsMetBy (0 ∷ times) (ceiling_of v b) = IsMetBy-solution (demands_of bounds picks) times solution (ceiling_of v b) (inl (v, b, at, refl)) in
     let value : slice_index values (v + 1) ≡ b.ceiling = start.values_are v b inside at in
@@ -250,20 +250,20 @@ start_greatest bounds picks values links start times solution (suc v) = ⊎_elim
     (cases_lt v (length bounds))
 
 -- the links stand for the ceilings
-start_linked : (bounds : List Bounds) (picks : List Pick) (values : List ℕ) (links : List Link) → AreAtCeilings bounds values links (length bounds) →
-    (v : ℕ) (b : Bounds) → v < length bounds → slice_get bounds v ≡ Some b →
+start_linked : (bounds : List VariableBounds) (picks : List Pick) (values : List ℕ) (links : List Link) → AreAtCeilings bounds values links (length bounds) →
+    (v : ℕ) (b : VariableBounds) → v < length bounds → slice_get bounds v ≡ Some b →
     slice_get (demands_linked (demands_of bounds picks) links) (v + 1) ≡ Some (ceiling_of v b)
 start_linked bounds picks values links start v b below at =
     demands_linked-at (demands_of bounds picks) links (v + 1) Ceiling (start.links_are v b below at)
     ∙ ap (λ (e : Demand). Some e) (demand_of_link-ceiling (demands_of bounds picks) v b at)
 
 -- Values that are the ceilings are kept, where no floor is above its ceiling.
-pub AreKept-start : (bounds : List Bounds) (picks : List Pick) (values : List ℕ) (links : List Link) → AreAtCeilings bounds values links (length bounds) →
-    ((v : ℕ) (b : Bounds) → slice_get bounds v ≡ Some b → b.floor ≤ b.ceiling) → AreKept (demands_of bounds picks) values links
+pub AreKept-start : (bounds : List VariableBounds) (picks : List Pick) (values : List ℕ) (links : List Link) → AreAtCeilings bounds values links (length bounds) →
+    ((v : ℕ) (b : VariableBounds) → slice_get bounds v ≡ Some b → b.floor ≤ b.ceiling) → AreKept (demands_of bounds picks) values links
 AreKept-start bounds picks values links start ordered =
     let read : (v : ℕ) → v < length bounds → slice_get bounds v ≡ Some (get_or bounds v no_bounds) = λ v inside. slice_get-get_or bounds v no_bounds inside in
     let demands : List Demand = demands_linked (demands_of bounds picks) links in
-    let are : (v : ℕ) (b : Bounds) → v < length bounds → slice_get bounds v ≡ Some b → slice_get demands (v + 1) ≡ Some (ceiling_of v b) =
+    let are : (v : ℕ) (b : VariableBounds) → v < length bounds → slice_get bounds v ≡ Some b → slice_get demands (v + 1) ≡ Some (ceiling_of v b) =
     start_linked bounds picks values links start in
     let len : length demands ≡ length bounds + 1 = length-demands_linked (demands_of bounds picks) links ∙ start.links_len in
     record {
@@ -277,7 +277,7 @@ AreKept-start bounds picks values links start ordered =
             let v : ℕ = x - 1 in
             let number : x ≡ v + 1 = omega arith in
             let inside : v < length bounds = (let w = slice_get_within demands x e at in omega arith) in
-            let b : Bounds = get_or bounds v no_bounds in
+            let b : VariableBounds = get_or bounds v no_bounds in
             let is : ceiling_of v b ≡ e = same_Some (ceiling_of v b) e (sym (are v b inside (read v inside)) ∙ ap (slice_get demands) (sym number) ∙ at) in
             let value : slice_index values (v + 1) ≡ b.ceiling = start.values_are v b inside (read v inside) in
             let z = start.zero_stays in

@@ -6,7 +6,7 @@ use Rattle.std.proofs.lemmas.Option.{same_Some, slice_get_within}
 use Rattle.std.proofs.lemmas.List.{length-set, length_push}
 use Rattle.std.proofs.lemmas.List.Elements.{All-push, All-take, Contains-append_left, Contains-push_cases}
 use Rattle.tfpg_diff.specs.declared.demand.Demand.{Demand}
-use Rattle.tfpg_diff.specs.declared.bounds.Bounds.{Bounds}
+use Rattle.tfpg_diff.specs.VariableBounds.{VariableBounds}
 use Rattle.tfpg_diff.specs.declared.pick.Pick.{Pick}
 use Rattle.tfpg_base.specs.Constraint.{Meets}
 use Rattle.tfpg_diff.specs.Demands.{Demands, Demanded, Bounded, demand_of_pick, demands_of}
@@ -22,7 +22,7 @@ pub IsKept-moved : (old new : Demands) (values : List ℕ) (links : List Demand)
     length new.bounds ≡ length old.bounds →
     ((times : List ℕ) → IsSolution new times → IsSolution old times) →
     ((x : ℕ) (e : Demand) → 0 < x → slice_get links x ≡ Some e → IsLink old values x e → Demanded new e) →
-    ((v : ℕ) (b : Bounds) → Bounded new v b → IsBetween b (slice_index values (v + 1))) →
+    ((v : ℕ) (b : VariableBounds) → Bounded new v b → IsBetween b (slice_index values (v + 1))) →
     IsKept new values links
 IsKept-moved old new values links kept same solutions demanded within = record {
   values_len = let k = kept.values_len in omega arith;
@@ -37,7 +37,7 @@ IsKept-moved old new values links kept same solutions demanded within = record {
 }
 
 -- the bounds that a list has after a change of one variable's
-pub Bounded-set : (bounds : List Bounds) (picks : List Pick) (v : ℕ) (new : Bounds) (u : ℕ) (c : Bounds) →
+pub Bounded-set : (bounds : List VariableBounds) (picks : List Pick) (v : ℕ) (new : VariableBounds) (u : ℕ) (c : VariableBounds) →
     Bounded (demands_of (set bounds v new) picks) u c → ((u ≡ v) × (c ≡ new)) ⊎ ((u ≢ v) × Bounded (demands_of bounds picks) u c)
 Bounded-set bounds picks v new u c at = ⊎_elim
     (λ (same : u ≡ v).
@@ -47,17 +47,17 @@ Bounded-set bounds picks v new u c at = ⊎_elim
     (cases_eq u v)
 
 -- the bounds of another variable stay
-pub Bounded-set_other : (bounds : List Bounds) (picks : List Pick) (v : ℕ) (new : Bounds) (u : ℕ) (c : Bounds) → u ≢ v →
+pub Bounded-set_other : (bounds : List VariableBounds) (picks : List Pick) (v : ℕ) (new : VariableBounds) (u : ℕ) (c : VariableBounds) → u ≢ v →
     Bounded (demands_of bounds picks) u c → Bounded (demands_of (set bounds v new) picks) u c
 Bounded-set_other bounds picks v new u c other at = slice_get-set_other bounds v u new other ∙ at
 
 -- the new bounds of the variable
-pub Bounded-set_same : (bounds : List Bounds) (picks : List Pick) (v : ℕ) (old new : Bounds) → Bounded (demands_of bounds picks) v old →
+pub Bounded-set_same : (bounds : List VariableBounds) (picks : List Pick) (v : ℕ) (old new : VariableBounds) → Bounded (demands_of bounds picks) v old →
     Bounded (demands_of (set bounds v new) picks) v new
 Bounded-set_same bounds picks v old new at = slice_get-set_same bounds v new (slice_get_within bounds v old at)
 
 -- a constraint of the demands is one of those with one more pick
-pub Demanded-pick : (bounds : List Bounds) (picks : List Pick) (pick : Pick) (e : Demand) →
+pub Demanded-pick : (bounds : List VariableBounds) (picks : List Pick) (pick : Pick) (e : Demand) →
     Demanded (demands_of bounds picks) e → Demanded (demands_of bounds (picks ++ pick ∷ [])) e
 Demanded-pick bounds picks pick e demanded = elim demanded [
   | inl is ↦ inl is
@@ -68,7 +68,7 @@ Demanded-pick bounds picks pick e demanded = elim demanded [
 ]
 
 -- a constraint of the demands with one more pick is one without it, or the pick
-pub Demanded-pick_cases : (bounds : List Bounds) (picks : List Pick) (pick : Pick) (e : Demand) →
+pub Demanded-pick_cases : (bounds : List VariableBounds) (picks : List Pick) (pick : Pick) (e : Demand) →
     Demanded (demands_of bounds (picks ++ pick ∷ [])) e → Demanded (demands_of bounds picks) e ⊎ (e ≡ demand_of_pick pick)
 Demanded-pick_cases bounds picks pick e demanded = elim demanded [
   | inl is ↦ inl (inl is)
@@ -82,7 +82,7 @@ Demanded-pick_cases bounds picks pick e demanded = elim demanded [
 ]
 
 -- a solution with one more pick is one without it
-pub IsSolution-pick : (bounds : List Bounds) (picks : List Pick) (pick : Pick) (times : List ℕ) →
+pub IsSolution-pick : (bounds : List VariableBounds) (picks : List Pick) (pick : Pick) (times : List ℕ) →
     IsSolution (demands_of bounds (picks ++ pick ∷ [])) times → IsSolution (demands_of bounds picks) times
 IsSolution-pick bounds picks pick times solution = record {
   complete = solution.complete;
@@ -91,7 +91,7 @@ IsSolution-pick bounds picks pick times solution = record {
 }
 
 -- what is kept stays kept with one more pick
-pub IsKept-pick : (bounds : List Bounds) (picks : List Pick) (pick : Pick) (values : List ℕ) (links : List Demand) →
+pub IsKept-pick : (bounds : List VariableBounds) (picks : List Pick) (pick : Pick) (values : List ℕ) (links : List Demand) →
     IsKept (demands_of bounds picks) values links → IsKept (demands_of bounds (picks ++ pick ∷ [])) values links
 IsKept-pick bounds picks pick values links kept =
     IsKept-moved (demands_of bounds picks) (demands_of bounds (picks ++ pick ∷ [])) values links kept refl
@@ -100,7 +100,7 @@ IsKept-pick bounds picks pick values links kept =
     (λ v b at. kept.within v b at)
 
 -- demands stay sound with one more pick
-pub IsSound-pick : (bounds : List Bounds) (picks : List Pick) (pick : Pick) → IsSound (demands_of bounds picks) →
+pub IsSound-pick : (bounds : List VariableBounds) (picks : List Pick) (pick : Pick) → IsSound (demands_of bounds picks) →
     length picks + 1 < 2 ^ 32 → pick.constraint.left ≤ length bounds → pick.constraint.right ≤ length bounds →
     IsSound (demands_of bounds (picks ++ pick ∷ []))
 IsSound-pick bounds picks pick sound room left right = record {
@@ -112,7 +112,7 @@ IsSound-pick bounds picks pick sound room left right = record {
 }
 
 -- demands stay sound with other bounds of a variable that are not past the latest value
-pub IsSound-set : (bounds : List Bounds) (picks : List Pick) (v : ℕ) (new : Bounds) → IsSound (demands_of bounds picks) →
+pub IsSound-set : (bounds : List VariableBounds) (picks : List Pick) (v : ℕ) (new : VariableBounds) → IsSound (demands_of bounds picks) →
     new.ceiling ≤ NEVER → IsSound (demands_of (set bounds v new) picks)
 IsSound-set bounds picks v new sound low =
     let same : length (set bounds v new) ≡ length bounds = length-set bounds v new in
@@ -120,7 +120,7 @@ IsSound-set bounds picks v new sound low =
       few = (let f = sound.few in omega arith);
       few_picks = sound.few_picks;
       ceilings = λ u c at. ⊎_elim
-          (λ (is : (u ≡ v) × (c ≡ new)). subst (λ (b : Bounds). b.ceiling ≤ NEVER) (sym is.1) low)
+          (λ (is : (u ≡ v) × (c ≡ new)). subst (λ (b : VariableBounds). b.ceiling ≤ NEVER) (sym is.1) low)
           (λ (is : (u ≢ v) × Bounded (demands_of bounds picks) u c). sound.ceilings u c is.1)
           (Bounded-set bounds picks v new u c at);
       lefts = subst (λ (n : ℕ). All (λ (p : Pick). p.constraint.left ≤ n) picks) (sym same) sound.lefts;
@@ -128,7 +128,7 @@ IsSound-set bounds picks v new sound low =
     }
 
 -- a solution with fewer picks from one with all
-pub IsSolution-take : (bounds : List Bounds) (picks : List Pick) (len : ℕ) (times : List ℕ) →
+pub IsSolution-take : (bounds : List VariableBounds) (picks : List Pick) (len : ℕ) (times : List ℕ) →
     IsSolution (demands_of bounds picks) times → IsSolution (demands_of bounds (take len picks)) times
 IsSolution-take bounds picks len times solution = record {
   complete = solution.complete;

@@ -5,7 +5,7 @@ use Rattle.std.proofs.lemmas.Option.{same_Some, none-some}
 use Rattle.std.proofs.lemmas.List.Elements.{All-nil}
 use Rattle.tfpg_diff.specs.declared.link.Link.{Link}
 use Rattle.tfpg_diff.specs.declared.why.Why.{Why}
-use Rattle.tfpg_diff.specs.declared.bounds.Bounds.{Bounds}
+use Rattle.tfpg_diff.specs.VariableBounds.{VariableBounds}
 use Rattle.tfpg_diff.specs.declared.pick.Pick.{Pick}
 use Rattle.tfpg_diff.specs.declared.labels.Labels.{Labels}
 use Rattle.tfpg_diff.specs.Demands.{Demands, demand_of_pick, demands_of}
@@ -23,7 +23,7 @@ use Rattle.tfpg_diff.proofs.TakingBack.{IsReady-afresh}
 pub unbounded_from-more : (first count : ℕ) → unbounded_from first (suc count) ≡ unbounded_from first count ++ widest (first + count) ∷ []
 unbounded_from-more first zero = ap (λ (n : ℕ). widest n ∷ []) (omega arith)
 unbounded_from-more first (suc count) =
-    ap (λ (bs : List Bounds). widest first ∷ bs)
+    ap (λ (bs : List VariableBounds). widest first ∷ bs)
     (unbounded_from-more (first + 1) count ∙ ap (λ (n : ℕ). unbounded_from (first + 1) count ++ widest n ∷ []) (omega arith))
 
 -- there are as many bounds as variables
@@ -32,7 +32,7 @@ length-unbounded_from first zero = refl
 length-unbounded_from first (suc count) = ap suc (length-unbounded_from (first + 1) count)
 
 -- each has the widest bounds
-pub widest_from : (first count v : ℕ) (b : Bounds) → slice_get (unbounded_from first count) v ≡ Some b → (b ≡ widest (first + v)) × (v < count)
+pub widest_from : (first count v : ℕ) (b : VariableBounds) → slice_get (unbounded_from first count) v ≡ Some b → (b ≡ widest (first + v)) × (v < count)
 widest_from first zero v b at = absurd (none-some b at)
 widest_from first (suc count) zero b at = (sym (same_Some (widest first) b at) ∙ ap widest (omega arith), omega arith)
 widest_from first (suc count) (suc v) b at =
@@ -40,17 +40,17 @@ widest_from first (suc count) (suc v) b at =
     (after.0 ∙ ap widest (omega arith), omega (arith, after.1))
 
 -- a new system is ready
-pub IsReady-new : (bounds now : List Bounds) (picks : List Pick) (count : ℕ) (labels : Labels) (capacity : ℕ) →
+pub IsReady-new : (bounds now : List VariableBounds) (picks : List Pick) (count : ℕ) (labels : Labels) (capacity : ℕ) →
     now ≡ bounds → bounds ≡ unbounded_from 0 count → picks ≡ [] → count ≤ 2 ^ 31 →
     AreAtCeilings now labels.values.items labels.links.items (length now) → labels.trail.saved.items ≡ [] → count + 3 ≤ capacity →
     IsReady (demands_of bounds picks) labels capacity
 IsReady-new bounds now picks count labels capacity same is none few start empty room =
     let len : length bounds ≡ count = ap length is ∙ length-unbounded_from 0 count in
-    let widths : (v : ℕ) (b : Bounds) → slice_get bounds v ≡ Some b → (b.floor ≡ 0) × (b.ceiling ≡ NEVER) =
-    λ v b at. (let same = (widest_from 0 count v b (sym (ap (λ (bs : List Bounds). slice_get bs v) is) ∙ at)).0 in
-    (ap (λ (c : Bounds). c.floor) same, ap (λ (c : Bounds). c.ceiling) same)) in
+    let widths : (v : ℕ) (b : VariableBounds) → slice_get bounds v ≡ Some b → (b.floor ≡ 0) × (b.ceiling ≡ NEVER) =
+    λ v b at. (let same = (widest_from 0 count v b (sym (ap (λ (bs : List VariableBounds). slice_get bs v) is) ∙ at)).0 in
+    (ap (λ (c : VariableBounds). c.floor) same, ap (λ (c : VariableBounds). c.ceiling) same)) in
     let begun : AreAtCeilings bounds labels.values.items labels.links.items (length bounds) =
-    subst (λ (bs : List Bounds). AreAtCeilings bs labels.values.items labels.links.items (length bs)) same start in
+    subst (λ (bs : List VariableBounds). AreAtCeilings bs labels.values.items labels.links.items (length bs)) same start in
     subst (λ (ps : List Pick). IsReady (demands_of bounds ps) labels capacity) (sym none)
     (IsReady-afresh (demands_of bounds []) labels capacity
     (record {
@@ -64,7 +64,7 @@ IsReady-new bounds now picks count labels capacity same is none few start empty 
     (All-nil (λ (pick : Pick). IsMetBy labels.values.items (demand_of_pick pick))) empty (omega arith) (omega arith))
 
 -- a fresh start keeps what is kept, where there is a solution
-pub AreKept-fresh : (bounds : List Bounds) (picks : List Pick) (values : List ℕ) (links : List Link) → HasSolution (demands_of bounds picks) →
+pub AreKept-fresh : (bounds : List VariableBounds) (picks : List Pick) (values : List ℕ) (links : List Link) → HasSolution (demands_of bounds picks) →
     AreAtCeilings bounds values links (length bounds) → AreKept (demands_of bounds picks) values links
 AreKept-fresh bounds picks values links some start =
     AreKept-start bounds picks values links start

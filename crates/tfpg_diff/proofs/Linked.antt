@@ -7,7 +7,7 @@ use Rattle.std.proofs.lemmas.Option.{slice_get-get_or, slice_get_within, get_or_
 use Rattle.std.proofs.lemmas.List.{same_lists, length-set, get_or-set_same, get_or-set_other, get_or_past, get_or_append_left}
 use Rattle.tfpg_base.proofs.lists.Written.{slice_get-set_same}
 use Rattle.tfpg_diff.specs.declared.demand.Demand.{Demand}
-use Rattle.tfpg_diff.specs.declared.bounds.Bounds.{Bounds}
+use Rattle.tfpg_diff.specs.VariableBounds.{VariableBounds}
 use Rattle.tfpg_diff.specs.declared.pick.Pick.{Pick}
 use Rattle.tfpg_diff.specs.declared.link.Link.{Link}
 use Rattle.tfpg_diff.specs.declared.link.Link.TheVariants.{Ceiling, Picked}
@@ -53,7 +53,7 @@ demands_linked-at demands links k link at =
     ∙ ap (demand_of_link demands k) (get_or_from_slice_get links k link Ceiling at))
 
 -- the demand of the upper bound of a variable
-pub demand_of_link-ceiling : (demands : Demands) (v : ℕ) (b : Bounds) → slice_get demands.bounds v ≡ Some b →
+pub demand_of_link-ceiling : (demands : Demands) (v : ℕ) (b : VariableBounds) → slice_get demands.bounds v ≡ Some b →
     demand_of_link demands (v + 1) Ceiling ≡ ceiling_of v b
 demand_of_link-ceiling demands v b at =
     let number : v + 1 ≡ suc v = omega arith in
@@ -125,7 +125,7 @@ IsLinkInto-kept demands values links kept (suc v) (Picked index) up at = ⊎_eli
     absurd (omega arith))
     (cases_lt index (length demands.picks))
 
-module _ (bounds : List Bounds) (picks : List Pick) (v : ℕ) (new : Bounds) where
+module _ (bounds : List VariableBounds) (picks : List Pick) (v : ℕ) (new : VariableBounds) where
   -- other bounds of a variable change no demand but its upper bound
   demand_of_link-other : (k : ℕ) (link : Link) → k ≢ v + 1 →
       demand_of_link (demands_of (set bounds v new) picks) k link ≡ demand_of_link (demands_of bounds picks) k link
@@ -141,7 +141,7 @@ module _ (bounds : List Bounds) (picks : List Pick) (v : ℕ) (new : Bounds) whe
   demand_of_link-not_ceiling (suc u) (Picked index) other = refl
 
   -- a higher floor changes none
-  pub demands_linked-floor : (old : Bounds) → slice_get bounds v ≡ Some old → ceiling_of v new ≡ ceiling_of v old → (links : List Link) →
+  pub demands_linked-floor : (old : VariableBounds) → slice_get bounds v ≡ Some old → ceiling_of v new ≡ ceiling_of v old → (links : List Link) →
       demands_linked (demands_of (set bounds v new) picks) links ≡ demands_linked (demands_of bounds picks) links
   demands_linked-floor old at same links = demands_linked-same (demands_of bounds picks) (demands_of (set bounds v new) picks) links (λ k link here. by k link (cases_eq k (v + 1)))
     where
@@ -161,7 +161,7 @@ module _ (bounds : List Bounds) (picks : List Pick) (v : ℕ) (new : Bounds) whe
       by k link (inr other) = demand_of_link-other k link other
 
   -- a lower ceiling changes none, where the value of the variable is below the old one: the old one is no link then
-  pub demands_linked-ceiling : (old : Bounds) → slice_get bounds v ≡ Some old → (values : List ℕ) (links : List Link) →
+  pub demands_linked-ceiling : (old : VariableBounds) → slice_get bounds v ≡ Some old → (values : List ℕ) (links : List Link) →
       IsKept (demands_of bounds picks) values (demands_linked (demands_of bounds picks) links) → slice_index values (v + 1) < old.ceiling →
       demands_linked (demands_of (set bounds v new) picks) links ≡ demands_linked (demands_of bounds picks) links
   demands_linked-ceiling old at values links kept low =
@@ -187,7 +187,7 @@ module _ (bounds : List Bounds) (picks : List Pick) (v : ℕ) (new : Bounds) whe
       (demand_of_link-ceiling (demands_of (set bounds v new) picks) v new (slice_get-set_same bounds v new inside))
 
 -- one more pick changes none
-pub demands_linked-pick : (bounds : List Bounds) (picks : List Pick) (pick : Pick) (values : List ℕ) (links : List Link) →
+pub demands_linked-pick : (bounds : List VariableBounds) (picks : List Pick) (pick : Pick) (values : List ℕ) (links : List Link) →
     IsKept (demands_of bounds picks) values (demands_linked (demands_of bounds picks) links) →
     demands_linked (demands_of bounds (picks ++ pick ∷ [])) links ≡ demands_linked (demands_of bounds picks) links
 demands_linked-pick bounds picks pick values links kept =

@@ -9,7 +9,7 @@ use Rattle.std.proofs.lemmas.List.Quantifiers.{all_pairs_push}
 use Rattle.std.proofs.lemmas.List.Elements.{All-cons, All-push, All-weaker}
 use Rattle.tfpg_diff.specs.declared.demand.Demand.{Demand}
 use Rattle.tfpg_diff.specs.declared.why.Why.{Why}
-use Rattle.tfpg_diff.specs.declared.bounds.Bounds.{Bounds}
+use Rattle.tfpg_diff.specs.VariableBounds.{VariableBounds}
 use Rattle.tfpg_diff.specs.Demands.{Demands, Demanded, Bounded, floor_of}
 use Rattle.tfpg_diff.specs.Cycle.{NamesNegativeCycle}
 use Rattle.tfpg_diff.specs.Solution.{IsBetween}
@@ -77,7 +77,7 @@ module _ (demands : Demands) (values : List ℕ) (links : List Demand) (kept : I
       (let l = broken.left in let k = kept.links_len in omega arith) broken.broken walked
 
   -- a walk to zero from a constraint that would lower its left side below its floor closes a negative cycle
-  pub cycle_from_floor : (demand : Demand) (tags : List Why) (variable : ℕ) (bounds : Bounds) → IsBrokenDemand demands values demand →
+  pub cycle_from_floor : (demand : Demand) (tags : List Why) (variable : ℕ) (bounds : VariableBounds) → IsBrokenDemand demands values demand →
       Walked links demand.constraint.right demand.constraint.left 0 (demand.why ∷ []) tags → Bounded demands variable bounds → demand.constraint.left ≡ variable + 1 →
       (pos (slice_index values demand.constraint.right) +ℤ demand.constraint.most) <ℤ pos bounds.floor →
       NamesNegativeCycle demands (tags ++ bounds.floor_why ∷ [])
@@ -105,7 +105,7 @@ module _ (demands : Demands) (values : List ℕ) (links : List Demand) (kept : I
       (omega (arith, ints))
 
   -- a lowering keeps what is kept
-  pub IsKept-lowered : (demand : Demand) (value variable : ℕ) (bounds : Bounds) → IsBrokenDemand demands values demand →
+  pub IsKept-lowered : (demand : Demand) (value variable : ℕ) (bounds : VariableBounds) → IsBrokenDemand demands values demand →
       LeadsTo links demand.constraint.right demand.constraint.left 0 → Bounded demands variable bounds → demand.constraint.left ≡ variable + 1 →
       pos value ≡ (pos (slice_index values demand.constraint.right) +ℤ demand.constraint.most) → bounds.floor ≤ value →
       IsKept demands (set values demand.constraint.left value) (set links demand.constraint.left demand)
@@ -150,7 +150,7 @@ module _ (demands : Demands) (values : List ℕ) (links : List Demand) (kept : I
             let old : IsBetween b (slice_index values (v + 1)) = kept.within v b at in
             let old' : slice_index values demand.constraint.left ≤ b.ceiling = subst (λ (n : ℕ). slice_index values n ≤ b.ceiling) same old.below in
             subst (λ (n : ℕ). IsBetween b n) (sym (ap (slice_index (set values demand.constraint.left value)) same ∙ here))
-            (record { above = subst (λ (c : Bounds). c.floor ≤ value) own high; below = omega arith }))
+            (record { above = subst (λ (c : VariableBounds). c.floor ≤ value) own high; below = omega arith }))
             (λ (other : v + 1 ≢ demand.constraint.left).
             subst (λ (n : ℕ). IsBetween b n) (sym (get_or-set_other values demand.constraint.left (v + 1) value 0 other)) (kept.within v b at))
             (cases_eq (v + 1) demand.constraint.left);

@@ -9,7 +9,7 @@ use Rattle.tfpg_base.specs.Choice.{each_of}
 use Rattle.tfpg_base.proofs.lists.Elements.{Contains-nil, Contains-take}
 use Rattle.tfpg_diff.specs.declared.why.Why.{Why}
 use Rattle.tfpg_diff.specs.declared.why.Why.TheVariants.{Floor, Ceiling, Given}
-use Rattle.tfpg_diff.specs.declared.bounds.Bounds.{Bounds}
+use Rattle.tfpg_diff.specs.VariableBounds.{VariableBounds}
 use Rattle.tfpg_diff.specs.declared.pick.Pick.{Pick}
 use Rattle.tfpg_diff.specs.declared.demand.Demand.{Demand}
 use Rattle.tfpg_diff.specs.Demands.{Demands, Bounded, ceiling_of, floor_of, demand_of_pick}
@@ -24,12 +24,12 @@ abbrev pub IsNamedBy : (Why → Option Constraint) → Demand → Type 0
 IsNamedBy named e = named e.why ≡ Some e.constraint
 
 -- The tags of a variable's bounds name them.
-abbrev pub AreBoundsNamed : (Why → Option Constraint) → ℕ → Bounds → Type 0
+abbrev pub AreBoundsNamed : (Why → Option Constraint) → ℕ → VariableBounds → Type 0
 AreBoundsNamed named variable bounds = IsNamedBy named (ceiling_of variable bounds) × IsNamedBy named (floor_of variable bounds)
 
 -- where all bounds and all picks are named, all demands are
 pub AreDemandsNamed-parts : (demands : Demands) (named : Why → Option Constraint) →
-    ((v : ℕ) (b : Bounds) → Bounded demands v b → AreBoundsNamed named v b) →
+    ((v : ℕ) (b : VariableBounds) → Bounded demands v b → AreBoundsNamed named v b) →
     ((pick : Pick) → Contains demands.picks pick → IsNamedBy named (demand_of_pick pick)) → AreDemandsNamed demands named
 AreDemandsNamed-parts demands named bounds picks e demanded = elim demanded [
   | inl is ↦ subst (λ (f : Demand). IsNamedBy named f) (sym is.3) (bounds is.0 is.1 is.2).0
@@ -41,7 +41,7 @@ AreDemandsNamed-parts demands named bounds picks e demanded = elim demanded [
 
 -- and back
 pub AreBoundsNamed-demands : (demands : Demands) (named : Why → Option Constraint) → AreDemandsNamed demands named →
-    (v : ℕ) (b : Bounds) → Bounded demands v b → AreBoundsNamed named v b
+    (v : ℕ) (b : VariableBounds) → Bounded demands v b → AreBoundsNamed named v b
 AreBoundsNamed-demands demands named names v b at =
     (names (ceiling_of v b) (inl (v, b, at, refl)), names (floor_of v b) (inr (inl (v, b, at, refl))))
 
@@ -59,13 +59,13 @@ AreDemandsNamed-new named count floors ceilings =
     AreDemandsNamed-parts (record { bounds = unbounded_from 0 count; picks = [] }) named
     (λ v b at. (let found = widest_from 0 count v b at in
     let is : b ≡ widest v = found.0 ∙ ap widest (omega arith) in
-    subst (λ (c : Bounds). AreBoundsNamed named v c) (sym is) (ceilings v found.1, floors v found.1)))
+    subst (λ (c : VariableBounds). AreBoundsNamed named v c) (sym is) (ceilings v found.1, floors v found.1)))
     (λ p among. absurd (Contains-nil p among))
 
 -- what holds of each variable's bounds holds after a change that keeps it
-pub changed_at-all : (P : ℕ → Bounds → Type 0) (change : Bounds → Bounds) (bounds : List Bounds) (v : ℕ) →
-    ((b : Bounds) → P v b → P v (change b)) → ((u : ℕ) (b : Bounds) → slice_get bounds u ≡ Some b → P u b) →
-    (u : ℕ) (b : Bounds) → slice_get (changed_at change bounds v) u ≡ Some b → P u b
+pub changed_at-all : (P : ℕ → VariableBounds → Type 0) (change : VariableBounds → VariableBounds) (bounds : List VariableBounds) (v : ℕ) →
+    ((b : VariableBounds) → P v b → P v (change b)) → ((u : ℕ) (b : VariableBounds) → slice_get bounds u ≡ Some b → P u b) →
+    (u : ℕ) (b : VariableBounds) → slice_get (changed_at change bounds v) u ≡ Some b → P u b
 changed_at-all P change [] v keeps all u b at = absurd (none-some b at)
 changed_at-all P change (c ∷ cs) zero keeps all zero b at = subst (P zero) (same_Some (change c) b at) (keeps c (all zero c refl))
 changed_at-all P change (c ∷ cs) zero keeps all (suc u) b at = all (suc u) b at
@@ -76,7 +76,7 @@ changed_at-all P change (c ∷ cs) (suc v) keeps all (suc u) b at =
 -- a raised bound is named
 raised-named : (named : Why → Option Constraint) (v least tag : ℕ) →
     named (Given tag) ≡ Some (at_least v least) →
-    (b : Bounds) → AreBoundsNamed named v b → AreBoundsNamed named v (raised least tag b)
+    (b : VariableBounds) → AreBoundsNamed named v b → AreBoundsNamed named v (raised least tag b)
 raised-named named v least tag new b names = by (ltb b.floor least)
   where
     by : (c : Bool) → AreBoundsNamed named v (cond c (record b { floor = least; floor_why = Given tag }) b)
@@ -86,7 +86,7 @@ raised-named named v least tag new b names = by (ltb b.floor least)
 -- a lowered bound is named
 lowered-named : (named : Why → Option Constraint) (v ceiling tag : ℕ) →
     named (Given tag) ≡ Some (at_most v (pos ceiling)) →
-    (b : Bounds) → AreBoundsNamed named v b → AreBoundsNamed named v (lowered ceiling tag b)
+    (b : VariableBounds) → AreBoundsNamed named v b → AreBoundsNamed named v (lowered ceiling tag b)
 lowered-named named v ceiling tag new b names = by (ltb ceiling b.ceiling)
   where
     by : (c : Bool) → AreBoundsNamed named v (cond c (record b { ceiling = ceiling; ceiling_why = Given tag }) b)

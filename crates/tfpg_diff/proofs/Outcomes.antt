@@ -8,7 +8,7 @@ use Rattle.std.proofs.lemmas.Int.{ints}
 use Rattle.tfpg_diff.specs.declared.demand.Demand.{Demand}
 use Rattle.tfpg_diff.specs.declared.why.Why.{Why}
 use Rattle.tfpg_diff.specs.declared.why.Why.TheVariants.{Given}
-use Rattle.tfpg_diff.specs.declared.bounds.Bounds.{Bounds}
+use Rattle.tfpg_diff.specs.VariableBounds.{VariableBounds}
 use Rattle.tfpg_diff.specs.declared.pick.Pick.{Pick}
 use Rattle.tfpg_diff.specs.Demands.{Demands, ceiling_of, demand_of_pick, demands_of}
 use Rattle.tfpg_diff.specs.Solution.{IsBetween, HasSolution, HasNoSolution}
@@ -37,17 +37,17 @@ pub HasSolution-kept : (demands : Demands) (values : List ℕ) (links : List Dem
 HasSolution-kept demands values links kept met = (drop 1 values, (IsLatest-kept demands values links kept met).solution)
 
 -- the same demands, as the code reads them
-pub demands_read : (bounds now_bounds : List Bounds) (picks now_picks : List Pick) → now_bounds ≡ bounds → now_picks ≡ picks →
+pub demands_read : (bounds now_bounds : List VariableBounds) (picks now_picks : List Pick) → now_bounds ≡ bounds → now_picks ≡ picks →
     demands_of now_bounds now_picks ≡ demands_of bounds picks
 demands_read bounds now_bounds picks now_picks same_bounds same_picks =
-    ap (λ (bs : List Bounds). demands_of bs now_picks) same_bounds ∙ ap (λ (ps : List Pick). demands_of bounds ps) same_picks
+    ap (λ (bs : List VariableBounds). demands_of bs now_picks) same_bounds ∙ ap (λ (ps : List Pick). demands_of bounds ps) same_picks
 
 -- what is kept is kept above a higher floor that the value is not below
-AreKept-floor : (bounds : List Bounds) (picks : List Pick) (v : ℕ) (old : Bounds) (least tag : ℕ) (values : List ℕ) (links : List Link) →
+AreKept-floor : (bounds : List VariableBounds) (picks : List Pick) (v : ℕ) (old : VariableBounds) (least tag : ℕ) (values : List ℕ) (links : List Link) →
     slice_get bounds v ≡ Some old → old.floor < least → least ≤ slice_index values (v + 1) → AreKept (demands_of bounds picks) values links →
     AreKept (demands_of (set bounds v (over old least tag)) picks) values links
 AreKept-floor bounds picks v old least tag values links at tighter high kept =
-    let new : Bounds = over old least tag in
+    let new : VariableBounds = over old least tag in
     record {
       count = kept.count ∙ ap (λ (n : ℕ). n + 1) (sym (length-set bounds v new));
       kept = subst (λ (es : List Demand). IsKept (demands_of (set bounds v new) picks) values es)
@@ -55,14 +55,14 @@ AreKept-floor bounds picks v old least tag values links at tighter high kept =
           (IsKept-floor bounds picks v old at least tag values (demands_linked (demands_of bounds picks) links) tighter high kept.kept);
     }
 
-module _ (bounds : List Bounds) (picks : List Pick) (labels : Labels) (capacity : ℕ) (ready : IsReady (demands_of bounds picks) labels capacity)
+module _ (bounds : List VariableBounds) (picks : List Pick) (labels : Labels) (capacity : ℕ) (ready : IsReady (demands_of bounds picks) labels capacity)
     (demands : Demands) (seen : demands_of bounds picks ≡ demands) where
   -- a ready system has a solution
   pub HasSolution-ready : HasSolution demands
   HasSolution-ready = subst HasSolution seen (HasSolution-kept (demands_of bounds picks) labels.values.items (demands_linked (demands_of bounds picks) labels.links.items) ready.kept.kept ready.met)
 
   -- the bounds of a variable, as the code reads them
-  pub Bounded-old : (v : ℕ) (old : Bounds) → old ≡ get_or bounds v old → v < length demands.bounds → slice_get bounds v ≡ Some old
+  pub Bounded-old : (v : ℕ) (old : VariableBounds) → old ≡ get_or bounds v old → v < length demands.bounds → slice_get bounds v ≡ Some old
   Bounded-old v old read inside =
       slice_get_read bounds (length bounds) v old refl (let e = ap (λ (d : Demands). length d.bounds) seen in omega arith) read
 
@@ -76,33 +76,33 @@ module _ (bounds : List Bounds) (picks : List Pick) (labels : Labels) (capacity 
   adds_conflict lengthened tags cycle = (seen, HasNoSolution-cycle lengthened tags cycle, cycle)
 
   -- a floor that is not tighter changes nothing
-  pub adds_floor_same : (v : ℕ) (old : Bounds) (least tag : ℕ) → slice_get bounds v ≡ Some old → least ≤ old.floor →
+  pub adds_floor_same : (v : ℕ) (old : VariableBounds) (least tag : ℕ) → slice_get bounds v ≡ Some old → least ≤ old.floor →
       (demands ≡ with_floor demands v least tag) × HasSolution (with_floor demands v least tag)
   adds_floor_same v old least tag at looser =
       adds_nothing (with_floor demands v least tag)
       (subst (λ (d : Demands). d ≡ with_floor d v least tag) seen (sym (with_floor-looser bounds picks v old at least tag looser)))
 
   -- a tighter floor is written
-  pub with_floor-set : (v : ℕ) (old : Bounds) (least tag : ℕ) → slice_get bounds v ≡ Some old → old.floor < least →
+  pub with_floor-set : (v : ℕ) (old : VariableBounds) (least tag : ℕ) → slice_get bounds v ≡ Some old → old.floor < least →
       demands_of (set bounds v (over old least tag)) picks ≡ with_floor demands v least tag
   with_floor-set v old least tag at tighter =
       sym (with_floor-tighter bounds picks v old at least tag tighter) ∙ ap (λ (d : Demands). with_floor d v least tag) seen
 
   -- a ceiling that is not tighter changes nothing
-  pub adds_ceiling_same : (v : ℕ) (old : Bounds) (ceiling tag : ℕ) → slice_get bounds v ≡ Some old → old.ceiling ≤ ceiling →
+  pub adds_ceiling_same : (v : ℕ) (old : VariableBounds) (ceiling tag : ℕ) → slice_get bounds v ≡ Some old → old.ceiling ≤ ceiling →
       (demands ≡ with_ceiling demands v ceiling tag) × HasSolution (with_ceiling demands v ceiling tag)
   adds_ceiling_same v old ceiling tag at looser =
       adds_nothing (with_ceiling demands v ceiling tag)
       (subst (λ (d : Demands). d ≡ with_ceiling d v ceiling tag) seen (sym (with_ceiling-looser bounds picks v old at ceiling tag looser)))
 
   -- a tighter ceiling is written
-  pub with_ceiling-set : (v : ℕ) (old : Bounds) (ceiling tag : ℕ) → slice_get bounds v ≡ Some old → ceiling < old.ceiling →
+  pub with_ceiling-set : (v : ℕ) (old : VariableBounds) (ceiling tag : ℕ) → slice_get bounds v ≡ Some old → ceiling < old.ceiling →
       demands_of (set bounds v (under old ceiling tag)) picks ≡ with_ceiling demands v ceiling tag
   with_ceiling-set v old ceiling tag at tighter =
       sym (with_ceiling-tighter bounds picks v old at ceiling tag tighter) ∙ ap (λ (d : Demands). with_ceiling d v ceiling tag) seen
 
   -- a system stays ready above a higher floor that the value is not below
-  pub IsReady-floor : (v : ℕ) (old : Bounds) (least tag : ℕ) → slice_get bounds v ≡ Some old → old.floor < least → least ≤ slice_index labels.values.items (v + 1) →
+  pub IsReady-floor : (v : ℕ) (old : VariableBounds) (least tag : ℕ) → slice_get bounds v ≡ Some old → old.floor < least → least ≤ slice_index labels.values.items (v + 1) →
       IsReady (demands_of (set bounds v (over old least tag)) picks) labels capacity
   IsReady-floor v old least tag at tighter high =
       let same : length (set bounds v (over old least tag)) ≡ length bounds = length-set bounds v (over old least tag) in
@@ -125,7 +125,7 @@ module _ (bounds : List Bounds) (picks : List Pick) (labels : Labels) (capacity 
       }
 
   -- and has the lengthened demands
-  pub adds_floor : (v : ℕ) (old : Bounds) (least tag : ℕ) → slice_get bounds v ≡ Some old → old.floor < least → least ≤ slice_index labels.values.items (v + 1) →
+  pub adds_floor : (v : ℕ) (old : VariableBounds) (least tag : ℕ) → slice_get bounds v ≡ Some old → old.floor < least → least ≤ slice_index labels.values.items (v + 1) →
       (demands_of (set bounds v (over old least tag)) picks ≡ with_floor demands v least tag) × HasSolution (with_floor demands v least tag)
   adds_floor v old least tag at tighter high =
       let is = with_floor-set v old least tag at tighter in
@@ -136,7 +136,7 @@ module _ (bounds : List Bounds) (picks : List Pick) (labels : Labels) (capacity 
       )
 
   -- a floor above the value closes a negative cycle
-  pub adds_floor_conflict : (v : ℕ) (old : Bounds) (least tag : ℕ) (tags : List Why) → slice_get bounds v ≡ Some old → old.floor < least →
+  pub adds_floor_conflict : (v : ℕ) (old : VariableBounds) (least tag : ℕ) (tags : List Why) → slice_get bounds v ≡ Some old → old.floor < least →
       slice_index labels.values.items (v + 1) < least → Walked (demands_linked (demands_of bounds picks) labels.links.items) (v + 1) 0 0 (Given tag ∷ []) tags →
       (demands_of bounds picks ≡ demands) × HasNoSolution (with_floor demands v least tag) × NamesNegativeCycle (with_floor demands v least tag) tags
   adds_floor_conflict v old least tag tags at tighter high walked =
@@ -145,13 +145,13 @@ module _ (bounds : List Bounds) (picks : List Pick) (labels : Labels) (capacity 
       (cycle_from_raised bounds picks v old at least tag labels.values.items (demands_linked (demands_of bounds picks) labels.links.items) tags high ready.kept.kept walked))
 
   -- demands stay sound under a lower ceiling
-  pub IsSound-ceiling : (v : ℕ) (old : Bounds) (ceiling tag : ℕ) → slice_get bounds v ≡ Some old → ceiling < old.ceiling →
+  pub IsSound-ceiling : (v : ℕ) (old : VariableBounds) (ceiling tag : ℕ) → slice_get bounds v ≡ Some old → ceiling < old.ceiling →
       IsSound (demands_of (set bounds v (under old ceiling tag)) picks)
   IsSound-ceiling v old ceiling tag at tighter =
       IsSound-set bounds picks v (under old ceiling tag) ready.sound (let low = ready.sound.ceilings v old at in omega arith)
 
   -- what is kept is kept under a lower ceiling that the value is not above
-  AreKept-ceiling_high : (v : ℕ) (old : Bounds) (ceiling tag : ℕ) → slice_get bounds v ≡ Some old → ceiling < old.ceiling → slice_index labels.values.items (v + 1) ≤ ceiling →
+  AreKept-ceiling_high : (v : ℕ) (old : VariableBounds) (ceiling tag : ℕ) → slice_get bounds v ≡ Some old → ceiling < old.ceiling → slice_index labels.values.items (v + 1) ≤ ceiling →
       AreKept (demands_of (set bounds v (under old ceiling tag)) picks) labels.values.items labels.links.items
   AreKept-ceiling_high v old ceiling tag at tighter high =
       let was : IsBetween old (slice_index labels.values.items (v + 1)) = ready.kept.kept.within v old at in
@@ -165,7 +165,7 @@ module _ (bounds : List Bounds) (picks : List Pick) (labels : Labels) (capacity 
       }
 
   -- a system stays ready under a lower ceiling that the value is not above, where the trail was restarted
-  pub IsReady-ceiling : (v : ℕ) (old : Bounds) (ceiling tag : ℕ) → slice_get bounds v ≡ Some old → ceiling < old.ceiling → slice_index labels.values.items (v + 1) ≤ ceiling →
+  pub IsReady-ceiling : (v : ℕ) (old : VariableBounds) (ceiling tag : ℕ) → slice_get bounds v ≡ Some old → ceiling < old.ceiling → slice_index labels.values.items (v + 1) ≤ ceiling →
       (new : Labels) → new.values.items ≡ labels.values.items → new.links.items ≡ labels.links.items → new.trail.saved.items ≡ [] →
       length picks ≤ new.trail.reach → IsReady (demands_of (set bounds v (under old ceiling tag)) picks) new capacity
   IsReady-ceiling v old ceiling tag at tighter high new values links none reach =
@@ -187,7 +187,7 @@ module _ (bounds : List Bounds) (picks : List Pick) (labels : Labels) (capacity 
       (subst (λ (vs : List ℕ). MeetsPicks vs picks) (sym values) ready.met) none reach ready.room
 
   -- and has the lengthened demands
-  pub adds_ceiling : (v : ℕ) (old : Bounds) (ceiling tag : ℕ) → slice_get bounds v ≡ Some old → ceiling < old.ceiling → slice_index labels.values.items (v + 1) ≤ ceiling →
+  pub adds_ceiling : (v : ℕ) (old : VariableBounds) (ceiling tag : ℕ) → slice_get bounds v ≡ Some old → ceiling < old.ceiling → slice_index labels.values.items (v + 1) ≤ ceiling →
       (demands_of (set bounds v (under old ceiling tag)) picks ≡ with_ceiling demands v ceiling tag) × HasSolution (with_ceiling demands v ceiling tag)
   adds_ceiling v old ceiling tag at tighter high =
       let is = with_ceiling-set v old ceiling tag at tighter in
@@ -198,7 +198,7 @@ module _ (bounds : List Bounds) (picks : List Pick) (labels : Labels) (capacity 
       )
 
   -- a ceiling below the floor is a negative cycle
-  pub adds_ceiling_below_floor : (v : ℕ) (old : Bounds) (ceiling tag : ℕ) → slice_get bounds v ≡ Some old → ceiling < old.ceiling → ceiling < old.floor →
+  pub adds_ceiling_below_floor : (v : ℕ) (old : VariableBounds) (ceiling tag : ℕ) → slice_get bounds v ≡ Some old → ceiling < old.ceiling → ceiling < old.floor →
       (demands_of bounds picks ≡ demands) × HasNoSolution (with_ceiling demands v ceiling tag)
       × NamesNegativeCycle (with_ceiling demands v ceiling tag) (Given tag ∷ old.floor_why ∷ [])
   adds_ceiling_below_floor v old ceiling tag at tighter low =
@@ -207,7 +207,7 @@ module _ (bounds : List Bounds) (picks : List Pick) (labels : Labels) (capacity 
       (cycle_from_ceiling bounds picks v old at ceiling tag low))
 
   -- the value of the variable becomes the lower ceiling, and the ceiling its link
-  pub AreKept-ceiling_low : (v : ℕ) (old : Bounds) (ceiling tag : ℕ) → slice_get bounds v ≡ Some old → ceiling < old.ceiling → old.floor ≤ ceiling →
+  pub AreKept-ceiling_low : (v : ℕ) (old : VariableBounds) (ceiling tag : ℕ) → slice_get bounds v ≡ Some old → ceiling < old.ceiling → old.floor ≤ ceiling →
       ceiling < slice_index labels.values.items (v + 1) →
       AreKept (demands_of (set bounds v (under old ceiling tag)) picks) (set labels.values.items (v + 1) ceiling) (set labels.links.items (v + 1) Ceiling)
   AreKept-ceiling_low v old ceiling tag at tighter above low =

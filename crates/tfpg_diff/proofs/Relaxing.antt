@@ -6,7 +6,7 @@ use Rattle.std.proofs.lemmas.List.{get_or_default, length-map, length-set}
 use Rattle.std.proofs.lemmas.List.Elements.{Contains-get_or}
 use Rattle.tfpg_diff.specs.declared.demand.Demand.{Demand}
 use Rattle.tfpg_diff.specs.declared.pick.Pick.{Pick}
-use Rattle.tfpg_diff.specs.declared.bounds.Bounds.{Bounds}
+use Rattle.tfpg_diff.specs.VariableBounds.{VariableBounds}
 use Rattle.tfpg_diff.specs.declared.why.Why.{Why}
 use Rattle.tfpg_diff.specs.Demands.{Demands, Bounded, demand_of_pick}
 use Rattle.tfpg_base.specs.declared.limits.TheConstants.{NEVER}
@@ -26,7 +26,7 @@ small-kept demands sound values links kept zero d inside =
     let z = kept.zero_stays in let e = get_or_default values zero d 0 inside in omega arith
 small-kept demands sound values links kept (suc v) d inside =
     let within_n : v < length demands.bounds = let k = kept.values_len in omega arith in
-    let none : Bounds = no_bounds in
+    let none : VariableBounds = no_bounds in
     let at = slice_get-get_or demands.bounds v none within_n in
     let within : IsBetween (get_or demands.bounds v none) (slice_index values (v + 1)) = kept.within v (get_or demands.bounds v none) at in
     let ceiling = sound.ceilings v (get_or demands.bounds v none) at in
@@ -56,6 +56,11 @@ pub Bounded-read : (demands : Demands) (left : ℕ) → 0 < left → left ≤ le
     Bounded demands (left - 1) (get_or demands.bounds (left - 1) no_bounds) × (left ≡ (left - 1) + 1)
 Bounded-read demands left up inside = (slice_get-get_or demands.bounds (left - 1) no_bounds (omega arith), omega arith)
 
+-- they are the same, whatever is read past the end
+pub limits-read : (bounds : List VariableBounds) (left : ℕ) (limits : VariableBounds) → 0 < left → left ≤ length bounds →
+    limits ≡ get_or bounds (left - 1) limits → limits ≡ get_or bounds (left - 1) no_bounds
+limits-read bounds left limits up inside read = read ∙ get_or_default bounds (left - 1) limits no_bounds (omega arith)
+
 -- a cycle that has been walked to zero leaves room for one more tag
 pub length-cycle : (demands : Demands) (values : List ℕ) (links : List Demand) (kept : IsKept demands values links) (from sought : ℕ)
     (first : Why) (tags : List Why) → Walked links from sought 0 (first ∷ []) tags → length tags ≤ length demands.bounds + 2
@@ -66,7 +71,7 @@ length-cycle demands values links kept from sought first tags walked =
 
 -- no floor is past the latest value
 pub floor-kept : (demands : Demands) (sound : IsSound demands) (values : List ℕ) (links : List Demand) (kept : IsKept demands values links)
-    (variable : ℕ) (bounds : Bounds) → Bounded demands variable bounds → bounds.floor ≤ NEVER
+    (variable : ℕ) (bounds : VariableBounds) → Bounded demands variable bounds → bounds.floor ≤ NEVER
 floor-kept demands sound values links kept variable bounds at =
     let within : IsBetween bounds (slice_index values (variable + 1)) = kept.within variable bounds at in
     let above = within.above in
@@ -76,7 +81,7 @@ floor-kept demands sound values links kept variable bounds at =
 
 -- a pick that is broken becomes the link of its left side
 pub AreKept-lowered : (demands : Demands) (values : List ℕ) (links : List Link) (kept : AreKept demands values links) (index : ℕ) (demand : Demand)
-    (value variable : ℕ) (bounds : Bounds) → demand ≡ demand_of_pick (get_or demands.picks index no_pick) →
+    (value variable : ℕ) (bounds : VariableBounds) → demand ≡ demand_of_pick (get_or demands.picks index no_pick) →
     IsBrokenDemand demands values demand → LeadsTo (demands_linked demands links) demand.constraint.right demand.constraint.left 0 →
     Bounded demands variable bounds → demand.constraint.left ≡ variable + 1 →
     pos value ≡ (pos (slice_index values demand.constraint.right) +ℤ demand.constraint.most) → bounds.floor ≤ value →

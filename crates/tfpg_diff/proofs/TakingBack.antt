@@ -4,7 +4,7 @@ use Rattle.std.specs.Prelude.{slice_index}
 use Rattle.std.proofs.lemmas.Bool.{cases_lt}
 use Rattle.std.proofs.lemmas.List.{take_all, take-take, take-append-le, length_push, length-take-le}
 use Rattle.std.proofs.lemmas.List.Elements.{All-take}
-use Rattle.tfpg_diff.specs.declared.bounds.Bounds.{Bounds}
+use Rattle.tfpg_diff.specs.VariableBounds.{VariableBounds}
 use Rattle.tfpg_diff.specs.declared.pick.Pick.{Pick}
 use Rattle.tfpg_diff.specs.declared.labels.Labels.{Labels}
 use Rattle.tfpg_diff.specs.Demands.{Demands, demands_of}
@@ -66,7 +66,7 @@ TakesBack-undone demands old new able reaches same back trail =
       back = λ count reached below. (omega arith, back count (omega arith));
     }
 
-module _ (bounds : List Bounds) (picks : List Pick) (labels : Labels) (capacity : ℕ) (ready : IsReady (demands_of bounds picks) labels capacity) where
+module _ (bounds : List VariableBounds) (picks : List Pick) (labels : Labels) (capacity : ℕ) (ready : IsReady (demands_of bounds picks) labels capacity) where
   -- a ready system has a solution
   solvable : HasSolution (demands_of bounds picks)
   solvable = (

@@ -1,4 +1,5 @@
 -- What the public contracts say.
+pub mod VariableBounds
 pub mod Demands
 pub mod Solution
 pub mod Cycle

@@ -1,18 +1,18 @@
 -- Solutions of what a system demands: a time for each variable, between its bounds, that meet every pick.
 use Rattle.std.specs.Prelude.{◌≡◌, ℕ, ◌<◌, ◌≤◌, List, length, slice_index, All}
 use Rattle.tfpg_base.specs.Constraint.{Meets}
-use Rattle.tfpg_diff.specs.declared.bounds.Bounds.{Bounds}
+use Rattle.tfpg_diff.specs.VariableBounds.{VariableBounds}
 use Rattle.tfpg_diff.specs.Demands.{Demands, Bounded}
 
 -- The time lies between the bounds.
-pub record IsBetween (bounds : Bounds) (time : ℕ) : Type 0 where
+pub record IsBetween (bounds : VariableBounds) (time : ℕ) : Type 0 where
   pub above : bounds.floor ≤ time
   pub below : time ≤ bounds.ceiling
 
 -- There is a time for each variable; it lies between its bounds, and the times meet the constraint of each pick.
 pub record IsSolution (demands : Demands) (times : List ℕ) : Type 0 where
   pub complete : length times ≡ length demands.bounds
-  pub between : (variable : ℕ) (bounds : Bounds) → Bounded demands variable bounds →
+  pub between : (variable : ℕ) (bounds : VariableBounds) → Bounded demands variable bounds →
       IsBetween bounds (slice_index times variable)
   pub met : All (λ pick. Meets times pick.constraint) demands.picks
 

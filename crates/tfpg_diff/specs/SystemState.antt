@@ -5,7 +5,7 @@ use Rattle.tfpg_base.specs.declared.constraint.Constraint.{Constraint}
 use Rattle.tfpg_diff.specs.declared.why.Why.{Why}
 use Rattle.tfpg_diff.specs.declared.why.Why.TheVariants.{Floor, Ceiling, Given}
 use Rattle.tfpg_diff.specs.declared.why.Conflict.{Conflict}
-use Rattle.tfpg_diff.specs.declared.bounds.Bounds.{Bounds}
+use Rattle.tfpg_diff.specs.VariableBounds.{VariableBounds}
 use Rattle.tfpg_diff.specs.declared.pick.Pick.{Pick}
 use Rattle.tfpg_diff.specs.Demands.{Demands, demands_of}
 use Rattle.tfpg_diff.specs.Solution.{HasSolution, HasNoSolution}
@@ -18,27 +18,27 @@ pub record SystemState : Type 0 where
   pub cycle : List Why
 
 -- the bounds of a variable of which nothing is known
-abbrev pub widest : ℕ → Bounds
+abbrev pub widest : ℕ → VariableBounds
 widest variable =
     record { floor = 0; floor_why = Floor variable; ceiling = NEVER; ceiling_why = Ceiling variable }
 
 -- so many variables, from this one on, of which nothing is known
-abbrev pub unbounded_from : ℕ → ℕ → List Bounds
+abbrev pub unbounded_from : ℕ → ℕ → List VariableBounds
 unbounded_from first zero = []
 unbounded_from first (suc count) = widest first ∷ unbounded_from (first + 1) count
 
 -- the bounds with this lower bound, where it is tighter
-abbrev pub raised : ℕ → ℕ → Bounds → Bounds
+abbrev pub raised : ℕ → ℕ → VariableBounds → VariableBounds
 raised least tag bounds =
     if nat_lt bounds.floor least then record bounds { floor = least; floor_why = Given tag } else bounds
 
 -- the bounds with this upper bound, where it is tighter
-abbrev pub lowered : ℕ → ℕ → Bounds → Bounds
+abbrev pub lowered : ℕ → ℕ → VariableBounds → VariableBounds
 lowered ceiling tag bounds =
     if nat_lt ceiling bounds.ceiling then record bounds { ceiling = ceiling; ceiling_why = Given tag } else bounds
 
 -- the list with a change of one item
-abbrev pub changed_at : (Bounds → Bounds) → List Bounds → ℕ → List Bounds
+abbrev pub changed_at : (VariableBounds → VariableBounds) → List VariableBounds → ℕ → List VariableBounds
 changed_at change [] index = []
 changed_at change (first ∷ others) zero = change first ∷ others
 changed_at change (first ∷ others) (suc index) = first ∷ changed_at change others index

@@ -3,3 +3,4 @@ pub mod Linked
 pub mod Kept
 pub mod Undone
 pub mod Ready
+pub mod KeptBounds

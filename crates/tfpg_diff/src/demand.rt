@@ -27,9 +27,9 @@ pub(crate) fn ceiling_of(variable: u32, bounds: Bounds) -> Demand
         constraint: Constraint {
             left: variable + 1,
             right: 0,
-            most: bounds.ceiling as i64,
+            most: bounds.ceiling() as i64,
         },
-        why: bounds.ceiling_why,
+        why: bounds.ceiling_why(),
     }
 }
 

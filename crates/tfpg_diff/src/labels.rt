@@ -38,7 +38,7 @@ impl Labels {
     }
 
     /// A copy for a system of so many picks. Its trail is empty, and reaches back to these picks.
-    pub(crate) fn copy(&self, alloc: Global, picks: u64) -> Result<Labels, AllocError>
+    pub(crate) fn copy(&self, picks: u64) -> Result<Labels, AllocError>
         ensures values { IfOk result (λ labels. labels.values.items ≡ self.now.values.items) }
         ensures links { IfOk result (λ labels. labels.links.items ≡ self.now.links.items) }
         ensures trail { IfOk result (λ labels. labels.trail.saved.items ≡ []) }
@@ -46,7 +46,7 @@ impl Labels {
     {
         let values = self.values.clone()?;
         let links = self.links.clone()?;
-        let mut trail = Trail::new(alloc, values.len() / 2 + SPARE_CHANGES)?;
+        let mut trail = Trail::new(*values.allocator(), values.len() / 2 + SPARE_CHANGES)?;
         trail.restart(picks);
         Ok(Labels {
             values,

@@ -115,7 +115,7 @@ pub(crate) fn start(bounds: &[Bounds], labels: &mut Labels)
     ensures trail { labels.new.trail ≡ labels.old.trail }
 {
     for variable in 0..bounds.len() {
-        labels.values[variable + 1] = bounds[variable].ceiling;
+        labels.values[variable + 1] = bounds[variable].ceiling();
         labels.links[variable + 1] = Link::Ceiling;
     }
 }

@@ -6,5 +6,5 @@ use tfpg_base::Constraint;
 #[derive(Clone, Copy, Debug, PartialEq, Eq)]
 pub struct Pick {
     pub constraint: Constraint,
-    pub tag: u32,
+    pub tag: u64,
 }

@@ -109,9 +109,9 @@ pub(crate) fn relax(
         return Err(Conflict);
     }
     let limits = bounds[left as usize - 1];
-    let Some(value) = allowed(&labels.values, demand, limits.floor) else {
+    let Some(value) = allowed(&labels.values, demand, limits.floor()) else {
         begin_cycle(bounds, picks, labels, right, left, demand.why, cycle);
-        push_tag(cycle, limits.floor_why);
+        push_tag(cycle, limits.floor_why());
         return Err(Conflict);
     };
     labels.lower(left, value, Link::Picked(index as u32), before);

@@ -23,7 +23,7 @@ use tfpg_base::{Constraint, NoMemory, Steps};
 /// How many picks a system has at most, so that their number takes 32 bits.
 const MAX_PICKS: usize = 0xffff_ffff;
 
-/// How many variables a system has at most, so that two tags for each fit 32 bits.
+/// How many variables a system has at most, so that their numbers take 32 bits.
 const MAX_VARIABLES: u32 = 0x8000_0000;
 
 /// Some variables, their bounds, a stack of picks, and the latest solution of all that.
@@ -57,7 +57,7 @@ impl System {
     /// A system of so many variables, of which nothing is known: each is at least 0 and at most one past the
     /// last millisecond, `10^12 + 1`.
     ///
-    /// All the memory of later calls is allocated here, but that of picks: about 68 bytes for each variable, and 800. It is
+    /// All the memory of later calls is allocated here, but that of picks: about 76 bytes for each variable, and 800. It is
     /// not there for more than 2^31 variables.
     pub fn new(alloc: Global, count: u32) -> Result<System, NoMemory>
         ensures demands { IfOk result
@@ -80,14 +80,15 @@ impl System {
         })
     }
 
-    /// A copy, which demands the same and lends no tags. Takes time and memory linear in the variables and the picks.
-    pub fn copy(&self, alloc: Global) -> Result<System, NoMemory>
+    /// A copy, with the allocator that the system keeps. It demands the same and lends no tags. Takes time and memory linear in the
+    /// variables and the picks.
+    pub fn copy(&self) -> Result<System, NoMemory>
         ensures { IfOk result (λ copy. copy.demands ≡ self.now.demands) }
     {
         let bounds = self.bounds.clone()?;
         let picks = self.picks.clone()?;
-        let labels = self.labels.copy(alloc, picks.len() as u64)?;
-        let cycle = Vec::with_capacity(alloc, bounds.len() + 3)?;
+        let labels = self.labels.copy(picks.len() as u64)?;
+        let cycle = Vec::with_capacity(*self.cycle.allocator(), bounds.len() + 3)?;
         Ok(System {
             bounds,
             picks,
@@ -122,7 +123,8 @@ impl System {
 
     /// How many picks stand on the stack.
     pub fn pick_count(&self) -> u64
-        ensures { result ≡ length self.now.demands.picks }
+        ensures count { result ≡ length self.now.demands.picks }
+        ensures few { result < 2 ^ 32 }
     {
         self.picks.len() as u64
     }
@@ -159,7 +161,7 @@ impl System {
         &mut self,
         variable: u32,
         least: u64,
-        tag: u32,
+        tag: u64,
         work: &mut Steps<L>,
     ) -> Result<(), Conflict>
         requires { variable < length self.old.demands.bounds }
@@ -172,27 +174,27 @@ impl System {
         self.add_floor(variable, least, tag)
     }
 
-    /// The variable is at most `ceiling`. A bound that is not tighter than the present one changes nothing. The call
+    /// The variable is at most `most`. A bound that is not tighter than the present one changes nothing. The call
     /// counts as one step.
     ///
     /// Conflict comes exactly where there would be no solution. The system is then unchanged, and [`System::cycle`]
-    /// lends the tags of a negative cycle. Where the value of the variable is above the ceiling it costs at most one pass
+    /// lends the tags of a negative cycle. Where the value of the variable is above that it costs at most one pass
     /// over the picks for each number, and at a conflict at most as much again.
     pub fn lower<L: Ledger>(
         &mut self,
         variable: u32,
-        ceiling: u64,
-        tag: u32,
+        most: u64,
+        tag: u64,
         work: &mut Steps<L>,
     ) -> Result<(), Conflict>
         requires { variable < length self.old.demands.bounds }
-        ensures adds { Adds self.old (with_ceiling self.old.demands variable ceiling tag) result self.new }
+        ensures adds { Adds self.old (with_ceiling self.old.demands variable most tag) result self.new }
         ensures variables { length self.new.demands.bounds ≡ length self.old.demands.bounds }
         ensures spare { self.new.spare ≡ self.old.spare }
         ensures step { work.new ≡ work.old + 1 }
     {
         work.tick();
-        self.add_ceiling(variable, ceiling, tag)
+        self.add_ceiling(variable, most, tag)
     }
 
     /// Pushes a constraint on the stack. Its bound may be any number. The call counts as one step.
@@ -203,7 +205,7 @@ impl System {
     pub fn push<L: Ledger>(
         &mut self,
         constraint: Constraint,
-        tag: u32,
+        tag: u64,
         work: &mut Steps<L>,
     ) -> Result<(), Conflict>
         requires spare { 1 ≤ self.old.spare }
@@ -233,7 +235,7 @@ impl System {
     }
 
     /// Raises a lower bound.
-    fn add_floor(&mut self, variable: u32, least: u64, tag: u32) -> Result<(), Conflict>
+    fn add_floor(&mut self, variable: u32, least: u64, tag: u64) -> Result<(), Conflict>
         requires { variable < length self.old.demands.bounds }
         ensures adds { Adds self.old (with_floor self.old.demands variable least tag) result self.new }
         ensures variables { length self.new.demands.bounds ≡ length self.old.demands.bounds }
@@ -241,7 +243,7 @@ impl System {
     {
         let index = variable as usize;
         let old = self.bounds[index];
-        if least <= old.floor {
+        if least <= old.floor() {
             return Ok(());
         }
         if self.labels.values[index + 1] < least {
@@ -256,16 +258,12 @@ impl System {
             );
             return Err(Conflict);
         }
-        self.bounds[index] = Bounds {
-            floor: least,
-            floor_why: Why::Given(tag),
-            ..old
-        };
+        self.bounds[index] = old.with_floor(least, tag);
         Ok(())
     }
 
     /// Lowers an upper bound.
-    fn add_ceiling(&mut self, variable: u32, ceiling: u64, tag: u32) -> Result<(), Conflict>
+    fn add_ceiling(&mut self, variable: u32, ceiling: u64, tag: u64) -> Result<(), Conflict>
         requires { variable < length self.old.demands.bounds }
         ensures adds { Adds self.old (with_ceiling self.old.demands variable ceiling tag) result self.new }
         ensures variables { length self.new.demands.bounds ≡ length self.old.demands.bounds }
@@ -273,21 +271,16 @@ impl System {
     {
         let index = variable as usize;
         let old = self.bounds[index];
-        if old.ceiling <= ceiling {
+        if old.ceiling() <= ceiling {
             return Ok(());
         }
-        if ceiling < old.floor {
+        if ceiling < old.floor() {
             self.cycle.clear();
             push_tag(&mut self.cycle, Why::Given(tag));
-            push_tag(&mut self.cycle, old.floor_why);
+            push_tag(&mut self.cycle, old.floor_why());
             return Err(Conflict);
         }
-        let tighter = Bounds {
-            ceiling,
-            ceiling_why: Why::Given(tag),
-            ..old
-        };
-        self.bounds[index] = tighter;
+        self.bounds[index] = old.with_ceiling(ceiling, tag);
         // What the trail saved may lie above the new ceiling, also what the call itself saves.
         let before = self.picks.len() as u32;
         self.labels.trail.restart(u64::from(before));

@@ -8,7 +8,7 @@ pub enum Why {
     /// The variable is at most one past the last millisecond.
     Ceiling(u32),
     /// The constraint was added with this tag.
-    Given(u32),
+    Given(u64),
 }
 
 /// There is no solution: some constraints chain into a cycle whose bounds sum up to less than 0.

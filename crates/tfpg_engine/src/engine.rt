@@ -51,26 +51,32 @@ impl Model for Engine {
 }
 
 impl Engine {
-    /// The engine of a graph, for all hypotheses on these terms: of at most `k` members, at most `doubt` of them monitors, with at
-    /// most `budget` splits of each in a round. Where there are more than [`MAX_HYPOTHESES`](tfpg_hyp::MAX_HYPOTHESES)
+    /// The engine of a graph, for all hypotheses of at most `k` members, at most `doubt` of them monitors, with at most `budget`
+    /// splits of each in a round. Where there are more than [`MAX_HYPOTHESES`](tfpg_hyp::MAX_HYPOTHESES)
     /// hypotheses, the fault says how many.
-    pub fn new(alloc: Global, graph: Graph, terms: Terms) -> Result<Engine, TableFault>
-        requires doubt { terms.doubt ≤ MAX_DOUBT }
-        requires budget { 1 ≤ terms.budget }
+    pub fn new(
+        alloc: Global,
+        graph: Graph,
+        k: u32,
+        doubt: u32,
+        budget: u64,
+    ) -> Result<Engine, TableFault>
+        requires doubt { doubt ≤ MAX_DOUBT }
+        requires budget { 1 ≤ budget }
         ensures graph { IfOk result (λ engine. engine.graph ≡ graph) }
-        ensures terms { IfOk result (λ engine. engine.terms ≡ terms) }
+        ensures terms { IfOk result (λ engine. engine.terms ≡ record { k = k; doubt = doubt; budget = budget }) }
         ensures log { IfOk result (λ engine. engine.log ≡ new_log) }
         ensures represents { IfOk result (λ engine. EngineRepresents engine []) }
         ensures too_many { (count : ℕ) → (result ≡ Err (TableFault.TooMany count)) ↔
-            ((MAX_HYPOTHESES < count) × HasHypotheses graph terms count) }
+            ((MAX_HYPOTHESES < count) × HasHypotheses graph (record { k = k; doubt = doubt; budget = budget }) count) }
     {
-        let table = Table::new(alloc, &graph, terms.k, terms.doubt)?;
+        let table = Table::new(alloc, &graph, k, doubt)?;
         let slots = untouched(alloc, table.len())?;
         Ok(Engine {
             alloc,
             graph,
             log: Log::new(alloc),
-            terms,
+            terms: Terms { k, doubt, budget },
             table,
             slots,
             ended: false,

@@ -5,12 +5,7 @@
 //! - [`Slot`] is what the engine keeps of a hypothesis, as contracts see it.
 //!
 //! ```
-//! let terms = Terms {
-//!     k: 2,
-//!     doubt: 1,
-//!     budget: 1_000,
-//! };
-//! let mut engine = Engine::new(alloc, graph, terms)?;
+//! let mut engine = Engine::new(alloc, graph, 2, 1, 1_000)?;
 //! match engine.event(1, b"30 alarm LowFlow", &mut work)? {
 //!     Told::Round(round) => {} // a finding on each hypothesis of at most two members
 //!     Told::Refused(refusal) => {} // nothing has changed

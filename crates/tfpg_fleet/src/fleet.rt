@@ -51,30 +51,35 @@ impl Model for Fleet {
 }
 
 impl Fleet {
-    /// The fleet of the vehicles with these names. Each has an engine of its own for a copy of the graph, on these terms. Where there are
+    /// The fleet of the vehicles with these names. Each has an engine of its own for a copy of the graph, with these numbers. Where there are
     /// more than [`MAX_HYPOTHESES`](tfpg_hyp::MAX_HYPOTHESES) hypotheses, the fault says how many. Where there are fewer, and yet more than
     /// [`MAX_FLEET_HYPOTHESES`](crate::MAX_FLEET_HYPOTHESES) for all vehicles together, it says how many these are.
     pub fn new(
         alloc: Global,
         graph: &Graph,
         names: &NameList,
-        terms: Terms,
+        k: u32,
+        doubt: u32,
+        budget: u64,
     ) -> Result<Fleet, TableFault>
         requires names { AreVehicleNames names.now }
-        requires doubt { terms.doubt ≤ MAX_DOUBT }
-        requires budget { 1 ≤ terms.budget }
+        requires doubt { doubt ≤ MAX_DOUBT }
+        requires budget { 1 ≤ budget }
         ensures names { IfOk result (λ fleet. names_of fleet ≡ names.now) }
-        ensures new { IfOk result (λ fleet. All (IsNew graph.now terms) fleet.vehicles) }
-        ensures represents { IfOk result (λ fleet. FleetRepresents graph.now terms fleet [] (λ number. [])) }
+        ensures new { IfOk result (λ fleet.
+            All (IsNew graph.now (record { k = k; doubt = doubt; budget = budget })) fleet.vehicles) }
+        ensures represents { IfOk result (λ fleet.
+            FleetRepresents graph.now (record { k = k; doubt = doubt; budget = budget }) fleet [] (λ number. [])) }
         ensures too_many { (count : ℕ) → (result ≡ Err (TableFault.TooMany count)) ↔
-            IsTooMany graph.now terms (length names.now) count }
+            IsTooMany graph.now (record { k = k; doubt = doubt; budget = budget }) (length names.now) count }
     {
         the_table_is_one();
-        let each = Table::count(graph, terms.k, terms.doubt);
+        let each = Table::count(graph, k, doubt);
         let names = names.as_slice();
         if let Some(count) = excess(names.len(), each) {
             return Err(TableFault::TooMany { count });
         }
+        let terms = Terms { k, doubt, budget };
         let vehicles = new_vehicles(alloc, graph, names, terms)?;
         Ok(Fleet { vehicles })
     }

@@ -6,7 +6,7 @@
 //! - [`laws`] says what the definitions come to.
 //!
 //! ```
-//! let mut fleet = Fleet::new(alloc, &graph, &names, terms)?;
+//! let mut fleet = Fleet::new(alloc, &graph, &names, 2, 1, 1_000)?;
 //! match fleet.line(b"north 30 alarm LowFlow", &mut work)? {
 //!     FleetTold::Stray => {} // no vehicle has this name, and nothing has changed
 //!     FleetTold::Of { vehicle, line, told } => {} // what `30 alarm LowFlow` brings to the vehicle north

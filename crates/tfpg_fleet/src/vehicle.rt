@@ -63,7 +63,7 @@ impl Vehicle {
         let name = name.copy()?;
         let graph = graph.copy()?;
         // There are few hypotheses, so that memory alone can run out.
-        let Ok(engine) = Engine::new(alloc, graph, terms) else {
+        let Ok(engine) = Engine::new(alloc, graph, terms.k, terms.doubt, terms.budget) else {
             return Err(NoMemory);
         };
         Ok(Vehicle {

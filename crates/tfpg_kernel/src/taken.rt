@@ -11,13 +11,10 @@ pub enum Taken {
     Bad(BadStep),
 }
 
-/// The first condition that a step breaks, in this order. The fourth and the fifth are tested together, reason by reason.
+/// The first condition that a step breaks. Whether the tree was closed is tested first, then whether a subtree can be reused, and
+/// then the others in this order. The second and the third are tested together, reason by reason.
 #[derive(Clone, Copy, Debug, PartialEq, Eq)]
 pub enum BadStep {
-    /// The tree was closed before.
-    AfterClosed,
-    /// No subtree can be reused at the present leaf.
-    NotReusable,
     /// The name of the split is not allowed.
     NotAClause,
     /// A reason is neither a pick nor a fact of the log.
@@ -28,4 +25,8 @@ pub enum BadStep {
     Unchained,
     /// The sum of their bounds is 0 or more.
     NotNegative,
+    /// The tree was closed before.
+    AfterClosed,
+    /// No subtree can be reused at the present leaf.
+    NotReusable,
 }

@@ -54,6 +54,7 @@ pub(crate) fn diagnose_file<F: Shelf, S: Source, K: Sink, P: Panel, L: Ledger>(
     desk.always_keeps_its_panels();
     a_desk_is_told_round_by_round();
     let graph = fetch_graph(alloc, shelf, subject.name)?;
-    let mut engine = Engine::new(alloc, graph, subject.terms)?;
+    let Terms { k, doubt, budget } = subject.terms;
+    let mut engine = Engine::new(alloc, graph, k, doubt, budget)?;
     Ok(write_report(alloc, &mut engine, input, out, desk, work)?)
 }

@@ -38,7 +38,7 @@ impl Diagnosis {
             ((MAX_HYPOTHESES < count) × HasHypotheses graph terms count) }
     {
         graph.is_always_valid();
-        match Engine::new(alloc, graph, terms) {
+        match Engine::new(alloc, graph, terms.k, terms.doubt, terms.budget) {
             Ok(engine) => Ok(Diagnosis { engine, last: None }),
             Err(fault) => Err(fault),
         }

@@ -65,7 +65,7 @@ impl LeafSystem {
         ensures counts { (bounds : NodeBounds) → slice_get bounds.lows node ≡ Some low.time →
             CountsFacts bounds self.old self.new work.old work.new result }
     {
-        if low.time <= self.bounds(node).floor {
+        if low.time <= self.bounds(node).floor() {
             return Ok(());
         }
         self.raise(node, low, work)
@@ -85,7 +85,7 @@ impl LeafSystem {
         ensures counts { (bounds : NodeBounds) → slice_get bounds.highs node ≡ Some high.time →
             CountsFacts bounds self.old self.new work.old work.new result }
     {
-        if self.bounds(node).ceiling <= high.time {
+        if self.bounds(node).ceiling() <= high.time {
             return Ok(());
         }
         self.lower(node, high, work)

@@ -1,13 +1,13 @@
 //! The system of the present leaf: the bounds of the facts below, the constraints of the alternatives on the path above,
 //! each with its reason.
 
-ghost use Rattle.std.specs.Prelude.{◌≡◌, ◌<◌, ◌≤◌, ◌+◌, ◌*◌, ◌++◌, ◌∷◌, [], ℕ, pos, length, take, slice_get, All, Option, Some, Ok, Err, IfOk, IfSome, OnOk, OnErr, IfErr};
+ghost use Rattle.std.specs.Prelude.{◌≡◌, ◌<◌, ◌≤◌, ◌+◌, ◌*◌, ◌++◌, ◌∷◌, [], ℕ, pos, length, take, slice_get, All, Option, Some, Ok, Err, IfOk, OnOk, OnErr, IfErr};
 ghost use Rattle.tfpg_base.specs.declared.limits.TheConstants.{NEVER};
 ghost use Rattle.tfpg_base.specs.declared.constraint.Constraint.{Constraint};
 ghost use Rattle.tfpg_evidence.specs.declared.reason.Reason.{Reason};
 ghost use Rattle.tfpg_evidence.specs.declared.reason.Reason.TheVariants.{Zero, Top, Pick};
 ghost use Rattle.tfpg_base.specs.Bounds.{at_most, at_least};
-ghost use Rattle.tfpg_diff.specs.declared.bounds.Bounds.{Bounds};
+ghost use Rattle.tfpg_diff.specs.VariableBounds.{VariableBounds};
 ghost use Rattle.tfpg_diff.specs.Demands.{Bounded};
 ghost use Rattle.tfpg_diff.specs.Solution.{IsLatest};
 ghost use Rattle.tfpg_diff.specs.SystemState.{with_floor, with_ceiling, with_pick};
@@ -88,7 +88,7 @@ impl LeafSystem {
     pub(crate) fn copy(&self) -> Result<LeafSystem, NoMemory>
         ensures { IfOk result (λ copy. copy ≡ self.now) }
     {
-        let system = self.system.copy(self.alloc)?;
+        let system = self.system.copy()?;
         let lows = self.lows.clone()?;
         let highs = self.highs.clone()?;
         let entered = self.entered.clone()?;
@@ -140,20 +140,21 @@ impl LeafSystem {
         work: &mut Steps<L>,
     ) -> Result<(), AddFault>
         requires node { node < length self.old.demands.bounds }
-        requires tighter { (bounds : Bounds) → Bounded self.old.demands node bounds → bounds.floor < low.time }
+        requires tighter { (bounds : VariableBounds) → Bounded self.old.demands node bounds → bounds.floor < low.time }
         ensures ok { OnOk result (self.new.demands ≡ with_floor self.old.demands node low.time node) }
         ensures adds { AddsFact (low_reason node low.time low.reason) (at_least node low.time)
             self.old self.new result }
         ensures step { work.new ≡ work.old + 1 }
     {
-        match self.system.raise(node, low.time, node, work) {
+        let tag = u64::from(node);
+        match self.system.raise(node, low.time, tag, work) {
             Ok(()) => {
                 self.lows[node as usize] = low.reason;
                 Ok(())
             }
             Err(Conflict) => Err(self.refused(
                 self.system.cycle(),
-                node,
+                tag,
                 low.reason.of(node, low.time),
             )),
         }
@@ -167,7 +168,7 @@ impl LeafSystem {
         work: &mut Steps<L>,
     ) -> Result<(), AddFault>
         requires node { node < length self.old.demands.bounds }
-        requires tighter { (bounds : Bounds) → Bounded self.old.demands node bounds →
+        requires tighter { (bounds : VariableBounds) → Bounded self.old.demands node bounds →
             high.time < bounds.ceiling }
         ensures ok { OnOk result
             (self.new.demands ≡ with_ceiling self.old.demands node high.time
@@ -176,7 +177,7 @@ impl LeafSystem {
             self.old self.new result }
         ensures step { work.new ≡ work.old + 1 }
     {
-        let tag = self.system.variable_count() + node;
+        let tag = u64::from(self.system.variable_count()) + u64::from(node);
         match self.system.lower(node, high.time, tag, work) {
             Ok(()) => {
                 self.highs[node as usize] = high.reason;
@@ -222,9 +223,7 @@ impl LeafSystem {
         ensures adds { AddsPick (Pick split number) constraint self.old self.new result }
         ensures step { work.new ≤ work.old + 1 }
     {
-        let Some(tag) = self.next_tag() else {
-            return Err(AddFault::NoMemory);
-        };
+        let tag = self.next_tag();
         self.system.reserve(1)?;
         match self.system.push(constraint, tag, work) {
             Ok(()) => Ok(()),
@@ -239,14 +238,11 @@ impl LeafSystem {
         }
     }
 
-    /// The tag of the next pick. There is no memory for more reasons than tags of 32 bits can name.
-    fn next_tag(&self) -> Option<u32>
-        ensures { IfSome result
-            (λ tag. tag ≡ 2 * length self.now.demands.bounds + length self.now.demands.picks) }
+    /// The tag of the next pick.
+    fn next_tag(&self) -> u64
+        ensures { result ≡ 2 * length self.now.demands.bounds + length self.now.demands.picks }
     {
-        let bounds = 2 * u64::from(self.system.variable_count());
-        let tag = bounds.checked_add(self.system.pick_count())?;
-        u32::try_from(tag).ok()
+        2 * u64::from(self.system.variable_count()) + self.system.pick_count()
     }
 
     /// Leaves all alternatives but the first so many.

@@ -64,7 +64,7 @@ pub(crate) enum Look {
 }
 
 impl Search {
-    /// The search for a set of failure modes that reaches these nodes, before any event. It keeps about 160 bytes for each
+    /// The search for a set of failure modes that reaches these nodes, before any event. It keeps about 92 bytes for each
     /// node, and for each split on the path to its present leaf the split, one index and the constraints of its alternative.
     pub fn new(alloc: Global, graph: &Graph, set: Set, reach: NodeSet) -> Result<Search, NoMemory>
         requires members { All (λ index. index < length (failures graph.now)) set }

@@ -8,7 +8,7 @@ use std::alloc::Global;
 use std::marker::Brand;
 use std::sync::ledger::{Blank, Ledger};
 use std::test::Fail;
-use tfpg_base::{Bytes, NoMemory, Steps, Terms};
+use tfpg_base::{Bytes, NoMemory, Steps};
 use tfpg_fleet::{Fleet, NameList};
 use tfpg_graph::{Graph, read};
 
@@ -72,12 +72,7 @@ fn fleet_of(alloc: Global, graph: &Graph, names: &NameList) -> Result<Fleet, Fai
     requires two { length names.now ≡ 2 }
     ensures { IfOk result (λ fleet. length fleet.vehicles ≡ 2) }
 {
-    let terms = Terms {
-        k: 1,
-        doubt: 0,
-        budget: 100,
-    };
-    match Fleet::new(alloc, graph, names, terms) {
+    match Fleet::new(alloc, graph, names, 1, 0, 100) {
         Ok(fleet) => Ok(fleet),
         Err(_) => Err(Fail::from("no fleet")),
     }

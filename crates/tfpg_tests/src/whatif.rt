@@ -9,18 +9,14 @@ use std::alloc::Global;
 use std::marker::Brand;
 use std::sync::ledger::{Blank, Ledger};
 use std::test::Fail;
-use tfpg_base::{NumberList, Steps, Terms};
+use tfpg_base::{NumberList, Steps};
 use tfpg_engine::{Engine, Told};
 use tfpg_graph::read;
 use tfpg_log::Refusal;
 use tfpg_whatif::{AskFault, Outcome, OutcomeList, ask};
 
-/// All sets of at most one failure mode, no doubts, and an ample budget.
-const TERMS: Terms = Terms {
-    k: 1,
-    doubt: 0,
-    budget: 1_000,
-};
+/// An ample budget.
+const AMPLE: u64 = 1_000;
 
 /// What a line shows of a hypothesis.
 enum Expected {
@@ -230,7 +226,7 @@ fn is_answered<L: Ledger>(
 /// Whether an engine that has accepted the first line returns what is expected for the other.
 fn is_right<L: Ledger>(alloc: Global, row: &Row, work: &mut Steps<L>) -> Result<bool, Fail> {
     let graph = read(alloc, row.graph)?;
-    let mut engine = Engine::new(alloc, graph, TERMS)?;
+    let mut engine = Engine::new(alloc, graph, 1, 0, AMPLE)?;
     accept_line(&mut engine, row.before, work)?;
     is_answered(alloc, &engine, row, work)
 }
@@ -282,7 +278,7 @@ fn lent_around<L: Ledger>(
 {
     let mut work = Steps::<L>::new(blank);
     let graph = read(alloc, TWO)?;
-    let mut engine = Engine::new(alloc, graph, TERMS)?;
+    let mut engine = Engine::new(alloc, graph, 1, 0, AMPLE)?;
     let before = lent(&engine);
     accept_line(&mut engine, line, &mut work)?;
     Ok((before, lent(&engine)))

@@ -19,13 +19,13 @@ pub enum Command {
         graph: Text,
         panels: PanelWordList,
     },
-    /// `explain GRAPH LOG`: whether a map explains the log.
-    Explain {
+    /// `check GRAPH LOG`: whether a text is the report on the log.
+    Check {
         graph: Text,
         log: Text,
     },
-    /// `check GRAPH LOG`: whether a text is the report on the log.
-    Check {
+    /// `explain GRAPH LOG`: whether a map explains the log.
+    Explain {
         graph: Text,
         log: Text,
     },
@@ -49,6 +49,19 @@ pub enum Command {
         json: bool,
         graph: Text,
     },
+    /// `predict [--k N] [--doubt N] [--budget N] [--ahead N] GRAPH LOG NODE`: when at the earliest the node becomes active, by
+    /// each ranked hypothesis of a diagnosis of the log. `k`, `doubt` and `budget` are those of `diagnose`; the budget is also
+    /// that of each search. It looks `ahead` milliseconds past the last event, at most [`MAX_TIME`](tfpg_base::MAX_TIME),
+    /// [`DEFAULT_AHEAD`](crate::DEFAULT_AHEAD) by default.
+    Predict {
+        k: u32,
+        doubt: u32,
+        budget: u64,
+        ahead: u64,
+        graph: Text,
+        log: Text,
+        node: Text,
+    },
     /// `ask [--k N] [--doubt N] [--budget N] GRAPH LOG`: which observation would tell most after a log, for the hypotheses that its
     /// diagnosis leaves. The numbers are those of `diagnose`; `budget` is also that of each outcome of a question.
     Ask {
@@ -67,19 +80,6 @@ pub enum Command {
         budget: u64,
         graph: Text,
         names: Text,
-    },
-    /// `predict [--k N] [--doubt N] [--budget N] [--ahead N] GRAPH LOG NODE`: when at the earliest the node becomes active, by
-    /// each ranked hypothesis of a diagnosis of the log. `k`, `doubt` and `budget` are those of `diagnose`; the budget is also
-    /// that of each search. It looks `ahead` milliseconds past the last event, at most [`MAX_TIME`](tfpg_base::MAX_TIME),
-    /// [`DEFAULT_AHEAD`](crate::DEFAULT_AHEAD) by default.
-    Predict {
-        k: u32,
-        doubt: u32,
-        budget: u64,
-        ahead: u64,
-        graph: Text,
-        log: Text,
-        node: Text,
     },
 }
 

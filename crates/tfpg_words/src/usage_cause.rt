@@ -15,8 +15,8 @@ pub enum UsageCause {
     OutOfRange,
     /// A word in the place of a panel is none.
     BadPanel,
-    /// The names of vehicles are not 1 to [`MAX_VEHICLES`](tfpg_base::MAX_VEHICLES) words of the form of a name, no two alike.
-    BadNames,
     /// The word for a node names no node of the graph. No words are refused for this, since only the graph's file shows it.
     UnknownNode,
+    /// The names of vehicles are not 1 to [`MAX_VEHICLES`](tfpg_base::MAX_VEHICLES) words of the form of a name, no two alike.
+    BadNames,
 }

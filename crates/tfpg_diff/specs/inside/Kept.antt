@@ -2,7 +2,7 @@
 use Rattle.std.specs.Prelude.{◌≡◌, ◌≢◌, Bool, true, false, sum, ℕ, ◌+◌, ◌^◌, ◌<◌, ◌≤◌, ℤ, pos, ◌+ℤ◌, ◌≤ℤ◌, ◌<ℤ◌, List, [], ◌∷◌, ◌++◌, map, length, slice_index, slice_get, All, Option, Some, None}
 use Rattle.std.specs.List.{HoldsAt, AllWithin}
 use Rattle.tfpg_diff.specs.declared.why.Why.{Why}
-use Rattle.tfpg_diff.specs.declared.bounds.Bounds.{Bounds}
+use Rattle.tfpg_diff.specs.VariableBounds.{VariableBounds}
 use Rattle.tfpg_diff.specs.declared.pick.Pick.{Pick}
 use Rattle.tfpg_diff.specs.declared.demand.Demand.{Demand}
 use Rattle.tfpg_diff.specs.declared.link.Link.{Link}
@@ -63,7 +63,7 @@ pub record IsLink (demands : Demands) (values : List ℕ) (number : ℕ) (demand
 pub record IsSound (demands : Demands) : Type 0 where
   pub few : length demands.bounds ≤ 2 ^ 31
   pub few_picks : length demands.picks < 2 ^ 32
-  pub ceilings : (variable : ℕ) (bounds : Bounds) → Bounded demands variable bounds → bounds.ceiling ≤ NEVER
+  pub ceilings : (variable : ℕ) (bounds : VariableBounds) → Bounded demands variable bounds → bounds.ceiling ≤ NEVER
   pub lefts : All (λ (pick : Pick). pick.constraint.left ≤ length demands.bounds) demands.picks
   pub rights : All (λ (pick : Pick). pick.constraint.right ≤ length demands.bounds) demands.picks
 
@@ -74,7 +74,7 @@ pub record IsKept (demands : Demands) (values : List ℕ) (links : List Demand) 
   pub zero_stays : slice_index values 0 ≡ 0
   pub rooted : IsRooted links
   pub linked : (number : ℕ) (demand : Demand) → 0 < number → slice_get links number ≡ Some demand → IsLink demands values number demand
-  pub within : (variable : ℕ) (bounds : Bounds) → Bounded demands variable bounds → IsBetween bounds (slice_index values (variable + 1))
+  pub within : (variable : ℕ) (bounds : VariableBounds) → Bounded demands variable bounds → IsBetween bounds (slice_index values (variable + 1))
   pub greatest : (times : List ℕ) → IsSolution demands times → (number : ℕ) → slice_index (0 ∷ times) number ≤ slice_index values number
 
 -- Values and links between any two lowerings.
@@ -102,11 +102,11 @@ Passes picks count before (Some last) after = (sum after < sum before) × (last 
 Passes picks count before None after = (after ≡ before) × AreMetFrom after picks 0 count
 
 -- The variables below a number have their upper bounds as values and as links.
-pub record AreAtCeilings (bounds : List Bounds) (values : List ℕ) (links : List Link) (count : ℕ) : Type 0 where
+pub record AreAtCeilings (bounds : List VariableBounds) (values : List ℕ) (links : List Link) (count : ℕ) : Type 0 where
   pub values_len : length values ≡ length bounds + 1
   pub links_len : length links ≡ length bounds + 1
   pub zero_stays : slice_index values 0 ≡ 0
-  pub values_are : (variable : ℕ) (limits : Bounds) → variable < count → slice_get bounds variable ≡ Some limits →
+  pub values_are : (variable : ℕ) (limits : VariableBounds) → variable < count → slice_get bounds variable ≡ Some limits →
       slice_index values (variable + 1) ≡ limits.ceiling
-  pub links_are : (variable : ℕ) (limits : Bounds) → variable < count → slice_get bounds variable ≡ Some limits →
+  pub links_are : (variable : ℕ) (limits : VariableBounds) → variable < count → slice_get bounds variable ≡ Some limits →
       slice_get links (variable + 1) ≡ Some Ceiling

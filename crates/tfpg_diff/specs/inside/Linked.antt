@@ -1,7 +1,7 @@
 -- What the links of a system stand for: a link names a bound or a pick, and the demand is looked up there.
 use Rattle.std.specs.Prelude.{ℕ, zero, suc, ◌<◌, pos, List, [], ◌∷◌, length, slice_index_or}
 use Rattle.tfpg_diff.specs.declared.why.Why.TheVariants.{Floor}
-use Rattle.tfpg_diff.specs.declared.bounds.Bounds.{Bounds}
+use Rattle.tfpg_diff.specs.VariableBounds.{VariableBounds}
 use Rattle.tfpg_diff.specs.declared.pick.Pick.{Pick}
 use Rattle.tfpg_diff.specs.declared.demand.Demand.{Demand}
 use Rattle.tfpg_diff.specs.declared.link.Link.{Link}
@@ -9,7 +9,7 @@ use Rattle.tfpg_diff.specs.declared.link.Link.TheVariants.{Ceiling, Picked}
 use Rattle.tfpg_diff.specs.Demands.{Demands, ceiling_of, demand_of_pick}
 
 -- what is read past the end of the bounds
-abbrev pub no_bounds : Bounds
+abbrev pub no_bounds : VariableBounds
 no_bounds = record { floor = 0; floor_why = Floor 0; ceiling = 0; ceiling_why = Floor 0 }
 
 -- what is read past the end of the picks

@@ -42,7 +42,8 @@ impl Watch {
         ensures too_many { (count : ℕ) → (result ≡ Err (TableFault.TooMany count)) ↔
             IsTooMany vehicles.now.graph.now vehicles.now.terms (length vehicles.now.names.now) count }
     {
-        let fleet = Fleet::new(alloc, vehicles.graph, vehicles.names, vehicles.terms)?;
+        let Terms { k, doubt, budget } = vehicles.terms;
+        let fleet = Fleet::new(alloc, vehicles.graph, vehicles.names, k, doubt, budget)?;
         let ranked = empty_sets(alloc, vehicles.names.as_slice().len())?;
         Ok(Watch { fleet, ranked })
     }

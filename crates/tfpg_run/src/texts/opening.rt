@@ -24,7 +24,7 @@ pub(super) fn open_engine(
         return Err(OpenFault::OutOfRange);
     }
     let graph = read(alloc, graph_text)?;
-    Ok(Engine::new(alloc, graph, terms)?)
+    Ok(Engine::new(alloc, graph, terms.k, terms.doubt, terms.budget)?)
 }
 
 /// Whether each number of the terms is in its range.

@@ -1,4 +1,4 @@
--- Bounds that get tighter, until they say all facts.
+-- VariableBounds that get tighter, until they say all facts.
 use Rattle.std.proofs.Common.{◌≡◌, ◌≢◌, ℕ, zero, suc, ◌+◌, ◌<◌, ◌≤◌, Bool, true, false, cond, ltb, ◌&&◌, not, leb, List, [], ◌∷◌, length, get_or, Option, Some, None, refl, sym, ◌∙◌, ap, subst, inl, inr, ⊎_elim, ◌⊎◌, arith}
 use Rattle.std.specs.Prelude.{slice_get, pos, option_map, option_and_then}
 use Rattle.std.proofs.lemmas.Bool.{ltb-true, ltb-false, and_parts}
@@ -19,7 +19,7 @@ use Rattle.tfpg_base.specs.Bounds.{at_most, at_least}
 use Rattle.tfpg_clause.specs.Facts.{fact, from_alarm, upto_alarm}
 use Rattle.tfpg_base.proofs.lists.Choices.{then_some-true, option_map-some}
 use Rattle.tfpg_graph.proofs.NodeAt.{monitored_within}
-use Rattle.tfpg_diff.specs.declared.bounds.Bounds.{Bounds}
+use Rattle.tfpg_diff.specs.VariableBounds.{VariableBounds}
 use Rattle.tfpg_diff.specs.declared.why.Why.TheVariants.{Given}
 use Rattle.tfpg_diff.specs.Demands.{Demands, Bounded}
 use Rattle.tfpg_diff.specs.Solution.{IsSolution}
@@ -124,12 +124,12 @@ module _ (graph : Tfpg) (log : Logbook) (of : IsLogOf graph log) where
 -- ---- tighter bounds
 
 -- The bounds of item `u` once item `v` is changed: the old ones, or the change of them where `u` is `v`.
-pub record IsChanged (change : Bounds → Bounds) (old : List Bounds) (v u : ℕ) (new : Bounds) : Type 0 where
-  pub before : Bounds
+pub record IsChanged (change : VariableBounds → VariableBounds) (old : List VariableBounds) (v u : ℕ) (new : VariableBounds) : Type 0 where
+  pub before : VariableBounds
   pub was : slice_get old u ≡ Some before
   pub is : ((u ≢ v) × (new ≡ before)) ⊎ ((u ≡ v) × (new ≡ change before))
 
-changed : (change : Bounds → Bounds) (old : List Bounds) (v u : ℕ) (new : Bounds) → slice_get (changed_at change old v) u ≡ Some new → IsChanged change old v u new
+changed : (change : VariableBounds → VariableBounds) (old : List VariableBounds) (v u : ℕ) (new : VariableBounds) → slice_get (changed_at change old v) u ≡ Some new → IsChanged change old v u new
 changed change [] v u new at = absurd (none-some new at)
 changed change (b ∷ bs) zero zero new at = record { before = b; was = refl; is = inr (refl, sym (same_Some (change b) new at)) }
 changed change (b ∷ bs) zero (suc u) new at = record { before = new; was = at; is = inl (λ e. omega (arith, e), refl) }
@@ -146,11 +146,11 @@ changed change (b ∷ bs) (suc v) (suc u) new at =
     }
 
 -- These bounds are at least as tight as the others.
-pub record IsTighter (new old : Bounds) : Type 0 where
+pub record IsTighter (new old : VariableBounds) : Type 0 where
   pub floor : old.floor ≤ new.floor
   pub ceiling : new.ceiling ≤ old.ceiling
 
-raised-tighter : (least tag : ℕ) (old : Bounds) → IsTighter (raised least tag old) old × (least ≤ (raised least tag old).floor)
+raised-tighter : (least tag : ℕ) (old : VariableBounds) → IsTighter (raised least tag old) old × (least ≤ (raised least tag old).floor)
 raised-tighter least tag old = by (ltb old.floor least) refl
   where
     by : (b : Bool) → ltb old.floor least ≡ b → IsTighter (cond b (record old { floor = least; floor_why = Given tag }) old) old
@@ -158,7 +158,7 @@ raised-tighter least tag old = by (ltb old.floor least) refl
     by true is = let lt = ltb-true old.floor least is in (record { floor = omega arith; ceiling = omega arith }, omega arith)
     by false is = let ge = ltb-false old.floor least is in (record { floor = omega arith; ceiling = omega arith }, omega arith)
 
-lowered-tighter : (ceiling tag : ℕ) (old : Bounds) → IsTighter (lowered ceiling tag old) old × ((lowered ceiling tag old).ceiling ≤ ceiling)
+lowered-tighter : (ceiling tag : ℕ) (old : VariableBounds) → IsTighter (lowered ceiling tag old) old × ((lowered ceiling tag old).ceiling ≤ ceiling)
 lowered-tighter ceiling tag old = by (ltb ceiling old.ceiling) refl
   where
     by : (b : Bool) → ltb ceiling old.ceiling ≡ b → IsTighter (cond b (record old { ceiling = ceiling; ceiling_why = Given tag }) old) old
@@ -167,16 +167,16 @@ lowered-tighter ceiling tag old = by (ltb ceiling old.ceiling) refl
     by false is = let ge = ltb-false ceiling old.ceiling is in (record { floor = omega arith; ceiling = omega arith }, omega arith)
 
 -- a change that tightens leaves no bounds looser
-tighter-changed : (change : Bounds → Bounds) (old : List Bounds) (v u : ℕ) (new : Bounds) → ((b : Bounds) → IsTighter (change b) b) →
+tighter-changed : (change : VariableBounds → VariableBounds) (old : List VariableBounds) (v u : ℕ) (new : VariableBounds) → ((b : VariableBounds) → IsTighter (change b) b) →
     (is : IsChanged change old v u new) → IsTighter new is.before
 tighter-changed change old v u new tightens is = ⊎_elim
-    (λ (other : (u ≢ v) × (new ≡ is.before)). subst (λ (b : Bounds). IsTighter b is.before) (sym other.1) (record { floor = omega arith; ceiling = omega arith }))
-    (λ (here : (u ≡ v) × (new ≡ change is.before)). subst (λ (b : Bounds). IsTighter b is.before) (sym here.1) (tightens is.before))
+    (λ (other : (u ≢ v) × (new ≡ is.before)). subst (λ (b : VariableBounds). IsTighter b is.before) (sym other.1) (record { floor = omega arith; ceiling = omega arith }))
+    (λ (here : (u ≡ v) × (new ≡ change is.before)). subst (λ (b : VariableBounds). IsTighter b is.before) (sym here.1) (tightens is.before))
     is.is
 
 module _ (fact : Reason → Option Constraint) (demands : Demands) where
   -- facts that bounds say, tighter bounds say
-  facts-changed : (change : Bounds → Bounds) (v u : ℕ) → ((b : Bounds) → IsTighter (change b) b) → AreFactsIn fact demands u →
+  facts-changed : (change : VariableBounds → VariableBounds) (v u : ℕ) → ((b : VariableBounds) → IsTighter (change b) b) → AreFactsIn fact demands u →
       AreFactsIn fact (record { bounds = changed_at change demands.bounds v; picks = demands.picks }) u
   facts-changed change v u tightens facts = record {
     floors = λ new at reason bound states.
@@ -200,15 +200,15 @@ module _ (fact : Reason → Option Constraint) (demands : Demands) where
         let first = changed (raised low tag) demands.bounds v v later.before later.was in
         let kept = tighter-changed (lowered high other) (changed_at (raised low tag) demands.bounds v) v v new (λ b. (lowered-tighter high other b).0) later in
         let raised_is : later.before ≡ raised low tag first.before = here (later.before) (raised low tag first.before) first.before first.is in
-        let floor_is : later.before.floor ≡ (raised low tag first.before).floor = ap (λ (b : Bounds). b.floor) raised_is in
+        let floor_is : later.before.floor ≡ (raised low tag first.before).floor = ap (λ (b : VariableBounds). b.floor) raised_is in
         omega (arith, kept.floor, floor_is, (raised-tighter low tag first.before).1, greatest reason bound states);
     ceilings = λ new at reason bound states.
         let later = changed (lowered high other) (changed_at (raised low tag) demands.bounds v) v v new at in
         let lowered_is : new ≡ lowered high other later.before = here new (lowered high other later.before) later.before later.is in
-        let ceiling_is : new.ceiling ≡ (lowered high other later.before).ceiling = ap (λ (b : Bounds). b.ceiling) lowered_is in
+        let ceiling_is : new.ceiling ≡ (lowered high other later.before).ceiling = ap (λ (b : VariableBounds). b.ceiling) lowered_is in
         omega (arith, ceiling_is, (lowered-tighter high other later.before).1, least reason bound states);
   } where
-    here : (new change before : Bounds) → ((v ≢ v) × (new ≡ before)) ⊎ ((v ≡ v) × (new ≡ change)) → new ≡ change
+    here : (new change before : VariableBounds) → ((v ≢ v) × (new ≡ before)) ⊎ ((v ≡ v) × (new ≡ change)) → new ≡ change
     here new change before is = ⊎_elim (λ (other : (v ≢ v) × (new ≡ before)). absurd (other.0 refl)) (λ (same : (v ≡ v) × (new ≡ change)). same.1) is
 
   -- and the others say what they said

@@ -7,7 +7,7 @@ use Rattle.tfpg_base.specs.declared.constraint.Constraint.{Constraint}
 use Rattle.tfpg_evidence.specs.declared.reason.Reason.{Reason}
 use Rattle.tfpg_base.specs.Bounds.{at_most, at_least}
 use Rattle.tfpg_diff.specs.declared.why.Why.TheVariants.{Given}
-use Rattle.tfpg_diff.specs.declared.bounds.Bounds.{Bounds}
+use Rattle.tfpg_diff.specs.VariableBounds.{VariableBounds}
 use Rattle.tfpg_diff.specs.Demands.{Demands, Bounded}
 use Rattle.tfpg_diff.specs.SystemState.{widest, with_floor, with_ceiling, with_pick, popped_to}
 use Rattle.tfpg_diff.specs.inside.Kept.{demands_of}
@@ -28,7 +28,7 @@ module _ (leaf : Leaf) (demands : Demands) (reasons : List Reason) (entered : Li
 
   module _ (v : ℕ) (within : v < length leaf.demands.bounds) where
     -- the bounds that the node has
-    abbrev pub bounds_of : Bounds
+    abbrev pub bounds_of : VariableBounds
     bounds_of = get_or demands.bounds v (widest 0)
 
     pub at : Bounded demands v bounds_of
@@ -49,7 +49,7 @@ module _ (leaf : Leaf) (demands : Demands) (reasons : List Reason) (entered : Li
         → pick_reasons (leaf_of new (set reasons index reason)) ≡ pick_reasons leaf
     ceiling_kept new index reason same is = written_reasons new index reason same (let below = inside in omega arith)
 
-    module _ (reason : Reason) (least tag : ℕ) (is_tag : tag ≡ v) (tighter : (bounds : Bounds) → Bounded leaf.demands v bounds → bounds.floor < least) where
+    module _ (reason : Reason) (least tag : ℕ) (is_tag : tag ≡ v) (tighter : (bounds : VariableBounds) → Bounded leaf.demands v bounds → bounds.floor < least) where
       -- the demands with the higher bound
       pub raised_is : with_floor demands v least tag ≡ demands_of (set demands.bounds v (over bounds_of least v)) demands.picks
       raised_is = ap (with_floor demands v least) is_tag ∙ with_floor-tighter demands.bounds demands.picks v bounds_of at least v (tighter bounds_of seen)
@@ -74,7 +74,7 @@ module _ (leaf : Leaf) (demands : Demands) (reasons : List Reason) (entered : Li
           ∙ before.bounds.ceilings v bounds_of at))
 
     module _ (reason : Reason) (ceiling index : ℕ) (is_index : index ≡ length demands.bounds + v)
-        (tighter : (bounds : Bounds) → Bounded leaf.demands v bounds → ceiling < bounds.ceiling) where
+        (tighter : (bounds : VariableBounds) → Bounded leaf.demands v bounds → ceiling < bounds.ceiling) where
       -- the demands with the lower bound
       pub lowered_is : with_ceiling demands v ceiling index ≡ demands_of (set demands.bounds v (under bounds_of ceiling index)) demands.picks
       lowered_is = with_ceiling-tighter demands.bounds demands.picks v bounds_of at ceiling index (tighter bounds_of seen)

@@ -8,7 +8,7 @@ use Rattle.tfpg_evidence.specs.declared.reason.Reason.{Reason}
 use Rattle.tfpg_base.specs.Bounds.{at_most, at_least}
 use Rattle.tfpg_diff.specs.declared.why.Why.{Why}
 use Rattle.tfpg_diff.specs.declared.why.Why.TheVariants.{Floor, Ceiling, Given}
-use Rattle.tfpg_diff.specs.declared.bounds.Bounds.{Bounds}
+use Rattle.tfpg_diff.specs.VariableBounds.{VariableBounds}
 use Rattle.tfpg_diff.specs.declared.pick.Pick.{Pick}
 use Rattle.tfpg_diff.specs.Demands.{Demands, Bounded}
 use Rattle.tfpg_diff.specs.SystemState.{with_pick, popped_to}
@@ -83,7 +83,7 @@ module _ (demands : Demands) (reasons : List Reason) (tagged : IsTagged demands 
 module _ (fact stated : Reason → Option Constraint) (demands : Demands) (reasons : List Reason) (tagged : IsTagged demands reasons)
     (is_stated : IsStated fact stated (leaf_of demands reasons)) where
   -- after a write of the bounds of one node, and of a reason
-  pub IsStated-write : (v : ℕ) (new : Bounds) (index : ℕ) (reason : Reason) → IsIndexOf demands v index →
+  pub IsStated-write : (v : ℕ) (new : VariableBounds) (index : ℕ) (reason : Reason) → IsIndexOf demands v index →
       tagged_by fact (set reasons index reason) new.floor_why ≡ Some (at_least v new.floor) →
       tagged_by fact (set reasons index reason) new.ceiling_why ≡ Some (at_most v (pos new.ceiling)) →
       IsStated fact stated (leaf_of (demands_of (set demands.bounds v new) demands.picks) (set reasons index reason))
@@ -96,8 +96,8 @@ module _ (fact stated : Reason → Option Constraint) (demands : Demands) (reaso
         bounds = record {
           floors = λ u b at. ⊎_elim
               (λ (here : (u ≡ v) × (b ≡ new)).
-              ap (λ (c : Bounds). tagged_by fact others c.floor_why) here.1 ∙ low
-              ∙ sym (ap (λ (n : ℕ). Some (at_least n b.floor)) here.0 ∙ ap (λ (c : Bounds). Some (at_least v c.floor)) here.1))
+              ap (λ (c : VariableBounds). tagged_by fact others c.floor_why) here.1 ∙ low
+              ∙ sym (ap (λ (n : ℕ). Some (at_least n b.floor)) here.0 ∙ ap (λ (c : VariableBounds). Some (at_least v c.floor)) here.1))
               (λ (there : (u ≢ v) × Bounded demands u b).
               tagged_by-floor fact reasons others b.floor_why u (tagged.floors u b there.1)
               (slice_get-set_other reasons index u reason (apart.not_lower u there.0 (slice_get_within demands.bounds u b there.1)))
@@ -105,8 +105,8 @@ module _ (fact stated : Reason → Option Constraint) (demands : Demands) (reaso
               (Bounded-set demands.bounds demands.picks v new u b at);
           ceilings = λ u b at. ⊎_elim
               (λ (here : (u ≡ v) × (b ≡ new)).
-              ap (λ (c : Bounds). tagged_by fact others c.ceiling_why) here.1 ∙ high
-              ∙ sym (ap (λ (n : ℕ). Some (at_most n (pos b.ceiling))) here.0 ∙ ap (λ (c : Bounds). Some (at_most v (pos c.ceiling))) here.1))
+              ap (λ (c : VariableBounds). tagged_by fact others c.ceiling_why) here.1 ∙ high
+              ∙ sym (ap (λ (n : ℕ). Some (at_most n (pos b.ceiling))) here.0 ∙ ap (λ (c : VariableBounds). Some (at_most v (pos c.ceiling))) here.1))
               (λ (there : (u ≢ v) × Bounded demands u b).
               tagged_by-ceiling fact reasons others b.ceiling_why u (length demands.bounds + u) (tagged.ceilings u b there.1)
               (slice_get-set_other reasons index (length demands.bounds + u) reason (apart.not_upper u there.0))

@@ -7,7 +7,7 @@ use Rattle.tfpg_base.specs.Bounds.{at_most, at_least}
 use Rattle.tfpg_evidence.specs.declared.reason.Reason.{Reason}
 use Rattle.tfpg_evidence.specs.declared.reason.Reason.TheVariants.{Pick}
 use Rattle.tfpg_diff.specs.declared.why.Why.{Why}
-use Rattle.tfpg_diff.specs.declared.bounds.Bounds.{Bounds}
+use Rattle.tfpg_diff.specs.VariableBounds.{VariableBounds}
 use Rattle.tfpg_diff.specs.Demands.{Demands, Bounded, demands_of}
 use Rattle.tfpg_diff.specs.SystemState.{unbounded_from, with_floor, with_ceiling, with_pick, popped_to}
 use Rattle.tfpg_diff.specs.Cycle.{NamesNegativeCycle}
@@ -115,7 +115,7 @@ module _ (leaf : Leaf) (demands : Demands) (lows : List LowReason) (highs : List
 
       -- ---- a floor is raised
 
-      module _ (low : LowReason) (least tag : ℕ) (is_tag : tag ≡ v) (tighter : (bounds : Bounds) → Bounded leaf.demands v bounds → bounds.floor < least) where
+      module _ (low : LowReason) (least tag : ℕ) (is_tag : tag ≡ v) (tighter : (bounds : VariableBounds) → Bounded leaf.demands v bounds → bounds.floor < least) where
         abbrev raising : Demands
         raising = with_floor demands v least tag
 
@@ -197,7 +197,7 @@ module _ (leaf : Leaf) (demands : Demands) (lows : List LowReason) (highs : List
 
       -- ---- a ceiling is lowered
 
-      module _ (high : HighReason) (ceiling tag : ℕ) (is_tag : tag ≡ length demands.bounds + v) (tighter : (bounds : Bounds) → Bounded leaf.demands v bounds → ceiling < bounds.ceiling) where
+      module _ (high : HighReason) (ceiling tag : ℕ) (is_tag : tag ≡ length demands.bounds + v) (tighter : (bounds : VariableBounds) → Bounded leaf.demands v bounds → ceiling < bounds.ceiling) where
         abbrev lowering : Demands
         lowering = with_ceiling demands v ceiling tag
 
@@ -347,7 +347,7 @@ module _ (leaf : Leaf) (demands : Demands) (lows : List LowReason) (highs : List
 
       with_adding_is : kept_reasons pushing lows highs entered ≡ with_adding
       with_adding_is =
-          ap (λ (bs : List Bounds). reasons_of bs lows highs (entered_picks entered (length pushing.picks))) bounds_held
+          ap (λ (bs : List VariableBounds). reasons_of bs lows highs (entered_picks entered (length pushing.picks))) bounds_held
           ∙ ap (λ (n : ℕ). reasons_of demands.bounds lows highs (entered_picks entered n)) picks_held
           ∙ ap (reasons_of demands.bounds lows highs) (entered_picks-next entered (length demands.picks) kept.begun split number is_next)
           ∙ reasons_of-pushed demands.bounds lows highs (entered_picks entered (length demands.picks)) kept.lows_each kept.highs_each adding
@@ -362,8 +362,8 @@ module _ (leaf : Leaf) (demands : Demands) (lows : List LowReason) (highs : List
         pushed_kept =
             subst (λ (d : Demands). AreKept d lows highs entered) (sym added)
             (record {
-              lows_each = kept.lows_each ∙ sym (ap (λ (bs : List Bounds). length bs) bounds_held);
-              highs_each = kept.highs_each ∙ sym (ap (λ (bs : List Bounds). length bs) bounds_held);
+              lows_each = kept.lows_each ∙ sym (ap (λ (bs : List VariableBounds). length bs) bounds_held);
+              highs_each = kept.highs_each ∙ sym (ap (λ (bs : List VariableBounds). length bs) bounds_held);
               begun = subst (AreBegun entered) (sym picks_held) (AreBegun-next entered (length demands.picks) kept.begun split number is_next);
               tagged = subst (IsTagged pushing) (sym with_adding_is) pushing_tagged;
             })
@@ -424,7 +424,7 @@ module _ (leaf : Leaf) (demands : Demands) (lows : List LowReason) (highs : List
 
       rest_is : kept_reasons new lows highs rest ≡ take (2 * length demands.bounds + before) reasons
       rest_is =
-          ap (λ (bs : List Bounds). reasons_of bs lows highs (entered_picks rest (length new.picks))) (ap (λ (d : Demands). d.bounds) popped)
+          ap (λ (bs : List VariableBounds). reasons_of bs lows highs (entered_picks rest (length new.picks))) (ap (λ (d : Demands). d.bounds) popped)
           ∙ ap (λ (n : ℕ). reasons_of demands.bounds lows highs (entered_picks rest n)) picks_left
           ∙ ap (λ (es : List ℕ). reasons_of demands.bounds lows highs (entered_picks es before)) is_rest
           ∙ ap (reasons_of demands.bounds lows highs) (entered_picks-left entered (length demands.picks) kept.begun keep before begins)

@@ -9,7 +9,7 @@ use Rattle.tfpg_evidence.specs.declared.reason.Reason.{Reason}
 use Rattle.tfpg_evidence.specs.declared.reason.Reason.TheVariants as reason
 use Rattle.tfpg_diff.specs.declared.why.Why.{Why}
 use Rattle.tfpg_diff.specs.declared.why.Why.TheVariants.{Floor, Ceiling, Given}
-use Rattle.tfpg_diff.specs.declared.bounds.Bounds.{Bounds}
+use Rattle.tfpg_diff.specs.VariableBounds.{VariableBounds}
 use Rattle.tfpg_search.specs.declared.kept_reason.LowReason.{LowReason}
 use Rattle.tfpg_search.specs.declared.kept_reason.HighReason.{HighReason}
 use Rattle.tfpg_search.specs.inside.Tags.{HasReason, reason_of}
@@ -17,13 +17,13 @@ use Rattle.tfpg_search.specs.inside.KeptReasons.{low_reason, high_reason, low_re
 
 -- ---- the reasons of the lower bounds
 
-pub length-low_reasons : (node : ℕ) (bounds : List Bounds) (lows : List LowReason) → length lows ≡ length bounds → length (low_reasons node bounds lows) ≡ length bounds
+pub length-low_reasons : (node : ℕ) (bounds : List VariableBounds) (lows : List LowReason) → length lows ≡ length bounds → length (low_reasons node bounds lows) ≡ length bounds
 length-low_reasons node [] lows same = refl
 length-low_reasons node (b ∷ bounds) [] same = absurd (omega arith)
 length-low_reasons node (b ∷ bounds) (low ∷ lows) same = ap suc (length-low_reasons (node + 1) bounds lows (omega arith))
 
 -- a bound and its reason are written
-low_reasons-set : (node : ℕ) (bounds : List Bounds) (lows : List LowReason) (v : ℕ) (new : Bounds) (low : LowReason) → length lows ≡ length bounds
+low_reasons-set : (node : ℕ) (bounds : List VariableBounds) (lows : List LowReason) (v : ℕ) (new : VariableBounds) (low : LowReason) → length lows ≡ length bounds
     → low_reasons node (set bounds v new) (set lows v low) ≡ set (low_reasons node bounds lows) v (low_reason (node + v) new.floor low)
 low_reasons-set node [] lows v new low same = refl
 low_reasons-set node (b ∷ bounds) [] v new low same = absurd (omega arith)
@@ -34,23 +34,23 @@ low_reasons-set node (b ∷ bounds) (first ∷ lows) (suc v) new low same =
     (low_reasons-set (node + 1) bounds lows v new low (omega arith) ∙ ap (λ (n : ℕ). set (low_reasons (node + 1) bounds lows) v (low_reason n new.floor low)) number)
 
 -- a bound is written that has the floor of the one before
-low_reasons-same : (node : ℕ) (bounds : List Bounds) (lows : List LowReason) (v : ℕ) (old new : Bounds) → slice_get bounds v ≡ Some old → new.floor ≡ old.floor
+low_reasons-same : (node : ℕ) (bounds : List VariableBounds) (lows : List LowReason) (v : ℕ) (old new : VariableBounds) → slice_get bounds v ≡ Some old → new.floor ≡ old.floor
     → low_reasons node (set bounds v new) lows ≡ low_reasons node bounds lows
 low_reasons-same node [] lows v old new at same = absurd (none-some old at)
 low_reasons-same node (b ∷ bounds) [] zero old new at same = refl
 low_reasons-same node (b ∷ bounds) [] (suc v) old new at same = refl
 low_reasons-same node (b ∷ bounds) (low ∷ lows) zero old new at same =
-    ap (λ (floor : ℕ). low_reason node floor low ∷ low_reasons (node + 1) bounds lows) (same ∙ sym (ap (λ (c : Bounds). c.floor) (same_Some b old at)))
+    ap (λ (floor : ℕ). low_reason node floor low ∷ low_reasons (node + 1) bounds lows) (same ∙ sym (ap (λ (c : VariableBounds). c.floor) (same_Some b old at)))
 low_reasons-same node (b ∷ bounds) (low ∷ lows) (suc v) old new at same =
     ap (λ (rs : List Reason). low_reason node b.floor low ∷ rs) (low_reasons-same (node + 1) bounds lows v old new at same)
 
 -- the reason of a lower bound is read
-low_reasons-read : (node : ℕ) (bounds : List Bounds) (lows : List LowReason) (v : ℕ) (b : Bounds) (low : LowReason) (d : Reason) → slice_get bounds v ≡ Some b → v < length lows
+low_reasons-read : (node : ℕ) (bounds : List VariableBounds) (lows : List LowReason) (v : ℕ) (b : VariableBounds) (low : LowReason) (d : Reason) → slice_get bounds v ≡ Some b → v < length lows
     → low ≡ get_or lows v low → get_or (low_reasons node bounds lows) v d ≡ low_reason (node + v) b.floor low
 low_reasons-read node [] lows v b low d at within is = absurd (none-some b at)
 low_reasons-read node (first ∷ bounds) [] v b low d at within is = absurd (omega arith)
 low_reasons-read node (first ∷ bounds) (kept ∷ lows) zero b low d at within is =
-    ap (λ (c : Bounds). low_reason node c.floor kept) (same_Some first b at) ∙ ap (low_reason node b.floor) (sym is) ∙ ap (λ (n : ℕ). low_reason n b.floor low) (omega arith)
+    ap (λ (c : VariableBounds). low_reason node c.floor kept) (same_Some first b at) ∙ ap (low_reason node b.floor) (sym is) ∙ ap (λ (n : ℕ). low_reason n b.floor low) (omega arith)
 low_reasons-read node (first ∷ bounds) (kept ∷ lows) (suc v) b low d at within is =
     low_reasons-read (node + 1) bounds lows v b low d at (omega arith) is ∙ ap (λ (n : ℕ). low_reason n b.floor low) (omega arith)
 
@@ -83,7 +83,7 @@ take_past [] ys n m is = ap (λ (k : ℕ). take k ys) (omega arith)
 take_past (x ∷ xs) ys zero m is = absurd (omega arith)
 take_past (x ∷ xs) ys (suc n) m is = ap (λ (zs : List _). x ∷ zs) (take_past xs ys n m (omega arith))
 
-module _ (bounds : List Bounds) (lows : List LowReason) (highs : List HighReason) (back : List Reason)
+module _ (bounds : List VariableBounds) (lows : List LowReason) (highs : List HighReason) (back : List Reason)
     (lows_each : length lows ≡ length bounds) (highs_each : length highs ≡ length bounds) where
   abbrev front : List Reason
   front = low_reasons 0 bounds lows
@@ -107,7 +107,7 @@ module _ (bounds : List Bounds) (lows : List LowReason) (highs : List HighReason
       omega arith
 
   -- a floor is raised
-  pub reasons_of-raised : (v : ℕ) (new : Bounds) (low : LowReason) → v < length bounds
+  pub reasons_of-raised : (v : ℕ) (new : VariableBounds) (low : LowReason) → v < length bounds
       → reasons_of (set bounds v new) (set lows v low) highs back ≡ set (reasons_of bounds lows highs back) v (low_reason v new.floor low)
   reasons_of-raised v new low within =
       ap (λ (rs : List Reason). rs ++ (middle ++ back)) (low_reasons-set 0 bounds lows v new low lows_each)
@@ -115,7 +115,7 @@ module _ (bounds : List Bounds) (lows : List LowReason) (highs : List HighReason
       ∙ sym (set-append_left front (middle ++ back) v (low_reason v new.floor low) (let long = front_long in omega arith))
 
   -- a ceiling is lowered
-  pub reasons_of-lowered : (v index : ℕ) (old new : Bounds) (high : HighReason) → slice_get bounds v ≡ Some old → new.floor ≡ old.floor → index ≡ length bounds + v
+  pub reasons_of-lowered : (v index : ℕ) (old new : VariableBounds) (high : HighReason) → slice_get bounds v ≡ Some old → new.floor ≡ old.floor → index ≡ length bounds + v
       → reasons_of (set bounds v new) lows (set highs v high) back ≡ set (reasons_of bounds lows highs back) index (high_reason v high)
   reasons_of-lowered v index old new high at same is =
       let within = slice_get_within bounds v old at in
@@ -129,7 +129,7 @@ module _ (bounds : List Bounds) (lows : List LowReason) (highs : List HighReason
       ∙ sym (set-append_right front (middle ++ back) (length bounds) index (high_reason v high) long (omega arith))
 
   -- the reason of a lower bound is read
-  pub reasons_of-low : (v : ℕ) (b : Bounds) (low : LowReason) → slice_get bounds v ≡ Some b → low ≡ get_or lows v low
+  pub reasons_of-low : (v : ℕ) (b : VariableBounds) (low : LowReason) → slice_get bounds v ≡ Some b → low ≡ get_or lows v low
       → low_reason v b.floor low ≡ slice_index_or (reasons_of bounds lows highs back) v (reason.Zero 0)
   reasons_of-low v b low at is =
       let within = slice_get_within bounds v b at in

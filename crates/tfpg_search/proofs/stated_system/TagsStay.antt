@@ -6,7 +6,7 @@ use Rattle.tfpg_base.specs.declared.constraint.Constraint.{Constraint}
 use Rattle.tfpg_evidence.specs.declared.reason.Reason.{Reason}
 use Rattle.tfpg_diff.specs.declared.why.Why.{Why}
 use Rattle.tfpg_diff.specs.declared.why.Why.TheVariants.{Floor, Ceiling, Given}
-use Rattle.tfpg_diff.specs.declared.bounds.Bounds.{Bounds}
+use Rattle.tfpg_diff.specs.VariableBounds.{VariableBounds}
 use Rattle.tfpg_diff.specs.declared.pick.Pick.{Pick}
 use Rattle.tfpg_diff.specs.Demands.{Demands, Bounded}
 use Rattle.tfpg_diff.specs.SystemState.{with_pick, popped_to}
@@ -29,7 +29,7 @@ IsEither-same unset index why other u v node tag either = ⊎_elim
     either
 
 -- after a write of the bounds of one node, and of a reason
-pub IsTagged-write : (demands : Demands) (reasons : List Reason) (v : ℕ) (new : Bounds) (index : ℕ) (reason : Reason) → IsTagged demands reasons →
+pub IsTagged-write : (demands : Demands) (reasons : List Reason) (v : ℕ) (new : VariableBounds) (index : ℕ) (reason : Reason) → IsTagged demands reasons →
     IsEither new.floor_why (Floor v) v → IsEither new.ceiling_why (Ceiling v) (length demands.bounds + v) →
     IsTagged (demands_of (set demands.bounds v new) demands.picks) (set reasons index reason)
 IsTagged-write demands reasons v new index reason tagged low high =
@@ -38,12 +38,12 @@ IsTagged-write demands reasons v new index reason tagged low high =
       one_each = (let l = length-set reasons index reason in let o = tagged.one_each in omega arith);
       floors = λ u b at. ⊎_elim
           (λ (here : (u ≡ v) × (b ≡ new)).
-          IsEither-same Floor (λ (n : ℕ). n) new.floor_why b.floor_why u v here.0 (ap (λ (c : Bounds). c.floor_why) here.1) low)
+          IsEither-same Floor (λ (n : ℕ). n) new.floor_why b.floor_why u v here.0 (ap (λ (c : VariableBounds). c.floor_why) here.1) low)
           (λ (there : (u ≢ v) × Bounded demands u b). tagged.floors u b there.1)
           (Bounded-set demands.bounds demands.picks v new u b at);
       ceilings = λ u b at. rw as_many (⊎_elim
           (λ (here : (u ≡ v) × (b ≡ new)).
-          IsEither-same Ceiling (λ (n : ℕ). length demands.bounds + n) new.ceiling_why b.ceiling_why u v here.0 (ap (λ (c : Bounds). c.ceiling_why) here.1) high)
+          IsEither-same Ceiling (λ (n : ℕ). length demands.bounds + n) new.ceiling_why b.ceiling_why u v here.0 (ap (λ (c : VariableBounds). c.ceiling_why) here.1) high)
           (λ (there : (u ≢ v) × Bounded demands u b). tagged.ceilings u b there.1)
           (Bounded-set demands.bounds demands.picks v new u b at));
       picks = λ index pick at. tagged.picks index pick at ∙ ap (λ (n : ℕ). 2 * n + index) (sym as_many);

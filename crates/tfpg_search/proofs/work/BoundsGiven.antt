@@ -14,7 +14,7 @@ use Rattle.tfpg_evidence.specs.declared.reason.Reason.TheVariants.{Zero, Top}
 use Rattle.tfpg_evidence.specs.declared.step.Step.{Step}
 use Rattle.tfpg_clause.specs.Case.{Case, case_of}
 use Rattle.tfpg_clause.specs.Facts.{fact, IsLow, IsHigh}
-use Rattle.tfpg_diff.specs.declared.bounds.Bounds.{Bounds}
+use Rattle.tfpg_diff.specs.VariableBounds.{VariableBounds}
 use Rattle.tfpg_diff.specs.declared.why.Why.{Why}
 use Rattle.tfpg_diff.specs.declared.why.Why.TheVariants.{Floor, Ceiling, Given}
 use Rattle.tfpg_diff.specs.Demands.{Demands, Bounded}
@@ -87,8 +87,8 @@ reason_named states reasons (Given tag) constraint is = by (slice_get reasons ta
 
 module _ (case : Case) (leaf : Leaf) (variables : length leaf.demands.bounds ≡ length case.graph.nodes) (stated : AreBoundsStated (fact case) leaf.demands leaf.reasons)
     (facts : (node : ℕ) → node < length case.graph.nodes → AreFactsIn (fact case) leaf.demands node) where
-  read_at : (read : Bounds → ℕ) (node time : ℕ) → slice_get (map read leaf.demands.bounds) node ≡ Some time
-      → (node < length case.graph.nodes) × ((bounds : Bounds) × Bounded leaf.demands node bounds × (read bounds ≡ time))
+  read_at : (read : VariableBounds → ℕ) (node time : ℕ) → slice_get (map read leaf.demands.bounds) node ≡ Some time
+      → (node < length case.graph.nodes) × ((bounds : VariableBounds) × Bounded leaf.demands node bounds × (read bounds ≡ time))
   read_at read node time at =
       let inside : node < length (map read leaf.demands.bounds) = slice_get_within (map read leaf.demands.bounds) node time at in
       let many = length-map leaf.demands.bounds read in
@@ -99,25 +99,25 @@ module _ (case : Case) (leaf : Leaf) (variables : length leaf.demands.bounds ≡
   -- bounds that facts state, and that say all facts, are those that the facts give
   pub system_given : AreFactBounds case (bounds_in leaf)
   system_given = record {
-    low_each = length-map leaf.demands.bounds (λ (b : Bounds). b.floor) ∙ variables;
-    high_each = length-map leaf.demands.bounds (λ (b : Bounds). b.ceiling) ∙ variables;
+    low_each = length-map leaf.demands.bounds (λ (b : VariableBounds). b.floor) ∙ variables;
+    high_each = length-map leaf.demands.bounds (λ (b : VariableBounds). b.ceiling) ∙ variables;
     low = λ node time at.
-        let found = read_at (λ (b : Bounds). b.floor) node time at in
+        let found = read_at (λ (b : VariableBounds). b.floor) node time at in
         let named = reason_named (fact case) leaf.reasons found.1.0.floor_why (at_least node found.1.0.floor) (stated.floors node found.1.0 found.1.1) in
         subst (IsLow case node) found.1.2
         (record { reason = named.0; stated = named.1; greatest = (facts node found.0).floors found.1.0 found.1.1 });
     high = λ node time at.
-        let found = read_at (λ (b : Bounds). b.ceiling) node time at in
+        let found = read_at (λ (b : VariableBounds). b.ceiling) node time at in
         let named = reason_named (fact case) leaf.reasons found.1.0.ceiling_why (at_most node (pos found.1.0.ceiling)) (stated.ceilings node found.1.0 found.1.1) in
         subst (IsHigh case node) found.1.2
         (record { reason = named.0; stated = named.1; least = (facts node found.0).ceilings found.1.0 found.1.1 });
   }
 
-widest_lows : (first count : ℕ) → map (λ (b : Bounds). b.floor) (unbounded_from first count) ≡ replicate count 0
+widest_lows : (first count : ℕ) → map (λ (b : VariableBounds). b.floor) (unbounded_from first count) ≡ replicate count 0
 widest_lows first zero = refl
 widest_lows first (suc count) = ap (λ (ns : List ℕ). 0 ∷ ns) (widest_lows (first + 1) count)
 
-widest_highs : (first count : ℕ) → map (λ (b : Bounds). b.ceiling) (unbounded_from first count) ≡ replicate count NEVER
+widest_highs : (first count : ℕ) → map (λ (b : VariableBounds). b.ceiling) (unbounded_from first count) ≡ replicate count NEVER
 widest_highs first zero = refl
 widest_highs first (suc count) = ap (λ (ns : List ℕ). NEVER ∷ ns) (widest_highs (first + 1) count)
 

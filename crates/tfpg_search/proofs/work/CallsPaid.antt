@@ -4,7 +4,7 @@ use Rattle.std.specs.Prelude.{map}
 use Rattle.tfpg_graph.specs.Graph.{Tfpg}
 use Rattle.tfpg_log.specs.Log.{Logbook}
 use Rattle.tfpg_clause.specs.Case.{case_of}
-use Rattle.tfpg_diff.specs.declared.bounds.Bounds.{Bounds}
+use Rattle.tfpg_diff.specs.VariableBounds.{VariableBounds}
 use Rattle.tfpg_search.specs.SearchState.{SearchState, case_of_search}
 use Rattle.tfpg_search.specs.Work.{NodeBounds, AreFactBounds, differing}
 use Rattle.tfpg_search.specs.inside.AtItsLeaf.{IsAtItsLeaf}
@@ -14,7 +14,7 @@ use Rattle.tfpg_search.specs.inside.Counted.{unset}
 -- where the bounds are kept, as many of them are not set
 pub unset_kept : (bounds : NodeBounds) (old new : Leaf) → new.demands.bounds ≡ old.demands.bounds → unset bounds new ≡ unset bounds old
 unset_kept bounds old new same =
-    ap (λ (bs : List Bounds). differing (map (λ (b : Bounds). b.floor) bs) bounds.lows + differing (map (λ (b : Bounds). b.ceiling) bs) bounds.highs) same
+    ap (λ (bs : List VariableBounds). differing (map (λ (b : VariableBounds). b.floor) bs) bounds.lows + differing (map (λ (b : VariableBounds). b.ceiling) bs) bounds.highs) same
 
 -- a search with the same reach is about the same bounds
 pub given_at : (graph : Tfpg) (log : Logbook) (old new : SearchState) → new.reach ≡ old.reach → (bounds : NodeBounds) → AreFactBounds (case_of_search graph log old) bounds

@@ -4,7 +4,7 @@ use Rattle.tfpg_evidence.specs.declared.reason.Reason.{Reason}
 use Rattle.tfpg_evidence.specs.declared.reason.Reason.TheVariants as reason
 use Rattle.tfpg_diff.specs.declared.why.Why.{Why}
 use Rattle.tfpg_diff.specs.declared.why.Why.TheVariants.{Floor, Ceiling, Given}
-use Rattle.tfpg_diff.specs.declared.bounds.Bounds.{Bounds}
+use Rattle.tfpg_diff.specs.VariableBounds.{VariableBounds}
 use Rattle.tfpg_diff.specs.Demands.{Demands}
 use Rattle.tfpg_search.specs.declared.kept_reason.LowReason.{LowReason}
 use Rattle.tfpg_search.specs.declared.kept_reason.LowReason.TheVariants.{Zero, Unreached, From, Quiet}
@@ -26,7 +26,7 @@ high_reason node Top = reason.Top node
 high_reason node (Upto event) = reason.Upto event
 
 -- the reasons of the lower bounds of the nodes, the first of which has this number
-abbrev pub low_reasons : ℕ → List Bounds → List LowReason → List Reason
+abbrev pub low_reasons : ℕ → List VariableBounds → List LowReason → List Reason
 low_reasons node [] lows = []
 low_reasons node (bounds ∷ others) [] = []
 low_reasons node (bounds ∷ others) (low ∷ lows) = low_reason node bounds.floor low ∷ low_reasons (node + 1) others lows
@@ -37,7 +37,7 @@ high_reasons node [] = []
 high_reasons node (high ∷ highs) = high_reason node high ∷ high_reasons (node + 1) highs
 
 -- all reasons, in the order of their tags: those of the lower bounds, of the upper bounds, and of the picks
-abbrev pub reasons_of : List Bounds → List LowReason → List HighReason → List Reason → List Reason
+abbrev pub reasons_of : List VariableBounds → List LowReason → List HighReason → List Reason → List Reason
 reasons_of bounds lows highs picks = low_reasons 0 bounds lows ++ (high_reasons 0 highs ++ picks)
 
 -- the same, where so many picks stand before each alternative that is entered

@@ -6,7 +6,7 @@ use Rattle.tfpg_evidence.specs.declared.reason.Reason.TheVariants.{Zero, Top}
 use Rattle.tfpg_base.specs.Bounds.{at_most, at_least}
 use Rattle.tfpg_diff.specs.declared.why.Why.{Why}
 use Rattle.tfpg_diff.specs.declared.why.Why.TheVariants.{Floor, Ceiling, Given}
-use Rattle.tfpg_diff.specs.declared.bounds.Bounds.{Bounds}
+use Rattle.tfpg_diff.specs.VariableBounds.{VariableBounds}
 use Rattle.tfpg_diff.specs.declared.pick.Pick.{Pick}
 use Rattle.tfpg_diff.specs.Demands.{Demands, Bounded}
 use Rattle.tfpg_search.specs.Work.{NodeBounds}
@@ -26,8 +26,8 @@ pick_reasons leaf = drop (2 * length leaf.demands.bounds) leaf.reasons
 -- the bounds of the nodes in the system
 abbrev pub bounds_in : Leaf → NodeBounds
 bounds_in leaf = record {
-  lows = map (λ (bounds : Bounds). bounds.floor) leaf.demands.bounds;
-  highs = map (λ (bounds : Bounds). bounds.ceiling) leaf.demands.bounds;
+  lows = map (λ (bounds : VariableBounds). bounds.floor) leaf.demands.bounds;
+  highs = map (λ (bounds : VariableBounds). bounds.ceiling) leaf.demands.bounds;
 }
 
 -- the constraint that a tag names, where these are the reasons of the tags
@@ -38,9 +38,9 @@ tagged_by stated reasons (Given tag) = option_and_then stated (slice_get reasons
 
 -- Each bound is stated by its reason, which is a fact.
 pub record AreBoundsStated (fact : Reason → Option Constraint) (demands : Demands) (reasons : List Reason) : Type 0 where
-  pub floors : (node : ℕ) (bounds : Bounds) → Bounded demands node bounds →
+  pub floors : (node : ℕ) (bounds : VariableBounds) → Bounded demands node bounds →
       tagged_by fact reasons bounds.floor_why ≡ Some (at_least node bounds.floor)
-  pub ceilings : (node : ℕ) (bounds : Bounds) → Bounded demands node bounds →
+  pub ceilings : (node : ℕ) (bounds : VariableBounds) → Bounded demands node bounds →
       tagged_by fact reasons bounds.ceiling_why ≡ Some (at_most node (pos bounds.ceiling))
 
 -- Each pick is stated by the reason at the same index.

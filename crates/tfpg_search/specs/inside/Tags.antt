@@ -4,16 +4,16 @@ use Rattle.tfpg_evidence.specs.declared.reason.Reason.{Reason}
 use Rattle.tfpg_evidence.specs.declared.reason.Reason.TheVariants.{Zero, Top}
 use Rattle.tfpg_diff.specs.declared.why.Why.{Why}
 use Rattle.tfpg_diff.specs.declared.why.Why.TheVariants.{Floor, Ceiling, Given}
-use Rattle.tfpg_diff.specs.declared.bounds.Bounds.{Bounds}
+use Rattle.tfpg_diff.specs.VariableBounds.{VariableBounds}
 use Rattle.tfpg_diff.specs.declared.pick.Pick.{Pick}
 use Rattle.tfpg_diff.specs.Demands.{Demands, Bounded}
 
 -- Each tag is the index of its reason: first the lower bounds of the nodes, then their upper bounds, then the picks.
 pub record IsTagged (demands : Demands) (reasons : List Reason) : Type 0 where
   pub one_each : length reasons ≡ 2 * length demands.bounds + length demands.picks
-  pub floors : (node : ℕ) (bounds : Bounds) → Bounded demands node bounds →
+  pub floors : (node : ℕ) (bounds : VariableBounds) → Bounded demands node bounds →
       (bounds.floor_why ≡ Floor node) ⊎ (bounds.floor_why ≡ Given node)
-  pub ceilings : (node : ℕ) (bounds : Bounds) → Bounded demands node bounds →
+  pub ceilings : (node : ℕ) (bounds : VariableBounds) → Bounded demands node bounds →
       (bounds.ceiling_why ≡ Ceiling node) ⊎ (bounds.ceiling_why ≡ Given (length demands.bounds + node))
   pub picks : (index : ℕ) (pick : Pick) → slice_get demands.picks index ≡ Some pick →
       pick.tag ≡ 2 * length demands.bounds + index

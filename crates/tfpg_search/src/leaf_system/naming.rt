@@ -14,7 +14,7 @@ use tfpg_evidence::{Reason, Reasons};
 
 impl LeafSystem {
     /// The conflict with the reasons of a cycle, or out of memory. The tag is that of what was to be added, for this reason.
-    pub(super) fn refused(&self, cycle: &[Why], tag: u32, adding: Reason) -> AddFault
+    pub(super) fn refused(&self, cycle: &[Why], tag: u64, adding: Reason) -> AddFault
         requires { All (IsNamed self.now.reasons tag) cycle.now }
         ensures { IsFaultOf (map (reason_or self.now.reasons tag adding) cycle.now) result }
     {
@@ -25,7 +25,7 @@ impl LeafSystem {
     }
 
     /// The reasons of tags, in their order.
-    fn reasons_of(&self, cycle: &[Why], tag: u32, adding: Reason) -> Result<Reasons, NoMemory>
+    fn reasons_of(&self, cycle: &[Why], tag: u64, adding: Reason) -> Result<Reasons, NoMemory>
         requires { All (IsNamed self.now.reasons tag) cycle.now }
         ensures { IfOk result (λ list. list ≡ map (reason_or self.now.reasons tag adding) cycle.now) }
     {
@@ -37,7 +37,7 @@ impl LeafSystem {
     }
 
     /// The reason of a tag.
-    fn reason_of(&self, why: Why, tag: u32, adding: Reason) -> Reason
+    fn reason_of(&self, why: Why, tag: u64, adding: Reason) -> Reason
         requires { IsNamed self.now.reasons tag why }
         ensures { result ≡ reason_or self.now.reasons tag adding why }
     {
@@ -48,7 +48,7 @@ impl LeafSystem {
                 if given == tag {
                     adding
                 } else {
-                    self.reason_at(u64::from(given))
+                    self.reason_at(given)
                 }
             }
         }
@@ -75,7 +75,7 @@ impl LeafSystem {
         requires { node < length self.now.demands.bounds }
         ensures { result ≡ slice_index_or self.now.reasons node (Zero 0) }
     {
-        self.lows[node as usize].of(node, self.system.bounds(node).floor)
+        self.lows[node as usize].of(node, self.system.bounds(node).floor())
     }
 
     /// The reason of the upper bound of a node.

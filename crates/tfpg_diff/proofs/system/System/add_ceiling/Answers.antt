@@ -1,11 +1,11 @@
 -- A ceiling that is not tighter changes nothing, one below the floor closes a cycle, one that the value is not above is
 -- written, and any other lowers the value first.
-use Rattle.std.proofs.Common.{◌≡◌, ℕ, ◌+◌, ◌<◌, List, ◌∷◌, ◌++◌, [], length, set, Some, refl, sym, ◌∙◌, ap, subst, arith}
+use Rattle.std.proofs.Common.{◌≡◌, ℕ, ◌+◌, ◌<◌, ◌≤◌, List, ◌∷◌, ◌++◌, [], length, set, Some, refl, sym, ◌∙◌, ap, subst, arith}
 use Rattle.std.specs.Prelude.{slice_get, slice_index, vec_capacity}
 use Rattle.std.proofs.lemmas.List.{get_or_read_under, length-set}
 use Rattle.tfpg_diff.specs.declared.why.Why.{Why}
 use Rattle.tfpg_diff.specs.declared.why.Why.TheVariants.{Given}
-use Rattle.tfpg_diff.specs.declared.bounds.Bounds.{Bounds}
+use Rattle.tfpg_diff.specs.VariableBounds.{VariableBounds}
 use Rattle.tfpg_diff.specs.Demands.{Demands, demands_of}
 use Rattle.tfpg_diff.specs.Solution.{HasSolution}
 use Rattle.tfpg_diff.proofs.Totals.{HasNoSolution-cycle}
@@ -22,7 +22,7 @@ use Rattle.tfpg_diff.proofs.Bounding.{under}
 use Rattle.tfpg_base.proofs.lists.Written.{set_back}
 use Rattle.tfpg_diff.proofs.Outcomes as outcome
 use Rattle.tfpg_diff.proofs.system.System.add_ceiling.Goals as goal
-use Rattle.tfpg_diff.proofs.system.System.add_ceiling.Goals.{After-index-old, After-index, After-restart, After-deref-2, After-lower_until_met, After-deref-in-Err-2}
+use Rattle.tfpg_diff.proofs.system.System.add_ceiling.Goals.{After-index-old, Else-ceiling, After-with_ceiling, After-index, After-restart, After-deref-2, After-lower_until_met, After-deref-in-Err-2}
 
 -- the demands of the fields are those that contracts see
 seen : (c : After-index-old) → demands_of c.self.inside.bounds.items c.self.inside.picks.items ≡ c.args.self.now.demands
@@ -32,6 +32,10 @@ seen c = ap (λ (s : SystemState). s.demands) c.self.view_is
 at_v : (c : After-index-old) → slice_get c.self.inside.bounds.items c.args.variable ≡ Some c.index-old.result.now
 at_v c = outcome.Bounded-old c.self.inside.bounds.items c.self.inside.picks.items c.self.inside.labels (vec_capacity c.self.inside.cycle) c.self.invariant c.args.self.now.demands (seen c)
     c.args.variable c.index-old.result.now c.index-old.ensures c.requires
+
+-- the ceiling is below the old one
+tighter : (c : Else-ceiling) → c.args.ceiling < c.index-old.result.now.ceiling
+tighter c = subst (λ (ceiling : ℕ). c.args.ceiling < ceiling) c.ceiling.ensures c.if-ceiling.false
 
 -- the value of the variable, as the code reads it
 value : (c : After-index) → c.index.result.now ≡ slice_index c.self.inside.labels.values.items (c.args.variable + 1)
@@ -44,7 +48,7 @@ value c =
 lengthened : (c : After-deref-2) → demands_of c.deref.result.now c.deref-2.result.now
     ≡ demands_of (set c.self.inside.bounds.items c.args.variable (under c.index-old.result.now c.args.ceiling c.args.tag)) c.self.inside.picks.items
 lengthened c = outcome.demands_read (set c.self.inside.bounds.items c.args.variable (under c.index-old.result.now c.args.ceiling c.args.tag)) c.deref.result.now
-    c.self.inside.picks.items c.deref-2.result.now c.deref.ensures.value c.deref-2.ensures.value
+    c.self.inside.picks.items c.deref-2.result.now (c.deref.ensures.value ∙ ap (set c.self.inside.bounds.items c.args.variable) c.with_ceiling.ensures) c.deref-2.ensures.value
 
 -- the tighter ceiling is written
 written : (c : After-index-old) → c.args.ceiling < c.index-old.result.now.ceiling → demands_of (set c.self.inside.bounds.items c.args.variable (under c.index-old.result.now c.args.ceiling c.args.tag)) c.self.inside.picks.items
@@ -58,31 +62,31 @@ sound c tighter = outcome.IsSound-ceiling c.self.inside.bounds.items c.self.insi
     c.args.variable c.index-old.result.now c.args.ceiling c.args.tag (at_v c) tighter
 
 -- the bounds that are restored are the old ones
-restored : (c : After-index-old) → set (set c.self.inside.bounds.items c.args.variable (under c.index-old.result.now c.args.ceiling c.args.tag)) c.args.variable c.index-old.result.now
-    ≡ c.self.inside.bounds.items
-restored c = set_back c.self.inside.bounds.items c.args.variable c.index-old.result.now (under c.index-old.result.now c.args.ceiling c.args.tag) (at_v c)
+restored : (c : After-with_ceiling) → set (set c.self.inside.bounds.items c.args.variable c.with_ceiling.result) c.args.variable c.index-old.result.now ≡ c.self.inside.bounds.items
+restored c = set_back c.self.inside.bounds.items c.args.variable c.index-old.result.now c.with_ceiling.result (at_v (goal.at.After-with_ceiling c).After-index-old)
 
-pub returns-then-old-ceiling-clause-adds : goal.returns-then-old-ceiling-clause-adds
-returns-then-old-ceiling-clause-adds c =
-    let a = (goal.at.returns-then-old-ceiling-clause-adds c).After-index-old in
+pub returns-then-ceiling-clause-adds : goal.returns-then-ceiling-clause-adds
+returns-then-ceiling-clause-adds c =
+    let a = (goal.at.returns-then-ceiling-clause-adds c).After-index-old in
     outcome.adds_ceiling_same c.self.inside.bounds.items c.self.inside.picks.items c.self.inside.labels (vec_capacity c.self.inside.cycle) c.self.invariant c.args.self.now.demands (seen a)
-    c.args.variable c.index-old.result.now c.args.ceiling c.args.tag (at_v a) c.if-old-ceiling.true
+    c.args.variable c.index-old.result.now c.args.ceiling c.args.tag (at_v a) (subst (λ (ceiling : ℕ). ceiling ≤ c.args.ceiling) c.ceiling.ensures c.if-ceiling.true)
 
-pub returns-then-ceiling-old-clause-adds : goal.returns-then-ceiling-old-clause-adds
-returns-then-ceiling-old-clause-adds c =
-    let a = (goal.at.returns-then-ceiling-old-clause-adds c).After-index-old in
-    let tags : c.push_tag-then-ceiling-old.new.cycle.items ≡ Given c.args.tag ∷ c.index-old.result.now.floor_why ∷ [] =
-    c.push_tag-then-ceiling-old.ensures.items
+pub returns-then-ceiling-floor-clause-adds : goal.returns-then-ceiling-floor-clause-adds
+returns-then-ceiling-floor-clause-adds c =
+    let a = (goal.at.returns-then-ceiling-floor-clause-adds c).After-index-old in
+    let tags : c.push_tag-then-ceiling-floor.new.cycle.items ≡ Given c.args.tag ∷ c.index-old.result.now.floor_why ∷ [] =
+    c.push_tag-then-ceiling-floor.ensures.items
+    ∙ ap (λ (why : Why). c.push_tag.new.cycle.items ++ why ∷ []) c.floor_why.ensures
     ∙ ap (λ (ws : List Why). ws ++ c.index-old.result.now.floor_why ∷ []) (c.push_tag.ensures.items ∙ ap (λ (ws : List Why). ws ++ Given c.args.tag ∷ []) c.clear.ensures.items) in
     rw tags (outcome.adds_ceiling_below_floor c.self.inside.bounds.items c.self.inside.picks.items c.self.inside.labels (vec_capacity c.self.inside.cycle) c.self.invariant c.args.self.now.demands (seen a)
-    c.args.variable c.index-old.result.now c.args.ceiling c.args.tag (at_v a) c.if-old-ceiling.false c.if-ceiling-old.true)
+    c.args.variable c.index-old.result.now c.args.ceiling c.args.tag (at_v a) (tighter (goal.at.returns-then-ceiling-floor-clause-adds c).Else-ceiling) (subst (λ (floor : ℕ). c.args.ceiling < floor) c.floor.ensures c.if-ceiling-floor.true))
 
 pub returns-then-index-ceiling-clause-adds : goal.returns-then-index-ceiling-clause-adds
 returns-then-index-ceiling-clause-adds c =
     let a = (goal.at.returns-then-index-ceiling-clause-adds c).After-index-old in
     let read = value (goal.at.returns-then-index-ceiling-clause-adds c).After-index in
-    outcome.adds_ceiling c.self.inside.bounds.items c.self.inside.picks.items c.self.inside.labels (vec_capacity c.self.inside.cycle) c.self.invariant c.args.self.now.demands (seen a)
-    c.args.variable c.index-old.result.now c.args.ceiling c.args.tag (at_v a) c.if-old-ceiling.false (omega (arith, read, c.if-index-ceiling.true))
+    rw c.with_ceiling.ensures (outcome.adds_ceiling c.self.inside.bounds.items c.self.inside.picks.items c.self.inside.labels (vec_capacity c.self.inside.cycle) c.self.invariant c.args.self.now.demands (seen a)
+    c.args.variable c.index-old.result.now c.args.ceiling c.args.tag (at_v a) (tighter (goal.at.returns-then-index-ceiling-clause-adds c).Else-ceiling) (omega (arith, read, c.if-index-ceiling.true)))
 
 -- how many picks there are
 before : (c : After-restart) → c.len-before.result ≡ length c.self.inside.picks.items
@@ -107,15 +111,15 @@ pub invariant_of-self-then-index-ceiling : goal.invariant_of-self-then-index-cei
 invariant_of-self-then-index-ceiling c =
     let at = goal.at.invariant_of-self-then-index-ceiling c in
     let read = value at.After-index in
-    outcome.IsReady-ceiling c.self.inside.bounds.items c.self.inside.picks.items c.self.inside.labels (vec_capacity c.self.inside.cycle) c.self.invariant c.args.self.now.demands (seen at.After-index-old)
-    c.args.variable c.index-old.result.now c.args.ceiling c.args.tag (at_v at.After-index-old) c.if-old-ceiling.false (omega (arith, read, c.if-index-ceiling.true))
+    rw c.with_ceiling.ensures (outcome.IsReady-ceiling c.self.inside.bounds.items c.self.inside.picks.items c.self.inside.labels (vec_capacity c.self.inside.cycle) c.self.invariant c.args.self.now.demands (seen at.After-index-old)
+    c.args.variable c.index-old.result.now c.args.ceiling c.args.tag (at_v at.After-index-old) (tighter (goal.at.invariant_of-self-then-index-ceiling c).Else-ceiling) (omega (arith, read, c.if-index-ceiling.true))
     (restarted at.After-restart) refl refl c.restart.ensures.saved
-    (let b = before at.After-restart in let f = c.from.ensures in let r = c.restart.ensures.reach in omega arith)
+    (let b = before at.After-restart in let f = c.from.ensures in let r = c.restart.ensures.reach in omega arith))
 
 pub lower_until_met-requires-clause-sound : goal.lower_until_met-requires-clause-sound
 lower_until_met-requires-clause-sound c =
     subst IsSound (sym (lengthened (goal.at.lower_until_met-requires-clause-sound c).After-deref-2))
-    (sound (goal.at.lower_until_met-requires-clause-sound c).After-index-old c.if-old-ceiling.false)
+    (sound (goal.at.lower_until_met-requires-clause-sound c).After-index-old (tighter (goal.at.lower_until_met-requires-clause-sound c).Else-ceiling))
 
 pub lower_until_met-requires-clause-kept : goal.lower_until_met-requires-clause-kept
 lower_until_met-requires-clause-kept c =
@@ -125,7 +129,7 @@ lower_until_met-requires-clause-kept c =
     (subst (λ (vs : List ℕ). AreKept (demands_of (set c.self.inside.bounds.items c.args.variable (under c.index-old.result.now c.args.ceiling c.args.tag)) c.self.inside.picks.items) vs c.lower.new.self.links.items) (sym c.lower.ensures.values)
     (subst (AreKept (demands_of (set c.self.inside.bounds.items c.args.variable (under c.index-old.result.now c.args.ceiling c.args.tag)) c.self.inside.picks.items) (set c.self.inside.labels.values.items (c.args.variable + 1) c.args.ceiling)) (sym c.lower.ensures.links)
     (outcome.AreKept-ceiling_low c.self.inside.bounds.items c.self.inside.picks.items c.self.inside.labels (vec_capacity c.self.inside.cycle) c.self.invariant c.args.self.now.demands (seen at.After-index-old)
-    c.args.variable c.index-old.result.now c.args.ceiling c.args.tag (at_v at.After-index-old) c.if-old-ceiling.false c.if-ceiling-old.false (omega (arith, read, c.if-index-ceiling.false)))))
+    c.args.variable c.index-old.result.now c.args.ceiling c.args.tag (at_v at.After-index-old) (tighter (goal.at.lower_until_met-requires-clause-kept c).Else-ceiling) (subst (λ (floor : ℕ). floor ≤ c.args.ceiling) c.floor.ensures c.if-ceiling-floor.false) (omega (arith, read, c.if-index-ceiling.false)))))
 
 pub invariant_of-self-in-Ok : goal.invariant_of-self-in-Ok
 invariant_of-self-in-Ok c =
@@ -134,15 +138,15 @@ invariant_of-self-in-Ok c =
     let b = before at.After-restart in
     let f = c.from-in-Ok.ensures in
     let r = c.restart-in-Ok.ensures.reach in
-    IsReady-afresh (demands_of (set c.self.inside.bounds.items c.args.variable (under c.index-old.result.now c.args.ceiling c.args.tag)) c.self.inside.picks.items) _ (vec_capacity c.lower_until_met.new.cycle) (sound at.After-index-old c.if-old-ceiling.false)
+    rw c.with_ceiling.ensures (IsReady-afresh (demands_of (set c.self.inside.bounds.items c.args.variable (under c.index-old.result.now c.args.ceiling c.args.tag)) c.self.inside.picks.items) _ (vec_capacity c.lower_until_met.new.cycle) (sound at.After-index-old (tighter (goal.at.invariant_of-self-in-Ok c).Else-ceiling))
     (subst (λ (d : Demands). AreKept d c.lower_until_met.new.labels.values.items c.lower_until_met.new.labels.links.items) (lengthened at.After-deref-2) c.in-Ok.ensures.kept)
     (subst (MeetsPicks c.lower_until_met.new.labels.values.items) c.deref-2.ensures.value c.in-Ok.ensures.met) c.restart-in-Ok.ensures.saved (omega arith)
-    (omega (arith, same, c.self.invariant.room, c.in-Ok.ensures.capacity))
+    (omega (arith, same, c.self.invariant.room, c.in-Ok.ensures.capacity)))
 
 pub returns-in-Ok-clause-adds : goal.returns-in-Ok-clause-adds
 returns-in-Ok-clause-adds c =
-    let is = written (goal.at.returns-in-Ok-clause-adds c).After-index-old c.if-old-ceiling.false in
-    let same = lengthened (goal.at.returns-in-Ok-clause-adds c).After-deref-2 in (
+    let is = written (goal.at.returns-in-Ok-clause-adds c).After-index-old (tighter (goal.at.returns-in-Ok-clause-adds c).Else-ceiling) in
+    let same = lengthened (goal.at.returns-in-Ok-clause-adds c).After-deref-2 in rw c.with_ceiling.ensures (
       is,
       subst HasSolution (same ∙ is)
           (outcome.HasSolution-kept (demands_of c.deref.result.now c.deref-2.result.now) c.lower_until_met.new.labels.values.items
@@ -153,7 +157,7 @@ returns-in-Ok-clause-adds c =
 -- the old demands, as the code reads them
 as_before : (c : After-deref-in-Err-2) → demands_of c.deref-in-Err.result.now c.deref-in-Err-2.result.now ≡ demands_of c.self.inside.bounds.items c.self.inside.picks.items
 as_before c = outcome.demands_read c.self.inside.bounds.items c.deref-in-Err.result.now c.self.inside.picks.items c.deref-in-Err-2.result.now
-    (c.deref-in-Err.ensures.value ∙ restored (goal.at.After-deref-in-Err-2 c).After-index-old) c.deref-in-Err-2.ensures.value
+    (c.deref-in-Err.ensures.value ∙ restored (goal.at.After-deref-in-Err-2 c).After-with_ceiling) c.deref-in-Err-2.ensures.value
 
 pub take_back-requires-clause-sound : goal.take_back-requires-clause-sound
 take_back-requires-clause-sound c = subst IsSound (sym (as_before (goal.at.take_back-requires-clause-sound c).After-deref-in-Err-2)) c.self.invariant.sound
@@ -164,12 +168,12 @@ take_back-requires-clause-able c =
     subst (λ (d : Demands). CanTakeBack d c.lower_until_met.new.labels) (sym (as_before at.After-deref-in-Err-2))
     (CanTakeBack-conflict c.self.inside.bounds.items c.self.inside.picks.items (restarted at.After-restart) (vec_capacity c.self.inside.cycle) (ready at.After-restart) c.lower_until_met.new.labels (remembers at.After-lower_until_met)
     (AreSized-kept (demands_of c.deref.result.now c.deref-2.result.now) (demands_of c.self.inside.bounds.items c.self.inside.picks.items) c.lower_until_met.new.labels c.in-Err.ensures.kept
-    (ap length c.deref.ensures.value ∙ length-set c.self.inside.bounds.items c.args.variable (under c.index-old.result.now c.args.ceiling c.args.tag))))
+    (ap length c.deref.ensures.value ∙ length-set c.self.inside.bounds.items c.args.variable c.with_ceiling.result)))
 
 pub invariant_of-self-in-Err : goal.invariant_of-self-in-Err
 invariant_of-self-in-Err c =
     let at = goal.at.invariant_of-self-in-Err c in
-    subst (λ (bounds : List Bounds). IsReady (demands_of bounds c.self.inside.picks.items) c.take_back.new.labels (vec_capacity c.take_back.new.cycle)) (sym (restored at.After-index-old))
+    subst (λ (bounds : List VariableBounds). IsReady (demands_of bounds c.self.inside.picks.items) c.take_back.new.labels (vec_capacity c.take_back.new.cycle)) (sym (restored at.After-with_ceiling))
     (IsReady-taken_back c.self.inside.bounds.items c.self.inside.picks.items (restarted at.After-restart) (vec_capacity c.self.inside.cycle) (ready at.After-restart) c.lower_until_met.new.labels (remembers at.After-lower_until_met)
     c.take_back.new.labels (vec_capacity c.take_back.new.cycle)
     (subst (λ (d : Demands). TakesBack d c.lower_until_met.new.labels c.take_back.new.labels) (as_before at.After-deref-in-Err-2) c.take_back.ensures.taken)
@@ -178,8 +182,8 @@ invariant_of-self-in-Err c =
 pub returns-in-Err-clause-adds : goal.returns-in-Err-clause-adds
 returns-in-Err-clause-adds c =
     let at = goal.at.returns-in-Err-clause-adds c in
-    let is = lengthened at.After-deref-2 ∙ written at.After-index-old c.if-old-ceiling.false in
+    let is = lengthened at.After-deref-2 ∙ written at.After-index-old (tighter (goal.at.returns-in-Err-clause-adds c).Else-ceiling) in
     let cycle = subst (λ (tags : List Why). NamesNegativeCycle (with_ceiling c.args.self.now.demands c.args.variable c.args.ceiling c.args.tag) tags) (sym c.take_back.ensures.cycle)
     (subst (λ (d : Demands). NamesNegativeCycle d c.lower_until_met.new.cycle.items) is c.in-Err.ensures.cycle) in
     let none = HasNoSolution-cycle (with_ceiling c.args.self.now.demands c.args.variable c.args.ceiling c.args.tag) c.take_back.new.cycle.items cycle in
-    (ap (λ (bs : List Bounds). demands_of bs c.self.inside.picks.items) (restored at.After-index-old) ∙ seen at.After-index-old, none, cycle)
+    (ap (λ (bs : List VariableBounds). demands_of bs c.self.inside.picks.items) (restored at.After-with_ceiling) ∙ seen at.After-index-old, none, cycle)

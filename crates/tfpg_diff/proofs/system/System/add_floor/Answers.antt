@@ -1,5 +1,5 @@
 -- A floor that is not tighter changes nothing, one above the value closes a cycle, and any other is written.
-use Rattle.std.proofs.Common.{◌≡◌, ℕ, ◌+◌, ◌∷◌, [], length, Some, refl, sym, ap, subst, arith}
+use Rattle.std.proofs.Common.{◌≡◌, ℕ, ◌+◌, ◌<◌, ◌≤◌, ◌∷◌, [], length, Some, refl, sym, ap, subst, arith}
 use Rattle.std.specs.Prelude.{slice_get, slice_index, vec_capacity}
 use Rattle.std.proofs.lemmas.List.{get_or_read_under}
 use Rattle.tfpg_base.proofs.lists.Choices.{cond-same}
@@ -10,7 +10,7 @@ use Rattle.tfpg_diff.specs.inside.Linked.{demands_linked}
 use Rattle.tfpg_diff.specs.inside.Kept.{IsSound, AreKept, Walked}
 use Rattle.tfpg_diff.proofs.Outcomes as outcome
 use Rattle.tfpg_diff.proofs.system.System.add_floor.Goals as goal
-use Rattle.tfpg_diff.proofs.system.System.add_floor.Goals.{After-index-old, After-index, After-deref-then-index-least}
+use Rattle.tfpg_diff.proofs.system.System.add_floor.Goals.{After-index-old, Else-least-floor, After-index, After-deref-then-index-least}
 
 -- the demands of the fields are those that contracts see
 seen : (c : After-index-old) → demands_of c.self.inside.bounds.items c.self.inside.picks.items ≡ c.args.self.now.demands
@@ -21,6 +21,10 @@ at : (c : After-index-old) → slice_get c.self.inside.bounds.items c.args.varia
 at c = outcome.Bounded-old c.self.inside.bounds.items c.self.inside.picks.items c.self.inside.labels (vec_capacity c.self.inside.cycle) c.self.invariant c.args.self.now.demands (seen c)
     c.args.variable c.index-old.result.now c.index-old.ensures c.requires
 
+-- the floor is above the old one
+tighter : (c : Else-least-floor) → c.index-old.result.now.floor < c.args.least
+tighter c = subst (λ (floor : ℕ). floor < c.args.least) c.floor.ensures c.if-least-floor.false
+
 -- the value of the variable, as the code reads it
 value : (c : After-index) → c.index.result.now ≡ slice_index c.self.inside.labels.values.items (c.args.variable + 1)
 value c =
@@ -28,11 +32,11 @@ value c =
     let all = c.self.invariant.kept.kept.values_len in
     get_or_read_under c.self.inside.labels.values.items (c.args.variable + 1) (length c.self.inside.labels.values.items) c.index.result.now 0 c.index.ensures (omega arith) refl
 
-pub returns-then-least-old-clause-adds : goal.returns-then-least-old-clause-adds
-returns-then-least-old-clause-adds c =
-    let a = (goal.at.returns-then-least-old-clause-adds c).After-index-old in
+pub returns-then-least-floor-clause-adds : goal.returns-then-least-floor-clause-adds
+returns-then-least-floor-clause-adds c =
+    let a = (goal.at.returns-then-least-floor-clause-adds c).After-index-old in
     outcome.adds_floor_same c.self.inside.bounds.items c.self.inside.picks.items c.self.inside.labels (vec_capacity c.self.inside.cycle) c.self.invariant c.args.self.now.demands (seen a)
-    c.args.variable c.index-old.result.now c.args.least c.args.tag (at a) c.if-least-old.true
+    c.args.variable c.index-old.result.now c.args.least c.args.tag (at a) (subst (λ (floor : ℕ). c.args.least ≤ floor) c.floor.ensures c.if-least-floor.true)
 
 -- the demands, as the code reads them
 demands : (c : After-deref-then-index-least) → demands_of c.deref.result.now c.deref-then-index-least.result.now ≡ demands_of c.self.inside.bounds.items c.self.inside.picks.items
@@ -51,7 +55,7 @@ returns-then-index-least-clause-adds c =
     let a = (goal.at.returns-then-index-least-clause-adds c).After-index-old in
     let read = value (goal.at.returns-then-index-least-clause-adds c).After-index in
     outcome.adds_floor_conflict c.self.inside.bounds.items c.self.inside.picks.items c.self.inside.labels (vec_capacity c.self.inside.cycle) c.self.invariant c.args.self.now.demands (seen a)
-    c.args.variable c.index-old.result.now c.args.least c.args.tag c.begin_cycle.new.cycle.items (at a) c.if-least-old.false
+    c.args.variable c.index-old.result.now c.args.least c.args.tag c.begin_cycle.new.cycle.items (at a) (tighter (goal.at.returns-then-index-least-clause-adds c).Else-least-floor)
     (omega (arith, read, c.if-index-least.true))
     (subst (λ (d : Demands). Walked (demands_linked d c.self.inside.labels.links.items) (c.args.variable + 1) 0 0 (Given c.args.tag ∷ []) c.begin_cycle.new.cycle.items)
     (demands (goal.at.returns-then-index-least-clause-adds c).After-deref-then-index-least)
@@ -63,12 +67,12 @@ pub invariant_of-self-2 : goal.invariant_of-self-2
 invariant_of-self-2 c =
     let a = (goal.at.invariant_of-self-2 c).After-index-old in
     let read = value (goal.at.invariant_of-self-2 c).After-index in
-    outcome.IsReady-floor c.self.inside.bounds.items c.self.inside.picks.items c.self.inside.labels (vec_capacity c.self.inside.cycle) c.self.invariant c.args.self.now.demands (seen a)
-    c.args.variable c.index-old.result.now c.args.least c.args.tag (at a) c.if-least-old.false (omega (arith, read, c.if-index-least.false))
+    rw c.with_floor.ensures (outcome.IsReady-floor c.self.inside.bounds.items c.self.inside.picks.items c.self.inside.labels (vec_capacity c.self.inside.cycle) c.self.invariant c.args.self.now.demands (seen a)
+    c.args.variable c.index-old.result.now c.args.least c.args.tag (at a) (tighter (goal.at.invariant_of-self-2 c).Else-least-floor) (omega (arith, read, c.if-index-least.false)))
 
 pub returns-clause-adds : goal.returns-clause-adds
 returns-clause-adds c =
     let a = (goal.at.returns-clause-adds c).After-index-old in
     let read = value (goal.at.returns-clause-adds c).After-index in
-    outcome.adds_floor c.self.inside.bounds.items c.self.inside.picks.items c.self.inside.labels (vec_capacity c.self.inside.cycle) c.self.invariant c.args.self.now.demands (seen a)
-    c.args.variable c.index-old.result.now c.args.least c.args.tag (at a) c.if-least-old.false (omega (arith, read, c.if-index-least.false))
+    rw c.with_floor.ensures (outcome.adds_floor c.self.inside.bounds.items c.self.inside.picks.items c.self.inside.labels (vec_capacity c.self.inside.cycle) c.self.invariant c.args.self.now.demands (seen a)
+    c.args.variable c.index-old.result.now c.args.least c.args.tag (at a) (tighter (goal.at.returns-clause-adds c).Else-least-floor) (omega (arith, read, c.if-index-least.false)))

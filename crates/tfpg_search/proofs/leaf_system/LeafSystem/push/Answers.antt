@@ -9,8 +9,8 @@ use Rattle.tfpg_search.proofs.leaf_system.LeafSystem.push.Goals.{in-Ok, in-Err}
 pub refused-requires : goal.refused-requires
 refused-requires g c =
     pushed_named c.args.self.now c.self.inside.system.demands c.self.inside.lows.items c.self.inside.highs.items c.self.inside.entered.items c.self.view_is c.self.invariant
-    c.args.constraint c.args.split c.args.number c.in-Some.tag
-    (c.in-Some.ensures ∙ tag_before c.args.self.now (system_of c.self.inside.system.demands (kept_reasons c.self.inside.system.demands c.self.inside.lows.items c.self.inside.highs.items c.self.inside.entered.items) c.self.inside.entered.items) c.self.view_is)
+    c.args.constraint c.args.split c.args.number c.next_tag-tag.result
+    (c.next_tag-tag.ensures ∙ tag_before c.args.self.now (system_of c.self.inside.system.demands (kept_reasons c.self.inside.system.demands c.self.inside.lows.items c.self.inside.highs.items c.self.inside.entered.items) c.self.inside.entered.items) c.self.view_is)
     c.requires.next c.reserve.new.self.demands c.in_ok-reserve.ensures.same
     c.push.new.self.demands c.in-Err.ensures.adds.0 c.push.new.self.cycle c.cycle.result.now c.in-Err.ensures.adds.2 c.cycle.ensures
 
@@ -18,8 +18,8 @@ pub invariant_of-self-2 : goal.invariant_of-self-2
 invariant_of-self-2 g c = elim c.match-push.branch [
   | in-Ok w ↦
       pushed_kept c.args.self.now c.self.inside.system.demands c.self.inside.lows.items c.self.inside.highs.items c.self.inside.entered.items c.self.view_is c.self.invariant
-      c.args.constraint c.args.split c.args.number c.in-Some.tag
-      (c.in-Some.ensures ∙ tag_before c.args.self.now (system_of c.self.inside.system.demands (kept_reasons c.self.inside.system.demands c.self.inside.lows.items c.self.inside.highs.items c.self.inside.entered.items) c.self.inside.entered.items) c.self.view_is)
+      c.args.constraint c.args.split c.args.number c.next_tag-tag.result
+      (c.next_tag-tag.ensures ∙ tag_before c.args.self.now (system_of c.self.inside.system.demands (kept_reasons c.self.inside.system.demands c.self.inside.lows.items c.self.inside.highs.items c.self.inside.entered.items) c.self.inside.entered.items) c.self.view_is)
       c.requires.next c.reserve.new.self.demands c.in_ok-reserve.ensures.same
       c.push.new.self.demands w.in-Ok.ensures.adds.0
   | in-Err w ↦
@@ -31,14 +31,14 @@ pub returns-clause-adds : goal.returns-clause-adds
 returns-clause-adds g c = elim c.match-push.branch [
   | in-Ok w ↦ rw w.result-is
       (pushed_adds c.args.self.now c.self.inside.system.demands c.self.inside.lows.items c.self.inside.highs.items c.self.inside.entered.items c.self.view_is c.self.invariant
-      c.args.constraint c.args.split c.args.number c.in-Some.tag
-      (c.in-Some.ensures ∙ tag_before c.args.self.now (system_of c.self.inside.system.demands (kept_reasons c.self.inside.system.demands c.self.inside.lows.items c.self.inside.highs.items c.self.inside.entered.items) c.self.inside.entered.items) c.self.view_is)
+      c.args.constraint c.args.split c.args.number c.next_tag-tag.result
+      (c.next_tag-tag.ensures ∙ tag_before c.args.self.now (system_of c.self.inside.system.demands (kept_reasons c.self.inside.system.demands c.self.inside.lows.items c.self.inside.highs.items c.self.inside.entered.items) c.self.inside.entered.items) c.self.view_is)
       c.requires.next c.reserve.new.self.demands c.in_ok-reserve.ensures.same
       c.push.new.self.demands w.in-Ok.ensures.adds.0)
   | in-Err w ↦ rw w.result-is
       (pushed_refused c.args.self.now c.self.inside.system.demands c.self.inside.lows.items c.self.inside.highs.items c.self.inside.entered.items c.self.view_is c.self.invariant
-      c.args.constraint c.args.split c.args.number c.in-Some.tag
-      (c.in-Some.ensures ∙ tag_before c.args.self.now (system_of c.self.inside.system.demands (kept_reasons c.self.inside.system.demands c.self.inside.lows.items c.self.inside.highs.items c.self.inside.entered.items) c.self.inside.entered.items) c.self.view_is)
+      c.args.constraint c.args.split c.args.number c.next_tag-tag.result
+      (c.next_tag-tag.ensures ∙ tag_before c.args.self.now (system_of c.self.inside.system.demands (kept_reasons c.self.inside.system.demands c.self.inside.lows.items c.self.inside.highs.items c.self.inside.entered.items) c.self.inside.entered.items) c.self.view_is)
       c.requires.next c.reserve.new.self.demands c.in_ok-reserve.ensures.same
       c.push.new.self.demands w.in-Err.ensures.adds.0 c.push.new.self.cycle w.cycle.result.now w.in-Err.ensures.adds.2 w.cycle.ensures w.refused.result w.refused.ensures)
 ]
