@@ -9,8 +9,6 @@
 #![tactic(auto)]
 
 ghost use Rattle.std.specs.Prelude.{◌≡◌, ◌<◌, map, IfOk};
-ghost use Rattle.tfpg_words.specs.Meaning.{panels_of_meaning};
-ghost use Rattle.tfpg_words.specs.Plans.{meaning_of};
 
 mod real;
 #[cfg(test)]
@@ -28,7 +26,7 @@ use std::{env, io};
 use tfpg_base::{NoMemory, Shelf, Sink, Source, Steps};
 use tfpg_panel::{Desk, Panel};
 use tfpg_run::{End, run};
-use tfpg_words::{Command, PanelWord, PlanFault, UsageCause, plan};
+use tfpg_words::{PanelWord, PlanFault, UsageCause, plan};
 use words::words_after_name;
 
 /// Runs on the words of the command line, says how that ended, and exits with its status.
@@ -80,28 +78,11 @@ fn run_on_files<R: Files, S: Source, K: Sink>(
 ) -> End {
     match plan(alloc, words) {
         Ok(planned) => {
-            let named = panels_in(&planned.command);
+            let named = planned.panels.as_slice();
             run_with_panels(files, alloc, words, named, input, out)
         }
         Err(PlanFault::Usage(_)) => run_with_panels(files, alloc, words, &[], input, out),
         Err(PlanFault::NoMemory) => End::NoMemory,
-    }
-}
-
-/// The panels that a command names.
-fn panels_in(command: &Command) -> &[PanelWord]
-    ensures { result.now ≡ panels_of_meaning (meaning_of command.now) }
-{
-    match command {
-        Command::Diagnose { panels, .. } => panels.as_slice(),
-        Command::Explain { .. } => &[],
-        Command::Check { .. } => &[],
-        Command::Simulate { .. } => &[],
-        Command::Generate { .. } => &[],
-        Command::Convert { .. } => &[],
-        Command::Ask { .. } => &[],
-        Command::Fleet { .. } => &[],
-        Command::Predict { .. } => &[],
     }
 }
 

@@ -388,7 +388,7 @@ module _ (graphs : GraphLaws) (laws : CheckLaws) (before now : World) (calm : No
           (text_written (HasForecasts predicts.graph asked writes.node (lines_of predicts.other)) writes.ends.result writes.ends.works)
 
   completed : (meant : Meaning) (end : End) → CanBeDone meant before → CommandEnds (Ok meant) before now end → IsCompleted end
-  completed (Diagnose terms graph panels) end can is = diagnosed can.1 end terms graph can.0 is
+  completed (Diagnose terms graph) end can is = diagnosed can.1 end terms graph can.0 is
   completed (Explain graph log) end can is = explained end graph log can is
   completed (Check graph log) end can is = checked end graph log can is
   completed (Simulate draw trace graph script) end can is = simulated_files end (HasSimulation draw trace) graph script can is.0

@@ -125,8 +125,7 @@ pub record CanPredict (shelf : ShelfState) (asked : Prediction) (graph_name log_
 
 -- The files serve what the words mean, and so does the input where it is read.
 abbrev pub CanBeDone : Meaning → World → Type 0
-CanBeDone (Diagnose terms graph panels) before =
-    CanDiagnose before.shelf terms graph × IsShort before.input
+CanBeDone (Diagnose terms graph) before = CanDiagnose before.shelf terms graph × IsShort before.input
 CanBeDone (Explain graph log) before = CanExplain before.shelf before.input graph log
 CanBeDone (Check graph log) before = CanCheck before.shelf before.input graph log
 CanBeDone (Simulate draw trace graph script) before = CanSimulate before.shelf graph script

@@ -96,7 +96,7 @@ AsksInOrder wanted before after = IfSome before (λ names. (count : ℕ) × (aft
 -- No name was asked for but those that the words name, in their order.
 abbrev pub AsksOnly : Result Meaning UsageCause → Option (List (List ℕ)) → Option (List (List ℕ)) → Type 0
 AsksOnly (Err cause) before after = after ≡ before
-AsksOnly (Ok (Diagnose terms graph panels)) before after = AsksFor graph before after
+AsksOnly (Ok (Diagnose terms graph)) before after = AsksFor graph before after
 AsksOnly (Ok (Explain graph log)) before after = AsksInOrder (graph ∷ log ∷ []) before after
 AsksOnly (Ok (Check graph log)) before after = AsksInOrder (graph ∷ log ∷ []) before after
 AsksOnly (Ok (Simulate draw trace graph script)) before after = AsksInOrder (graph ∷ script ∷ []) before after

@@ -19,7 +19,7 @@ use Rattle.tfpg_run.specs.predict.Predicting.{PredictEnds}
 
 -- No command touches the desk but the one that diagnoses, and words that are refused do not either.
 abbrev pub LeavesDesk : Result Meaning UsageCause → DeskState → DeskState → Type 0
-LeavesDesk (Ok (Diagnose terms graph panels)) before now = Unit {0}
+LeavesDesk (Ok (Diagnose terms graph)) before now = Unit {0}
 LeavesDesk (Ok (Explain graph log)) before now = now ≡ before
 LeavesDesk (Ok (Check graph log)) before now = now ≡ before
 LeavesDesk (Ok (Simulate draw trace graph script)) before now = now ≡ before
@@ -34,8 +34,7 @@ LeavesDesk (Err cause) before now = now ≡ before
 -- written; and else it goes as the command says.
 abbrev pub CommandEnds : Result Meaning UsageCause → World → World → End → Type 0
 CommandEnds (Err cause) before now end = (now ≡ before) × (end ≡ ends.Usage cause)
-CommandEnds (Ok (Diagnose terms graph panels)) before now end =
-    DiagnoseEnds terms graph before now end
+CommandEnds (Ok (Diagnose terms graph)) before now end = DiagnoseEnds terms graph before now end
 CommandEnds (Ok (Explain graph log)) before now end = ExplainEnds graph log before now end
 CommandEnds (Ok (Check graph log)) before now end = CheckEnds graph log before now end
 CommandEnds (Ok (Simulate draw trace graph script)) before now end =

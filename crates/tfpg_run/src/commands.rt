@@ -2,11 +2,10 @@
 
 ghost use Rattle.std.specs.Prelude.{◌≡◌, ℕ, List, map, string_bytes, OnOk, IfErr, Ok};
 ghost use Rattle.tfpg_check.specs.declared.cause.CheckCause.{CheckCause};
-ghost use Rattle.tfpg_words.specs.declared.panel_word.PanelWord.{PanelWord};
 ghost use Rattle.tfpg_words.specs.Meaning.{Meaning, Check, Diagnose, meaning};
 ghost use Rattle.tfpg_run.specs.Completeness.{CanBeDone, CanRefuse, IsCompleted, IsRefusedFor, NothingFails};
 ghost use Rattle.tfpg_words.specs.Plans.{meaning_of};
-ghost use Rattle.tfpg_run.specs.inside.Plans.{AreWithinLimits};
+ghost use Rattle.tfpg_run.specs.inside.Plans.{AreWithinLimits, PlansCommand};
 ghost use Rattle.tfpg_run.specs.EndsOf.{end_of_result};
 ghost use Rattle.tfpg_run.specs.Fetch.{AsksOnly};
 ghost use Rattle.tfpg_run.specs.Run.{RunEnds, CommandEnds, LeavesDesk};
@@ -33,7 +32,7 @@ use tfpg_json::laws::a_text_has_at_most_one_first_fault_as_json;
 use tfpg_panel::{Desk, Panel};
 use tfpg_report::laws::a_report_line_says_one_thing;
 use tfpg_words::laws::numbers_are_within_their_limits;
-use tfpg_words::{Command, plan};
+use tfpg_words::{Command, PlanFault, Planned, plan};
 
 /// Does what the words say. To diagnose it reads the graph that they name, then takes the input line by line, writes the block of
 /// each line before the next one is taken, and tells the desk its round. To explain it reads the graph and the log that they name, then the map of
@@ -83,8 +82,8 @@ pub fn run<F: Shelf, S: Source, K: Sink, P: Panel, L: Ledger>(
     ensures desk { LeavesDesk (meaning (map string_bytes words.now)) desk.old desk.new }
 
     // What a diagnosis has written that is done can be checked by the same graph and the same lines.
-    ensures rechecks { (terms : Terms) (panels : List PanelWord) (diagnosed : List ℕ) →
-        meaning (map string_bytes words.now) ≡ Ok (Diagnose terms diagnosed panels) → result ≡ End.Done →
+    ensures rechecks { (terms : Terms) (diagnosed : List ℕ) →
+        meaning (map string_bytes words.now) ≡ Ok (Diagnose terms diagnosed) → result ≡ End.Done →
         (graph log : List ℕ) (later : World) → FollowsDiagnosis diagnosed graph log
         (world (F.state shelf.old) (S.state input.old) (K.state out.old) desk.old)
         (world (F.state shelf.new) (S.state input.new) (K.state out.new) desk.new) later → CanBeDone (Check graph log) later }
@@ -98,10 +97,17 @@ pub fn run<F: Shelf, S: Source, K: Sink, P: Panel, L: Ledger>(
     lines_have_at_most_one_cause();
     a_text_has_at_most_one_first_fault_as_json();
     a_report_line_says_one_thing();
-    match plan(alloc, words) {
+    match plan_words(alloc, words) {
         Ok(planned) => end_of(perform(alloc, &planned.command, shelf, input, out, desk, work)),
         Err(fault) => End::from(fault),
     }
+}
+
+/// The plan of the words, by what their command asks for.
+fn plan_words(alloc: Global, words: &[String]) -> Result<Planned, PlanFault>
+    ensures { PlansCommand (meaning (map string_bytes words.now)) result }
+{
+    plan(alloc, words)
 }
 
 /// Does what a command asks for.
@@ -134,7 +140,6 @@ fn perform<F: Shelf, S: Source, K: Sink, P: Panel, L: Ledger>(
             doubt,
             budget,
             graph,
-            ..
         } => {
             let terms = Terms {
                 k: *k,

@@ -33,7 +33,6 @@ ghost use Rattle.tfpg_run.specs.fleet.FleetOutput.{AreAnswers, FleetMatter};
 ghost use Rattle.tfpg_report.specs.SetText.{IsHypothesisOf};
 ghost use Rattle.tfpg_run.specs.map.Spelling.{IsActivationOf, SpellsMap, set_line};
 ghost use Rattle.tfpg_run.specs.map.MapText.{map_text};
-ghost use Rattle.tfpg_words.specs.declared.panel_word.PanelWord.{PanelWord};
 ghost use Rattle.tfpg_words.specs.Meaning.{Check, Diagnose};
 ghost use Rattle.tfpg_run.specs.declared.end.End.{End};
 ghost use Rattle.tfpg_run.specs.declared.end.End.TheVariants.{Done};
@@ -123,11 +122,11 @@ pub fn a_vehicle_is_diagnosed_as_if_alone()
 /// What a diagnosis has written that is done is accepted by `check`, with the same graph file, and with a log file that has the lines of the
 /// input that was diagnosed: the check is done, or memory runs out, where neither files, input nor output fail.
 pub fn what_diagnose_wrote_is_accepted()
-    ensures can_be_done { (terms : Terms) (panels : List PanelWord) (diagnosed graph log : List ℕ) (before now later : World) →
-        RunEnds (Ok (Diagnose terms diagnosed panels)) before now Done →
+    ensures can_be_done { (terms : Terms) (diagnosed graph log : List ℕ) (before now later : World) →
+        RunEnds (Ok (Diagnose terms diagnosed)) before now Done →
         FollowsDiagnosis diagnosed graph log before now later → CanBeDone (Check graph log) later }
-    ensures accepted { (terms : Terms) (panels : List PanelWord) (diagnosed graph log : List ℕ) (before now later after : World)
-        (end : End) → RunEnds (Ok (Diagnose terms diagnosed panels)) before now Done →
+    ensures accepted { (terms : Terms) (diagnosed graph log : List ℕ) (before now later after : World)
+        (end : End) → RunEnds (Ok (Diagnose terms diagnosed)) before now Done →
         FollowsDiagnosis diagnosed graph log before now later →
         RunEnds (Ok (Check graph log)) later after end → NothingFails later after → IsCompleted end }
 {

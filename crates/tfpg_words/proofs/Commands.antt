@@ -5,7 +5,7 @@ use Rattle.std.proofs.lemmas.Bool.{lt-ltb}
 use Rattle.std.proofs.lemmas.List.Sums.{sum_by-cons}
 use Rattle.clap.specs.Walk.{Row, Text}
 use Rattle.tfpg_words.specs.Words.{Form, Parts, Use, Word, is_word_among}
-use Rattle.tfpg_words.specs.Meaning.{NumberOption, both, number_by, number_in, use_of, k_option, doubt_option, budget_option, draw_option, size_option, diagnose_form, diagnose_of, diagnose_on, generate_form, generate_of, generate_on, simulate_form, simulate_of, simulate_on, convert_form, convert_of, convert_with, ask_form, ask_of, ask_on, fleet_form, fleet_of, fleet_on, ahead_option, predict_form, predict_of, predict_on}
+use Rattle.tfpg_words.specs.Meaning.{NumberOption, both, number_by, number_in, use_of, k_option, doubt_option, budget_option, draw_option, size_option, terms_form, diagnose_of, diagnose_on, generate_form, generate_of, generate_on, simulate_form, simulate_of, simulate_on, convert_form, convert_of, convert_with, ask_of, ask_on, fleet_of, fleet_on, ahead_option, predict_form, predict_of, predict_on}
 use Rattle.tfpg_words.specs.inside.Given.{diagnose_by, diagnose_given, first_value, generate_by, generate_given, is_used, number_given, simulate_by, simulate_given, convert_given, ask_by, ask_given, fleet_by, fleet_given, predict_by, predict_given}
 use Rattle.tfpg_words.specs.inside.Rows.{Holds, hyphened}
 
@@ -77,11 +77,11 @@ fleet_same uses (graph ∷ []) = refl
 fleet_same uses (graph ∷ names ∷ []) = refl
 fleet_same uses (graph ∷ names ∷ word ∷ words) = refl
 
-pub diagnose_is : (parts : Option Parts) (rows : List Row) → Given diagnose_form parts rows → diagnose_given rows ≡ diagnose_of parts
+pub diagnose_is : (parts : Option Parts) (rows : List Row) → Given terms_form parts rows → diagnose_given rows ≡ diagnose_of parts
 diagnose_is parts rows (said, is, h) =
     (λ i. diagnose_by
-    (both (both (number_is diagnose_form rows said h k_option (codes "k") refl refl i) (number_is diagnose_form rows said h doubt_option (codes "doubt") refl refl i))
-    (number_is diagnose_form rows said h budget_option (codes "budget") refl refl i)) (h.words i))
+    (both (both (number_is terms_form rows said h k_option (codes "k") refl refl i) (number_is terms_form rows said h doubt_option (codes "doubt") refl refl i))
+    (number_is terms_form rows said h budget_option (codes "budget") refl refl i)) (h.words i))
     ∙ (diagnose_same said.uses said.positional ∙ ap diagnose_of (sym is))
 
 pub simulate_is : (parts : Option Parts) (rows : List Row) → Given simulate_form parts rows → simulate_given rows ≡ simulate_of parts
@@ -97,18 +97,18 @@ generate_is parts rows (said, is, h) =
 pub convert_is : (parts : Option Parts) (rows : List Row) → Given convert_form parts rows → convert_given rows ≡ convert_of parts
 convert_is parts rows (said, is, h) = (λ i. convert_with (used_is convert_form rows said h (codes "json") refl i) (h.words i)) ∙ ap convert_of (sym is)
 
-pub ask_is : (parts : Option Parts) (rows : List Row) → Given ask_form parts rows → ask_given rows ≡ ask_of parts
+pub ask_is : (parts : Option Parts) (rows : List Row) → Given terms_form parts rows → ask_given rows ≡ ask_of parts
 ask_is parts rows (said, is, h) =
     (λ i. ask_by
-    (both (both (number_is ask_form rows said h k_option (codes "k") refl refl i) (number_is ask_form rows said h doubt_option (codes "doubt") refl refl i))
-    (number_is ask_form rows said h budget_option (codes "budget") refl refl i)) (h.words i))
+    (both (both (number_is terms_form rows said h k_option (codes "k") refl refl i) (number_is terms_form rows said h doubt_option (codes "doubt") refl refl i))
+    (number_is terms_form rows said h budget_option (codes "budget") refl refl i)) (h.words i))
     ∙ (ask_same said.uses said.positional ∙ ap ask_of (sym is))
 
-pub fleet_is : (parts : Option Parts) (rows : List Row) → Given fleet_form parts rows → fleet_given rows ≡ fleet_of parts
+pub fleet_is : (parts : Option Parts) (rows : List Row) → Given terms_form parts rows → fleet_given rows ≡ fleet_of parts
 fleet_is parts rows (said, is, h) =
     (λ i. fleet_by
-    (both (both (number_is fleet_form rows said h k_option (codes "k") refl refl i) (number_is fleet_form rows said h doubt_option (codes "doubt") refl refl i))
-    (number_is fleet_form rows said h budget_option (codes "budget") refl refl i)) (h.words i))
+    (both (both (number_is terms_form rows said h k_option (codes "k") refl refl i) (number_is terms_form rows said h doubt_option (codes "doubt") refl refl i))
+    (number_is terms_form rows said h budget_option (codes "budget") refl refl i)) (h.words i))
     ∙ (fleet_same said.uses said.positional ∙ ap fleet_of (sym is))
 
 predict_same : (uses : List Use) (words : List Word)

@@ -10,7 +10,7 @@ use Rattle.tfpg_words.specs.inside.Given.{first_value, number_given, terms_given
 use Rattle.tfpg_base.specs.Words.{number_of}
 use Rattle.tfpg_words.specs.declared.usage_cause.UsageCause.{UsageCause}
 use Rattle.tfpg_words.specs.declared.usage_cause.UsageCause.TheVariants.{OutOfRange, UnknownCommand, BadNames}
-use Rattle.tfpg_words.specs.Meaning.{Meaning, Diagnose, Explain, Check, Simulate, Generate, Convert, NumberOption, within, number_in, number_by, both, use_of, k_option, doubt_option, budget_option, draw_option, size_option, diagnose_form, diagnose_to, diagnose_with, diagnose_on, diagnose_of, explain_form, explain_on, explain_of, check_form, check_on, check_of, simulate_form, simulate_with, simulate_on, simulate_of, generate_form, generate_with, generate_on, generate_of, convert_form, convert_with, convert_of, meaning, Ask, ask_form, ask_with, ask_on, ask_of, Fleet, fleet_form, fleet_with, fleet_on, fleet_of, Predict, ahead_option, predict_form, predict_with, predict_on, predict_of}
+use Rattle.tfpg_words.specs.Meaning.{Meaning, Meant, other_meaning, without_panels, command_meant, terms_by, Diagnose, Explain, Check, Simulate, Generate, Convert, NumberOption, within, number_in, number_by, both, use_of, k_option, doubt_option, budget_option, draw_option, size_option, terms_form, diagnose_to, diagnose_with, diagnose_on, diagnose_of, words_form, explain_on, explain_of, check_on, check_of, simulate_form, simulate_with, simulate_on, simulate_of, generate_form, generate_with, generate_on, generate_of, convert_form, convert_with, convert_of, meaning, Ask, ask_with, ask_on, ask_of, Fleet, fleet_with, fleet_on, fleet_of, Predict, ahead_option, predict_form, predict_with, predict_on, predict_of}
 use Rattle.tfpg_base.specs.declared.terms.Terms.{Terms}
 use Rattle.tfpg_words.specs.declared.panel_word.PanelWord.{PanelWord}
 use Rattle.tfpg_words.specs.PanelWords.{panels_named}
@@ -26,7 +26,7 @@ pub record IsInLimits (option : NumberOption) (number : ℕ) : Type 0 where
 
 -- so is each number of the meaning
 abbrev pub AreInLimits : Meaning → Type 0
-AreInLimits (Diagnose terms graph panels) = (IsInLimits k_option terms.k × IsInLimits doubt_option terms.doubt) × IsInLimits budget_option terms.budget
+AreInLimits (Diagnose terms graph) = (IsInLimits k_option terms.k × IsInLimits doubt_option terms.doubt) × IsInLimits budget_option terms.budget
 AreInLimits (Explain graph log) = ⊤
 AreInLimits (Check graph log) = ⊤
 AreInLimits (Simulate draw trace graph script) = IsInLimits draw_option draw
@@ -95,9 +95,6 @@ size_within = number_within size_option (record { low = omega arith; high = omeg
 abbrev AreTermsWithin : (ℕ × ℕ) × ℕ → Type 0
 AreTermsWithin three = (IsInLimits k_option three.0.0 × IsInLimits doubt_option three.0.1) × IsInLimits budget_option three.1
 
-abbrev terms_by : List Use → Result ((ℕ × ℕ) × ℕ) UsageCause
-terms_by uses = both (both (number_by k_option uses) (number_by doubt_option uses)) (number_by budget_option uses)
-
 terms_within : (uses : List Use) → IfOk (terms_by uses) AreTermsWithin
 terms_within uses =
     let members = both (number_by k_option uses) (number_by doubt_option uses) in
@@ -136,22 +133,26 @@ numbers_small rows result is =
 
 -- ---- the commands
 
-diagnose_within : (parts : Option Parts) → IfOk (diagnose_of parts) AreInLimits
+-- what words mean has its numbers within the limits
+abbrev IsMeantWithin : Meant → Type 0
+IsMeantWithin meant = AreInLimits meant.command
+
+diagnose_within : (parts : Option Parts) → IfOk (diagnose_of parts) IsMeantWithin
 diagnose_within None = tt
 diagnose_within (Some parts) = go parts.positional
   where
     to : (terms : Terms) (graph : Word) (panels : Option (List PanelWord))
         → (IsInLimits k_option terms.k × IsInLimits doubt_option terms.doubt) × IsInLimits budget_option terms.budget
-        → IfOk (diagnose_to terms graph panels) AreInLimits
+        → IfOk (diagnose_to terms graph panels) IsMeantWithin
     to terms graph None are = tt
     to terms graph (Some panels) are = are
 
     by : (graph : Word) (words : List Word) (numbers : Result ((ℕ × ℕ) × ℕ) UsageCause) → IfOk numbers AreTermsWithin
-        → IfOk (diagnose_with graph words numbers) AreInLimits
+        → IfOk (diagnose_with graph words numbers) IsMeantWithin
     by graph words (Ok ((k, doubt), budget)) are = to (record { k = k; doubt = doubt; budget = budget }) graph (panels_named words) are
     by graph words (Err cause) are = tt
 
-    go : (positional : List Word) → IfOk (diagnose_on parts.uses positional) AreInLimits
+    go : (positional : List Word) → IfOk (diagnose_on parts.uses positional) IsMeantWithin
     go [] = tt
     go (graph ∷ words) = by graph words (terms_by parts.uses) (terms_within parts.uses)
 
@@ -268,29 +269,45 @@ predict_within (Some parts) = go parts.positional
         (both_within AreTermsWithin (IsInLimits ahead_option) (terms_by parts.uses) (number_by ahead_option parts.uses) (terms_within parts.uses) (ahead_within parts.uses))
     go (a ∷ b ∷ c ∷ d ∷ others) = tt
 
--- What the words mean is within the limits.
-pub meaning_within : (words : List Word) → IfOk (meaning words) AreInLimits
-meaning_within [] = tt
-meaning_within (command ∷ words) = by (bytes_eq command (codes "diagnose")) (bytes_eq command (codes "explain")) (bytes_eq command (codes "check")) (bytes_eq command (codes "simulate")) (bytes_eq command (codes "generate")) (bytes_eq command (codes "convert")) (bytes_eq command (codes "ask")) (bytes_eq command (codes "fleet")) (bytes_eq command (codes "predict"))
+-- so is what the words after another command than `diagnose` mean
+other_within : (command : Word) (words : List Word) → IfOk (other_meaning command words) AreInLimits
+other_within command words =
+    by (bytes_eq command (codes "explain")) (bytes_eq command (codes "check")) (bytes_eq command (codes "simulate")) (bytes_eq command (codes "generate")) (bytes_eq command (codes "convert")) (bytes_eq command (codes "ask")) (bytes_eq command (codes "fleet")) (bytes_eq command (codes "predict"))
   where
-    by : (diagnoses explains checks simulates generates converts asks fleets predicts : Bool)
-        → IfOk (if diagnoses then diagnose_of (parts_of_words diagnose_form words)
-        else (if explains then explain_of (parts_of_words explain_form words)
-        else (if checks then check_of (parts_of_words check_form words)
+    by : (explains checks simulates generates converts asks fleets predicts : Bool)
+        → IfOk (if explains then explain_of (parts_of_words words_form words)
+        else (if checks then check_of (parts_of_words words_form words)
         else (if simulates then simulate_of (parts_of_words simulate_form words)
         else (if generates then generate_of (parts_of_words generate_form words)
         else (if converts then convert_of (parts_of_words convert_form words)
-        else (if asks then ask_of (parts_of_words ask_form words)
-        else (if fleets then fleet_of (parts_of_words fleet_form words)
+        else (if asks then ask_of (parts_of_words terms_form words)
+        else (if fleets then fleet_of (parts_of_words terms_form words)
         else (if predicts then predict_of (parts_of_words predict_form words)
-        else Err UnknownCommand))))))))) AreInLimits
-    by true explains checks simulates generates converts asks fleets predicts = diagnose_within (parts_of_words diagnose_form words)
-    by false true checks simulates generates converts asks fleets predicts = explain_within (parts_of_words explain_form words)
-    by false false true simulates generates converts asks fleets predicts = check_within (parts_of_words check_form words)
-    by false false false true generates converts asks fleets predicts = simulate_within (parts_of_words simulate_form words)
-    by false false false false true converts asks fleets predicts = generate_within (parts_of_words generate_form words)
-    by false false false false false true asks fleets predicts = convert_within (parts_of_words convert_form words)
-    by false false false false false false true fleets predicts = ask_within (parts_of_words ask_form words)
-    by false false false false false false false true predicts = fleet_within (parts_of_words fleet_form words)
-    by false false false false false false false false true = predict_within (parts_of_words predict_form words)
-    by false false false false false false false false false = tt
+        else Err UnknownCommand)))))))) AreInLimits
+    by true checks simulates generates converts asks fleets predicts = explain_within (parts_of_words words_form words)
+    by false true simulates generates converts asks fleets predicts = check_within (parts_of_words words_form words)
+    by false false true generates converts asks fleets predicts = simulate_within (parts_of_words simulate_form words)
+    by false false false true converts asks fleets predicts = generate_within (parts_of_words generate_form words)
+    by false false false false true asks fleets predicts = convert_within (parts_of_words convert_form words)
+    by false false false false false true fleets predicts = ask_within (parts_of_words terms_form words)
+    by false false false false false false true predicts = fleet_within (parts_of_words terms_form words)
+    by false false false false false false false true = predict_within (parts_of_words predict_form words)
+    by false false false false false false false false = tt
+
+-- What the command of the words asks for is within the limits.
+pub meaning_within : (words : List Word) → IfOk (meaning words) AreInLimits
+meaning_within [] = tt
+meaning_within (command ∷ words) = by (bytes_eq command (codes "diagnose"))
+  where
+    of_meant : (meant : Result Meant UsageCause) → IfOk meant IsMeantWithin → IfOk (command_meant meant) AreInLimits
+    of_meant (Ok meant) are = are
+    of_meant (Err cause) are = tt
+
+    of_other : (meant : Result Meaning UsageCause) → IfOk meant AreInLimits → IfOk (command_meant (without_panels meant)) AreInLimits
+    of_other (Ok command) are = are
+    of_other (Err cause) are = tt
+
+    by : (diagnoses : Bool)
+        → IfOk (command_meant (if diagnoses then diagnose_of (parts_of_words terms_form words) else without_panels (other_meaning command words))) AreInLimits
+    by true = of_meant (diagnose_of (parts_of_words terms_form words)) (diagnose_within (parts_of_words terms_form words))
+    by false = of_other (other_meaning command words) (other_within command words)

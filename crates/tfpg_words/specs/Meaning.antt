@@ -1,4 +1,4 @@
--- What the words of a command line mean: a command with its values, or the first cause by which they are refused.
+-- What the words of a command line mean: a command with its values and the panels, or the first cause by which they are refused.
 use Rattle.std.specs.Prelude.{ℕ, ◌&&◌, Bool, List, [], ◌∷◌, Option, Some, None, Result, Ok, Err}
 use Rattle.std.specs.Prelude.{bytes_eq, codes, if◌then◌else◌, is_some, nat_le, find}
 use Rattle.tfpg_base.specs.declared.terms.Terms.{Terms}
@@ -14,7 +14,7 @@ use Rattle.tfpg_words.specs.PanelWords.{panels_named}
 
 -- What a command asks for.
 pub data Meaning : Type 0 where
-  Diagnose : (terms : Terms) (graph : Word) (panels : List PanelWord) → Meaning
+  Diagnose : (terms : Terms) (graph : Word) → Meaning
   Explain : (graph log : Word) → Meaning
   Check : (graph log : Word) → Meaning
   Simulate : (draw : ℕ) (trace : Bool) (graph script : Word) → Meaning
@@ -24,17 +24,20 @@ pub data Meaning : Type 0 where
   Fleet : (terms : Terms) (graph : Word) (names : List Word) → Meaning
   Predict : (terms : Terms) (ahead : ℕ) (graph log node : Word) → Meaning
 
--- the panels that a command names: a diagnosis those of its words, and no other command any
-abbrev pub panels_of_meaning : Meaning → List PanelWord
-panels_of_meaning (Diagnose terms graph panels) = panels
-panels_of_meaning (Explain graph log) = []
-panels_of_meaning (Check graph log) = []
-panels_of_meaning (Simulate draw trace graph script) = []
-panels_of_meaning (Generate draw size) = []
-panels_of_meaning (Convert json graph) = []
-panels_of_meaning (Ask terms graph log) = []
-panels_of_meaning (Fleet terms graph names) = []
-panels_of_meaning (Predict terms ahead graph log node) = []
+-- What words mean: what their command asks for, and the panels that they name.
+pub record Meant : Type 0 where
+  pub command : Meaning
+  pub panels : List PanelWord
+
+-- what words mean whose command has no panels
+abbrev pub without_panels : Result Meaning UsageCause → Result Meant UsageCause
+without_panels (Ok command) = Ok (record { command = command; panels = [] })
+without_panels (Err cause) = Err cause
+
+-- what the command asks for, of words that mean this
+abbrev pub command_meant : Result Meant UsageCause → Result Meaning UsageCause
+command_meant (Ok meant) = Ok meant.command
+command_meant (Err cause) = Err cause
 
 -- The first use of this name.
 abbrev pub use_of : Word → List Use → Option Use
@@ -86,6 +89,10 @@ doubt_option = record { name = codes "--doubt"; least = 0; limit = MAX_DOUBT; de
 abbrev pub budget_option : NumberOption
 budget_option = record { name = codes "--budget"; least = 1; limit = MAX_BUDGET; default = DEFAULT_BUDGET }
 
+-- `k`, `doubt` and the budget, by the uses
+abbrev pub terms_by : List Use → Result ((ℕ × ℕ) × ℕ) UsageCause
+terms_by uses = both (both (number_by k_option uses) (number_by doubt_option uses)) (number_by budget_option uses)
+
 -- `--ahead N`: how many milliseconds past the last event are looked ahead
 abbrev pub ahead_option : NumberOption
 ahead_option = record { name = codes "--ahead"; least = 0; limit = MAX_TIME; default = DEFAULT_AHEAD }
@@ -99,41 +106,39 @@ abbrev pub size_option : NumberOption
 size_option = record { name = codes "--size"; least = 1; limit = MAX_CASE_SIZE; default = DEFAULT_SIZE }
 
 -- What words mean whose parts mean this: words that have no parts are bad.
-abbrev pub by_parts : (Parts → Result Meaning UsageCause) → Option Parts → Result Meaning UsageCause
+abbrev pub by_parts : {X : Type 0} → (Parts → Result X UsageCause) → Option Parts → Result X UsageCause
 by_parts means None = Err BadWords
 by_parts means (Some parts) = means parts
 
--- `diagnose [--k N] [--doubt N] [--budget N] GRAPH [PANEL]..`
-abbrev pub diagnose_form : Form
-diagnose_form = record { options = k_option.name ∷ doubt_option.name ∷ budget_option.name ∷ []; flags = [] }
+-- The options of `diagnose`, `ask` and `fleet`.
+abbrev pub terms_form : Form
+terms_form = record { options = k_option.name ∷ doubt_option.name ∷ budget_option.name ∷ []; flags = [] }
 
--- a diagnosis of this graph on these terms, where each word names a panel
-abbrev pub diagnose_to : Terms → Word → Option (List PanelWord) → Result Meaning UsageCause
+-- What `explain` and `check` take: words alone.
+abbrev pub words_form : Form
+words_form = record { options = []; flags = [] }
+
+-- `diagnose [--k N] [--doubt N] [--budget N] GRAPH [PANEL]..`: on these terms, where each word names a panel
+abbrev pub diagnose_to : Terms → Word → Option (List PanelWord) → Result Meant UsageCause
 diagnose_to terms graph None = Err BadPanel
-diagnose_to terms graph (Some panels) = Ok (Diagnose terms graph panels)
+diagnose_to terms graph (Some panels) = Ok (record { command = Diagnose terms graph; panels = panels })
 
 -- what the positional words after `diagnose` mean with these numbers
-abbrev pub diagnose_with : Word → List Word → Result ((ℕ × ℕ) × ℕ) UsageCause → Result Meaning UsageCause
+abbrev pub diagnose_with : Word → List Word → Result ((ℕ × ℕ) × ℕ) UsageCause → Result Meant UsageCause
 diagnose_with graph words (Err cause) = Err cause
 diagnose_with graph words (Ok ((k, doubt), budget)) =
     diagnose_to (record { k = k; doubt = doubt; budget = budget }) graph (panels_named words)
 
 -- what the uses and the positional words after `diagnose` mean
-abbrev pub diagnose_on : List Use → List Word → Result Meaning UsageCause
+abbrev pub diagnose_on : List Use → List Word → Result Meant UsageCause
 diagnose_on uses [] = Err BadWords
-diagnose_on uses (graph ∷ words) =
-    diagnose_with graph words
-    (both (both (number_by k_option uses) (number_by doubt_option uses)) (number_by budget_option uses))
+diagnose_on uses (graph ∷ words) = diagnose_with graph words (terms_by uses)
 
 -- what the words after `diagnose` mean, by their parts
-abbrev pub diagnose_of : Option Parts → Result Meaning UsageCause
+abbrev pub diagnose_of : Option Parts → Result Meant UsageCause
 diagnose_of = by_parts (λ parts. diagnose_on parts.uses parts.positional)
 
--- `explain GRAPH LOG`
-abbrev pub explain_form : Form
-explain_form = record { options = []; flags = [] }
-
--- what the positional words after `explain` mean
+-- `explain GRAPH LOG`: what its positional words mean
 abbrev pub explain_on : List Word → Result Meaning UsageCause
 explain_on (graph ∷ log ∷ []) = Ok (Explain graph log)
 explain_on _ = Err BadWords
@@ -142,11 +147,7 @@ explain_on _ = Err BadWords
 abbrev pub explain_of : Option Parts → Result Meaning UsageCause
 explain_of = by_parts (λ parts. explain_on parts.positional)
 
--- `check GRAPH LOG`
-abbrev pub check_form : Form
-check_form = record { options = []; flags = [] }
-
--- what the positional words after `check` mean
+-- `check GRAPH LOG`: what its positional words mean
 abbrev pub check_on : List Word → Result Meaning UsageCause
 check_on (graph ∷ log ∷ []) = Ok (Check graph log)
 check_on _ = Err BadWords
@@ -205,31 +206,21 @@ convert_with json _ = Err BadWords
 abbrev pub convert_of : Option Parts → Result Meaning UsageCause
 convert_of = by_parts (λ parts. convert_with (is_some (use_of (codes "--json") parts.uses)) parts.positional)
 
--- `ask [--k N] [--doubt N] [--budget N] GRAPH LOG`
-abbrev pub ask_form : Form
-ask_form = record { options = k_option.name ∷ doubt_option.name ∷ budget_option.name ∷ []; flags = [] }
-
--- what the positional words after `ask` mean with these numbers
+-- `ask [--k N] [--doubt N] [--budget N] GRAPH LOG`: what its positional words mean with these numbers
 abbrev pub ask_with : Word → Word → Result ((ℕ × ℕ) × ℕ) UsageCause → Result Meaning UsageCause
 ask_with graph log (Err cause) = Err cause
 ask_with graph log (Ok ((k, doubt), budget)) = Ok (Ask (record { k = k; doubt = doubt; budget = budget }) graph log)
 
 -- what the uses and the positional words after `ask` mean
 abbrev pub ask_on : List Use → List Word → Result Meaning UsageCause
-ask_on uses (graph ∷ log ∷ []) =
-    ask_with graph log
-    (both (both (number_by k_option uses) (number_by doubt_option uses)) (number_by budget_option uses))
+ask_on uses (graph ∷ log ∷ []) = ask_with graph log (terms_by uses)
 ask_on uses _ = Err BadWords
 
 -- what the words after `ask` mean, by their parts
 abbrev pub ask_of : Option Parts → Result Meaning UsageCause
 ask_of = by_parts (λ parts. ask_on parts.uses parts.positional)
 
--- `fleet [--k N] [--doubt N] [--budget N] GRAPH NAMES`
-abbrev pub fleet_form : Form
-fleet_form = record { options = k_option.name ∷ doubt_option.name ∷ budget_option.name ∷ []; flags = [] }
-
--- what the name of a graph and names with commas between mean after `fleet`, with these numbers
+-- `fleet [--k N] [--doubt N] [--budget N] GRAPH NAMES`: what a graph and names mean with these numbers
 abbrev pub fleet_with : Word → List Word → Result ((ℕ × ℕ) × ℕ) UsageCause → Result Meaning UsageCause
 fleet_with graph names (Err cause) = Err cause
 fleet_with graph names (Ok ((k, doubt), budget)) =
@@ -237,9 +228,7 @@ fleet_with graph names (Ok ((k, doubt), budget)) =
 
 -- what the uses and the positional words after `fleet` mean
 abbrev pub fleet_on : List Use → List Word → Result Meaning UsageCause
-fleet_on uses (graph ∷ names ∷ []) =
-    fleet_with graph (comma_parts names)
-    (both (both (number_by k_option uses) (number_by doubt_option uses)) (number_by budget_option uses))
+fleet_on uses (graph ∷ names ∷ []) = fleet_with graph (comma_parts names) (terms_by uses)
 fleet_on uses _ = Err BadWords
 
 -- what the words after `fleet` mean, by their parts
@@ -259,29 +248,37 @@ predict_with graph log node (Ok (((k, doubt), budget), ahead)) =
 -- what the uses and the positional words after `predict` mean
 abbrev pub predict_on : List Use → List Word → Result Meaning UsageCause
 predict_on uses (graph ∷ log ∷ node ∷ []) =
-    predict_with graph log node
-    (both (both (both (number_by k_option uses) (number_by doubt_option uses)) (number_by budget_option uses)) (number_by ahead_option uses))
+    predict_with graph log node (both (terms_by uses) (number_by ahead_option uses))
 predict_on uses _ = Err BadWords
 
 -- what the words after `predict` mean, by their parts
 abbrev pub predict_of : Option Parts → Result Meaning UsageCause
 predict_of = by_parts (λ parts. predict_on parts.uses parts.positional)
 
--- What the words after a command mean.
-abbrev pub command_meaning : Word → List Word → Result Meaning UsageCause
-command_meaning command words =
-    if bytes_eq command (codes "diagnose") then diagnose_of (parts_of_words diagnose_form words)
-    else (if bytes_eq command (codes "explain") then explain_of (parts_of_words explain_form words)
-    else (if bytes_eq command (codes "check") then check_of (parts_of_words check_form words)
+-- What the words after another command than `diagnose` mean.
+abbrev pub other_meaning : Word → List Word → Result Meaning UsageCause
+other_meaning command words =
+    if bytes_eq command (codes "explain") then explain_of (parts_of_words words_form words)
+    else (if bytes_eq command (codes "check") then check_of (parts_of_words words_form words)
     else (if bytes_eq command (codes "simulate") then simulate_of (parts_of_words simulate_form words)
     else (if bytes_eq command (codes "generate") then generate_of (parts_of_words generate_form words)
     else (if bytes_eq command (codes "convert") then convert_of (parts_of_words convert_form words)
-    else (if bytes_eq command (codes "ask") then ask_of (parts_of_words ask_form words)
-    else (if bytes_eq command (codes "fleet") then fleet_of (parts_of_words fleet_form words)
+    else (if bytes_eq command (codes "ask") then ask_of (parts_of_words terms_form words)
+    else (if bytes_eq command (codes "fleet") then fleet_of (parts_of_words terms_form words)
     else (if bytes_eq command (codes "predict") then predict_of (parts_of_words predict_form words)
-    else Err UnknownCommand))))))))
+    else Err UnknownCommand)))))))
+
+-- What the words after a command mean: no command but `diagnose` has panels.
+abbrev pub command_meaning : Word → List Word → Result Meant UsageCause
+command_meaning command words =
+    if bytes_eq command (codes "diagnose") then diagnose_of (parts_of_words terms_form words)
+    else without_panels (other_meaning command words)
 
 -- What the words after the program's name mean.
+abbrev pub meant_by : List Word → Result Meant UsageCause
+meant_by [] = Err NoCommand
+meant_by (command ∷ words) = command_meaning command words
+
+-- What the command of these words asks for.
 abbrev pub meaning : List Word → Result Meaning UsageCause
-meaning [] = Err NoCommand
-meaning (command ∷ words) = command_meaning command words
+meaning words = command_meant (meant_by words)

@@ -7,9 +7,9 @@ use tfpg_base::Text;
 #[derive(Drop)]
 pub enum Command {
     /// `diagnose [--k N] [--doubt N] [--budget N] GRAPH [PANEL]..`: reports on a log, for the hypotheses of at most `k` members,
-    /// each a failure mode or a monitor that it doubts, and tells each panel every round. A panel is `top:FILE`, `count:FILE` or
-    /// `json:FILE`. At most `doubt` of the members are monitors, and a hypothesis has at most `budget` splits in a round. `k`
-    /// is at most [`MAX_K`](tfpg_base::MAX_K), [`DEFAULT_K`](crate::DEFAULT_K) by default;
+    /// each a failure mode or a monitor that it doubts, and tells each panel every round. At most `doubt` of the members are monitors,
+    /// and a hypothesis has at most `budget` splits in a round. `k` is at most [`MAX_K`](tfpg_base::MAX_K),
+    /// [`DEFAULT_K`](crate::DEFAULT_K) by default;
     /// `doubt` is at most [`MAX_DOUBT`](tfpg_base::MAX_DOUBT), [`DEFAULT_DOUBT`](crate::DEFAULT_DOUBT) by default; `budget`
     /// is 1 to [`MAX_BUDGET`](tfpg_base::MAX_BUDGET), [`DEFAULT_BUDGET`](crate::DEFAULT_BUDGET) by default.
     Diagnose {
@@ -17,7 +17,6 @@ pub enum Command {
         doubt: u32,
         budget: u64,
         graph: Text,
-        panels: PanelWordList,
     },
     /// `check GRAPH LOG`: whether a text is the report on the log.
     Check {
@@ -86,6 +85,7 @@ pub enum Command {
 /// What is to be done.
 #[derive(Drop)]
 pub struct Planned {
-    /// The command.
     pub command: Command,
+    /// The panels of `diagnose`, in the order of the words: `top:FILE`, `count:FILE` or `json:FILE`. No other command has any.
+    pub panels: PanelWordList,
 }

@@ -5,14 +5,13 @@ ghost use Rattle.tfpg_base.specs.declared.terms.Terms.{Terms};
 ghost use Rattle.tfpg_base.specs.Terms.{AreReportTerms};
 ghost use Rattle.tfpg_base.specs.declared.limits.TheConstants.{MAX_CASE_SIZE, MAX_TIME};
 ghost use Rattle.tfpg_words.specs.Meaning.{meaning, Diagnose, Generate, Simulate, Ask, Fleet, Predict};
-ghost use Rattle.tfpg_words.specs.declared.panel_word.PanelWord.{PanelWord};
 ghost use Rattle.tfpg_words.specs.Names.{AreNames};
 ghost use Rattle.tfpg_words.specs.declared.limits.TheConstants.{MAX_DRAW};
 
 /// The numbers of a command are within their limits, and its names are names.
 pub fn numbers_are_within_their_limits()
-    ensures diagnose { (words : List (List ℕ)) (terms : Terms) (graph : List ℕ)
-        (panels : List PanelWord) → meaning words ≡ Ok (Diagnose terms graph panels) → AreReportTerms terms }
+    ensures diagnose { (words : List (List ℕ)) (terms : Terms) (graph : List ℕ) →
+        meaning words ≡ Ok (Diagnose terms graph) → AreReportTerms terms }
     ensures simulate { (words : List (List ℕ)) (draw : ℕ) (trace : Bool) (graph script : List ℕ) →
         meaning words ≡ Ok (Simulate draw trace graph script) → draw ≤ MAX_DRAW }
     ensures generate { (words : List (List ℕ)) (draw size : ℕ) → meaning words ≡ Ok (Generate draw size) →

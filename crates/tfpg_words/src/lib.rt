@@ -1,14 +1,15 @@
 //! The words of the command line: which command they ask for, and with which values.
 //!
-//! [`plan`] reads the words after the program's name. It returns a [`Command`], in a [`Planned`]. A [`PlanFault`] says why
-//! there is none: the first [`UsageCause`] that holds of the words, or out of memory. A [`PanelWord`] is a panel that the words name:
-//! what it writes, a [`PanelKind`], and the file to which it does. [`DEFAULT_K`] and the other constants
+//! [`plan`] reads the words after the program's name. It returns a [`Planned`]: a [`Command`], and the panels that the words name. A
+//! [`PlanFault`] says why there is none: the first [`UsageCause`] that holds of the words, or out of memory. A [`PanelWord`] is such a
+//! panel: what it writes, a [`PanelKind`], and the file to which it does. [`DEFAULT_K`] and the other constants
 //! are the defaults and the limits of the options. [`laws`] says between which limits the numbers of a command are, and what its names are.
 //!
 //! ```
 //! // The words `diagnose --k 1 engine.tfpg`.
-//! match plan(alloc, &words)?.command {
-//!     Command::Diagnose { k, doubt, budget, graph, panels } => {} // k is 1, doubt is 0, budget is 1000, no panels
+//! let planned = plan(alloc, &words)?; // with no panels
+//! match planned.command {
+//!     Command::Diagnose { k, doubt, budget, graph } => {} // k is 1, doubt is 0, budget is 1000
 //!     _ => {}
 //! }
 //! ```

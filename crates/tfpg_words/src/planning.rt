@@ -2,7 +2,7 @@
 
 ghost use Rattle.std.specs.Prelude.{◌≡◌, ◌≤◌, IfOk, map};
 ghost use Rattle.std.specs.String.{string_bytes};
-ghost use Rattle.tfpg_words.specs.Meaning.{check_form, check_of, command_meaning, convert_form, convert_of, diagnose_form, diagnose_of, diagnose_to, explain_form, explain_of, generate_form, generate_of, meaning, simulate_form, simulate_of, ask_form, ask_of, fleet_form, fleet_of, predict_form, predict_of};
+ghost use Rattle.tfpg_words.specs.Meaning.{words_form, check_of, command_meaning, meant_by, other_meaning, without_panels, convert_form, convert_of, terms_form, diagnose_of, diagnose_to, explain_of, generate_form, generate_of, simulate_form, simulate_of, ask_of, fleet_of, predict_form, predict_of};
 ghost use Rattle.tfpg_words.specs.PanelWords.{panels_named};
 ghost use Rattle.tfpg_words.specs.Plans.{IsPlanOf};
 ghost use Rattle.tfpg_words.specs.Words.{parts_of_words};
@@ -23,7 +23,7 @@ use crate::parts::Parts;
 use crate::plan_fault::PlanFault;
 use crate::usage_cause::UsageCause;
 use std::alloc::Global;
-use tfpg_base::{MAX_BUDGET, MAX_CASE_SIZE, MAX_DOUBT, MAX_K, MAX_TIME, Terms, Text};
+use tfpg_base::{Items, MAX_BUDGET, MAX_CASE_SIZE, MAX_DOUBT, MAX_K, MAX_TIME, Terms, Text};
 
 const K: NumberOption = NumberOption {
     name: "k",
@@ -85,22 +85,41 @@ const SIZE: NumberOption = NumberOption {
 /// }
 /// ```
 pub fn plan(alloc: Global, words: &[String]) -> Result<Planned, PlanFault>
-    ensures { IsPlanOf (meaning (map string_bytes words.now)) result }
+    ensures { IsPlanOf (meant_by (map string_bytes words.now)) result }
 {
     let [command, words @ ..] = words else {
         return Err(PlanFault::Usage(UsageCause::NoCommand));
     };
-    let command = command_of(alloc, command.as_str(), words)?;
-    Ok(Planned { command })
+    plan_command(alloc, command.as_str(), words)
 }
 
-/// The command of this name, with the words after it.
-fn command_of(alloc: Global, command: &str, words: &[String]) -> Result<Command, PlanFault>
-    ensures { IsCommandOf (command_meaning command.now (map string_bytes words.now)) result }
+/// The plan for the command of this name, with the words after it.
+fn plan_command(alloc: Global, command: &str, words: &[String]) -> Result<Planned, PlanFault>
+    ensures { IsPlanOf (command_meaning command.now (map string_bytes words.now)) result }
 {
     if command == "diagnose" {
         plan_diagnose(alloc, words)
-    } else if command == "explain" {
+    } else {
+        plan_other(alloc, command, words)
+    }
+}
+
+/// The plan for a command other than `diagnose`, which has no panels.
+fn plan_other(alloc: Global, command: &str, words: &[String]) -> Result<Planned, PlanFault>
+    ensures { IsPlanOf (without_panels (other_meaning command.now (map string_bytes words.now))) result }
+{
+    let command = command_of(alloc, command, words)?;
+    Ok(Planned {
+        command,
+        panels: Items::new(alloc),
+    })
+}
+
+/// The command of this name, which is not `diagnose`, with the words after it.
+fn command_of(alloc: Global, command: &str, words: &[String]) -> Result<Command, PlanFault>
+    ensures { IsCommandOf (other_meaning command.now (map string_bytes words.now)) result }
+{
+    if command == "explain" {
         plan_explain(alloc, words)
     } else if command == "check" {
         plan_check(alloc, words)
@@ -122,8 +141,8 @@ fn command_of(alloc: Global, command: &str, words: &[String]) -> Result<Command,
 }
 
 /// `diagnose [--k N] [--doubt N] [--budget N] GRAPH [PANEL]..`
-fn plan_diagnose(alloc: Global, words: &[String]) -> Result<Command, PlanFault>
-    ensures { IsCommandOf (diagnose_of (parts_of_words diagnose_form (map string_bytes words.now))) result }
+fn plan_diagnose(alloc: Global, words: &[String]) -> Result<Planned, PlanFault>
+    ensures { IsPlanOf (diagnose_of (parts_of_words terms_form (map string_bytes words.now))) result }
 {
     let form = Form {
         options: &[K.name, DOUBT.name, BUDGET.name],
@@ -133,8 +152,8 @@ fn plan_diagnose(alloc: Global, words: &[String]) -> Result<Command, PlanFault>
     plan_diagnose_by(alloc, &parts)
 }
 
-fn plan_diagnose_by(alloc: Global, parts: &Parts) -> Result<Command, PlanFault>
-    ensures { IsCommandOf (diagnose_given (rows_in parts.now)) result }
+fn plan_diagnose_by(alloc: Global, parts: &Parts) -> Result<Planned, PlanFault>
+    ensures { IsPlanOf (diagnose_given (rows_in parts.now)) result }
 {
     let Some([graph, words @ ..]) = parts.positional() else {
         return Err(PlanFault::Usage(UsageCause::BadWords));
@@ -155,22 +174,22 @@ fn diagnose_to(
     terms: Terms,
     graph: &str,
     words: &[&str],
-) -> Result<Command, PlanFault>
-    ensures { IsCommandOf (diagnose_to terms graph.now (panels_named (map (λ word. word.now) words.now))) result }
+) -> Result<Planned, PlanFault>
+    ensures { IsPlanOf (diagnose_to terms graph.now (panels_named (map (λ word. word.now) words.now))) result }
 {
     let panels = panels_of(alloc, words)?;
-    Ok(Command::Diagnose {
+    let command = Command::Diagnose {
         k: terms.k,
         doubt: terms.doubt,
         budget: terms.budget,
         graph: Text::of(alloc, graph)?,
-        panels,
-    })
+    };
+    Ok(Planned { command, panels })
 }
 
 /// `explain GRAPH LOG`
 fn plan_explain(alloc: Global, words: &[String]) -> Result<Command, PlanFault>
-    ensures { IsCommandOf (explain_of (parts_of_words explain_form (map string_bytes words.now))) result }
+    ensures { IsCommandOf (explain_of (parts_of_words words_form (map string_bytes words.now))) result }
 {
     let form = Form {
         options: &[],
@@ -194,7 +213,7 @@ fn plan_explain_by(alloc: Global, parts: &Parts) -> Result<Command, PlanFault>
 
 /// `check GRAPH LOG`
 fn plan_check(alloc: Global, words: &[String]) -> Result<Command, PlanFault>
-    ensures { IsCommandOf (check_of (parts_of_words check_form (map string_bytes words.now))) result }
+    ensures { IsCommandOf (check_of (parts_of_words words_form (map string_bytes words.now))) result }
 {
     let form = Form {
         options: &[],
@@ -294,7 +313,7 @@ fn plan_convert_by(alloc: Global, parts: &Parts) -> Result<Command, PlanFault>
 
 /// `ask [--k N] [--doubt N] [--budget N] GRAPH LOG`
 fn plan_ask(alloc: Global, words: &[String]) -> Result<Command, PlanFault>
-    ensures { IsCommandOf (ask_of (parts_of_words ask_form (map string_bytes words.now))) result }
+    ensures { IsCommandOf (ask_of (parts_of_words terms_form (map string_bytes words.now))) result }
 {
     let form = Form {
         options: &[K.name, DOUBT.name, BUDGET.name],
@@ -322,7 +341,7 @@ fn plan_ask_by(alloc: Global, parts: &Parts) -> Result<Command, PlanFault>
 
 /// `fleet [--k N] [--doubt N] [--budget N] GRAPH NAMES`
 fn plan_fleet(alloc: Global, words: &[String]) -> Result<Command, PlanFault>
-    ensures { IsCommandOf (fleet_of (parts_of_words fleet_form (map string_bytes words.now))) result }
+    ensures { IsCommandOf (fleet_of (parts_of_words terms_form (map string_bytes words.now))) result }
 {
     let form = Form {
         options: &[K.name, DOUBT.name, BUDGET.name],

@@ -46,7 +46,7 @@ pub record DiagnosesWithin (terms : Terms) (name : List ℕ) (before now : World
 -- What a run that is done took in counted calls, by what its words mean: a diagnosis keeps within the limits of its rounds. Nothing
 -- is said of the other commands.
 abbrev pub RunsWithin : Meaning → World → World → ℕ → ℕ → Type 0
-RunsWithin (Diagnose terms name panels) before now start end = DiagnosesWithin terms name before now start end
+RunsWithin (Diagnose terms name) before now start end = DiagnosesWithin terms name before now start end
 RunsWithin (Explain name log) before now start end = Unit {0}
 RunsWithin (Check name log) before now start end = Unit {0}
 RunsWithin (Simulate draw trace name script) before now start end = Unit {0}

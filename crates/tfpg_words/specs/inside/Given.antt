@@ -6,7 +6,7 @@ use Rattle.tfpg_base.specs.Words.{comma_parts, number_of}
 use Rattle.tfpg_words.specs.declared.usage_cause.UsageCause.{UsageCause}
 use Rattle.tfpg_words.specs.declared.usage_cause.UsageCause.TheVariants.{BadWords}
 use Rattle.tfpg_words.specs.Words.{Word}
-use Rattle.tfpg_words.specs.Meaning.{Meaning, NumberOption, both, within, k_option, doubt_option, budget_option, draw_option, size_option, diagnose_with, explain_on, check_on, generate_with, simulate_with, convert_with, ask_with, fleet_with, ahead_option, predict_with}
+use Rattle.tfpg_words.specs.Meaning.{Meaning, Meant, NumberOption, both, within, k_option, doubt_option, budget_option, draw_option, size_option, diagnose_with, explain_on, check_on, generate_with, simulate_with, convert_with, ask_with, fleet_with, ahead_option, predict_with}
 use Rattle.tfpg_words.specs.inside.Rules.{words_id}
 use Rattle.tfpg_words.specs.inside.Rows.{vals}
 
@@ -22,11 +22,11 @@ abbrev pub number_given : NumberOption → Option Word → Result ℕ UsageCause
 number_given option None = Ok option.default
 number_given option (Some value) = within option.least option.limit (number_of value)
 
-abbrev pub diagnose_by : Result ((ℕ × ℕ) × ℕ) UsageCause → List Word → Result Meaning UsageCause
+abbrev pub diagnose_by : Result ((ℕ × ℕ) × ℕ) UsageCause → List Word → Result Meant UsageCause
 diagnose_by numbers [] = Err BadWords
 diagnose_by numbers (graph ∷ words) = diagnose_with graph words numbers
 
-abbrev pub diagnose_given : List Row → Result Meaning UsageCause
+abbrev pub diagnose_given : List Row → Result Meant UsageCause
 diagnose_given rows =
     diagnose_by
     (both

@@ -41,11 +41,11 @@ returns-in-Ok-clause-work g c meant e done =
     runs_within meant (meaning_of c.in-Ok.planned.command) before now c.args.work.now c.perform.new.work (sym e ∙ c.in-Ok.ensures) (c.perform.ensures.work (sym c.end_of.ensures ∙ done))
 
 pub returns-in-Ok-clause-rechecks : goal.returns-in-Ok-clause-rechecks
-returns-in-Ok-clause-rechecks g c terms panels diagnosed e done graph log later follows =
+returns-in-Ok-clause-rechecks g c terms diagnosed e done graph log later follows =
     let words = meaning (map string_bytes c.args.words.now) in
     let before = world (g.F.Shelf.state c.args.shelf.now) (g.S.Source.state c.args.input.now) (g.K.Sink.state c.args.out.now) c.args.desk.now in
     let now = world (g.F.Shelf.state c.perform.new.shelf) (g.S.Source.state c.perform.new.input) (g.K.Sink.state c.perform.new.out) c.perform.new.desk in
-    can_check_after words c.end_of.result terms panels diagnosed graph log before now later e done
+    can_check_after words c.end_of.result terms diagnosed graph log before now later e done
     (by_work words (meaning_of c.in-Ok.planned.command) before now c.perform.result c.end_of.result
     c.in-Ok.ensures c.end_of.ensures c.perform.ensures.done c.perform.ensures.stopped) follows
 

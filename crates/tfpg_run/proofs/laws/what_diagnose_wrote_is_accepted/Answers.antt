@@ -8,7 +8,7 @@ pub returns-clause-can_be_done : goal.returns-clause-can_be_done
 returns-clause-can_be_done c = can_check
 
 pub returns-clause-accepted : goal.returns-clause-accepted
-returns-clause-accepted c = λ terms panels diagnosed graph log before now later after end ends follows checks calm.
+returns-clause-accepted c = λ terms diagnosed graph log before now later after end ends follows checks calm.
     run_completes (record { text = c.a_text_has_at_most_one_first_fault.ensures.none; json = c.a_text_has_at_most_one_first_fault_as_json.ensures.none })
     (record {
       no_cause = c.lines_have_at_most_one_cause.ensures.none;
@@ -16,4 +16,4 @@ returns-clause-accepted c = λ terms panels diagnosed graph log before now later
       too_many = c.lines_have_at_most_one_cause.ensures.too_many;
       one_line = c.a_report_line_says_one_thing.ensures;
     }) later after calm (Ok (Check graph log)) (Check graph log) end refl
-    (can_check terms panels diagnosed graph log before now later ends follows) checks
+    (can_check terms diagnosed graph log before now later ends follows) checks

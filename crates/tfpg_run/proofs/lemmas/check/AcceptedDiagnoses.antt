@@ -8,7 +8,6 @@ use Rattle.tfpg_base.specs.Outside.{Gives, IsAtEnd, Puts, ShelfState, SinkState,
 use Rattle.tfpg_graph.specs.Graph.{Tfpg}
 use Rattle.tfpg_check.specs.Report.{IsReport}
 use Rattle.tfpg_words.specs.declared.usage_cause.UsageCause.{UsageCause}
-use Rattle.tfpg_words.specs.declared.panel_word.PanelWord.{PanelWord}
 use Rattle.tfpg_words.specs.Meaning.{Meaning, Check, Diagnose}
 use Rattle.tfpg_run.specs.declared.end.End.{End}
 use Rattle.tfpg_run.specs.declared.end.End.TheVariants.{Done, NoMemory, TooManyHypotheses}
@@ -38,10 +37,10 @@ record WroteReport (terms : Terms) (name : List ℕ) (before now : World) : Type
   writes : Puts before.output now.output written
   right : IsRightReport graph terms (desks before.desk now.desk) (lines_of taken) written
 
-wrote_report : (terms : Terms) (panels : List PanelWord) (name : List ℕ) (before now : World) → RunEnds (Ok (Diagnose terms name panels)) before now Done → WroteReport terms name before now
-wrote_report terms panels name before now (inl (inl lacks)) = absurd (fetch_not_done lacks.fault (sym lacks.end_is))
-wrote_report terms panels name before now (inl (inr (inl many))) = let is : Done ≡ TooManyHypotheses many.ends.count = many.ends.end_is in absurd cc
-wrote_report terms panels name before now (inl (inr (inr file))) = by file.ends.result file.ends.works.ends file.ends.end_is
+wrote_report : (terms : Terms) (name : List ℕ) (before now : World) → RunEnds (Ok (Diagnose terms name)) before now Done → WroteReport terms name before now
+wrote_report terms name before now (inl (inl lacks)) = absurd (fetch_not_done lacks.fault (sym lacks.end_is))
+wrote_report terms name before now (inl (inr (inl many))) = let is : Done ≡ TooManyHypotheses many.ends.count = many.ends.end_is in absurd cc
+wrote_report terms name before now (inl (inr (inr file))) = by file.ends.result file.ends.works.ends file.ends.end_is
   where
     by : (result : Result (Unit {0}) StreamFault)
         → LineByLineEnds (IsRightReport file.graph terms (desks before.desk now.desk)) (BeginsRightReport file.graph terms (desks before.desk now.desk)) (streams_of before) (streams_of now)
@@ -58,7 +57,7 @@ wrote_report terms panels name before now (inl (inr (inr file))) = by file.ends.
       right = writes.right;
     }
     by (Err fault) stopped is = absurd (stream_not_done fault (sym is))
-wrote_report terms panels name before now (inr none) = let is : Done ≡ NoMemory = none.1 in absurd cc
+wrote_report terms name before now (inr none) = let is : Done ≡ NoMemory = none.1 in absurd cc
 
 -- ---- what is known is what was taken, written and spelled
 
@@ -74,11 +73,11 @@ is_given shelf files name text known is = subst (λ (fs : _). IfSome fs (λ (the
 
 -- ---- the check
 
-module _ (terms : Terms) (panels : List PanelWord) (diagnosed graph log : List ℕ) (before now later : World)
-    (ends : RunEnds (Ok (Diagnose terms diagnosed panels)) before now Done)
+module _ (terms : Terms) (diagnosed graph log : List ℕ) (before now later : World)
+    (ends : RunEnds (Ok (Diagnose terms diagnosed)) before now Done)
     (follows : FollowsDiagnosis diagnosed graph log before now later) where
   wrote : WroteReport terms diagnosed before now
-  wrote = wrote_report terms panels diagnosed before now ends
+  wrote = wrote_report terms diagnosed before now ends
 
   -- the graph file is there, and spells the graph that was diagnosed
   gives_graph : GivesGraph later.shelf graph wrote.graph
@@ -124,8 +123,8 @@ module _ (terms : Terms) (panels : List PanelWord) (diagnosed graph log : List �
   }
 
 -- So it is where a run ended so whose words meant the diagnosis.
-pub can_check_after : (words : Result Meaning UsageCause) (end : End) (terms : Terms) (panels : List PanelWord) (diagnosed graph log : List ℕ) (before now later : World)
-    → words ≡ Ok (Diagnose terms diagnosed panels) → end ≡ Done
+pub can_check_after : (words : Result Meaning UsageCause) (end : End) (terms : Terms) (diagnosed graph log : List ℕ) (before now later : World)
+    → words ≡ Ok (Diagnose terms diagnosed) → end ≡ Done
     → RunEnds words before now end → FollowsDiagnosis diagnosed graph log before now later → CanBeDone (Check graph log) later
-can_check_after words end terms panels diagnosed graph log before now later means done ends follows =
-    can_check terms panels diagnosed graph log before now later (subst₂ (λ (w : Result Meaning UsageCause) (e : End). RunEnds w before now e) means done ends) follows
+can_check_after words end terms diagnosed graph log before now later means done ends follows =
+    can_check terms diagnosed graph log before now later (subst₂ (λ (w : Result Meaning UsageCause) (e : End). RunEnds w before now e) means done ends) follows

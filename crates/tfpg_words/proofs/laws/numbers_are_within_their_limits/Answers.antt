@@ -10,8 +10,8 @@ within : (words : List Word) (means : Meaning) → meaning words ≡ Ok means �
 within words means is = subst (λ (r : Result Meaning UsageCause). IfOk r AreInLimits) is (meaning_within words)
 
 pub returns-clause-diagnose : goal.returns-clause-diagnose
-returns-clause-diagnose c words terms graph panels is =
-    let are = within words (Diagnose terms graph panels) is in
+returns-clause-diagnose c words terms graph is =
+    let are = within words (Diagnose terms graph) is in
     record { few_members = are.0.0.high; few_doubts = are.0.1.high; some_splits = are.1.low; few_splits = are.1.high }
 
 pub returns-clause-simulate : goal.returns-clause-simulate

@@ -1,8 +1,8 @@
 use Rattle.std.proofs.Common.{map, subst, Result}
 use Rattle.std.specs.String.{string_bytes}
 use Rattle.tfpg_words.specs.declared.usage_cause.UsageCause.{UsageCause}
-use Rattle.tfpg_words.specs.Meaning.{Meaning, diagnose_form}
-use Rattle.tfpg_words.specs.inside.CommandOf.{IsCommandOf}
+use Rattle.tfpg_words.specs.Meaning.{Meant, terms_form}
+use Rattle.tfpg_words.specs.Plans.{IsPlanOf}
 use Rattle.tfpg_words.specs.Words.{parts_of_words}
 use Rattle.tfpg_words.specs.inside.Parts.{rows_in}
 use Rattle.tfpg_words.proofs.Commands.{diagnose_is}
@@ -10,5 +10,5 @@ use Rattle.tfpg_words.proofs.planning.plan_diagnose.Goals as goal
 
 pub returns : goal.returns
 returns c =
-    subst (λ (meant : Result Meaning UsageCause). IsCommandOf meant c.plan_diagnose_by.result)
-    (diagnose_is (parts_of_words diagnose_form (map string_bytes c.args.words.now)) (rows_in c.in_ok-parts.parts) c.in_ok-parts.ensures) c.plan_diagnose_by.ensures
+    subst (λ (meant : Result Meant UsageCause). IsPlanOf meant c.plan_diagnose_by.result)
+    (diagnose_is (parts_of_words terms_form (map string_bytes c.args.words.now)) (rows_in c.in_ok-parts.parts) c.in_ok-parts.ensures) c.plan_diagnose_by.ensures

@@ -1,7 +1,7 @@
 use Rattle.std.proofs.Common.{map, subst, Result}
 use Rattle.std.specs.String.{string_bytes}
 use Rattle.tfpg_words.specs.declared.usage_cause.UsageCause.{UsageCause}
-use Rattle.tfpg_words.specs.Meaning.{Meaning, fleet_form}
+use Rattle.tfpg_words.specs.Meaning.{Meaning, terms_form}
 use Rattle.tfpg_words.specs.inside.CommandOf.{IsCommandOf}
 use Rattle.tfpg_words.specs.Words.{parts_of_words}
 use Rattle.tfpg_words.specs.inside.Parts.{rows_in}
@@ -11,4 +11,4 @@ use Rattle.tfpg_words.proofs.planning.plan_fleet.Goals as goal
 pub returns : goal.returns
 returns c =
     subst (λ (meant : Result Meaning UsageCause). IsCommandOf meant c.plan_fleet_by.result)
-    (fleet_is (parts_of_words fleet_form (map string_bytes c.args.words.now)) (rows_in c.in_ok-parts.parts) c.in_ok-parts.ensures) c.plan_fleet_by.ensures
+    (fleet_is (parts_of_words terms_form (map string_bytes c.args.words.now)) (rows_in c.in_ok-parts.parts) c.in_ok-parts.ensures) c.plan_fleet_by.ensures
