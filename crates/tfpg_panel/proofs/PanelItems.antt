@@ -6,8 +6,8 @@ use Rattle.std.proofs.lemmas.Option.{slice_get_read, slice_get-map, get_or_from_
 use Rattle.tfpg_evidence.specs.declared.round.Round.{Round}
 use Rattle.tfpg_panel.specs.declared.panel.PanelFault.{PanelFault}
 use Rattle.tfpg_panel.specs.declared.lost_panel.LostPanel.{LostPanel}
-use Rattle.tfpg_panel.specs.Panel.{PanelState, Hears}
-use Rattle.tfpg_panel.specs.Desk.{DeskState, KeepsPanels, told_of}
+use Rattle.tfpg_panel.specs.Panel.{PanelState, Hears, lent_by}
+use Rattle.tfpg_panel.specs.Desk.{DeskState, DeskOf, KeepsPanels, lent_of}
 use Rattle.tfpg_panel.specs.inside.Telling.{TellsAt, desk_after}
 use Rattle.tfpg_panel.proofs.KeptPanels.{is_panel}
 use Rattle.tfpg_panel.proofs.Tellings.{old_panel}
@@ -79,11 +79,18 @@ module _ {X : Type 0} (state : X → PanelState) (round : Round) (place : ℕ) (
       (sym (same_desk after _ _ _ (panels_are ∙ map-set state items (number - 1) new) kept_is (losses_are number (slice_get_read kept (length kept) place number refl within at))))
       (tells_at (Err fault) (subst (Hears round (state old) (state new)) err hears)))
 
--- what a panel tells of the rounds that it was told
-pub told_by : {X : Type 0} (state : X → PanelState) (items : List X) (kept : List ℕ) (losses : List LostPanel) (panel : ℕ) (item : X) (desk : DeskState) → item ≡ get_or items (panel - 1) item
-    → desk_of (map state items) kept losses ≡ desk → (1 ≤ panel) × (panel ≤ length desk.panels) → (state item).told ≡ told_of desk panel
-told_by state items kept losses panel item desk at is bounds =
+-- what a panel lends of the rounds that it was told
+pub lent_at : {X : Type 0} (state : X → PanelState) (items : List X) (kept : List ℕ) (losses : List LostPanel) (panel : ℕ) (item : X) (desk : DeskState) → item ≡ get_or items (panel - 1) item
+    → desk_of (map state items) kept losses ≡ desk → (1 ≤ panel) × (panel ≤ length desk.panels) → lent_by (state item) ≡ lent_of desk panel
+lent_at state items kept losses panel item desk at is bounds =
     let few : panel ≤ length (map state items) = subst (λ (d : DeskState). panel ≤ length d.panels) (sym is) bounds.1 in
     let there : slice_get items (panel - 1) ≡ Some item = slice_get_read items (length items) (panel - 1) item refl (omega (arith, few, length-map items state, bounds.0)) at in
     let found = old_panel (desk_of (map state items) kept losses) panel (state item) bounds.0 (slice_get-map state items (panel - 1) ∙ ap (option_map state) there) in
-    ap (option_and_then (λ (p : PanelState). p.told)) (sym found) ∙ ap (λ (d : DeskState). told_of d panel) is
+    ap (option_and_then lent_by) (sym found) ∙ ap (λ (d : DeskState). lent_of d panel) is
+
+-- the numbers of the kept panels are those of panels that contracts see
+pub keeps_seen : {X : Type 0} (state : X → PanelState) (items : List X) (kept : List ℕ) (losses : List LostPanel) (desk : DeskOf X) → KeepsPanels (length items) kept
+    → record { panels = items; kept = kept; losses = losses } ≡ desk → KeepsPanels (length (map state desk.panels)) desk.kept
+keeps_seen {X} state items kept losses desk keeps is =
+    subst (λ (d : DeskOf X). KeepsPanels (length (map state d.panels)) d.kept) is
+    (subst (λ (count : ℕ). KeepsPanels count kept) (sym (length-map items state)) keeps)

@@ -5,7 +5,7 @@ use Rattle.tfpg_base.specs.declared.limits.TheConstants.{MAX_PANEL_NUMBER}
 use Rattle.tfpg_evidence.specs.declared.round.Round.{Round}
 use Rattle.tfpg_panel.specs.declared.panel.PanelFault.{PanelFault}
 use Rattle.tfpg_panel.specs.declared.lost_panel.LostPanel.{LostPanel}
-use Rattle.tfpg_panel.specs.Panel.{PanelState, Hears}
+use Rattle.tfpg_panel.specs.Panel.{PanelState, Hears, lent_by}
 
 -- What contracts see of a desk: its panels, which are numbered from 1; the numbers of the kept ones, rising; and those that were
 -- lost, in the order in which they were.
@@ -13,6 +13,16 @@ pub record DeskState : Type 0 where
   pub panels : List PanelState
   pub kept : List ℕ
   pub losses : List LostPanel
+
+-- What a desk keeps, over panels of one type, as boxes are.
+pub record DeskOf (X : Type 0) : Type 0 where
+  pub panels : List X
+  pub kept : List ℕ
+  pub losses : List LostPanel
+
+-- what contracts see of such a desk, by what they see of one of its panels
+abbrev pub seen_by : {X : Type 0} → (X → PanelState) → DeskOf X → DeskState
+seen_by state desk = record { panels = map state desk.panels; kept = desk.kept; losses = desk.losses }
 
 -- The numbers of the kept panels rise, and each is that of one of so many panels, which are not too many for a report to name.
 pub record KeepsPanels (count : ℕ) (kept : List ℕ) : Type 0 where
@@ -29,9 +39,9 @@ abbrev pub panel_numbered : DeskState → ℕ → Option PanelState
 panel_numbered desk zero = None
 panel_numbered desk (suc index) = slice_get desk.panels index
 
--- what the panel of a number tells of the rounds that it was told
-abbrev pub told_of : DeskState → ℕ → Option (List Round)
-told_of desk number = option_and_then (λ panel. panel.told) (panel_numbered desk number)
+-- what the panel of a number lends of the rounds that it was told
+abbrev pub lent_of : DeskState → ℕ → Option (List Round)
+lent_of desk number = option_and_then lent_by (panel_numbered desk number)
 
 -- A panel was told a round, with this result.
 pub record Telling : Type 0 where

@@ -4,7 +4,7 @@ ghost use Rattle.std.specs.Prelude.{◌≡◌, ◌≤◌, ◌<◌, ◌++◌, ◌
 ghost use Rattle.std.specs.List.{range_with_len};
 ghost use Rattle.tfpg_evidence.specs.RoundOf.{IsRoundOf};
 ghost use Rattle.tfpg_graph.specs.Graph.{sizes_of};
-ghost use Rattle.tfpg_panel.specs.Desk.{IsTold, KeepsPanels, new_desk, told_of};
+ghost use Rattle.tfpg_panel.specs.Desk.{IsTold, KeepsPanels, lent_of, new_desk, seen_by};
 ghost use Rattle.tfpg_panel.specs.Panel.{Hears};
 ghost use Rattle.tfpg_panel.specs.inside.Telling.{TellsAt};
 
@@ -16,22 +16,25 @@ use tfpg_base::{MAX_PANEL_NUMBER, NoMemory};
 use tfpg_evidence::Round;
 use tfpg_graph::Graph;
 
-/// Panels, which are numbered from 1, and those of them that were lost.
+/// Boxed panels, which are numbered from 1, and those of them that were lost.
+pub type Desk = DeskOf<Box<dyn Panel>>;
+
+/// A desk of panels of one type, as boxes are. Contracts see the panels themselves, and a clause says by `seen_by` what it sees of each.
 #[derive(Drop)]
-pub struct Desk<P: Panel> {
+pub struct DeskOf<P> {
     panels: Vec<P>,
     kept: Vec<u64>,
     losses: Vec<LostPanel>,
 }
 
-impl<P: Panel> Model for Desk<P> {
-    ghost use Rattle.std.specs.Prelude.{◌≤◌, ◌+◌, map, length, vec_capacity};
-    ghost use Rattle.tfpg_panel.specs.Desk.{DeskState, KeepsPanels};
+impl<P> Model for DeskOf<P> {
+    ghost use Rattle.std.specs.Prelude.{◌≤◌, ◌+◌, length, vec_capacity};
+    ghost use Rattle.tfpg_panel.specs.Desk.{DeskOf, KeepsPanels};
 
-    ghost Value = { DeskState };
+    ghost Value = { DeskOf P };
 
     ghost view = { λ desk. record {
-      panels = map P.state desk.panels.items;
+      panels = desk.panels.items;
       kept = desk.kept.items;
       losses = desk.losses.items;
     } };
@@ -40,12 +43,12 @@ impl<P: Panel> Model for Desk<P> {
         (length desk.kept.items + length desk.losses.items ≤ vec_capacity desk.losses) };
 }
 
-impl<P: Panel> Desk<P> {
+impl<P: Panel> DeskOf<P> {
     /// A desk of these panels. It keeps them all, has lost none, and has made room for the loss of each.
-    pub fn new(panels: Vec<P>) -> Result<Desk<P>, NoMemory>
-        ensures { IfOk result (λ desk. desk ≡ new_desk (map P.state panels.items)) }
+    pub fn new(alloc: Global, panels: Vec<P>) -> Result<DeskOf<P>, NoMemory>
+        ensures panels { IfOk result (λ desk. desk.panels ≡ panels.items) }
+        ensures new { IfOk result (λ desk. seen_by P.state desk ≡ new_desk (map P.state panels.items)) }
     {
-        let alloc = *panels.allocator();
         let count = panels.len();
         // A report could not name more, and no memory holds them.
         if count as u64 > MAX_PANEL_NUMBER {
@@ -53,7 +56,7 @@ impl<P: Panel> Desk<P> {
         }
         let kept = numbers_to(alloc, count as u64)?;
         let losses = Vec::with_capacity(alloc, count)?;
-        Ok(Desk {
+        Ok(DeskOf {
             panels,
             kept,
             losses,
@@ -64,7 +67,7 @@ impl<P: Panel> Desk<P> {
     /// on the desk, and is told nothing more. Takes no memory besides what the panels take.
     pub fn tell(&mut self, graph: &Graph, round: &Round)
         requires { IsRoundOf (sizes_of graph.now) round.now }
-        ensures told { IsTold round.entry.now self.old self.new }
+        ensures told { IsTold round.entry.now (seen_by P.state self.old) (seen_by P.state self.new) }
     {
         self.always_keeps_its_panels();
         let mut place = 0;
@@ -79,7 +82,7 @@ impl<P: Panel> Desk<P> {
     fn tell_at(&mut self, place: usize, graph: &Graph, round: &Round) -> bool
         requires is_round { IsRoundOf (sizes_of graph.now) round.now }
         requires within { place < length self.old.kept }
-        ensures { TellsAt round.entry.now place self.old self.new result }
+        ensures { TellsAt round.entry.now place (seen_by P.state self.old) (seen_by P.state self.new) result }
     {
         let number = self.kept[place];
         match tell_panel(&mut self.panels[(number - 1) as usize], graph, round) {
@@ -131,17 +134,17 @@ impl<P: Panel> Desk<P> {
         self.panels.len() as u64
     }
 
-    /// The rounds that the panel of this number was told, where it tells them. A lost panel still does. Takes no memory.
+    /// What the panel of this number lends of the rounds that it was told. A lost panel lends them as before. Takes no memory.
     pub fn told(&self, panel: u64) -> Option<&[Round]>
         requires { (1 ≤ panel) × (panel ≤ length self.now.panels) }
-        ensures { option_map (λ rounds. rounds.now) result ≡ told_of self.now panel }
+        ensures { option_map (λ rounds. rounds.now) result ≡ lent_of (seen_by P.state self.now) panel }
     {
         self.panels[(panel - 1) as usize].told()
     }
 
     /// The numbers of the kept panels rise, and each is that of a panel: a fact for proofs. Does nothing.
     pub fn always_keeps_its_panels(&self)
-        ensures { KeepsPanels (length self.now.panels) self.now.kept }
+        ensures { KeepsPanels (length (seen_by P.state self.now).panels) (seen_by P.state self.now).kept }
     {
         let _opened = &self.kept;
     }
