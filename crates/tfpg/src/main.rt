@@ -64,88 +64,81 @@ fn end_without_words(error: &io::Error) -> End {
 fn run_words(rt: &HostRuntime, words: &[String]) -> End {
     let mut input = StandardInput::new(rt.stdin());
     let mut output = StandardOutput::new(rt.stdout());
-    run_on_files(rt, rt.alloc(), words, &mut input, &mut output)
+    run_on_files(rt, words, &mut input, &mut output)
 }
 
-/// Runs on these words, over these files, with the panels that the words name. Words that are refused name none, and the run says why
-/// they are.
-fn run_on_files<R: Files, S: Source, K: Sink>(
-    files: &R,
-    alloc: Global,
+/// Runs on these words, over the files of the system, with the panels that the words name. Words that are refused name none, and the run
+/// says why they are.
+fn run_on_files<S: Source, K: Sink>(
+    rt: &HostRuntime,
     words: &[String],
     input: &mut S,
     out: &mut K,
 ) -> End {
-    match plan(alloc, words) {
-        Ok(planned) => {
-            let named = planned.panels.as_slice();
-            run_with_panels(files, alloc, words, named, input, out)
-        }
-        Err(PlanFault::Usage(_)) => run_with_panels(files, alloc, words, &[], input, out),
-        Err(PlanFault::NoMemory) => End::NoMemory,
-    }
-}
-
-/// Runs on these words, over these files, with these panels.
-fn run_with_panels<R: Files, S: Source, K: Sink>(
-    files: &R,
-    alloc: Global,
-    words: &[String],
-    named: &[PanelWord],
-    input: &mut S,
-    out: &mut K,
-) -> End {
-    let mut shelf = FileShelf::new(files);
-    match desk_of(files, alloc, named) {
-        Ok(mut desk) => run_over(alloc, words, &mut shelf, input, out, &mut desk),
+    let ended = match plan(rt.alloc(), words) {
+        Ok(planned) => run_with_panels(rt, words, planned.panels.as_slice(), input, out),
+        Err(PlanFault::Usage(_)) => run_with_panels(rt, words, &[], input, out),
+        Err(PlanFault::NoMemory) => Err(NoMemory),
+    };
+    match ended {
+        Ok(end) => end,
         Err(NoMemory) => End::NoMemory,
     }
 }
 
-/// A desk of the panels that the words name, over these files.
-fn desk_of<'a, R: Files>(
-    files: &'a R,
-    alloc: Global,
-    named: &'a [PanelWord],
-) -> Result<Desk<FilePanel<'a, R>>, NoMemory> {
-    Desk::new(panels_of(files, alloc, named)?)
+/// Runs on these words, over the files of the system, with these panels, which it boxes.
+fn run_with_panels<S: Source, K: Sink>(
+    rt: &HostRuntime,
+    words: &[String],
+    named: &[PanelWord],
+    input: &mut S,
+    out: &mut K,
+) -> Result<End, NoMemory> {
+    let alloc = rt.alloc();
+    let mut panels: Vec<Box<dyn Panel>> = Vec::new(alloc);
+    for panel in panels_of(*rt, alloc, named)? {
+        panels.push(Box::new(alloc, panel)?)?;
+    }
+    let mut desk = Desk::new(alloc, panels)?;
+    let mut shelf = FileShelf::new(rt);
+    Ok(run_over(alloc, words, &mut shelf, input, out, &mut desk))
 }
 
 /// The panels that the words name, over these files.
-fn panels_of<'a, R: Files>(
-    files: &'a R,
+fn panels_of<R: Files + Copy>(
+    files: R,
     alloc: Global,
-    named: &'a [PanelWord],
-) -> Result<Vec<FilePanel<'a, R>>, NoMemory>
-    ensures { IfOk result (λ panels. map (λ panel. panel.word.now) panels.items ≡ named.now) }
+    named: &[PanelWord],
+) -> Result<Vec<FilePanel<R>>, NoMemory>
+    ensures { IfOk result (λ panels. map (λ panel. panel.word) panels.items ≡ named.now) }
 {
     let mut panels = Vec::new(alloc);
     for word in named {
-        panels.push(FilePanel::new(files, alloc, word))?;
+        panels.push(FilePanel::new(files, alloc, word)?)?;
     }
     Ok(panels)
 }
 
 /// Runs on these words, over this shelf, input, output and desk.
-fn run_over<F: Shelf, S: Source, K: Sink, P: Panel>(
+fn run_over<F: Shelf, S: Source, K: Sink>(
     alloc: Global,
     words: &[String],
     shelf: &mut F,
     input: &mut S,
     out: &mut K,
-    desk: &mut Desk<P>,
+    desk: &mut Desk,
 ) -> End {
-    run_counted::<F, S, K, P, Brand>(alloc, words, shelf, input, out, desk, Blank::new(1))
+    run_counted::<F, S, K, Brand>(alloc, words, shelf, input, out, desk, Blank::new(1))
 }
 
 /// The same with a new counter of steps, which costs nothing.
-fn run_counted<F: Shelf, S: Source, K: Sink, P: Panel, L: Ledger>(
+fn run_counted<F: Shelf, S: Source, K: Sink, L: Ledger>(
     alloc: Global,
     words: &[String],
     shelf: &mut F,
     input: &mut S,
     out: &mut K,
-    desk: &mut Desk<P>,
+    desk: &mut Desk,
     blank: Blank,
 ) -> End
     requires name { blank.name ≡ L.name }

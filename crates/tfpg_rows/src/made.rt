@@ -2,12 +2,12 @@
 
 ghost use Rattle.std.specs.Prelude.{◌≡◌, ◌<◌};
 
-use crate::panels::{PanelFaults, append_panels, desk_of};
+use crate::panels::{PanelFaults, append_panels};
 use std::alloc::Global;
 use std::marker::Brand;
 use std::sync::ledger::{Blank, Ledger};
 use tfpg_base::{MemoryShelf, MemorySink, MemorySource, NoMemory, Steps};
-use tfpg_panel::{Desk, MemoryPanel};
+use tfpg_panel::{Desk, Panel};
 use tfpg_run::{End, run};
 
 /// What a run has besides its words: the files by name, the input, how many bytes a call reads or writes at most, which calls fail, and
@@ -42,7 +42,11 @@ pub(crate) fn make_run(
     let mut shelf = MemoryShelf::new(alloc, outside.files, outside.file_fails);
     let mut input = MemorySource::new(outside.input, room, outside.read_fails);
     let mut out = MemorySink::new(alloc, room, outside.write_fails);
-    let mut desk = desk_of(alloc, outside.panels)?;
+    let mut panels: Vec<Box<dyn Panel>> = Vec::new(alloc);
+    for faults in outside.panels {
+        panels.push(Box::new(alloc, faults.panel(alloc)?)?)?;
+    }
+    let mut desk = Desk::new(alloc, panels)?;
     let end = run_counted::<Brand>(
         alloc,
         words,
@@ -52,13 +56,13 @@ pub(crate) fn make_run(
         &mut desk,
         Blank::new(1),
     );
-    let mut panels = Vec::new(alloc);
-    append_panels(&desk, &mut panels)?;
+    let mut told = Vec::new(alloc);
+    append_panels(&desk, &mut told)?;
     Ok(Made {
         end,
         written: Vec::from_slice(alloc, out.bytes())?,
         asked: shelf.asked().len(),
-        panels,
+        panels: told,
     })
 }
 
@@ -69,7 +73,7 @@ fn run_counted<L: Ledger>(
     shelf: &mut MemoryShelf<'_>,
     input: &mut MemorySource<'_>,
     out: &mut MemorySink<'_>,
-    desk: &mut Desk<MemoryPanel>,
+    desk: &mut Desk,
     blank: Blank,
 ) -> End
     requires name { blank.name ≡ L.name }

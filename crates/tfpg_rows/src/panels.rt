@@ -23,27 +23,15 @@ impl PanelFaults {
     }
 
     /// The panel with these faults, which was told nothing.
-    fn panel(&self, alloc: Global) -> Result<MemoryPanel, NoMemory> {
+    pub(crate) fn panel(&self, alloc: Global) -> Result<MemoryPanel, NoMemory> {
         let failing = LineList::from_vec(Vec::from_slice(alloc, &self.failing)?);
         let starving = LineList::from_vec(Vec::from_slice(alloc, &self.starving)?);
         Ok(MemoryPanel::new(alloc, failing, starving))
     }
 }
 
-/// A desk of panels with these faults.
-pub(crate) fn desk_of(
-    alloc: Global,
-    panels: &[PanelFaults],
-) -> Result<Desk<MemoryPanel>, NoMemory> {
-    let mut made = Vec::new(alloc);
-    for faults in panels {
-        made.push(faults.panel(alloc)?)?;
-    }
-    Desk::new(made)
-}
-
 /// Appends a line for each panel of the desk: whether it was kept, and the numbers of the rounds that it was told.
-pub(crate) fn append_panels(desk: &Desk<MemoryPanel>, into: &mut Vec<u8>) -> Result<(), NoMemory> {
+pub(crate) fn append_panels(desk: &Desk, into: &mut Vec<u8>) -> Result<(), NoMemory> {
     for number in 1..=desk.panel_count() {
         into.extend_from_slice(b"panel ")?;
         append_number(number, into)?;

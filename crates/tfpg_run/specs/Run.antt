@@ -2,7 +2,6 @@
 use Rattle.std.specs.Prelude.{◌≡◌, ◌⊎◌, Result, Ok, Err}
 use Rattle.tfpg_words.specs.declared.usage_cause.UsageCause.{UsageCause}
 use Rattle.tfpg_words.specs.Meaning.{Meaning, Diagnose, Explain, Check, Simulate, Generate, Convert, Ask, Fleet, Predict}
-use Rattle.tfpg_panel.specs.Desk.{DeskState}
 use Rattle.tfpg_run.specs.declared.end.End.{End}
 use Rattle.tfpg_run.specs.declared.end.End.TheVariants as ends
 use Rattle.tfpg_run.specs.World.{World}
@@ -18,7 +17,7 @@ use Rattle.tfpg_run.specs.predict.Forecasts.{prediction}
 use Rattle.tfpg_run.specs.predict.Predicting.{PredictEnds}
 
 -- No command touches the desk but the one that diagnoses, and words that are refused do not either.
-abbrev pub LeavesDesk : Result Meaning UsageCause → DeskState → DeskState → Type 0
+abbrev pub LeavesDesk : {Desk : Type 0} → Result Meaning UsageCause → Desk → Desk → Type 0
 LeavesDesk (Ok (Diagnose terms graph)) before now = Unit {0}
 LeavesDesk (Ok (Explain graph log)) before now = now ≡ before
 LeavesDesk (Ok (Check graph log)) before now = now ≡ before

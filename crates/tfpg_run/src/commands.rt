@@ -2,6 +2,7 @@
 
 ghost use Rattle.std.specs.Prelude.{◌≡◌, ℕ, List, map, string_bytes, OnOk, IfErr, Ok};
 ghost use Rattle.tfpg_check.specs.declared.cause.CheckCause.{CheckCause};
+ghost use Rattle.tfpg_panel.specs.Desk.{seen_by};
 ghost use Rattle.tfpg_words.specs.Meaning.{Meaning, Check, Diagnose, meaning};
 ghost use Rattle.tfpg_run.specs.Completeness.{CanBeDone, CanRefuse, IsCompleted, IsRefusedFor, NothingFails};
 ghost use Rattle.tfpg_words.specs.Plans.{meaning_of};
@@ -29,7 +30,7 @@ use tfpg_base::{Shelf, Sink, Source, Steps, Terms};
 use tfpg_check::laws::lines_have_at_most_one_cause;
 use tfpg_graph::laws::a_text_has_at_most_one_first_fault;
 use tfpg_json::laws::a_text_has_at_most_one_first_fault_as_json;
-use tfpg_panel::{Desk, Panel};
+use tfpg_panel::{Desk, DeskOf, Panel};
 use tfpg_report::laws::a_report_line_says_one_thing;
 use tfpg_words::laws::numbers_are_within_their_limits;
 use tfpg_words::{Command, PlanFault, Planned, plan};
@@ -44,39 +45,45 @@ use tfpg_words::{Command, PlanFault, Planned, plan};
 /// diagnose a fleet it reads the graph, then takes the input line by line, writes the answer to each line before the next one is taken, and
 /// at the end writes how many vehicles have which failure mode. To predict it reads the graph and the log that they name, diagnoses the
 /// log, and writes when at the earliest a node becomes active by each ranked hypothesis. Searches count their steps on `work`.
-pub fn run<F: Shelf, S: Source, K: Sink, P: Panel, L: Ledger>(
+pub fn run<F: Shelf, S: Source, K: Sink, L: Ledger>(
     alloc: Global,
     words: &[String],
     shelf: &mut F,
     input: &mut S,
     out: &mut K,
-    desk: &mut Desk<P>,
+    desk: &mut Desk,
     work: &mut Steps<L>,
 ) -> End
     // Each end has its cause, and what was written by then is right.
     ensures ends { RunEnds (meaning (map string_bytes words.now))
-        (world (F.state shelf.old) (S.state input.old) (K.state out.old) desk.old)
-        (world (F.state shelf.new) (S.state input.new) (K.state out.new) desk.new) result }
+        (world (F.state shelf.old) (S.state input.old) (K.state out.old) (seen_by ⟦<Box<dyn Panel> as Panel>⟧.state desk.old))
+        (world (F.state shelf.new) (S.state input.new) (K.state out.new)
+        (seen_by ⟦<Box<dyn Panel> as Panel>⟧.state desk.new)) result }
 
     // Where the words are right, the files and the input serve them and nothing fails, it is done, or memory ran out.
     ensures completes { (meant : Meaning) → meaning (map string_bytes words.now) ≡ Ok meant →
-        CanBeDone meant (world (F.state shelf.old) (S.state input.old) (K.state out.old) desk.old) →
-        NothingFails (world (F.state shelf.old) (S.state input.old) (K.state out.old) desk.old)
-        (world (F.state shelf.new) (S.state input.new) (K.state out.new) desk.new) →
+        CanBeDone meant (world (F.state shelf.old) (S.state input.old) (K.state out.old)
+        (seen_by ⟦<Box<dyn Panel> as Panel>⟧.state desk.old)) →
+        NothingFails (world (F.state shelf.old) (S.state input.old) (K.state out.old)
+        (seen_by ⟦<Box<dyn Panel> as Panel>⟧.state desk.old))
+        (world (F.state shelf.new) (S.state input.new) (K.state out.new) (seen_by ⟦<Box<dyn Panel> as Panel>⟧.state desk.new)) →
         IsCompleted result }
 
     // Where the lines of a report have a cause for which they are not accepted, a check ends with it and its line, or memory ran out.
     ensures refuses { (graph log : List ℕ) (line : ℕ) (cause : CheckCause) →
         meaning (map string_bytes words.now) ≡ Ok (Check graph log) →
         CanRefuse (F.state shelf.old) (S.state input.old) graph log line cause →
-        NothingFails (world (F.state shelf.old) (S.state input.old) (K.state out.old) desk.old)
-        (world (F.state shelf.new) (S.state input.new) (K.state out.new) desk.new) →
+        NothingFails (world (F.state shelf.old) (S.state input.old) (K.state out.old)
+        (seen_by ⟦<Box<dyn Panel> as Panel>⟧.state desk.old))
+        (world (F.state shelf.new) (S.state input.new) (K.state out.new) (seen_by ⟦<Box<dyn Panel> as Panel>⟧.state desk.new)) →
         IsRefusedFor line cause result }
 
     // A diagnosis that is done kept within the limits of counted calls of its rounds.
     ensures work { (meant : Meaning) → meaning (map string_bytes words.now) ≡ Ok meant → result ≡ End.Done →
-        RunsWithin meant (world (F.state shelf.old) (S.state input.old) (K.state out.old) desk.old)
-        (world (F.state shelf.new) (S.state input.new) (K.state out.new) desk.new) work.old work.new }
+        RunsWithin meant (world (F.state shelf.old) (S.state input.old) (K.state out.old)
+        (seen_by ⟦<Box<dyn Panel> as Panel>⟧.state desk.old))
+        (world (F.state shelf.new) (S.state input.new) (K.state out.new)
+        (seen_by ⟦<Box<dyn Panel> as Panel>⟧.state desk.new)) work.old work.new }
 
     // No command but `diagnose` touches the desk.
     ensures desk { LeavesDesk (meaning (map string_bytes words.now)) desk.old desk.new }
@@ -85,8 +92,9 @@ pub fn run<F: Shelf, S: Source, K: Sink, P: Panel, L: Ledger>(
     ensures rechecks { (terms : Terms) (diagnosed : List ℕ) →
         meaning (map string_bytes words.now) ≡ Ok (Diagnose terms diagnosed) → result ≡ End.Done →
         (graph log : List ℕ) (later : World) → FollowsDiagnosis diagnosed graph log
-        (world (F.state shelf.old) (S.state input.old) (K.state out.old) desk.old)
-        (world (F.state shelf.new) (S.state input.new) (K.state out.new) desk.new) later → CanBeDone (Check graph log) later }
+        (world (F.state shelf.old) (S.state input.old) (K.state out.old) (seen_by ⟦<Box<dyn Panel> as Panel>⟧.state desk.old))
+        (world (F.state shelf.new) (S.state input.new) (K.state out.new)
+        (seen_by ⟦<Box<dyn Panel> as Panel>⟧.state desk.new)) later → CanBeDone (Check graph log) later }
 
     // No file is asked for but those that the words name.
     ensures asks { AsksOnly (meaning (map string_bytes words.now)) (F.state shelf.old).asked
@@ -117,19 +125,19 @@ fn perform<F: Shelf, S: Source, K: Sink, P: Panel, L: Ledger>(
     shelf: &mut F,
     input: &mut S,
     out: &mut K,
-    desk: &mut Desk<P>,
+    desk: &mut DeskOf<P>,
     work: &mut Steps<L>,
 ) -> Result<(), End>
     requires { AreWithinLimits (meaning_of command.now) }
     ensures done { OnOk result (CommandEnds (Ok (meaning_of command.now))
-        (world (F.state shelf.old) (S.state input.old) (K.state out.old) desk.old)
-        (world (F.state shelf.new) (S.state input.new) (K.state out.new) desk.new) End.Done) }
+        (world (F.state shelf.old) (S.state input.old) (K.state out.old) (seen_by P.state desk.old))
+        (world (F.state shelf.new) (S.state input.new) (K.state out.new) (seen_by P.state desk.new)) End.Done) }
     ensures stopped { IfErr result (CommandEnds (Ok (meaning_of command.now))
-        (world (F.state shelf.old) (S.state input.old) (K.state out.old) desk.old)
-        (world (F.state shelf.new) (S.state input.new) (K.state out.new) desk.new)) }
+        (world (F.state shelf.old) (S.state input.old) (K.state out.old) (seen_by P.state desk.old))
+        (world (F.state shelf.new) (S.state input.new) (K.state out.new) (seen_by P.state desk.new))) }
     ensures work { end_of_result (λ end. end) result ≡ End.Done → RunsWithin (meaning_of command.now)
-        (world (F.state shelf.old) (S.state input.old) (K.state out.old) desk.old)
-        (world (F.state shelf.new) (S.state input.new) (K.state out.new) desk.new) work.old work.new }
+        (world (F.state shelf.old) (S.state input.old) (K.state out.old) (seen_by P.state desk.old))
+        (world (F.state shelf.new) (S.state input.new) (K.state out.new) (seen_by P.state desk.new)) work.old work.new }
     ensures desk { LeavesDesk (Ok (meaning_of command.now)) desk.old desk.new }
     ensures asks { AsksOnly (Ok (meaning_of command.now)) (F.state shelf.old).asked
         (F.state shelf.new).asked }

@@ -2,6 +2,7 @@
 
 ghost use Rattle.std.specs.Prelude.{◌≡◌, OnOk, IfErr};
 ghost use Rattle.tfpg_base.specs.Terms.{AreReportTerms};
+ghost use Rattle.tfpg_panel.specs.Desk.{seen_by};
 ghost use Rattle.tfpg_run.specs.Fetch.{AsksFor};
 ghost use Rattle.tfpg_run.specs.World.{world};
 ghost use Rattle.tfpg_run.specs.EndsOf.{end_of_result};
@@ -20,7 +21,7 @@ use std::sync::ledger::Ledger;
 use tfpg_base::{Shelf, Sink, Source, Steps, Terms};
 use tfpg_engine::Engine;
 use tfpg_panel::laws::a_desk_is_told_round_by_round;
-use tfpg_panel::{Desk, Panel};
+use tfpg_panel::{DeskOf, Panel};
 
 /// What is to be diagnosed: the graph of the file of this name, on these terms.
 #[derive(Clone, Copy)]
@@ -36,19 +37,19 @@ pub(crate) fn diagnose_file<F: Shelf, S: Source, K: Sink, P: Panel, L: Ledger>(
     shelf: &mut F,
     input: &mut S,
     out: &mut K,
-    desk: &mut Desk<P>,
+    desk: &mut DeskOf<P>,
     work: &mut Steps<L>,
 ) -> Result<(), End>
     requires { AreReportTerms subject.now.terms }
     ensures done { OnOk result (DiagnoseEnds subject.now.terms subject.now.name.now
-        (world (F.state shelf.old) (S.state input.old) (K.state out.old) desk.old)
-        (world (F.state shelf.new) (S.state input.new) (K.state out.new) desk.new) End.Done) }
+        (world (F.state shelf.old) (S.state input.old) (K.state out.old) (seen_by P.state desk.old))
+        (world (F.state shelf.new) (S.state input.new) (K.state out.new) (seen_by P.state desk.new)) End.Done) }
     ensures stopped { IfErr result (DiagnoseEnds subject.now.terms subject.now.name.now
-        (world (F.state shelf.old) (S.state input.old) (K.state out.old) desk.old)
-        (world (F.state shelf.new) (S.state input.new) (K.state out.new) desk.new)) }
+        (world (F.state shelf.old) (S.state input.old) (K.state out.old) (seen_by P.state desk.old))
+        (world (F.state shelf.new) (S.state input.new) (K.state out.new) (seen_by P.state desk.new))) }
     ensures work { end_of_result (λ end. end) result ≡ End.Done → DiagnosesWithin subject.now.terms subject.now.name.now
-        (world (F.state shelf.old) (S.state input.old) (K.state out.old) desk.old)
-        (world (F.state shelf.new) (S.state input.new) (K.state out.new) desk.new) work.old work.new }
+        (world (F.state shelf.old) (S.state input.old) (K.state out.old) (seen_by P.state desk.old))
+        (world (F.state shelf.new) (S.state input.new) (K.state out.new) (seen_by P.state desk.new)) work.old work.new }
     ensures asks { AsksFor subject.now.name.now (F.state shelf.old).asked (F.state shelf.new).asked }
 {
     desk.always_keeps_its_panels();

@@ -193,7 +193,7 @@ fn run_on<S: Source, K: Sink>(
     out: &mut K,
 ) -> Result<End, AllocError> {
     let words = words_of(rt.alloc(), &["diagnose", "--k", "0", name])?;
-    Ok(run_on_files(rt, rt.alloc(), &words, input, out))
+    Ok(run_on_files(rt, &words, input, out))
 }
 
 #[test]
@@ -279,7 +279,7 @@ fn panels_write_a_line_for_each_round(rt: HostRuntime) -> Result<(), Fail> {
     let mut input = StandardInput::new(b"30 alarm A\n29 tick\n31 tick\n".as_slice());
     let mut room = [b'-'; 4096];
     let mut output = StandardOutput::new(room.as_mut_slice());
-    let end = run_on_files(&rt, rt.alloc(), &words, &mut input, &mut output);
+    let end = run_on_files(&rt, &words, &mut input, &mut output);
     assert_eq!(rt; end, End::Done);
     assert!(rt; has_line(&room, b"panel 3 lost"));
     for (name, text) in &PANEL_FILES {

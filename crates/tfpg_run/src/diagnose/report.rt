@@ -6,6 +6,7 @@ ghost use Rattle.tfpg_graph.specs.Graph.{Tfpg};
 ghost use Rattle.tfpg_graph.specs.Valid.{IsValid};
 ghost use Rattle.tfpg_log.specs.LogOfLines.{new_log};
 ghost use Rattle.tfpg_engine.specs.EngineState.{EngineRepresents};
+ghost use Rattle.tfpg_panel.specs.Desk.{seen_by};
 ghost use Rattle.tfpg_report.specs.Blocks.{head_text};
 ghost use Rattle.tfpg_check.specs.Report.{HasReports};
 ghost use Rattle.tfpg_run.specs.diagnose.Diagnosing.{Diagnoses};
@@ -26,7 +27,7 @@ use tfpg_base::{Line, Lines, NoMemory, Sink, Source, Steps, Terms};
 use tfpg_check::laws::a_report_goes_on_block_by_block;
 use tfpg_engine::Engine;
 use tfpg_panel::laws::{a_desk_is_told_round_by_round, the_losses_of_a_round_rise};
-use tfpg_panel::{Desk, Panel};
+use tfpg_panel::{DeskOf, Panel};
 use tfpg_report::{RefusedLine, head};
 
 /// Whether the block of one more line is written, or the input has ended.
@@ -42,7 +43,7 @@ pub(crate) fn write_report<S: Source, K: Sink, P: Panel, L: Ledger>(
     engine: &mut Engine,
     input: &mut S,
     out: &mut K,
-    desk: &mut Desk<P>,
+    desk: &mut DeskOf<P>,
     work: &mut Steps<L>,
 ) -> Result<(), StreamFault>
     requires valid { IsValid engine.old.graph }
@@ -50,8 +51,8 @@ pub(crate) fn write_report<S: Source, K: Sink, P: Panel, L: Ledger>(
     requires new { EngineRepresents engine.old [] }
     requires has_reports { HasReports engine.old.graph engine.old.terms }
     ensures diagnoses { Diagnoses engine.old.graph engine.old.terms
-        (watched (S.state input.old) (K.state out.old) desk.old)
-        (watched (S.state input.new) (K.state out.new) desk.new) result }
+        (watched (S.state input.old) (K.state out.old) (seen_by P.state desk.old))
+        (watched (S.state input.new) (K.state out.new) (seen_by P.state desk.new)) result }
     ensures work { OnOk result (WorksToEnd (IsReportWithin engine.old.graph engine.old.terms work.old work.new)
         (streams (S.state input.old) (K.state out.old)) (streams (S.state input.new) (K.state out.new))) }
 {
@@ -84,25 +85,27 @@ fn write_next_block<S: Source, K: Sink, P: Panel, L: Ledger>(
     lines: &mut Lines,
     input: &mut S,
     out: &mut K,
-    desk: &mut Desk<P>,
+    desk: &mut DeskOf<P>,
     work: &mut Steps<L>,
 ) -> Result<NextBlock, StreamFault>
     requires { IsEngineReady engine.old }
     ensures comes_to { (graph : Tfpg) (terms : Terms) (before : Watched)
         → IsDiagnosing graph terms before
-        (diagnosis_at (watched (S.state input.old) (K.state out.old) desk.old) lines.old engine.old)
+        (diagnosis_at (watched (S.state input.old) (K.state out.old) (seen_by P.state desk.old)) lines.old engine.old)
         → IfOk result (ComesTo graph terms before lines.old.number
-        (diagnosis_at (watched (S.state input.new) (K.state out.new) desk.new) lines.new engine.new)) }
+        (diagnosis_at (watched (S.state input.new) (K.state out.new) (seen_by P.state desk.new)) lines.new engine.new)) }
     ensures counts { (graph : Tfpg) (terms : Terms) (before : Watched) (start : ℕ)
         → IsDiagnosingWithin graph terms before
-        (diagnosis_at (watched (S.state input.old) (K.state out.old) desk.old) lines.old engine.old) start work.old
+        (diagnosis_at (watched (S.state input.old) (K.state out.old)
+        (seen_by P.state desk.old)) lines.old engine.old) start work.old
         → IfOk result (ComesToWithin graph terms before
-        (diagnosis_at (watched (S.state input.new) (K.state out.new) desk.new) lines.new engine.new) start work.new) }
+        (diagnosis_at (watched (S.state input.new) (K.state out.new)
+        (seen_by P.state desk.new)) lines.new engine.new) start work.new) }
     ensures stopped { (graph : Tfpg) (terms : Terms) (before : Watched)
         → IsDiagnosing graph terms before
-        (diagnosis_at (watched (S.state input.old) (K.state out.old) desk.old) lines.old engine.old)
+        (diagnosis_at (watched (S.state input.old) (K.state out.old) (seen_by P.state desk.old)) lines.old engine.old)
         → IfErr result (λ fault. Diagnoses graph terms before
-        (watched (S.state input.new) (K.state out.new) desk.new) (Err fault)) }
+        (watched (S.state input.new) (K.state out.new) (seen_by P.state desk.new)) (Err fault)) }
 {
     a_report_goes_on_block_by_block();
     a_desk_is_told_round_by_round();

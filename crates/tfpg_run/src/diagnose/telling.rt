@@ -3,7 +3,7 @@
 ghost use Rattle.std.specs.Prelude.{◌≡◌, length, drop, IfSome, Ok, Err};
 ghost use Rattle.tfpg_evidence.specs.RoundOf.{IsRoundOf};
 ghost use Rattle.tfpg_graph.specs.Graph.{sizes_of};
-ghost use Rattle.tfpg_panel.specs.Desk.{IsTold};
+ghost use Rattle.tfpg_panel.specs.Desk.{IsTold, seen_by};
 ghost use Rattle.tfpg_run.specs.inside.Writing.{Writes};
 ghost use Rattle.tfpg_run.specs.inside.diagnose.Telling.{WritesBlock, end_of_loss, loss_text, losses_text, outgoing};
 
@@ -15,18 +15,18 @@ use itoa::Buffer;
 use tfpg_base::{Failed, Sink};
 use tfpg_evidence::Round;
 use tfpg_graph::Graph;
-use tfpg_panel::{Desk, LostPanel, Panel, PanelFault};
+use tfpg_panel::{DeskOf, LostPanel, Panel, PanelFault};
 
 /// Writes the block of a line whole, and then tells the desk its round.
 pub(super) fn write_and_tell<K: Sink, P: Panel>(
     out: &mut K,
-    desk: &mut Desk<P>,
+    desk: &mut DeskOf<P>,
     graph: &Graph,
     block: &LineBlock,
 ) -> Result<NextBlock, StreamFault>
     requires { IfSome block.now.round (IsRoundOf (sizes_of graph.now)) }
-    ensures { WritesBlock block.now.text.items block.now.round (outgoing (K.state out.old) desk.old)
-        (outgoing (K.state out.new) desk.new) result }
+    ensures { WritesBlock block.now.text.items block.now.round (outgoing (K.state out.old) (seen_by P.state desk.old))
+        (outgoing (K.state out.new) (seen_by P.state desk.new)) result }
 {
     write_all(out, &block.text)?;
     if let Some(round) = &block.round {
@@ -39,12 +39,12 @@ pub(super) fn write_and_tell<K: Sink, P: Panel>(
 /// written unless the output fails.
 fn tell_round<K: Sink, P: Panel>(
     out: &mut K,
-    desk: &mut Desk<P>,
+    desk: &mut DeskOf<P>,
     graph: &Graph,
     round: &Round,
 ) -> Result<(), Failed>
     requires { IsRoundOf (sizes_of graph.now) round.now }
-    ensures told { IsTold round.entry.now desk.old desk.new }
+    ensures told { IsTold round.entry.now (seen_by P.state desk.old) (seen_by P.state desk.new) }
     ensures writes { Writes (losses_text (drop (length desk.old.losses) desk.new.losses))
         (K.state out.old) (K.state out.new) result }
 {

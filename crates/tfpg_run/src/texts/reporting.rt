@@ -5,7 +5,7 @@ ghost use Rattle.tfpg_base.specs.Lines.{lines_of};
 ghost use Rattle.tfpg_graph.specs.Valid.{IsValid};
 ghost use Rattle.tfpg_log.specs.LogOfLines.{new_log};
 ghost use Rattle.tfpg_engine.specs.EngineState.{EngineRepresents};
-ghost use Rattle.tfpg_panel.specs.Desk.{new_desk};
+ghost use Rattle.tfpg_panel.specs.Desk.{new_desk, seen_by};
 ghost use Rattle.tfpg_check.specs.Report.{HasReports};
 ghost use Rattle.tfpg_run.specs.inside.texts.Faults.{IsWritingFault};
 ghost use Rattle.tfpg_run.specs.texts.Reports.{CanReport, IsPlainReport, IsReportFault, IsReportOfTexts};
@@ -21,7 +21,7 @@ use std::sync::ledger::{Blank, Ledger};
 use tfpg_base::{MemorySink, NoMemory, SteadySource, Steps, Terms};
 use tfpg_engine::Engine;
 use tfpg_graph::laws::a_text_has_at_most_one_first_fault;
-use tfpg_panel::{Desk, MemoryPanel};
+use tfpg_panel::{DeskOf, MemoryPanel, Panel};
 
 /// The report of the lines of the log, for the graph that the text spells, on these terms.
 ///
@@ -92,10 +92,10 @@ fn report_counted<L: Ledger>(
 }
 
 /// A desk with no panel.
-fn empty_desk(alloc: Global) -> Result<Desk<MemoryPanel>, NoMemory>
-    ensures { IfOk result (λ desk. desk ≡ new_desk []) }
+fn empty_desk(alloc: Global) -> Result<DeskOf<MemoryPanel>, NoMemory>
+    ensures { IfOk result (λ desk. seen_by ⟦<MemoryPanel as Panel>⟧.state desk ≡ new_desk []) }
 {
-    Desk::new(Vec::new(alloc))
+    DeskOf::new(alloc, Vec::new(alloc))
 }
 
 /// Writes the report of the lines of the log by a new engine to an empty sink, and tells no panel.
@@ -104,7 +104,7 @@ fn write_to_memory<L: Ledger>(
     engine: &mut Engine,
     log_text: &[u8],
     out: &mut MemorySink<'_>,
-    desk: &mut Desk<MemoryPanel>,
+    desk: &mut DeskOf<MemoryPanel>,
     work: &mut Steps<L>,
 ) -> Result<(), ReportFault>
     requires valid { IsValid engine.old.graph }
@@ -112,7 +112,7 @@ fn write_to_memory<L: Ledger>(
     requires new { EngineRepresents engine.old [] }
     requires has_reports { HasReports engine.old.graph engine.old.terms }
     requires empty { out.old.holds ≡ [] }
-    requires no_panel { desk.old ≡ new_desk [] }
+    requires no_panel { seen_by ⟦<MemoryPanel as Panel>⟧.state desk.old ≡ new_desk [] }
     ensures done { OnOk result (IsPlainReport engine.old.graph engine.old.terms (lines_of log_text.now) out.new.holds) }
     ensures fault { IfErr result (IsWritingFault log_text.now) }
 {

@@ -2,7 +2,6 @@ use Rattle.std.proofs.Common.{sym, ◌∙◌}
 use Rattle.std.specs.Prelude.{map, string_bytes}
 use Rattle.tfpg_words.specs.Meaning.{meaning}
 use Rattle.tfpg_words.specs.Plans.{meaning_of}
-use Rattle.tfpg_run.specs.World.{world}
 use Rattle.tfpg_run.proofs.PlannedNumbers.{within_limits}
 use Rattle.tfpg_run.proofs.Stops.{runs_within}
 use Rattle.tfpg_run.proofs.Completing.{by_work, run_completes, run_refuses}
@@ -22,44 +21,36 @@ perform-requires g c =
 pub returns-in-Ok-clause-completes : goal.returns-in-Ok-clause-completes
 returns-in-Ok-clause-completes g c meant e can calm =
     let words = meaning (map string_bytes c.args.words.now) in
-    let before = world (g.F.Shelf.state c.args.shelf.now) (g.S.Source.state c.args.input.now) (g.K.Sink.state c.args.out.now) c.args.desk.now in
-    let now = world (g.F.Shelf.state c.perform.new.shelf) (g.S.Source.state c.perform.new.input) (g.K.Sink.state c.perform.new.out) c.perform.new.desk in
     run_completes (record { text = c.a_text_has_at_most_one_first_fault.ensures.none; json = c.a_text_has_at_most_one_first_fault_as_json.ensures.none })
     (record {
       no_cause = c.lines_have_at_most_one_cause.ensures.none;
       one_cause = c.lines_have_at_most_one_cause.ensures.one;
       too_many = c.lines_have_at_most_one_cause.ensures.too_many;
       one_line = c.a_report_line_says_one_thing.ensures;
-    }) before now calm words meant c.end_of.result e can
-    (by_work words (meaning_of c.in-Ok.planned.command) before now c.perform.result c.end_of.result
+    }) _ _ calm words meant c.end_of.result e can
+    (by_work words (meaning_of c.in-Ok.planned.command) _ _ c.perform.result c.end_of.result
     c.in-Ok.ensures c.end_of.ensures c.perform.ensures.done c.perform.ensures.stopped)
 
 pub returns-in-Ok-clause-work : goal.returns-in-Ok-clause-work
 returns-in-Ok-clause-work g c meant e done =
-    let before = world (g.F.Shelf.state c.args.shelf.now) (g.S.Source.state c.args.input.now) (g.K.Sink.state c.args.out.now) c.args.desk.now in
-    let now = world (g.F.Shelf.state c.perform.new.shelf) (g.S.Source.state c.perform.new.input) (g.K.Sink.state c.perform.new.out) c.perform.new.desk in
-    runs_within meant (meaning_of c.in-Ok.planned.command) before now c.args.work.now c.perform.new.work (sym e ∙ c.in-Ok.ensures) (c.perform.ensures.work (sym c.end_of.ensures ∙ done))
+    runs_within meant (meaning_of c.in-Ok.planned.command) _ _ c.args.work.now c.perform.new.work (sym e ∙ c.in-Ok.ensures) (c.perform.ensures.work (sym c.end_of.ensures ∙ done))
 
 pub returns-in-Ok-clause-rechecks : goal.returns-in-Ok-clause-rechecks
 returns-in-Ok-clause-rechecks g c terms diagnosed e done graph log later follows =
     let words = meaning (map string_bytes c.args.words.now) in
-    let before = world (g.F.Shelf.state c.args.shelf.now) (g.S.Source.state c.args.input.now) (g.K.Sink.state c.args.out.now) c.args.desk.now in
-    let now = world (g.F.Shelf.state c.perform.new.shelf) (g.S.Source.state c.perform.new.input) (g.K.Sink.state c.perform.new.out) c.perform.new.desk in
-    can_check_after words c.end_of.result terms diagnosed graph log before now later e done
-    (by_work words (meaning_of c.in-Ok.planned.command) before now c.perform.result c.end_of.result
+    can_check_after words c.end_of.result terms diagnosed graph log _ _ later e done
+    (by_work words (meaning_of c.in-Ok.planned.command) _ _ c.perform.result c.end_of.result
     c.in-Ok.ensures c.end_of.ensures c.perform.ensures.done c.perform.ensures.stopped) follows
 
 pub returns-in-Ok-clause-refuses : goal.returns-in-Ok-clause-refuses
 returns-in-Ok-clause-refuses g c graph log line cause e can calm =
     let words = meaning (map string_bytes c.args.words.now) in
-    let before = world (g.F.Shelf.state c.args.shelf.now) (g.S.Source.state c.args.input.now) (g.K.Sink.state c.args.out.now) c.args.desk.now in
-    let now = world (g.F.Shelf.state c.perform.new.shelf) (g.S.Source.state c.perform.new.input) (g.K.Sink.state c.perform.new.out) c.perform.new.desk in
     run_refuses (record { text = c.a_text_has_at_most_one_first_fault.ensures.none; json = c.a_text_has_at_most_one_first_fault_as_json.ensures.none })
     (record {
       no_cause = c.lines_have_at_most_one_cause.ensures.none;
       one_cause = c.lines_have_at_most_one_cause.ensures.one;
       too_many = c.lines_have_at_most_one_cause.ensures.too_many;
       one_line = c.a_report_line_says_one_thing.ensures;
-    }) before now calm words graph log line cause c.end_of.result e can
-    (by_work words (meaning_of c.in-Ok.planned.command) before now c.perform.result c.end_of.result
+    }) _ _ calm words graph log line cause c.end_of.result e can
+    (by_work words (meaning_of c.in-Ok.planned.command) _ _ c.perform.result c.end_of.result
     c.in-Ok.ensures c.end_of.ensures c.perform.ensures.done c.perform.ensures.stopped)

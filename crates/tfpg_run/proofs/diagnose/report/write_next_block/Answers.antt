@@ -3,6 +3,7 @@ use Rattle.tfpg_run.specs.inside.Faults.{stream_fault_of_lines}
 use Rattle.tfpg_base.proofs.lists.Choices.{IfErr-from}
 use Rattle.tfpg_run.proofs.lemmas.diagnose.NextBlocks.{ends_by_fault, met_end, met_text, met_long, gave_without_memory, done_within, long_within, text_within}
 use Rattle.tfpg_run.proofs.lemmas.diagnose.WrittenBlocks.{wrote, wrote_within, stopped}
+use Rattle.tfpg_panel.specs.Desk.{seen_by}
 use Rattle.tfpg_run.proofs.diagnose.report.write_next_block.Goals as goal
 
 pub returns-in_err-next-clause-stopped : goal.returns-in_err-next-clause-stopped
@@ -31,7 +32,7 @@ returns-in_ok-block-in-TooLong-clause-comes_to g c graph terms before under =
     let read = long_within graph terms before _ c.args.lines.now c.args.engine.now _ c.next.new.self under c.in_ok-next.field-0 (c.in_ok-next.ensures under.reading under.represents)
     c.number.result c.in_ok-block-in-TooLong.block.text.items c.args.work.now c.in_ok-block-in-TooLong.block.round c.in-TooLong.is c.in_ok-block-in-TooLong.ensures in
     wrote graph terms before _ c.args.lines.now c.args.engine.now _ c.next.new.self under read.0 c.number.result c.in_ok-block-in-TooLong.block.text.items c.args.engine.now c.number.ensures read.1 c.in_ok-block-in-TooLong.block.round read.2
-    (g.K.Sink.state c.write_and_tell.new.out) c.write_and_tell.new.desk c.always_keeps_its_panels.ensures.few (record { step = c.a_desk_is_told_round_by_round.ensures.step; rise = c.the_losses_of_a_round_rise.ensures })
+    (g.K.Sink.state c.write_and_tell.new.out) (seen_by g.P.Panel.state c.write_and_tell.new.desk) c.always_keeps_its_panels.ensures.few (record { step = c.a_desk_is_told_round_by_round.ensures.step; rise = c.the_losses_of_a_round_rise.ensures })
     c.a_report_goes_on_block_by_block.ensures.step c.write_and_tell.result c.write_and_tell.ensures
 
 pub returns-in_ok-block-in-TooLong-clause-stopped : goal.returns-in_ok-block-in-TooLong-clause-stopped
@@ -39,7 +40,7 @@ returns-in_ok-block-in-TooLong-clause-stopped g c graph terms before under =
     let read = long_within graph terms before _ c.args.lines.now c.args.engine.now _ c.next.new.self under c.in_ok-next.field-0 (c.in_ok-next.ensures under.reading under.represents)
     c.number.result c.in_ok-block-in-TooLong.block.text.items c.args.work.now c.in_ok-block-in-TooLong.block.round c.in-TooLong.is c.in_ok-block-in-TooLong.ensures in
     stopped graph terms before _ c.args.lines.now c.args.engine.now _ c.next.new.self under read.0 c.number.result c.in_ok-block-in-TooLong.block.text.items c.args.engine.now c.number.ensures read.1 c.in_ok-block-in-TooLong.block.round read.2
-    (g.K.Sink.state c.write_and_tell.new.out) c.write_and_tell.new.desk c.always_keeps_its_panels.ensures.few (record { step = c.a_desk_is_told_round_by_round.ensures.step; rise = c.the_losses_of_a_round_rise.ensures })
+    (g.K.Sink.state c.write_and_tell.new.out) (seen_by g.P.Panel.state c.write_and_tell.new.desk) c.always_keeps_its_panels.ensures.few (record { step = c.a_desk_is_told_round_by_round.ensures.step; rise = c.the_losses_of_a_round_rise.ensures })
     c.a_report_goes_on_block_by_block.ensures.step c.write_and_tell.result c.write_and_tell.ensures
 
 pub returns-in_ok-block-in-TooLong-clause-counts : goal.returns-in_ok-block-in-TooLong-clause-counts
@@ -48,7 +49,7 @@ returns-in_ok-block-in-TooLong-clause-counts g c graph terms before start so_far
     let read = long_within graph terms before _ c.args.lines.now c.args.engine.now _ c.next.new.self under c.in_ok-next.field-0 (c.in_ok-next.ensures under.reading under.represents)
     c.number.result c.in_ok-block-in-TooLong.block.text.items c.args.work.now c.in_ok-block-in-TooLong.block.round c.in-TooLong.is c.in_ok-block-in-TooLong.ensures in
     wrote_within graph terms before _ c.args.lines.now c.args.engine.now _ c.next.new.self under read.0 c.number.result c.in_ok-block-in-TooLong.block.text.items c.args.engine.now c.number.ensures read.1 c.in_ok-block-in-TooLong.block.round read.2
-    (g.K.Sink.state c.write_and_tell.new.out) c.write_and_tell.new.desk c.always_keeps_its_panels.ensures.few (record { step = c.a_desk_is_told_round_by_round.ensures.step; rise = c.the_losses_of_a_round_rise.ensures })
+    (g.K.Sink.state c.write_and_tell.new.out) (seen_by g.P.Panel.state c.write_and_tell.new.desk) c.always_keeps_its_panels.ensures.few (record { step = c.a_desk_is_told_round_by_round.ensures.step; rise = c.the_losses_of_a_round_rise.ensures })
     c.a_report_goes_on_block_by_block.ensures.step start c.args.work.now c.args.work.now so_far.within read.3 c.write_and_tell.result c.write_and_tell.ensures
 
 pub returns-in_ok-block-in-Text-clause-comes_to : goal.returns-in_ok-block-in-Text-clause-comes_to
@@ -56,7 +57,7 @@ returns-in_ok-block-in-Text-clause-comes_to g c graph terms before under =
     let read = text_within graph terms before _ c.args.lines.now c.args.engine.now _ c.next.new.self under c.in_ok-next.field-0 (c.in_ok-next.ensures under.reading under.represents)
     c.number-in-Text.result c.text.result.now c.in_ok-block-in-Text.block.text.items c.line_block.new.engine c.args.work.now c.line_block.new.work c.in-Text.is c.text.ensures c.in_ok-block-in-Text.block.round (c.in_ok-block-in-Text.ensures.block graph terms) in
     wrote graph terms before _ c.args.lines.now c.args.engine.now _ c.next.new.self under read.0 c.number-in-Text.result c.in_ok-block-in-Text.block.text.items c.line_block.new.engine c.number-in-Text.ensures read.1 c.in_ok-block-in-Text.block.round read.2
-    (g.K.Sink.state c.write_and_tell-in-Text.new.out) c.write_and_tell-in-Text.new.desk c.always_keeps_its_panels.ensures.few (record { step = c.a_desk_is_told_round_by_round.ensures.step; rise = c.the_losses_of_a_round_rise.ensures })
+    (g.K.Sink.state c.write_and_tell-in-Text.new.out) (seen_by g.P.Panel.state c.write_and_tell-in-Text.new.desk) c.always_keeps_its_panels.ensures.few (record { step = c.a_desk_is_told_round_by_round.ensures.step; rise = c.the_losses_of_a_round_rise.ensures })
     c.a_report_goes_on_block_by_block.ensures.step c.write_and_tell-in-Text.result c.write_and_tell-in-Text.ensures
 
 pub returns-in_ok-block-in-Text-clause-stopped : goal.returns-in_ok-block-in-Text-clause-stopped
@@ -64,7 +65,7 @@ returns-in_ok-block-in-Text-clause-stopped g c graph terms before under =
     let read = text_within graph terms before _ c.args.lines.now c.args.engine.now _ c.next.new.self under c.in_ok-next.field-0 (c.in_ok-next.ensures under.reading under.represents)
     c.number-in-Text.result c.text.result.now c.in_ok-block-in-Text.block.text.items c.line_block.new.engine c.args.work.now c.line_block.new.work c.in-Text.is c.text.ensures c.in_ok-block-in-Text.block.round (c.in_ok-block-in-Text.ensures.block graph terms) in
     stopped graph terms before _ c.args.lines.now c.args.engine.now _ c.next.new.self under read.0 c.number-in-Text.result c.in_ok-block-in-Text.block.text.items c.line_block.new.engine c.number-in-Text.ensures read.1 c.in_ok-block-in-Text.block.round read.2
-    (g.K.Sink.state c.write_and_tell-in-Text.new.out) c.write_and_tell-in-Text.new.desk c.always_keeps_its_panels.ensures.few (record { step = c.a_desk_is_told_round_by_round.ensures.step; rise = c.the_losses_of_a_round_rise.ensures })
+    (g.K.Sink.state c.write_and_tell-in-Text.new.out) (seen_by g.P.Panel.state c.write_and_tell-in-Text.new.desk) c.always_keeps_its_panels.ensures.few (record { step = c.a_desk_is_told_round_by_round.ensures.step; rise = c.the_losses_of_a_round_rise.ensures })
     c.a_report_goes_on_block_by_block.ensures.step c.write_and_tell-in-Text.result c.write_and_tell-in-Text.ensures
 
 pub returns-in_ok-block-in-Text-clause-counts : goal.returns-in_ok-block-in-Text-clause-counts
@@ -73,7 +74,7 @@ returns-in_ok-block-in-Text-clause-counts g c graph terms before start so_far =
     let read = text_within graph terms before _ c.args.lines.now c.args.engine.now _ c.next.new.self under c.in_ok-next.field-0 (c.in_ok-next.ensures under.reading under.represents)
     c.number-in-Text.result c.text.result.now c.in_ok-block-in-Text.block.text.items c.line_block.new.engine c.args.work.now c.line_block.new.work c.in-Text.is c.text.ensures c.in_ok-block-in-Text.block.round (c.in_ok-block-in-Text.ensures.block graph terms) in
     wrote_within graph terms before _ c.args.lines.now c.args.engine.now _ c.next.new.self under read.0 c.number-in-Text.result c.in_ok-block-in-Text.block.text.items c.line_block.new.engine c.number-in-Text.ensures read.1 c.in_ok-block-in-Text.block.round read.2
-    (g.K.Sink.state c.write_and_tell-in-Text.new.out) c.write_and_tell-in-Text.new.desk c.always_keeps_its_panels.ensures.few (record { step = c.a_desk_is_told_round_by_round.ensures.step; rise = c.the_losses_of_a_round_rise.ensures })
+    (g.K.Sink.state c.write_and_tell-in-Text.new.out) (seen_by g.P.Panel.state c.write_and_tell-in-Text.new.desk) c.always_keeps_its_panels.ensures.few (record { step = c.a_desk_is_told_round_by_round.ensures.step; rise = c.the_losses_of_a_round_rise.ensures })
     c.a_report_goes_on_block_by_block.ensures.step start c.args.work.now c.line_block.new.work so_far.within read.3 c.write_and_tell-in-Text.result c.write_and_tell-in-Text.ensures
 
 pub returns-in-End-clause-counts : goal.returns-in-End-clause-counts

@@ -8,34 +8,35 @@ use Rattle.tfpg_base.proofs.lists.Choices.{Err-from}
 use Rattle.tfpg_run.proofs.Putting.{Puts-same}
 use Rattle.tfpg_run.proofs.InputLines.{falls_short}
 use Rattle.tfpg_run.proofs.lemmas.diagnose.NextBlocks.{few_given, head_as, begins_within, begins_without_memory, begins_badly}
+use Rattle.tfpg_panel.specs.Desk.{seen_by}
 use Rattle.tfpg_run.proofs.diagnose.report.write_report.Goals as goal
 
 pub returns-in_err-lines-clause-diagnoses : goal.returns-in_err-lines-clause-diagnoses
 returns-in_err-lines-clause-diagnoses g c =
-    let before = watched (g.S.Source.state c.args.input.now) (g.K.Sink.state c.args.out.now) c.args.desk.now in
-    let told = c.a_desk_is_told_round_by_round.ensures.start c.args.desk.now c.always_keeps_its_panels.ensures in
+    let before = watched (g.S.Source.state c.args.input.now) (g.K.Sink.state c.args.out.now) (seen_by g.P.Panel.state c.args.desk.now) in
+    let told = c.a_desk_is_told_round_by_round.ensures.start (seen_by g.P.Panel.state c.args.desk.now) c.always_keeps_its_panels.ensures in
     subst (Diagnoses c.args.engine.now.graph c.args.engine.now.terms before before) (sym (Err-from c.from_residual.result faults.NoMemory c.from_residual.ensures.1)) (begins_without_memory c.args.engine.now.graph c.args.engine.now.terms before c.requires.has_reports told)
 
 pub returns-in_err-head-clause-diagnoses : goal.returns-in_err-head-clause-diagnoses
 returns-in_err-head-clause-diagnoses g c =
-    let before = watched (g.S.Source.state c.args.input.now) (g.K.Sink.state c.args.out.now) c.args.desk.now in
-    let told = c.a_desk_is_told_round_by_round.ensures.start c.args.desk.now c.always_keeps_its_panels.ensures in
+    let before = watched (g.S.Source.state c.args.input.now) (g.K.Sink.state c.args.out.now) (seen_by g.P.Panel.state c.args.desk.now) in
+    let told = c.a_desk_is_told_round_by_round.ensures.start (seen_by g.P.Panel.state c.args.desk.now) c.always_keeps_its_panels.ensures in
     subst (Diagnoses c.args.engine.now.graph c.args.engine.now.terms before before) (sym (Err-from c.from_residual-in_err-head.result faults.NoMemory c.from_residual-in_err-head.ensures.1)) (begins_without_memory c.args.engine.now.graph c.args.engine.now.terms before c.requires.has_reports told)
 
 pub returns-in_err-write_all-clause-diagnoses : goal.returns-in_err-write_all-clause-diagnoses
 returns-in_err-write_all-clause-diagnoses g c =
-    let before = watched (g.S.Source.state c.args.input.now) (g.K.Sink.state c.args.out.now) c.args.desk.now in
-    let told = c.a_desk_is_told_round_by_round.ensures.start c.args.desk.now c.always_keeps_its_panels.ensures in
+    let before = watched (g.S.Source.state c.args.input.now) (g.K.Sink.state c.args.out.now) (seen_by g.P.Panel.state c.args.desk.now) in
+    let told = c.a_desk_is_told_round_by_round.ensures.start (seen_by g.P.Panel.state c.args.desk.now) c.always_keeps_its_panels.ensures in
     let output = g.K.Sink.state c.write_all.new.out in
     let front = c.in_err-write_all.ensures.front in
-    subst (Diagnoses c.args.engine.now.graph c.args.engine.now.terms before (watched (g.S.Source.state c.args.input.now) output c.args.desk.now))
+    subst (Diagnoses c.args.engine.now.graph c.args.engine.now.terms before (watched (g.S.Source.state c.args.input.now) output (seen_by g.P.Panel.state c.args.desk.now)))
     (sym (Err-from c.from_residual-in_err-write_all.result faults.WriteFault c.from_residual-in_err-write_all.ensures.1))
     (begins_badly c.args.engine.now.graph c.args.engine.now.terms before c.requires.has_reports told output c.deref.result.now front.0 front.1 (c.deref.ensures.value ∙ head_as _ _ _ c.terms.ensures c.in_ok-head.ensures) front.2 front.3 c.in_err-write_all.ensures.failed)
 
 pub loop-head-init : goal.loop-head-init
 loop-head-init g c =
-    let before = watched (g.S.Source.state c.args.input.now) (g.K.Sink.state c.args.out.now) c.args.desk.now in
-    let told = c.a_desk_is_told_round_by_round.ensures.start c.args.desk.now c.always_keeps_its_panels.ensures in
+    let before = watched (g.S.Source.state c.args.input.now) (g.K.Sink.state c.args.out.now) (seen_by g.P.Panel.state c.args.desk.now) in
+    let told = c.a_desk_is_told_round_by_round.ensures.start (seen_by g.P.Panel.state c.args.desk.now) c.always_keeps_its_panels.ensures in
     let output = g.K.Sink.state c.write_all.new.out in
     begins_within c.args.engine.now.graph c.args.engine.now.terms before c.in_ok-lines.lines c.args.engine.now output c.args.work.now
     c.requires.has_reports c.in_ok-lines.ensures.unread (record { graph_is = refl; terms_is = refl; log_is = c.requires.unread; represents = c.requires.new })

@@ -1,5 +1,7 @@
 use Rattle.std.proofs.Common.{Some, ap, refl}
 use Rattle.tfpg_base.specs.Memory.{SteadySourceState}
+use Rattle.tfpg_panel.specs.Desk.{seen_by}
+use Rattle.tfpg_panel.specs.contracts.memory_panel.MemoryPanelPanel.TheImpl.{ghosts}
 use Rattle.tfpg_run.specs.World.{watched}
 use Rattle.tfpg_run.proofs.lemmas.texts.Reported.{wrote_report}
 use Rattle.tfpg_run.proofs.texts.reporting.write_to_memory.Goals as goal
@@ -10,7 +12,7 @@ returns-in-Ok-clause-done g c =
     let input' = c.write_report.new.input in
     let output = c.args.out.now in
     let output' = c.write_report.new.out in
-    let before = watched (record { left = Some input.left; ended = input.ended; faults = 0 }) (record { holds = Some output.holds; faults = output.faults }) c.args.desk.now in
-    let now = watched (record { left = Some input'.left; ended = input'.ended; faults = 0 }) (record { holds = Some output'.holds; faults = output'.faults }) c.write_report.new.desk in
+    let before = watched (record { left = Some input.left; ended = input.ended; faults = 0 }) (record { holds = Some output.holds; faults = output.faults }) (seen_by ghosts.state c.args.desk.now) in
+    let now = watched (record { left = Some input'.left; ended = input'.ended; faults = 0 }) (record { holds = Some output'.holds; faults = output'.faults }) (seen_by ghosts.state c.write_report.new.desk) in
     wrote_report c.args.engine.now.graph c.args.engine.now.terms c.args.log_text.now before now (ap (λ (s : SteadySourceState). Some s.left) c.new-input.ensures)
     (ap Some c.requires.empty) c.requires.no_panel output'.holds refl c.in-Ok.ensures.diagnoses
