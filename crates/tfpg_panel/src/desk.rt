@@ -16,18 +16,16 @@ use tfpg_base::{MAX_PANEL_NUMBER, NoMemory};
 use tfpg_evidence::Round;
 use tfpg_graph::Graph;
 
-/// Boxed panels, which are numbered from 1, and those of them that were lost.
-pub type Desk = DeskOf<Box<dyn Panel>>;
-
-/// A desk of panels of one type, as boxes are. Contracts see the panels themselves, and a clause says by `seen_by` what it sees of each.
+/// Panels, which are numbered from 1, and those of them that were lost. They are boxed, unless a type is named. Contracts see the panels
+/// themselves, and a clause says by `seen_by` what it sees of each.
 #[derive(Drop)]
-pub struct DeskOf<P> {
+pub struct Desk<P = Box<dyn Panel>> {
     panels: Vec<P>,
     kept: Vec<u64>,
     losses: Vec<LostPanel>,
 }
 
-impl<P> Model for DeskOf<P> {
+impl<P> Model for Desk<P> {
     ghost use Rattle.std.specs.Prelude.{◌≤◌, ◌+◌, length, vec_capacity};
     ghost use Rattle.tfpg_panel.specs.Desk.{DeskOf, KeepsPanels};
 
@@ -43,9 +41,20 @@ impl<P> Model for DeskOf<P> {
         (length desk.kept.items + length desk.losses.items ≤ vec_capacity desk.losses) };
 }
 
-impl<P: Panel> DeskOf<P> {
+impl Desk {
     /// A desk of these panels. It keeps them all, has lost none, and has made room for the loss of each.
-    pub fn new(alloc: Global, panels: Vec<P>) -> Result<DeskOf<P>, NoMemory>
+    pub fn new(alloc: Global, panels: Vec<Box<dyn Panel>>) -> Result<Desk, NoMemory>
+        ensures panels { IfOk result (λ desk. desk.panels ≡ panels.items) }
+        ensures new { IfOk result (λ desk. seen_by ⟦<Box<dyn Panel> as Panel>⟧.state desk
+            ≡ new_desk (map ⟦<Box<dyn Panel> as Panel>⟧.state panels.items)) }
+    {
+        Desk::of(alloc, panels)
+    }
+}
+
+impl<P: Panel> Desk<P> {
+    /// A desk of these panels of one type, as [`Desk::new`] makes one of boxes.
+    pub fn of(alloc: Global, panels: Vec<P>) -> Result<Desk<P>, NoMemory>
         ensures panels { IfOk result (λ desk. desk.panels ≡ panels.items) }
         ensures new { IfOk result (λ desk. seen_by P.state desk ≡ new_desk (map P.state panels.items)) }
     {
@@ -56,7 +65,7 @@ impl<P: Panel> DeskOf<P> {
         }
         let kept = numbers_to(alloc, count as u64)?;
         let losses = Vec::with_capacity(alloc, count)?;
-        Ok(DeskOf {
+        Ok(Desk {
             panels,
             kept,
             losses,

@@ -2,7 +2,7 @@
 //!
 //! - [`Panel`] is told rounds one by one, and may fail, by a [`PanelFault`].
 //! - [`Desk`] has boxed panels, which are numbered from 1. It tells each of its kept panels a round. One that fails is put aside as a
-//!   [`LostPanel`], and told nothing more. [`DeskOf`] is a desk of panels of one type.
+//!   [`LostPanel`], and told nothing more.
 //! - [`laws`] says what telling one round after another comes to.
 //! - [`SteadyPanel`] keeps the rounds that it is told, and never fails. [`MemoryPanel`] keeps them too, and fails at chosen calls. A panel
 //!   that cannot lend its rounds has [`ToldRounds`], which contracts alone see.
@@ -24,7 +24,7 @@ mod panel;
 mod steady_panel;
 mod told_rounds;
 
-pub use desk::{Desk, DeskOf};
+pub use desk::Desk;
 pub use lost_panel::LostPanel;
 pub use memory_panel::MemoryPanel;
 pub use panel::{Panel, PanelFault};

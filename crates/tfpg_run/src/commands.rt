@@ -30,7 +30,7 @@ use tfpg_base::{Shelf, Sink, Source, Steps, Terms};
 use tfpg_check::laws::lines_have_at_most_one_cause;
 use tfpg_graph::laws::a_text_has_at_most_one_first_fault;
 use tfpg_json::laws::a_text_has_at_most_one_first_fault_as_json;
-use tfpg_panel::{Desk, DeskOf, Panel};
+use tfpg_panel::{Desk, Panel};
 use tfpg_report::laws::a_report_line_says_one_thing;
 use tfpg_words::laws::numbers_are_within_their_limits;
 use tfpg_words::{Command, PlanFault, Planned, plan};
@@ -125,7 +125,7 @@ fn perform<F: Shelf, S: Source, K: Sink, P: Panel, L: Ledger>(
     shelf: &mut F,
     input: &mut S,
     out: &mut K,
-    desk: &mut DeskOf<P>,
+    desk: &mut Desk<P>,
     work: &mut Steps<L>,
 ) -> Result<(), End>
     requires { AreWithinLimits (meaning_of command.now) }

@@ -21,7 +21,7 @@ use std::sync::ledger::Ledger;
 use tfpg_base::{Shelf, Sink, Source, Steps, Terms};
 use tfpg_engine::Engine;
 use tfpg_panel::laws::a_desk_is_told_round_by_round;
-use tfpg_panel::{DeskOf, Panel};
+use tfpg_panel::{Desk, Panel};
 
 /// What is to be diagnosed: the graph of the file of this name, on these terms.
 #[derive(Clone, Copy)]
@@ -37,7 +37,7 @@ pub(crate) fn diagnose_file<F: Shelf, S: Source, K: Sink, P: Panel, L: Ledger>(
     shelf: &mut F,
     input: &mut S,
     out: &mut K,
-    desk: &mut DeskOf<P>,
+    desk: &mut Desk<P>,
     work: &mut Steps<L>,
 ) -> Result<(), End>
     requires { AreReportTerms subject.now.terms }

@@ -27,7 +27,7 @@ use tfpg_base::{Line, Lines, NoMemory, Sink, Source, Steps, Terms};
 use tfpg_check::laws::a_report_goes_on_block_by_block;
 use tfpg_engine::Engine;
 use tfpg_panel::laws::{a_desk_is_told_round_by_round, the_losses_of_a_round_rise};
-use tfpg_panel::{DeskOf, Panel};
+use tfpg_panel::{Desk, Panel};
 use tfpg_report::{RefusedLine, head};
 
 /// Whether the block of one more line is written, or the input has ended.
@@ -43,7 +43,7 @@ pub(crate) fn write_report<S: Source, K: Sink, P: Panel, L: Ledger>(
     engine: &mut Engine,
     input: &mut S,
     out: &mut K,
-    desk: &mut DeskOf<P>,
+    desk: &mut Desk<P>,
     work: &mut Steps<L>,
 ) -> Result<(), StreamFault>
     requires valid { IsValid engine.old.graph }
@@ -85,7 +85,7 @@ fn write_next_block<S: Source, K: Sink, P: Panel, L: Ledger>(
     lines: &mut Lines,
     input: &mut S,
     out: &mut K,
-    desk: &mut DeskOf<P>,
+    desk: &mut Desk<P>,
     work: &mut Steps<L>,
 ) -> Result<NextBlock, StreamFault>
     requires { IsEngineReady engine.old }

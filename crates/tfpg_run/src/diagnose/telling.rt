@@ -15,12 +15,12 @@ use itoa::Buffer;
 use tfpg_base::{Failed, Sink};
 use tfpg_evidence::Round;
 use tfpg_graph::Graph;
-use tfpg_panel::{DeskOf, LostPanel, Panel, PanelFault};
+use tfpg_panel::{Desk, LostPanel, Panel, PanelFault};
 
 /// Writes the block of a line whole, and then tells the desk its round.
 pub(super) fn write_and_tell<K: Sink, P: Panel>(
     out: &mut K,
-    desk: &mut DeskOf<P>,
+    desk: &mut Desk<P>,
     graph: &Graph,
     block: &LineBlock,
 ) -> Result<NextBlock, StreamFault>
@@ -39,7 +39,7 @@ pub(super) fn write_and_tell<K: Sink, P: Panel>(
 /// written unless the output fails.
 fn tell_round<K: Sink, P: Panel>(
     out: &mut K,
-    desk: &mut DeskOf<P>,
+    desk: &mut Desk<P>,
     graph: &Graph,
     round: &Round,
 ) -> Result<(), Failed>

@@ -21,7 +21,7 @@ use std::sync::ledger::{Blank, Ledger};
 use tfpg_base::{MemorySink, NoMemory, SteadySource, Steps, Terms};
 use tfpg_engine::Engine;
 use tfpg_graph::laws::a_text_has_at_most_one_first_fault;
-use tfpg_panel::{DeskOf, MemoryPanel, Panel};
+use tfpg_panel::{Desk, MemoryPanel, Panel};
 
 /// The report of the lines of the log, for the graph that the text spells, on these terms.
 ///
@@ -92,10 +92,10 @@ fn report_counted<L: Ledger>(
 }
 
 /// A desk with no panel.
-fn empty_desk(alloc: Global) -> Result<DeskOf<MemoryPanel>, NoMemory>
+fn empty_desk(alloc: Global) -> Result<Desk<MemoryPanel>, NoMemory>
     ensures { IfOk result (λ desk. seen_by ⟦<MemoryPanel as Panel>⟧.state desk ≡ new_desk []) }
 {
-    DeskOf::new(alloc, Vec::new(alloc))
+    Desk::of(alloc, Vec::new(alloc))
 }
 
 /// Writes the report of the lines of the log by a new engine to an empty sink, and tells no panel.
@@ -104,7 +104,7 @@ fn write_to_memory<L: Ledger>(
     engine: &mut Engine,
     log_text: &[u8],
     out: &mut MemorySink<'_>,
-    desk: &mut DeskOf<MemoryPanel>,
+    desk: &mut Desk<MemoryPanel>,
     work: &mut Steps<L>,
 ) -> Result<(), ReportFault>
     requires valid { IsValid engine.old.graph }
