@@ -1,6 +1,5 @@
 -- That the code judges a round as the definitions say.
 pub mod NotedParts
-pub mod Listed
 pub mod TestsInTurn
 pub mod HearingSays
 pub mod LastKeys

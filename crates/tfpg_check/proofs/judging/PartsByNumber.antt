@@ -12,16 +12,6 @@ use Rattle.tfpg_base.proofs.lists.Written.{each_get_or-push, slice_get-append_so
 use Rattle.tfpg_check.specs.inside.Hearings.{flag_at}
 use Rattle.tfpg_check.specs.inside.LargestParts.{IsPartAmong, IsPartOfOne, AreLargestFrom, AreLargestBelow, ListsLargestParts, ArePartsBefore, HasFlaggedPart, SayFlaggedParts}
 
--- A test of the hypotheses of two numbers says whether the one is a proper part of the other.
-pub among : (hypotheses : List Hypothesis) (part whole : ℕ) (less more : Hypothesis) (test : Bool) → slice_get hypotheses part ≡ Some less → slice_get hypotheses whole ≡ Some more
-    → IsTrue test ↔ IsProperPart less more → IsTrue test ↔ IsPartAmong hypotheses part whole
-among hypotheses part whole less more test less_at more_at exact = (
-  λ up. record { less = less; less_at = less_at; more = more; more_at = more_at; proper = exact.0 up },
-  λ is. exact.1
-      (subst (λ (h : Hypothesis). IsProperPart h more) (same_Some is.less less (sym is.less_at ∙ less_at))
-      (subst (λ (h : Hypothesis). IsProperPart is.less h) (same_Some is.more more (sym is.more_at ∙ more_at)) is.proper)),
-)
-
 -- ---- the largest ones
 
 module _ (hypotheses : List Hypothesis) (whole : ℕ) where

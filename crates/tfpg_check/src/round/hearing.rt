@@ -44,7 +44,7 @@ impl<'a> Hearing<'a> {
     pub(crate) fn is_listed(&self, number: u32, hypothesis: Hypothesis) -> bool
         ensures { IsTrue result ↔ (slice_get self.now.table.now.hypotheses number ≡ Some hypothesis) }
     {
-        number < self.table.len() && self.table.hypothesis(number) == hypothesis
+        number < self.table.len() && self.table.hypothesis(number).is_same(hypothesis)
     }
 
     /// Whether the tree of the hypothesis of this number is closed.
