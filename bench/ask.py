@@ -21,7 +21,9 @@ import tempfile
 import time
 from pathlib import Path
 
-TFPG = Path(__file__).resolve().parent.parent / "tfpg"
+from diagnose import built_program
+
+TFPG = Path(__file__).resolve().parent.parent / "crates" / "tfpg" / "out" / "tfpg"
 FAILURES, NODES, EDGES, EVENTS = 10, 512, 2048, 300
 
 
@@ -71,7 +73,7 @@ def shortest(words, given=b""):
 
 
 def main():
-    run(["generate", "--size", "1"])
+    built_program()
     shapes = {"far": (400, 100, 0.0, 1.0), "near": (10, 60, 0.0, 1.0), "and": (10, 60, 0.2, 0.9)}
     with tempfile.TemporaryDirectory() as folder:
         graph, script, log = (Path(folder) / name for name in ("graph", "script", "log"))

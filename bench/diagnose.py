@@ -19,7 +19,8 @@ import tempfile
 import time
 from pathlib import Path
 
-TFPG = Path(__file__).resolve().parent.parent / "tfpg"
+TOP = Path(__file__).resolve().parent.parent
+TFPG = TOP / "crates" / "tfpg" / "out" / "tfpg"
 TWO_MODES = """tfpg 1
 mode N
 mode D
@@ -38,10 +39,10 @@ end
 
 
 def built_program(named=None):
-    """The program of this file, or else that of this checkout, which `./tfpg` proves and builds where it is not built yet."""
+    """The program of this file, or else that of this checkout, which `./build` proves and builds where it is not built yet."""
     if named is None:
-        subprocess.run([TFPG, "generate", "--size", "1"], stdout=subprocess.DEVNULL, check=True)
-        named = TFPG.parent / "crates" / "tfpg" / "out" / "tfpg"
+        subprocess.run([TOP / "build"], check=True)
+        named = TFPG
     return named.resolve()
 
 
@@ -123,7 +124,7 @@ def show(name, events, seconds, peak, report):
 
 
 def main():
-    subprocess.run([TFPG, "generate", "--size", "1"], stdout=subprocess.DEVNULL, check=True)
+    built_program()
     with tempfile.TemporaryDirectory() as folder:
         top = Path(folder)
         draws = random.Random(7)

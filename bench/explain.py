@@ -10,7 +10,7 @@ The verdict is yes, so that nothing is left out: each edge is active in one of t
 is due, so that the must rule looks at each span; and the other events are sweeps before anything is active, so that each asks
 for each node.
 
-The program is the one that `./tfpg` has built; where it is not built yet, proving and building it takes minutes.
+The program is that of `./build`, which is run first; where it is not built yet, that takes half an hour.
 """
 
 import pathlib
@@ -19,8 +19,9 @@ import sys
 import tempfile
 import time
 
-HERE = pathlib.Path(__file__).resolve().parent.parent
-PROGRAM = HERE / "tfpg"
+from diagnose import built_program
+
+PROGRAM = pathlib.Path(__file__).resolve().parent.parent / "crates" / "tfpg" / "out" / "tfpg"
 
 FAILURES = 64
 EFFECTS = 448
@@ -77,6 +78,7 @@ def run(folder):
 
 
 def main():
+    built_program()
     if len(sys.argv) > 1:
         run(pathlib.Path(sys.argv[1]))
     else:

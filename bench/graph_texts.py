@@ -11,7 +11,7 @@ names of 32 bytes; 16 MiB of comments; and 16 MiB of empty lines. For each it pr
 - `wc -l`, which only goes through the bytes,
 - Python splitting the same text into lines and words.
 
-The program is the one that `./tfpg` has built; where it is not built yet, proving and building it takes minutes.
+The program is that of `./build`, which is run first; where it is not built yet, that takes half an hour.
 """
 
 import pathlib
@@ -21,8 +21,9 @@ import sys
 import tempfile
 import time
 
-HERE = pathlib.Path(__file__).resolve().parent.parent
-PROGRAM = HERE / "tfpg"
+from diagnose import built_program
+
+PROGRAM = pathlib.Path(__file__).resolve().parent.parent / "crates" / "tfpg" / "out" / "tfpg"
 
 MOST_BYTES = 2**24
 RUNS = 5
@@ -108,6 +109,7 @@ def timed(folder):
 
 
 def main():
+    built_program()
     if len(sys.argv) > 1:
         folder = pathlib.Path(sys.argv[1])
         folder.mkdir(parents=True, exist_ok=True)

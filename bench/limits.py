@@ -11,7 +11,7 @@
 
 Each line says what was tried, how the run ended, its seconds, and its peak memory. The exit status is 1 if one did not end as it should.
 
-The program is the one that `./tfpg` has built; where it is not built yet, proving and building it takes minutes.
+The program is that of `./build`, which is run first; where it is not built yet, that takes half an hour.
 """
 
 import argparse

@@ -10,7 +10,7 @@ empty set alone. It prints the shortest of five runs of each, and what a ranked 
 Each of the 16 failure modes explains the alarm of the first effect. Of the edges every third one is active in one mode alone, and the mode
 changes a hundred times, so that there are windows to look at. The silences come before anything need be active.
 
-The program is the one that `./tfpg` has built; where it is not built yet, proving and building it takes minutes.
+The program is that of `./build`, which is run first; where it is not built yet, that takes half an hour.
 """
 
 import pathlib
@@ -19,8 +19,9 @@ import sys
 import tempfile
 import time
 
-HERE = pathlib.Path(__file__).resolve().parent.parent
-PROGRAM = HERE / "tfpg"
+from diagnose import built_program
+
+PROGRAM = pathlib.Path(__file__).resolve().parent.parent / "crates" / "tfpg" / "out" / "tfpg"
 
 FAILURES = 16
 EFFECTS = 495
@@ -84,6 +85,7 @@ def run(folder):
 
 
 def main():
+    built_program()
     if len(sys.argv) > 1:
         run(pathlib.Path(sys.argv[1]))
     else:

@@ -19,7 +19,9 @@ import tempfile
 import time
 from pathlib import Path
 
-TFPG = Path(__file__).resolve().parent.parent / "tfpg"
+from diagnose import built_program
+
+TFPG = Path(__file__).resolve().parent.parent / "crates" / "tfpg" / "out" / "tfpg"
 
 
 def wide_graph(draws, nodes=512, edges=2048):
@@ -118,7 +120,7 @@ def show(name, folder, log):
 
 
 def main():
-    subprocess.run([TFPG, "generate", "--size", "1"], stdout=subprocess.DEVNULL, check=True)
+    built_program()
     with tempfile.TemporaryDirectory() as top:
         folder = Path(top)
         draws = random.Random(11)

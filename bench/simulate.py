@@ -18,7 +18,9 @@ import tempfile
 import time
 from pathlib import Path
 
-TFPG = Path(__file__).resolve().parent.parent / "tfpg"
+from diagnose import built_program
+
+TFPG = Path(__file__).resolve().parent.parent / "crates" / "tfpg" / "out" / "tfpg"
 
 
 def large_graph(draws, failures, nodes=512, edges=2048):
@@ -69,6 +71,7 @@ def show(name, folder, failures, changes, events):
 
 
 def main():
+    built_program()
     with tempfile.TemporaryDirectory() as name:
         folder = Path(name)
         show("no change", folder, 1, 0, 100)
