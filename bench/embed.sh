@@ -33,7 +33,7 @@ wanted() {
     fi
 }
 
-(cd "$top/crates/tfpg_embed" && rt lib)
+"$top/build" library
 link_with examples/report.c report -g -fsanitize=address,undefined
 link_with examples/embed.c embed -g -fsanitize=address,undefined
 link_with bench/statuses.c statuses -g -fsanitize=address,undefined

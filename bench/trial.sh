@@ -39,7 +39,8 @@ make_files() {
     mkfifo pipe
 }
 
-# Runs this program in this folder: with this file as its input, or none; with this output: a file, a full disk, or a pipe that nobody reads.
+# Runs this program in this folder, with this file as its input, or none. Its output is a file, a full disk, a pipe that nobody reads, or
+# none.
 run_in() {
     local folder=$1 program=$2 input=$3 output=$4
     shift 4
@@ -134,7 +135,7 @@ both pump.log full convert satellite.tfpg
 both pump.log file ask pump.tfpg early.log
 both pump.log file ask --k 1 --doubt=1 pump.tfpg pump-gauge.log
 both pump.log file ask pump.tfpg absent
-both pumps.log file fleet pump.tfpg north,middle,south
+both pumps.log file fleet pump.tfpg north,south,east
 both pumps.log file fleet --k 1 pump.tfpg one
 both pumps.log file fleet pump.tfpg one,one
 both pump.log file predict --ahead 3600000 pump.tfpg early.log MotorHot
