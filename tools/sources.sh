@@ -22,14 +22,24 @@ need_rt() {
 
 # The lines of `crates.txt` of a crate and of the crates of the repository that it stands on, lowest first.
 crates_up_to() {
-    tac "$top/crates.txt" | awk -F '[: ]+' -v highest="$1" '
-        BEGIN { needed[highest] }
-        $1 in needed { print; for (field = 2; field <= NF; field++) needed[$field] }' | tac
+    awk -F '[: ]+' -v highest="$1" '
+        { line[NR] = $0 }
+        END {
+            needed[highest]
+            for (number = NR; number; number--) {
+                split(line[number], words)
+                if (words[1] in needed) for (place in words) needed[words[place]]
+            }
+            for (number = 1; number <= NR; number++) {
+                split(line[number], words)
+                if (words[1] in needed) print line[number]
+            }
+        }' "$top/crates.txt"
 }
 
 # The same by their names alone.
 names_up_to() {
-    crates_up_to "$1" | cut -d : -f 1 | cut -d ' ' -f 1
+    crates_up_to "$1" | sed 's/[: ].*//'
 }
 
 # Looks through the sources of these crates, and not through what was made there nor through edits that must fail. The other words are those
