@@ -2,11 +2,11 @@
 # with the top of the repository in `top`.
 
 program=$top/crates/tfpg/out/tfpg
-build_time='about half an hour on four processors'
+build_time='some 28 minutes on four processors'
 
-# Says this on standard error, which is all that the scripts themselves write to.
+# Says this on standard error, which is all that the scripts themselves write to. Where that fails nothing more can be said.
 say() {
-    printf '%s: %s\n' "$(basename "$0")" "$1" >&2
+    printf '%s: %s\n' "$(basename "$0")" "$1" >&2 || true
 }
 
 # Ends with the status of the scripts' own, and says why.
