@@ -32,10 +32,11 @@ make_files() {
     printf '2700000 start FilterClogged\n5400000 stop\n' > script
     echo 'no step' > broken.script
     printf 'tfpg 1\nmode N\nfailure F 1\nor F watch 0\nend\n' > twice.tfpg
-    { printf 'tfpg 1\nmode N\n'; seq -f 'failure F%g 1' 100; echo end; } > wide.tfpg
+    { printf 'tfpg 1\nmode N\n'; seq -f 'failure F%g 1' 64; echo end; } > wide.tfpg
     head -c 16777217 /dev/zero > long.log
     cp pump.tfpg ./-graph
     cp pump.tfpg 'top:graph'
+    "$built" convert pump.tfpg > pump.json
     mkfifo pipe
 }
 
@@ -106,7 +107,7 @@ both pump.log file diagnose ./folder/../pump.tfpg
 both pump.log file diagnose pump
 both pump.log file diagnose folder
 both pump.log file diagnose twice.tfpg
-both pump.log file diagnose wide.tfpg
+both pump.log file diagnose --k 3 wide.tfpg
 both pump.log file diagnose --k=1 wide.tfpg
 both folder file diagnose pump.tfpg
 both closed file diagnose pump.tfpg
@@ -130,6 +131,7 @@ both pump.log file generate
 both pump.log file generate --size=20 --draw=3
 both pump.log unread generate
 both pump.log file convert pump.tfpg
+both pump.log file convert --json pump.json
 both pump.log file convert --json pump.tfpg
 both pump.log full convert satellite.tfpg
 both pump.log file ask pump.tfpg early.log
