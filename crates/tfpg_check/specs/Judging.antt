@@ -18,7 +18,7 @@ use Rattle.tfpg_report.specs.declared.read_round.Part.{Part}
 use Rattle.tfpg_report.specs.declared.read_round.RankedLine.{RankedLine}
 use Rattle.tfpg_report.specs.declared.read_round.NamedSet.{NamedSet}
 use Rattle.tfpg_report.specs.declared.read_round.ReadRound.{ReadRound}
-use Rattle.tfpg_report.specs.ReportLines.{hypothesis_with}
+use Rattle.tfpg_report.specs.ReadRounds.{hypothesis_ranked, hypothesis_named}
 use Rattle.tfpg_check.specs.declared.cause.CheckCause.{CheckCause}
 use Rattle.tfpg_check.specs.declared.cause.CheckCause.TheVariants as cause
 use Rattle.tfpg_check.specs.Tests.{Fails, Owes, Then, InTurn}
@@ -115,20 +115,20 @@ pub record HasRankedPartIn (docket : Docket) (read : ReadRound) (hypothesis : Hy
 -- The hypothesis may be ranked, after the ranked ones before: it is in the table with this set, its tree is not closed, cost,
 -- robustness and place are right, and no proper part of it is ranked.
 pub record MayBeRanked (docket : Docket) (read : ReadRound) (before : List RankedLine) (r : RankedLine) : Type 0 where
-  pub listed : IsNumberOf docket r.number (hypothesis_with r.set r.doubts)
+  pub listed : IsNumberOf docket r.number (hypothesis_ranked r)
   pub not_closed : IsClosed docket read r.number → ⊥
-  pub cost : r.cost ≡ cost_of docket.graph (hypothesis_with r.set r.doubts)
+  pub cost : r.cost ≡ cost_of docket.graph (hypothesis_ranked r)
   pub reach : List ℕ
-  pub reach_is : IsReachOf docket.graph (hypothesis_with r.set r.doubts) reach
+  pub reach_is : IsReachOf docket.graph (hypothesis_ranked r) reach
   pub robust : robustness_of docket.graph docket.log reach r.doubts ≡ record { alarmed = r.alarmed; monitored = r.monitored }
   pub in_order : All (λ (earlier : RankedLine). IsRankedBefore (key_read earlier) (key_read r)) before
-  pub no_part : HasRankedPartIn docket read (hypothesis_with r.set r.doubts) → ⊥
+  pub no_part : HasRankedPartIn docket read (hypothesis_ranked r) → ⊥
 
 -- A ranked hypothesis fails by what its line says, or by its trace.
 abbrev pub RankedFails : Docket → ReadRound → List RankedLine → RankedLine → Fails
 RankedFails docket read before r =
     Then (Owes (MayBeRanked docket read before r) r.first_line cause.WrongRanked)
-    (Owes (Explains docket.graph (log_for docket.log (hypothesis_with r.set r.doubts)) r.set r.trace) r.first_line cause.NotATrace)
+    (Owes (Explains docket.graph (log_for docket.log (hypothesis_ranked r)) r.set r.trace) r.first_line cause.NotATrace)
 
 -- A ranked line has this number.
 abbrev pub IsRankedLine : ReadRound → ℕ → Type 0
@@ -142,10 +142,10 @@ IsOpenLine read number = (named : NamedSet) × Contains read.unsettled named × 
 -- neither it nor a proper part of it is ranked, and its splits of this round are as many as the budget.
 pub record MayBeOpen (docket : Docket) (read : ReadRound) (before : List NamedSet) (named : NamedSet) : Type 0 where
   pub rising : All (λ (earlier : NamedSet). earlier.number < named.number) before
-  pub listed : IsNumberOf docket named.number (hypothesis_with named.set named.doubts)
+  pub listed : IsNumberOf docket named.number (hypothesis_named named)
   pub not_closed : IsClosed docket read named.number → ⊥
   pub not_ranked : IsRankedLine read named.number → ⊥
-  pub no_part : HasRankedPartIn docket read (hypothesis_with named.set named.doubts) → ⊥
+  pub no_part : HasRankedPartIn docket read (hypothesis_named named) → ⊥
   pub spent : split_count (steps_read read named.number) ≡ docket.terms.budget
 
 -- An open hypothesis fails by what its line says.
@@ -159,7 +159,7 @@ pub record NumberedHypothesis : Type 0 where
 
 -- what the line of a set names
 abbrev pub named_by : NamedSet → NumberedHypothesis
-named_by named = record { number = named.number; hypothesis = hypothesis_with named.set named.doubts }
+named_by named = record { number = named.number; hypothesis = hypothesis_named named }
 
 -- These are the hypotheses whose trees were closed in this round, by rising numbers.
 pub record AreNewlyClosed (docket : Docket) (read : ReadRound) (closed : List NumberedHypothesis) : Type 0 where

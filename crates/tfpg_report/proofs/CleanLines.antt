@@ -31,7 +31,7 @@ use Rattle.tfpg_report.specs.declared.report_line.ReportLine.TheVariants.{Head, 
 use Rattle.tfpg_report.specs.SetText.{hyphen_or_joined, set_word}
 use Rattle.tfpg_graph.specs.Members.{doubt_word, member_words}
 use Rattle.tfpg_report.specs.LineWords.{head_words, old_head_words, refusal_name, refusal_time, time_words, cause_words, edge_words, clause_words, reason_words, numbered_set_words, robustness_word, counts_words, lost_words}
-use Rattle.tfpg_report.specs.ReportLines.{hypothesis_with, line_words, written_line, lines_text}
+use Rattle.tfpg_report.specs.ReportLines.{line_words, written_line, lines_text}
 
 -- ---- words without a line end
 
@@ -218,9 +218,9 @@ module _ (graph : Tfpg) (valid : IsValid graph) where
   line_words_clean (Cycle count) = words (codes "cycle" ∷ decimal count ∷ []) (lacks_checked 10 (codes "cycle") refl, (number count, tt))
   line_words_clean (Why reason) = after_keyword (codes "why") (reason_words graph reason) refl (reason_clean reason)
   line_words_clean Again = words (codes "again" ∷ []) (lacks_checked 10 (codes "again") refl, tt)
-  line_words_clean (Ranked n cost alarmed monitored of doubts) =
+  line_words_clean (Ranked n cost alarmed monitored hypothesis) =
       words (codes "ranked" ∷ decimal n ∷ codes "cost" ∷ decimal cost ∷ codes "robust" ∷ robustness_word alarmed monitored ∷ codes "set"
-      ∷ set_word graph (hypothesis_with of doubts) ∷ []) (
+      ∷ set_word graph hypothesis ∷ []) (
         lacks_checked 10 (codes "ranked") refl,
         (
           number n,
@@ -230,7 +230,7 @@ module _ (graph : Tfpg) (valid : IsValid graph) where
               number cost,
               (
                 lacks_checked 10 (codes "robust") refl,
-                (robustness alarmed monitored, (lacks_checked 10 (codes "set") refl, (set graph valid (hypothesis_with of doubts), tt))),
+                (robustness alarmed monitored, (lacks_checked 10 (codes "set") refl, (set graph valid hypothesis, tt))),
               ),
             ),
           ),
@@ -238,9 +238,9 @@ module _ (graph : Tfpg) (valid : IsValid graph) where
       )
   line_words_clean (At activation) =
       words (codes "at" ∷ name_word graph activation.node ∷ decimal activation.time ∷ []) (lacks_checked 10 (codes "at") refl, (name graph valid activation.node, (number activation.time, tt)))
-  line_words_clean (Open n of doubts) = after_keyword (codes "open") (numbered_set_words graph n (hypothesis_with of doubts)) refl (numbered_clean n (hypothesis_with of doubts))
-  line_words_clean (Rejected n of doubts) =
-      after_keyword (codes "rejected") (numbered_set_words graph n (hypothesis_with of doubts)) refl (numbered_clean n (hypothesis_with of doubts))
+  line_words_clean (Open n hypothesis) = after_keyword (codes "open") (numbered_set_words graph n hypothesis) refl (numbered_clean n hypothesis)
+  line_words_clean (Rejected n hypothesis) =
+      after_keyword (codes "rejected") (numbered_set_words graph n hypothesis) refl (numbered_clean n hypothesis)
   line_words_clean (Counts counts) =
       words (codes "counts" ∷ counts_words counts) (
         lacks_checked 10 (codes "counts") refl,

@@ -12,7 +12,7 @@ use Rattle.tfpg_evidence.specs.declared.finding.Status.{Status}
 use Rattle.tfpg_evidence.specs.declared.finding.Status.TheVariants as status
 use Rattle.tfpg_evidence.specs.declared.finding.Finding.{Finding}
 use Rattle.tfpg_evidence.specs.declared.round.Round.{Round}
-use Rattle.tfpg_evidence.specs.Findings.{ranked_in_order, open_in, newly_rejected}
+use Rattle.tfpg_evidence.specs.Findings.{ranked_in_order, open_in, newly_rejected, hypothesis_of}
 use Rattle.tfpg_log.specs.declared.refused_line.RefusedLine.{RefusedLine}
 use Rattle.tfpg_report.specs.declared.report_line.ReportLine.{ReportLine}
 use Rattle.tfpg_report.specs.declared.report_line.ReportLine.TheVariants as line
@@ -72,7 +72,7 @@ module _ (graph : Tfpg) where
   -- the text of a ranked hypothesis
   ranked : (finding : Finding) (s : Status) → lines_text graph (lines_if_ranked finding s) ≡ ranked_text graph finding s
   ranked finding (status.Ranked trace cost alarmed monitored) =
-      ap (λ (rest : List ℕ). written (line.Ranked finding.number cost alarmed monitored finding.set finding.doubts) ++ rest) (flat_map-map written line.At trace)
+      ap (λ (rest : List ℕ). written (line.Ranked finding.number cost alarmed monitored (hypothesis_of finding)) ++ rest) (flat_map-map written line.At trace)
   ranked finding (status.Covered by) = refl
   ranked finding status.Rejected = refl
   ranked finding status.Open = refl

@@ -7,7 +7,7 @@ use Rattle.tfpg_evidence.specs.declared.finding.Status.{Status}
 use Rattle.tfpg_evidence.specs.declared.finding.Status.TheVariants as status
 use Rattle.tfpg_evidence.specs.declared.finding.Finding.{Finding}
 use Rattle.tfpg_evidence.specs.declared.round.Round.{Round as RoundOf}
-use Rattle.tfpg_evidence.specs.Findings.{ranked_in_order, open_in, newly_rejected}
+use Rattle.tfpg_evidence.specs.Findings.{ranked_in_order, open_in, newly_rejected, hypothesis_of}
 use Rattle.tfpg_log.specs.declared.refused_line.RefusedLine.{RefusedLine}
 use Rattle.tfpg_report.specs.declared.report_line.ReportLine.{ReportLine}
 use Rattle.tfpg_report.specs.declared.report_line.ReportLine.TheVariants.{Refused, Round, Hyp, Ranked, At, Open, Rejected, Counts, Panel}
@@ -27,16 +27,16 @@ lines_of_finding finding =
 -- the lines of a ranked hypothesis with its trace
 abbrev pub lines_if_ranked : Finding → Status → List ReportLine
 lines_if_ranked finding (status.Ranked trace cost alarmed monitored) =
-    Ranked finding.number cost alarmed monitored finding.set finding.doubts ∷ map At trace
+    Ranked finding.number cost alarmed monitored (hypothesis_of finding) ∷ map At trace
 lines_if_ranked finding _ = []
 
 -- the line of an open hypothesis
 abbrev pub open_line : Finding → ReportLine
-open_line finding = Open finding.number finding.set finding.doubts
+open_line finding = Open finding.number (hypothesis_of finding)
 
 -- the line of a hypothesis that this round rejected
 abbrev pub rejected_line : Finding → ReportLine
-rejected_line finding = Rejected finding.number finding.set finding.doubts
+rejected_line finding = Rejected finding.number (hypothesis_of finding)
 
 -- The lines of a round before its counts: its first line; the steps by rising numbers; the ranked hypotheses in ranking
 -- order; the open ones and those that this round rejected by rising numbers.

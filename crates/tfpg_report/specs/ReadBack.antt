@@ -1,16 +1,18 @@
 -- What a round says, as it was found and as it was read.
 use Rattle.std.specs.Prelude.{◌≡◌, ℕ, List, [], ◌∷◌, length, map, flat_map, if◌then◌else◌, ◌==◌}
+use Rattle.tfpg_base.specs.Hypothesis.{Hypothesis}
 use Rattle.tfpg_base.specs.declared.activation.Activation.{Activation}
 use Rattle.tfpg_evidence.specs.declared.step.Step.{Step}
 use Rattle.tfpg_evidence.specs.declared.finding.Status.{Status}
 use Rattle.tfpg_evidence.specs.declared.finding.Status.TheVariants as status
 use Rattle.tfpg_evidence.specs.declared.finding.Finding.{Finding}
 use Rattle.tfpg_evidence.specs.declared.round.Round.{Round}
-use Rattle.tfpg_evidence.specs.Findings.{ranked_in_order, open_in, newly_rejected}
+use Rattle.tfpg_evidence.specs.Findings.{hypothesis_of, ranked_in_order, open_in, newly_rejected}
 use Rattle.tfpg_report.specs.declared.read_round.Part.{Part}
 use Rattle.tfpg_report.specs.declared.read_round.RankedLine.{RankedLine}
 use Rattle.tfpg_report.specs.declared.read_round.NamedSet.{NamedSet}
 use Rattle.tfpg_report.specs.declared.read_round.ReadRound.{ReadRound}
+use Rattle.tfpg_report.specs.ReadRounds.{hypothesis_ranked, hypothesis_named}
 
 -- the steps of a hypothesis
 pub record SaidSteps : Type 0 where
@@ -23,15 +25,13 @@ pub record SaidRanked : Type 0 where
   pub cost : ℕ
   pub alarmed : ℕ
   pub monitored : ℕ
-  pub set : List ℕ
-  pub doubts : List ℕ
+  pub hypothesis : Hypothesis
   pub trace : List Activation
 
--- a hypothesis with its sets
+-- a hypothesis with its number
 pub record SaidSet : Type 0 where
   pub number : ℕ
-  pub set : List ℕ
-  pub doubts : List ℕ
+  pub hypothesis : Hypothesis
 
 -- what a part says
 abbrev pub steps_of_part : Part → SaidSteps
@@ -49,8 +49,7 @@ ranked_of_lines r = record {
   cost = r.cost;
   alarmed = r.alarmed;
   monitored = r.monitored;
-  set = r.set;
-  doubts = r.doubts;
+  hypothesis = hypothesis_ranked r;
   trace = r.trace;
 }
 
@@ -62,8 +61,7 @@ ranked_of_finding finding (status.Ranked trace cost alarmed monitored) =
       cost = cost;
       alarmed = alarmed;
       monitored = monitored;
-      set = finding.set;
-      doubts = finding.doubts;
+      hypothesis = hypothesis_of finding;
       trace = trace;
     }
     ∷ []
@@ -71,11 +69,11 @@ ranked_of_finding finding _ = []
 
 -- what the line of an open or a rejected hypothesis says
 abbrev pub set_of_line : NamedSet → SaidSet
-set_of_line named = record { number = named.number; set = named.set; doubts = named.doubts }
+set_of_line named = record { number = named.number; hypothesis = hypothesis_named named }
 
 -- what a finding says of its hypothesis
 abbrev pub set_of_finding : Finding → SaidSet
-set_of_finding finding = record { number = finding.number; set = finding.set; doubts = finding.doubts }
+set_of_finding finding = record { number = finding.number; hypothesis = hypothesis_of finding }
 
 -- What was read is the round: its numbers, the steps of each hypothesis that has some, the ranked ones with their traces, the
 -- open ones, those that it rejected, and the counts.

@@ -1,5 +1,6 @@
 -- The lines that a round was read from, each with its number in the report.
 use Rattle.std.specs.Prelude.{◌≡◌, ℕ, ◌+◌, List, [], ◌∷◌, ◌++◌, length, map, flat_map}
+use Rattle.tfpg_base.specs.Hypothesis.{Hypothesis}
 use Rattle.tfpg_evidence.specs.declared.step.Step.{Step}
 use Rattle.tfpg_evidence.specs.declared.step.Step.TheVariants as step
 use Rattle.tfpg_report.specs.declared.read_round.Part.{Part}
@@ -8,6 +9,14 @@ use Rattle.tfpg_report.specs.declared.read_round.NamedSet.{NamedSet}
 use Rattle.tfpg_report.specs.declared.read_round.ReadRound.{ReadRound}
 use Rattle.tfpg_report.specs.declared.report_line.ReportLine.{ReportLine}
 use Rattle.tfpg_report.specs.declared.report_line.ReportLine.TheVariants.{Round, Hyp, Split, Cycle, Why, Again, Ranked, At, Open, Rejected, Counts}
+
+-- the hypothesis that the line of a ranked one names
+abbrev pub hypothesis_ranked : RankedLine → Hypothesis
+hypothesis_ranked ranked = record { set = ranked.set; doubts = ranked.doubts }
+
+-- the hypothesis that the line of an open or a rejected one names
+abbrev pub hypothesis_named : NamedSet → Hypothesis
+hypothesis_named named = record { set = named.set; doubts = named.doubts }
 
 -- a line of a report, with its number
 pub record NumberedLine : Type 0 where
@@ -39,15 +48,15 @@ lines_of_part part =
 -- the lines of a ranked hypothesis with its trace
 abbrev pub lines_of_ranked : RankedLine → List NumberedLine
 lines_of_ranked r =
-    numbered_from r.first_line (Ranked r.number r.cost r.alarmed r.monitored r.set r.doubts ∷ map At r.trace)
+    numbered_from r.first_line (Ranked r.number r.cost r.alarmed r.monitored (hypothesis_ranked r) ∷ map At r.trace)
 
 -- the line of an open hypothesis
 abbrev pub line_of_open : NamedSet → NumberedLine
-line_of_open named = record { number = named.first_line; says = Open named.number named.set named.doubts }
+line_of_open named = record { number = named.first_line; says = Open named.number (hypothesis_named named) }
 
 -- the line of a rejected hypothesis
 abbrev pub line_of_rejected : NamedSet → NumberedLine
-line_of_rejected named = record { number = named.first_line; says = Rejected named.number named.set named.doubts }
+line_of_rejected named = record { number = named.first_line; says = Rejected named.number (hypothesis_named named) }
 
 -- the lines that a round was read from, each with its number
 abbrev pub lines_of_round : ReadRound → List NumberedLine

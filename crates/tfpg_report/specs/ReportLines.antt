@@ -2,7 +2,6 @@
 use Rattle.std.specs.Prelude.{◌≡◌, ℕ, ◌<◌, ◌≤◌, ◌^◌, List, [], ◌∷◌, length, flat_map, Option, Some, None, codes, decimal}
 use Rattle.tfpg_base.specs.Lines.{with_line_end}
 use Rattle.tfpg_base.specs.Words.{line_of}
-use Rattle.tfpg_base.specs.Hypothesis.{Hypothesis}
 use Rattle.tfpg_base.specs.Terms.{AreReportTerms}
 use Rattle.tfpg_base.specs.declared.limits.TheConstants.{LONGEST_LINE, MAX_LINE_NUMBER, MAX_PANEL_NUMBER, MAX_TIME}
 use Rattle.tfpg_graph.specs.Graph.{Tfpg, name_word}
@@ -18,10 +17,6 @@ use Rattle.tfpg_log.specs.declared.refused_line.RefusedLine.TheVariants.{TooLong
 use Rattle.tfpg_report.specs.declared.report_line.ReportLine.{ReportLine}
 use Rattle.tfpg_report.specs.declared.report_line.ReportLine.TheVariants.{Head, OldHead, Refused, Round, Hyp, Split, Cycle, Why, Again, Ranked, At, Open, Rejected, Counts, Panel}
 
--- the hypothesis with these failure modes and these doubts
-abbrev pub hypothesis_with : List ℕ → List ℕ → Hypothesis
-hypothesis_with set doubts = record { set = set; doubts = doubts }
-
 -- the words that a line is written with
 abbrev pub line_words : Tfpg → ReportLine → List (List ℕ)
 line_words graph (Head terms) = head_words terms
@@ -33,13 +28,13 @@ line_words graph (Split name) = codes "split" ∷ clause_words graph name
 line_words graph (Cycle count) = codes "cycle" ∷ decimal count ∷ []
 line_words graph (Why reason) = codes "why" ∷ reason_words graph reason
 line_words graph Again = codes "again" ∷ []
-line_words graph (Ranked number cost alarmed monitored set doubts) =
+line_words graph (Ranked number cost alarmed monitored hypothesis) =
     codes "ranked" ∷ decimal number ∷ codes "cost" ∷ decimal cost ∷ codes "robust" ∷ robustness_word alarmed monitored
-    ∷ codes "set" ∷ set_word graph (hypothesis_with set doubts) ∷ []
+    ∷ codes "set" ∷ set_word graph hypothesis ∷ []
 line_words graph (At activation) = codes "at" ∷ name_word graph activation.node ∷ decimal activation.time ∷ []
-line_words graph (Open number set doubts) = codes "open" ∷ numbered_set_words graph number (hypothesis_with set doubts)
-line_words graph (Rejected number set doubts) =
-    codes "rejected" ∷ numbered_set_words graph number (hypothesis_with set doubts)
+line_words graph (Open number hypothesis) = codes "open" ∷ numbered_set_words graph number hypothesis
+line_words graph (Rejected number hypothesis) =
+    codes "rejected" ∷ numbered_set_words graph number hypothesis
 line_words graph (Counts counts) = codes "counts" ∷ counts_words counts
 line_words graph (Panel panel memory) = lost_words panel memory
 
@@ -100,11 +95,11 @@ IsLineWithin graph (Split name) = IsNameWithin graph name
 IsLineWithin graph (Cycle count) = IsSmall count
 IsLineWithin graph (Why reason) = IsReasonWithin graph reason
 IsLineWithin graph Again = Unit {0}
-IsLineWithin graph (Ranked number cost alarmed monitored set doubts) =
-    IsSmall number × IsSmall cost × IsSmall alarmed × IsSmall monitored × IsHypothesisOf graph (hypothesis_with set doubts)
+IsLineWithin graph (Ranked number cost alarmed monitored hypothesis) =
+    IsSmall number × IsSmall cost × IsSmall alarmed × IsSmall monitored × IsHypothesisOf graph hypothesis
 IsLineWithin graph (At activation) = (activation.node < length graph.nodes) × (activation.time ≤ MAX_TIME)
-IsLineWithin graph (Open number set doubts) = IsSmall number × IsHypothesisOf graph (hypothesis_with set doubts)
-IsLineWithin graph (Rejected number set doubts) = IsSmall number × IsHypothesisOf graph (hypothesis_with set doubts)
+IsLineWithin graph (Open number hypothesis) = IsSmall number × IsHypothesisOf graph hypothesis
+IsLineWithin graph (Rejected number hypothesis) = IsSmall number × IsHypothesisOf graph hypothesis
 IsLineWithin graph (Counts counts) = AreCountsWithin counts
 IsLineWithin graph (Panel panel memory) = panel ≤ MAX_PANEL_NUMBER
 

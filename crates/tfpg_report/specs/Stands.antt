@@ -82,10 +82,10 @@ stand_after before (Split name) = then_some (may_step before) stand.Step
 stand_after before (Cycle count) = then_some (may_step before) (after_reasons count)
 stand_after before (Why reason) = after_reason before
 stand_after before Again = then_some (may_step before) stand.Step
-stand_after before (Ranked number cost alarmed monitored set doubts) = then_some (may_rank before) (stand.Ranked None)
+stand_after before (Ranked number cost alarmed monitored hypothesis) = then_some (may_rank before) (stand.Ranked None)
 stand_after before (At activation) = after_activation before activation.node
-stand_after before (Open number set doubts) = then_some (may_open before) stand.Open
-stand_after before (Rejected number set doubts) = then_some (may_reject before) stand.Rejected
+stand_after before (Open number hypothesis) = then_some (may_open before) stand.Open
+stand_after before (Rejected number hypothesis) = then_some (may_reject before) stand.Rejected
 stand_after before (Counts counts) = then_some (may_reject before) (stand.Counts None)
 stand_after before (Panel panel memory) = after_loss before panel
 

@@ -64,8 +64,7 @@ fn append_hypothesis(
     append_set_line(
         graph,
         &[status, number, b" set "],
-        finding.set,
-        finding.doubts,
+        finding.hypothesis(),
         into,
     )
 }

@@ -10,7 +10,7 @@
 //!   node.
 //! - [`RefusedLine`] is why a line has a block of its own in place of a round.
 //! - [`read_report_line`] reads one line of a report, whoever wrote it: a [`ReportLine`], or a [`LineRefusal`]. [`read_set`]
-//!   reads the text of a set, for other texts that have one: [`Members`].
+//!   reads the text of a set as a hypothesis, for other texts that have one.
 //! - [`BlockReader`] takes a report line by line. [`Fed`] is what a line completes, and [`ReadRound`] a round as its lines say it,
 //!   each part with the number of its first line. [`Stand`] is what may come next.
 //! - [`laws`] has what the definitions of this crate come to.
@@ -52,7 +52,7 @@ pub use ranked_lines::append_activations;
 pub use read_round::{
     NamedSet, NamedSetList, Part, PartList, RankedLine, RankedLineList, ReadRound,
 };
-pub use reading::{LineRefusal, Members, read_report_line, read_set};
+pub use reading::{LineRefusal, read_report_line, read_set};
 pub use refused_block::refused;
 pub use report_line::ReportLine;
 pub use round_block::{append_counts, render};

@@ -106,8 +106,7 @@ fn append_ranked_line(
             monitored,
             b" set ",
         ],
-        finding.set,
-        finding.doubts,
+        finding.hypothesis(),
         into,
     )
 }

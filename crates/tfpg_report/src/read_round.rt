@@ -1,6 +1,9 @@
 //! The round that the lines of its block say.
 
-use tfpg_base::{Doubts, Items, LineList, Set, Trace};
+ghost use Rattle.std.specs.Prelude.{◌≡◌};
+ghost use Rattle.tfpg_report.specs.ReadRounds.{hypothesis_ranked, hypothesis_named};
+
+use tfpg_base::{Doubts, Hypothesis, Items, LineList, Set, Trace};
 use tfpg_evidence::{Counts, StepList};
 
 /// A hypothesis with its steps of a round, each with the number of the line of the report on which it begins.
@@ -25,6 +28,18 @@ pub struct RankedLine {
     pub trace: Trace,
 }
 
+impl RankedLine {
+    /// The hypothesis that it names.
+    pub fn hypothesis(&self) -> Hypothesis
+        ensures { result ≡ hypothesis_ranked self.now }
+    {
+        Hypothesis {
+            set: self.set,
+            doubts: self.doubts,
+        }
+    }
+}
+
 /// An open or a rejected hypothesis, as this line of the report says it.
 #[derive(Clone, Copy)]
 pub struct NamedSet {
@@ -32,6 +47,18 @@ pub struct NamedSet {
     pub number: u32,
     pub set: Set,
     pub doubts: Doubts,
+}
+
+impl NamedSet {
+    /// The hypothesis that it names.
+    pub fn hypothesis(&self) -> Hypothesis
+        ensures { result ≡ hypothesis_named self.now }
+    {
+        Hypothesis {
+            set: self.set,
+            doubts: self.doubts,
+        }
+    }
 }
 
 /// Hypotheses with their steps, in order.

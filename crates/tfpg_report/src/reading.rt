@@ -8,4 +8,4 @@ mod read_steps;
 mod set_word;
 
 pub use read_line::{LineRefusal, read_report_line};
-pub use set_word::{Members, read_set};
+pub use set_word::read_set;

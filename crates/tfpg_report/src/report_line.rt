@@ -1,7 +1,7 @@
 //! What one line of a report says.
 
 use crate::RefusedLine;
-use tfpg_base::{Activation, Doubts, Set, Terms};
+use tfpg_base::{Activation, Hypothesis, Terms};
 use tfpg_evidence::{ClauseName, Counts, Reason};
 
 /// What one line of a report says. Times are in milliseconds.
@@ -45,22 +45,19 @@ pub enum ReportLine {
         cost: u64,
         alarmed: u32,
         monitored: u32,
-        set: Set,
-        doubts: Doubts,
+        hypothesis: Hypothesis,
     },
     /// An activation of its trace.
     At(Activation),
     /// An open hypothesis.
     Open {
         number: u32,
-        set: Set,
-        doubts: Doubts,
+        hypothesis: Hypothesis,
     },
     /// A hypothesis that the round rejected.
     Rejected {
         number: u32,
-        set: Set,
-        doubts: Doubts,
+        hypothesis: Hypothesis,
     },
     /// How many hypotheses have each status. The round ends.
     Counts(Counts),

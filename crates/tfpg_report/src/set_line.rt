@@ -9,25 +9,23 @@ ghost use Rattle.tfpg_graph.specs.Members.{doubt_word};
 ghost use Rattle.tfpg_report.specs.inside.Further.{further_words};
 
 use crate::names::failure_word;
-use tfpg_base::{Doubts, NoMemory, Set, append_part};
+use tfpg_base::{Doubts, Hypothesis, NoMemory, Set, append_part};
 use tfpg_graph::Graph;
 
-/// Appends the pieces, the text of a set and a line end. The set has these failure modes and these monitors that are not
-/// believed.
+/// Appends the pieces, the text of the hypothesis's set and a line end.
 pub fn append_set_line(
     graph: &Graph,
     pieces: &[&[u8]],
-    set: Set,
-    doubts: Doubts,
+    hypothesis: Hypothesis,
     into: &mut Vec<u8>,
 ) -> Result<(), NoMemory>
-    requires members { AreFailures graph.now set }
-    requires nodes { All (λ node. node < length graph.now.nodes) doubts }
+    requires members { AreFailures graph.now hypothesis.set }
+    requires nodes { All (λ node. node < length graph.now.nodes) hypothesis.doubts }
     ensures { Appends result into.old.items into.new.items (flat_map (λ piece. piece.now) pieces.now
-        ++ set_word graph.now (record { set = set; doubts = doubts }) ++ 10 ∷ []) }
+        ++ set_word graph.now hypothesis ++ 10 ∷ []) }
 {
     append_pieces(pieces, into)?;
-    append_set(graph, set, doubts, into)?;
+    append_set(graph, hypothesis, into)?;
     into.push(b'\n')?;
     Ok(())
 }
@@ -46,24 +44,17 @@ fn append_pieces(pieces: &[&[u8]], into: &mut Vec<u8>) -> Result<(), NoMemory>
 /// failure modes in the order of their positions, and then the monitors that are not believed, in the order of their nodes,
 /// each with a `!` before its node's name. Takes time linear in the count of failure modes, and where there are such monitors
 /// in the count of nodes, besides its text.
-pub fn append_set(
-    graph: &Graph,
-    set: Set,
-    doubts: Doubts,
-    into: &mut Vec<u8>,
-) -> Result<(), NoMemory>
-    requires members { AreFailures graph.now set }
-    requires nodes { All (λ node. node < length graph.now.nodes) doubts }
-    ensures { Appends result into.old.items into.new.items
-        (set_word graph.now (record { set = set; doubts = doubts })) }
+pub fn append_set(graph: &Graph, hypothesis: Hypothesis, into: &mut Vec<u8>) -> Result<(), NoMemory>
+    requires members { AreFailures graph.now hypothesis.set }
+    requires nodes { All (λ node. node < length graph.now.nodes) hypothesis.doubts }
+    ensures { Appends result into.old.items into.new.items (set_word graph.now hypothesis) }
 {
-    let is_first = set.is_empty();
-    if is_first && doubts.len() == 0 {
+    if hypothesis.is_empty() {
         into.push(b'-')?;
         return Ok(());
     }
-    append_failures(graph, set, into)?;
-    append_doubts(graph, doubts, is_first, into)
+    append_failures(graph, hypothesis.set, into)?;
+    append_doubts(graph, hypothesis.doubts, hypothesis.set.is_empty(), into)
 }
 
 /// Appends the names of the failure modes with commas between.

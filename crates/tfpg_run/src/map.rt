@@ -14,9 +14,8 @@ use lines::{read_activation, read_set_line};
 pub(crate) use reading::read_map;
 use std::alloc::Global;
 pub(crate) use text::map_text;
-use tfpg_base::{LineFault, NoMemory, Trace};
+use tfpg_base::{Hypothesis, LineFault, NoMemory, Trace};
 use tfpg_graph::Graph;
-use tfpg_report::Members;
 
 /// Why a line is not taken.
 #[derive(Clone, Copy, Debug, PartialEq, Eq)]
@@ -38,10 +37,10 @@ pub(crate) enum NoMap {
     NoMemory,
 }
 
-/// The members of a set, and a trace.
+/// A hypothesis, and a trace.
 #[derive(Drop)]
 pub(crate) struct Map {
-    pub(crate) members: Members,
+    pub(crate) hypothesis: Hypothesis,
     pub(crate) trace: Trace,
 }
 
@@ -49,8 +48,8 @@ pub(crate) struct Map {
 #[derive(Drop)]
 pub(crate) struct MapReader {
     pub(crate) alloc: Global,
-    /// The members of the set, once its line was read.
-    pub(crate) members: Option<Members>,
+    /// The hypothesis, once the line of its set was read.
+    pub(crate) hypothesis: Option<Hypothesis>,
     /// The activations so far.
     pub(crate) trace: Trace,
 }
@@ -62,7 +61,7 @@ impl MapReader {
     {
         MapReader {
             alloc,
-            members: None,
+            hypothesis: None,
             trace: Trace::new(alloc),
         }
     }
@@ -77,9 +76,9 @@ impl MapReader {
             → BeginsMap graph.now (lines ++ line.now ∷ []) → ⊥ }
     {
         graph.is_always_valid();
-        match self.members {
+        match self.hypothesis {
             None => {
-                self.members = Some(read_set_line(self.alloc, graph, line)?);
+                self.hypothesis = Some(read_set_line(self.alloc, graph, line)?);
                 Ok(())
             }
             Some(_) => self.take_activation(graph, line),
@@ -88,7 +87,7 @@ impl MapReader {
 
     /// Reads the line of one more activation.
     fn take_activation(&mut self, graph: &Graph, line: &[u8]) -> Result<(), MapFault>
-        ensures members { self.new.members ≡ self.old.members }
+        ensures hypothesis { self.new.hypothesis ≡ self.old.hypothesis }
         ensures taken { OnOk result (TakesActivation graph.now self.old.trace line.now self.new.trace) }
         ensures bad { IsErrOf result MapFault.BadMap → IsNoActivation graph.now self.old.trace line.now }
     {

@@ -80,7 +80,7 @@ fn append_best(
         return append_none(number, into);
     };
     let mut set = Vec::new(*into.allocator());
-    append_set(graph, finding.set, finding.doubts, &mut set)?;
+    append_set(graph, finding.hypothesis(), &mut set)?;
     append_ranked(number, &set, *cost, into)
 }
 

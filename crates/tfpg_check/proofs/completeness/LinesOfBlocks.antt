@@ -9,7 +9,7 @@ use Rattle.tfpg_evidence.specs.declared.finding.Status.TheVariants as status
 use Rattle.tfpg_evidence.specs.declared.round.Round.{Round as RoundOf}
 use Rattle.tfpg_evidence.specs.declared.step.Step.{Step}
 use Rattle.tfpg_evidence.specs.declared.step.Step.TheVariants as step
-use Rattle.tfpg_evidence.specs.Findings.{newly_rejected, open_in, ranked_in_order}
+use Rattle.tfpg_evidence.specs.Findings.{newly_rejected, open_in, ranked_in_order, hypothesis_of}
 use Rattle.tfpg_report.specs.declared.report_line.ReportLine.{ReportLine}
 use Rattle.tfpg_report.specs.declared.report_line.ReportLine.TheVariants.{Head, OldHead, Refused, Round, Hyp, Split, Cycle, Why, Again, Ranked, At, Open, Rejected, Counts, Panel}
 use Rattle.tfpg_report.specs.Blocks.{Block, RefusedBlock, RoundBlock, Loss, block_lines, lines_of_finding, lines_if_ranked, loss_line, open_line, rejected_line, round_lines}
@@ -30,10 +30,10 @@ is_within (Split name) = true
 is_within (Cycle count) = true
 is_within (Why reason) = true
 is_within Again = true
-is_within (Ranked number cost alarmed monitored set doubts) = true
+is_within (Ranked number cost alarmed monitored hypothesis) = true
 is_within (At activation) = true
-is_within (Open number set doubts) = true
-is_within (Rejected number set doubts) = true
+is_within (Open number hypothesis) = true
+is_within (Rejected number hypothesis) = true
 is_within (Counts counts) = false
 is_within (Panel panel no_memory) = false
 
@@ -116,7 +116,7 @@ finding_within finding = by (eqb (length finding.steps) 0)
 
 ranked_within : (finding : Finding) (s : Status) → AreWithin (lines_if_ranked finding s)
 ranked_within finding (status.Ranked trace cost alarmed monitored) =
-    All-cons (λ line. is_within line ≡ true) (Ranked finding.number cost alarmed monitored finding.set finding.doubts) (map At trace) refl
+    All-cons (λ line. is_within line ≡ true) (Ranked finding.number cost alarmed monitored (hypothesis_of finding)) (map At trace) refl
     (All-map (λ line. is_within line ≡ true) At trace (λ k d within. refl))
 ranked_within finding (status.Covered by) = All-nil (λ line. is_within line ≡ true)
 ranked_within finding status.Rejected = All-nil (λ line. is_within line ≡ true)

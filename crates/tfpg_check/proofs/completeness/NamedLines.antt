@@ -22,10 +22,9 @@ use Rattle.tfpg_hyp.specs.Rounds.{IsRound}
 use Rattle.tfpg_hyp.proofs.FindingsOfRound.{evidence}
 use Rattle.tfpg_report.specs.declared.report_line.ReportLine.{ReportLine}
 use Rattle.tfpg_report.specs.declared.report_line.ReportLine.TheVariants.{Head, OldHead, Refused, Round, Hyp, Split, Cycle, Why, Again, Ranked, At, Open, Rejected, Counts, Panel}
-use Rattle.tfpg_report.specs.ReportLines.{hypothesis_with}
 use Rattle.tfpg_report.specs.SetText.{IsHypothesisOf}
 use Rattle.tfpg_report.specs.Blocks.{Block, RefusedBlock, RoundBlock, block_lines, lines_of_finding, lines_if_ranked, loss_line, open_line, rejected_line, round_lines}
-use Rattle.tfpg_report.specs.ReadRounds.{step_lines}
+use Rattle.tfpg_report.specs.ReadRounds.{step_lines, hypothesis_named}
 use Rattle.tfpg_check.specs.Report.{AreBlocks}
 use Rattle.tfpg_check.proofs.EqualSayings.{RoundsAreOfTheirGraph}
 use Rattle.tfpg_check.proofs.RoundsOfReports.{round_there}
@@ -43,10 +42,10 @@ NamesOfGraph graph (Split name) = IsClauseOf (sizes_of graph) name
 NamesOfGraph graph (Cycle count) = Unit {0}
 NamesOfGraph graph (Why reason) = IsReasonOf (sizes_of graph) reason
 NamesOfGraph graph Again = Unit {0}
-NamesOfGraph graph (Ranked number cost alarmed monitored set doubts) = IsHypothesisOf graph (hypothesis_with set doubts)
+NamesOfGraph graph (Ranked number cost alarmed monitored hypothesis) = IsHypothesisOf graph hypothesis
 NamesOfGraph graph (At activation) = activation.node < length graph.nodes
-NamesOfGraph graph (Open number set doubts) = IsHypothesisOf graph (hypothesis_with set doubts)
-NamesOfGraph graph (Rejected number set doubts) = IsHypothesisOf graph (hypothesis_with set doubts)
+NamesOfGraph graph (Open number hypothesis) = IsHypothesisOf graph hypothesis
+NamesOfGraph graph (Rejected number hypothesis) = IsHypothesisOf graph hypothesis
 NamesOfGraph graph (Counts counts) = Unit {0}
 NamesOfGraph graph (Panel panel no_memory) = Unit {0}
 
@@ -79,7 +78,7 @@ module _ (of_graph : RoundsAreOfTheirGraph) (graph : Tfpg) where
 
   ranked_named : (finding : Finding) (s : Status) → IsNamed finding → IsStatusOf (sizes_of graph) s → AreNamed (lines_if_ranked finding s)
   ranked_named finding (status.Ranked trace cost alarmed monitored) is of =
-      All-cons (NamesOfGraph graph) (Ranked finding.number cost alarmed monitored finding.set finding.doubts) (map At trace) is.hypothesis (All-map (NamesOfGraph graph) At trace of)
+      All-cons (NamesOfGraph graph) (Ranked finding.number cost alarmed monitored (hypothesis_of finding)) (map At trace) is.hypothesis (All-map (NamesOfGraph graph) At trace of)
   ranked_named finding (status.Covered by) is of = All-nil (NamesOfGraph graph)
   ranked_named finding status.Rejected is of = All-nil (NamesOfGraph graph)
   ranked_named finding status.Open is of = All-nil (NamesOfGraph graph)

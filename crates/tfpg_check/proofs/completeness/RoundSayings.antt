@@ -30,7 +30,7 @@ pub record RankingSaying : Type 0 where
 -- the lines that say it
 abbrev pub lines_of_ranking : RankingSaying → List ReportLine
 lines_of_ranking said =
-    Ranked said.key.number said.key.cost said.key.robust.alarmed said.key.robust.monitored said.hypothesis.set said.hypothesis.doubts ∷ map At said.trace
+    Ranked said.key.number said.key.cost said.key.robust.alarmed said.key.robust.monitored said.hypothesis ∷ map At said.trace
 
 -- what is said of a round
 pub record RoundSaying : Type 0 where
@@ -69,10 +69,10 @@ place (Split name) = 1
 place (Cycle count) = 1
 place (Why reason) = 1
 place Again = 1
-place (Ranked number cost alarmed monitored set doubts) = 2
+place (Ranked number cost alarmed monitored hypothesis) = 2
 place (At activation) = 2
-place (Open number set doubts) = 3
-place (Rejected number set doubts) = 4
+place (Open number hypothesis) = 3
+place (Rejected number hypothesis) = 4
 place (Counts counts) = 5
 place (Panel panel no_memory) = 6
 
@@ -129,7 +129,7 @@ numbered_stands numbered = one_stands 1 (Hyp numbered.number) (flat_map step_lin
 
 ranking_stands : (said : RankingSaying) → StandAt 2 (lines_of_ranking said)
 ranking_stands said =
-    one_stands 2 (Ranked said.key.number said.key.cost said.key.robust.alarmed said.key.robust.monitored said.hypothesis.set said.hypothesis.doubts) (map At said.trace)
+    one_stands 2 (Ranked said.key.number said.key.cost said.key.robust.alarmed said.key.robust.monitored said.hypothesis) (map At said.trace)
     refl (all_stand 2 At (λ activation. refl) said.trace)
 
 module _ (said : RoundSaying) where
@@ -187,7 +187,7 @@ lines_of_part numbered = flat_map step_lines numbered.steps
 
 -- those of a ranked hypothesis
 abbrev ranking_line : RankingSaying → ReportLine
-ranking_line said = Ranked said.key.number said.key.cost said.key.robust.alarmed said.key.robust.monitored said.hypothesis.set said.hypothesis.doubts
+ranking_line said = Ranked said.key.number said.key.cost said.key.robust.alarmed said.key.robust.monitored said.hypothesis
 
 abbrev trace_lines : RankingSaying → List ReportLine
 trace_lines said = map At said.trace
@@ -205,7 +205,7 @@ begins_part (Hyp number) = true
 begins_part _ = false
 
 abbrev begins_ranking : ReportLine → Bool
-begins_ranking (Ranked number cost alarmed monitored set doubts) = true
+begins_ranking (Ranked number cost alarmed monitored hypothesis) = true
 begins_ranking _ = false
 
 -- any item will do

@@ -14,9 +14,8 @@ use Rattle.tfpg_report.specs.declared.read_round.RankedLine.{RankedLine}
 use Rattle.tfpg_report.specs.declared.read_round.ReadRound.{ReadRound}
 use Rattle.tfpg_report.specs.declared.report_line.ReportLine.{ReportLine}
 use Rattle.tfpg_report.specs.declared.report_line.ReportLine.TheVariants.{Round, Counts}
-use Rattle.tfpg_report.specs.ReportLines.{hypothesis_with}
 use Rattle.tfpg_report.specs.Blocks.{lines_if_ranked, open_line, rejected_line, round_lines}
-use Rattle.tfpg_report.specs.ReadRounds.{NumberedLine, lines_of_part, lines_of_ranked, line_of_open, line_of_rejected}
+use Rattle.tfpg_report.specs.ReadRounds.{NumberedLine, lines_of_part, lines_of_ranked, line_of_open, line_of_rejected, hypothesis_ranked}
 use Rattle.tfpg_report.specs.Reading.{IsReadFrom}
 use Rattle.tfpg_check.specs.Judging.{key_read, named_by}
 use Rattle.tfpg_check.proofs.passing.NamedFindings.{named_in, steps_in_finding, steps_in_part, has_steps}
@@ -27,7 +26,7 @@ use Rattle.tfpg_check.proofs.completeness.RoundSayings.{RankingSaying, RoundSayi
 
 -- what a ranked line says
 abbrev pub ranking_read : RankedLine → RankingSaying
-ranking_read r = record { key = key_read r; hypothesis = hypothesis_with r.set r.doubts; trace = r.trace }
+ranking_read r = record { key = key_read r; hypothesis = hypothesis_ranked r; trace = r.trace }
 
 -- what a round that was read says
 abbrev pub saying_read : ReadRound → RoundSaying

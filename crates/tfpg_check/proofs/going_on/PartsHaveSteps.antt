@@ -12,7 +12,7 @@ use Rattle.tfpg_report.specs.declared.read_round.RankedLine.{RankedLine}
 use Rattle.tfpg_report.specs.declared.read_round.ReadRound.{ReadRound}
 use Rattle.tfpg_report.specs.declared.report_line.ReportLine.{ReportLine}
 use Rattle.tfpg_report.specs.declared.report_line.ReportLine.TheVariants.{Round, Hyp, Split, Cycle, Again, Ranked, At, Open, Rejected, Counts}
-use Rattle.tfpg_report.specs.ReadRounds.{NumberedLine, lines_of_part, lines_of_ranked, line_of_open, line_of_rejected, lines_of_round, step_lines, HasLineForEachStep}
+use Rattle.tfpg_report.specs.ReadRounds.{NumberedLine, lines_of_part, lines_of_ranked, line_of_open, line_of_rejected, lines_of_round, step_lines, HasLineForEachStep, hypothesis_ranked, hypothesis_named}
 use Rattle.tfpg_report.specs.Reading.{IsReadFrom}
 use Rattle.tfpg_report.specs.Stands.{may_begin_steps, stand_after, stand_after_all}
 use Rattle.std.proofs.lemmas.List.{map-append}
@@ -87,13 +87,13 @@ abbrev IsOther : ReportLine → Type 0
 IsOther line = may_be_step line ≡ false
 
 ranked_are_others : (r : RankedLine) → All IsOther (ranked_said r)
-ranked_are_others r = All-cons IsOther (Ranked r.number r.cost r.alarmed r.monitored r.set r.doubts) (map At r.trace) refl (All-map IsOther At r.trace (λ k d within. refl))
+ranked_are_others r = All-cons IsOther (Ranked r.number r.cost r.alarmed r.monitored (hypothesis_ranked r)) (map At r.trace) refl (All-map IsOther At r.trace (λ k d within. refl))
 
 open_said : NamedSet → ReportLine
-open_said named = Open named.number named.set named.doubts
+open_said named = Open named.number (hypothesis_named named)
 
 rejected_said : NamedSet → ReportLine
-rejected_said named = Rejected named.number named.set named.doubts
+rejected_said named = Rejected named.number (hypothesis_named named)
 
 -- lines that are not none begin so, if none may be a step
 begins_so : (front : List ReportLine) (last : ReportLine) → All IsOther front → IsOther last → BeginsOtherwise (front ++ last ∷ [])

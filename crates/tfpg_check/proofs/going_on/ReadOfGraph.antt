@@ -14,7 +14,7 @@ use Rattle.tfpg_report.specs.declared.read_round.ReadRound.{ReadRound}
 use Rattle.tfpg_report.specs.declared.report_line.ReportLine.{ReportLine}
 use Rattle.tfpg_report.specs.declared.report_line.ReportLine.TheVariants.{Ranked, At, Round, Counts}
 use Rattle.tfpg_report.specs.ReportLines.{IsLineWithin}
-use Rattle.tfpg_report.specs.ReadRounds.{NumberedLine, numbered_from, lines_of_part, lines_of_ranked, line_of_open, line_of_rejected, lines_of_round}
+use Rattle.tfpg_report.specs.ReadRounds.{NumberedLine, numbered_from, lines_of_part, lines_of_ranked, line_of_open, line_of_rejected, lines_of_round, hypothesis_ranked}
 use Rattle.tfpg_report.specs.Reading.{IsHead, IsReadFrom, begun_in}
 use Rattle.tfpg_report.specs.Represents.{ReaderState, Takes}
 use Rattle.tfpg_report.specs.Stands.{stand_of}
@@ -47,7 +47,7 @@ module _ (graph : Tfpg) where
   ranked_within : (ranked : List RankedLine) → All IsWithin (flat_map lines_of_ranked ranked) → All (IsRankedLineOf graph) ranked
   ranked_within [] within = All-nil (IsRankedLineOf graph)
   ranked_within (r ∷ ranked) within =
-      let line : NumberedLine = record { number = r.first_line; says = Ranked r.number r.cost r.alarmed r.monitored r.set r.doubts } in
+      let line : NumberedLine = record { number = r.first_line; says = Ranked r.number r.cost r.alarmed r.monitored (hypothesis_ranked r) } in
       let own : All IsWithin (line ∷ numbered_from (r.first_line + 1) (map At r.trace)) = All-front IsWithin (lines_of_ranked r) (flat_map lines_of_ranked ranked) within in
       All-cons (IsRankedLineOf graph) r ranked
       (record {

@@ -103,10 +103,10 @@ last_by_stand before at (Split name) leads may = absurd (false≢true (sym (lead
 last_by_stand before at (Cycle count) leads may = absurd (false≢true (sym (leads_elsewhere (may_step before) (after_reasons count) at (reasons_begin_none count) leads) ∙ may))
 last_by_stand before at (Why reason) leads may = absurd (false≢true (sym (by_reason before at leads) ∙ may))
 last_by_stand before at Again leads may = absurd (false≢true (sym (leads_elsewhere (may_step before) stand.Step at refl leads) ∙ may))
-last_by_stand before at (Ranked number cost alarmed monitored set doubts) leads may = absurd (false≢true (sym (leads_elsewhere (may_rank before) (stand.Ranked None) at refl leads) ∙ may))
+last_by_stand before at (Ranked number cost alarmed monitored hypothesis) leads may = absurd (false≢true (sym (leads_elsewhere (may_rank before) (stand.Ranked None) at refl leads) ∙ may))
 last_by_stand before at (At activation) leads may = absurd (false≢true (sym (by_activation before at activation.node leads) ∙ may))
-last_by_stand before at (Open number set doubts) leads may = absurd (false≢true (sym (leads_elsewhere (may_open before) stand.Open at refl leads) ∙ may))
-last_by_stand before at (Rejected number set doubts) leads may = absurd (false≢true (sym (leads_elsewhere (may_reject before) stand.Rejected at refl leads) ∙ may))
+last_by_stand before at (Open number hypothesis) leads may = absurd (false≢true (sym (leads_elsewhere (may_open before) stand.Open at refl leads) ∙ may))
+last_by_stand before at (Rejected number hypothesis) leads may = absurd (false≢true (sym (leads_elsewhere (may_reject before) stand.Rejected at refl leads) ∙ may))
 last_by_stand before at (Counts counts) leads may = refl
 last_by_stand before at (Panel panel no_memory) leads may = refl
 
@@ -156,11 +156,11 @@ none_read (read ∷ reads) stands =
     never_back (stand.Reasons owed) (Why reason) leads = no_reasons (owed - 1) (same_Some (after_reasons (owed - 1)) stand.Nothing leads)
     never_back _ (Why reason) leads = cc
     never_back before Again leads = let to = elsewhere (may_step before) stand.Step leads in cc
-    never_back before (Ranked number cost alarmed monitored set doubts) leads = let to = elsewhere (may_rank before) (stand.Ranked None) leads in cc
+    never_back before (Ranked number cost alarmed monitored hypothesis) leads = let to = elsewhere (may_rank before) (stand.Ranked None) leads in cc
     never_back (stand.Ranked last) (At activation) leads = let to = elsewhere (is_later last activation.node) (stand.Ranked (Some activation.node)) leads in cc
     never_back _ (At activation) leads = cc
-    never_back before (Open number set doubts) leads = let to = elsewhere (may_open before) stand.Open leads in cc
-    never_back before (Rejected number set doubts) leads = let to = elsewhere (may_reject before) stand.Rejected leads in cc
+    never_back before (Open number hypothesis) leads = let to = elsewhere (may_open before) stand.Open leads in cc
+    never_back before (Rejected number hypothesis) leads = let to = elsewhere (may_reject before) stand.Rejected leads in cc
     never_back before (Counts counts) leads = let to = elsewhere (may_reject before) (stand.Counts None) leads in cc
     never_back (stand.Counts last) (Panel panel no_memory) leads = let to = elsewhere (is_later last panel) (stand.Counts (Some panel)) leads in cc
     never_back _ (Panel panel no_memory) leads = cc

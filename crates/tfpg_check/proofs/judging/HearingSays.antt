@@ -15,10 +15,10 @@ use Rattle.tfpg_hyp.specs.Views.{log_for}
 use Rattle.tfpg_hyp.specs.Ranking.{cost_of, robustness_of, believed_in, alarmed_in}
 use Rattle.tfpg_hyp.specs.declared.place.Fraction.{Fraction}
 use Rattle.tfpg_hyp.specs.declared.place.Place.{Place}
-use Rattle.tfpg_report.specs.ReportLines.{hypothesis_with}
 use Rattle.tfpg_report.specs.declared.read_round.Part.{Part}
 use Rattle.tfpg_report.specs.declared.read_round.RankedLine.{RankedLine}
 use Rattle.tfpg_report.specs.declared.read_round.NamedSet.{NamedSet}
+use Rattle.tfpg_report.specs.ReadRounds.{hypothesis_ranked, hypothesis_named}
 use Rattle.tfpg_check.specs.declared.round.hearing.Hearing.{Hearing}
 use Rattle.tfpg_check.specs.Judging.{Docket, IsNumberOf, MayBeRanked, MayBeOpen, HasStatus, EachHasStatus, steps_read, key_read}
 use Rattle.tfpg_check.specs.inside.Hearings.{IsHearing, IsFlagged}
@@ -74,7 +74,7 @@ module _ (docket : Docket) (hearing : Hearing) (is : IsHearing docket hearing) w
   pub open_exactly : (before : List NamedSet) (next : ℕ) (named : NamedSet) → IsNextAfter (λ (n : NamedSet). n.number) before next
       → IsLeftOpen hearing next named ↔ MayBeOpen docket hearing.read.now before named
   open_exactly before next named after = (
-    λ left. (let at = listed_in named.number (hypothesis_with named.set named.doubts) left.listed in
+    λ left. (let at = listed_in named.number (hypothesis_named named) left.listed in
         record {
           rising = (after named.number).1 left.rising;
           listed = at;
@@ -113,25 +113,25 @@ module _ (docket : Docket) (hearing : Hearing) (is : IsHearing docket hearing) w
   pub ranked_exactly : (before : List RankedLine) (last : Option Place) (r : RankedLine) → IsLastOf before last
       → SaysRight hearing docket.log last r ↔ MayBeRanked docket hearing.read.now before r
   ranked_exactly before last r after = (
-    λ says. (let at = listed_in r.number (hypothesis_with r.set r.doubts) says.listed in
+    λ says. (let at = listed_in r.number (hypothesis_ranked r) says.listed in
         let robust = ap (λ (g : Tfpg). robustness_of g docket.log says.robust.0 r.doubts) is.graph ∙ says.robust.2 in
         record {
           listed = at;
           not_closed = λ closed. says.not_closed ((is.closed r.number).1 closed);
-          cost = says.cost ∙ ap (λ (g : Tfpg). cost_of g (hypothesis_with r.set r.doubts)) (sym is.graph);
+          cost = says.cost ∙ ap (λ (g : Tfpg). cost_of g (hypothesis_ranked r)) (sym is.graph);
           reach = says.robust.0;
           reach_is = is.table.reached.exact r.number _ says.robust.0 says.listed says.robust.1;
           robust = robust;
           in_order = (after.exact (key_read r) (is_fraction docket.graph docket.log says.robust.0 r robust)).1 says.after;
           no_part = λ has. says.no_part ((is.part_ranked r.number _ at).1 has);
         }),
-    λ may. (let at = listed_from r.number (hypothesis_with r.set r.doubts) may.listed in
+    λ may. (let at = listed_from r.number (hypothesis_ranked r) may.listed in
         let reach = slice_get-same_length hearing.table.now.reaches hearing.table.now.hypotheses r.number _ (sym is.table.reached.complete) at in
         let same : may.reach ≡ reach.0 = reach_is_one docket.graph r.set may.reach may.reach_is reach.0 (is.table.reached.exact r.number _ reach.0 at reach.1) in
         record {
           listed = at;
           not_closed = λ closed. may.not_closed ((is.closed r.number).0 closed);
-          cost = may.cost ∙ ap (λ (g : Tfpg). cost_of g (hypothesis_with r.set r.doubts)) is.graph;
+          cost = may.cost ∙ ap (λ (g : Tfpg). cost_of g (hypothesis_ranked r)) is.graph;
           robust = (reach.0, reach.1, sym (λ i. robustness_of (is.graph i) docket.log (same i) r.doubts) ∙ may.robust);
           after = (after.exact (key_read r) (is_fraction docket.graph docket.log may.reach r may.robust)).0 may.in_order;
           no_part = λ up. may.no_part ((is.part_ranked r.number _ may.listed).0 up);
@@ -145,9 +145,9 @@ module _ (docket : Docket) (hearing : Hearing) (is : IsHearing docket hearing) w
 
   -- The trace of a ranked line explains what its hypothesis sees of the log.
   pub explained_by : (log : Logbook) → docket.log ≡ log → (r : RankedLine)
-      → Explains hearing.graph.now (log_for log (hypothesis_with r.set r.doubts)) r.set r.trace ↔ Explains docket.graph (log_for docket.log (hypothesis_with r.set r.doubts)) r.set r.trace
+      → Explains hearing.graph.now (log_for log (hypothesis_ranked r)) r.set r.trace ↔ Explains docket.graph (log_for docket.log (hypothesis_ranked r)) r.set r.trace
   explained_by log same r =
-      let view : Logbook → Logbook = λ l. log_for l (hypothesis_with r.set r.doubts) in (
+      let view : Logbook → Logbook = λ l. log_for l (hypothesis_ranked r) in (
         λ explains. subst (λ (g : Tfpg). Explains g (view docket.log) r.set r.trace) (sym is.graph)
             (subst (λ (l : Logbook). Explains hearing.graph.now (view l) r.set r.trace) (sym same) explains),
         λ explains. subst (λ (g : Tfpg). Explains g (view log) r.set r.trace) is.graph (subst (λ (l : Logbook). Explains docket.graph (view l) r.set r.trace) same explains),

@@ -6,8 +6,8 @@ use Rattle.std.proofs.lemmas.Option.{same_Some, slice_get-map}
 use Rattle.tfpg_base.specs.Hypothesis.{Hypothesis}
 use Rattle.tfpg_base.proofs.lists.Cuts.{take-next}
 use Rattle.tfpg_base.proofs.lists.Elements.{slice_get-there}
-use Rattle.tfpg_report.specs.ReportLines.{hypothesis_with}
 use Rattle.tfpg_report.specs.declared.read_round.NamedSet.{NamedSet}
+use Rattle.tfpg_report.specs.ReadRounds.{hypothesis_named}
 use Rattle.tfpg_check.specs.declared.round.hearing.Hearing.{Hearing}
 use Rattle.tfpg_check.specs.Judging.{NumberedHypothesis, named_by}
 use Rattle.tfpg_check.specs.inside.Hearings.{is_newly_closed}
@@ -18,7 +18,7 @@ use Rattle.tfpg_check.proofs.judging.NewlyClosed.{passing_at, passing_below, pas
 named_is : (hypotheses : List Hypothesis) (number : ℕ) (hypothesis : Hypothesis) (named : NamedSet) → slice_get hypotheses number ≡ Some hypothesis → Names hypotheses number (Some named)
     → named_by named ≡ record { number = number; hypothesis = hypothesis }
 named_is hypotheses number hypothesis named at names =
-    let same : hypothesis_with named.set named.doubts ≡ hypothesis = same_Some _ _ (sym names.1 ∙ at) in
+    let same : hypothesis_named named ≡ hypothesis = same_Some _ _ (sym names.1 ∙ at) in
     λ i. record { number = names.0 i; hypothesis = same i }
 
 module _ (hearing : Hearing) where

@@ -16,7 +16,7 @@ use Rattle.tfpg_clause.specs.Paths.{with_steps}
 use Rattle.tfpg_report.specs.declared.read_round.NamedSet.{NamedSet}
 use Rattle.tfpg_report.specs.declared.read_round.Part.{Part}
 use Rattle.tfpg_report.specs.declared.read_round.ReadRound.{ReadRound}
-use Rattle.tfpg_report.specs.ReportLines.{hypothesis_with}
+use Rattle.tfpg_report.specs.ReadRounds.{hypothesis_named}
 use Rattle.tfpg_check.specs.Judging.{Docket, IsNumberOf, NumberedHypothesis, AreClosed, IsClosed, WasClosed, named_by, steps_read}
 use Rattle.tfpg_check.specs.inside.Passing.{RoundPasses}
 use Rattle.tfpg_check.proofs.passing.ByNumber.{AllPairs-from_before, AllPairs-from_indexes, Contains-along, same_by_number}
@@ -70,7 +70,7 @@ module _ (docket : Docket) (line : ℕ) (read : ReadRound) (passes : RoundPasses
       → (named : NamedSet) → Contains read.unsettled named → named.number ≡ number → named_by named ≡ named_in finding
   open_same number hypothesis at finding is named stands numbered =
       let numbers : named.number ≡ finding.number = numbered ∙ sym is.number_is in
-      let names : hypothesis_with named.set named.doubts ≡ hypothesis_of finding = open_names docket line read passes number hypothesis at named stands numbered ∙ sym is.hypothesis_is in
+      let names : hypothesis_named named ≡ hypothesis_of finding = open_names docket line read passes number hypothesis at named stands numbered ∙ sym is.hypothesis_is in
       λ i. record { number = numbers i; hypothesis = names i }
 
   open_to : (x : NumberedHypothesis) → Contains (map named_in (filter (λ (f : Finding). is_open f.status) findings)) x → Contains (map named_by read.unsettled) x
@@ -86,8 +86,8 @@ module _ (docket : Docket) (line : ℕ) (read : ReadRound) (passes : RoundPasses
   open_from x member =
       let from = Contains-map_only named_by read.unsettled x member in
       let listed = (open_passes docket line read passes from.0 from.1).listed in
-      let found = finding_there docket line read passes findings are from.0.number (hypothesis_with from.0.set from.0.doubts) listed in
-      let opened = (open_exactly docket line read passes from.0.number (hypothesis_with from.0.set from.0.doubts) listed found.0 found.2).1 (from.0, from.1, refl) in
+      let found = finding_there docket line read passes findings are from.0.number (hypothesis_named from.0) listed in
+      let opened = (open_exactly docket line read passes from.0.number (hypothesis_named from.0) listed found.0 found.2).1 (from.0, from.1, refl) in
       let same : named_in found.0 ≡ named_by from.0 = λ i. record { number = found.2.number_is i; hypothesis = found.2.hypothesis_is i } in
       Contains-along (map named_in (filter (λ (f : Finding). is_open f.status) findings)) (named_in found.0) (named_by from.0) x same from.2
       (Contains-map named_in (filter (λ (f : Finding). is_open f.status) findings) found.0 (Contains-filter (λ (f : Finding). is_open f.status) findings from.0.number found.0 found.1 opened))

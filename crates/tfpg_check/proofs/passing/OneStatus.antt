@@ -18,7 +18,7 @@ use Rattle.tfpg_hyp.specs.declared.place.Place.{Place}
 use Rattle.tfpg_report.specs.declared.read_round.NamedSet.{NamedSet}
 use Rattle.tfpg_report.specs.declared.read_round.RankedLine.{RankedLine}
 use Rattle.tfpg_report.specs.declared.read_round.ReadRound.{ReadRound}
-use Rattle.tfpg_report.specs.ReportLines.{hypothesis_with}
+use Rattle.tfpg_report.specs.ReadRounds.{hypothesis_ranked, hypothesis_named}
 use Rattle.tfpg_check.specs.Judging.{Docket, IsNumberOf, IsClosed, IsRankedLine, IsOpenLine, HasRankedPartIn, MayBeOpen, key_read}
 use Rattle.tfpg_check.specs.inside.Passing.{RankedPasses, RoundPasses}
 use Rattle.tfpg_check.proofs.passing.ReadFindings.{Reached, HasRead, HasRankedPartIn-from, IsReadFinding, AreReadFindings, closed_not_partial, status_read}
@@ -41,14 +41,14 @@ module _ (docket : Docket) (line : ℕ) (read : ReadRound) (passes : RoundPasses
 
   module _ (number : ℕ) (hypothesis : Hypothesis) (at : IsNumberOf docket number hypothesis) where
     -- the ranked line of the number names it
-    pub ranked_names : (r : RankedLine) → Contains read.ranked r → r.number ≡ number → hypothesis_with r.set r.doubts ≡ hypothesis
+    pub ranked_names : (r : RankedLine) → Contains read.ranked r → r.number ≡ number → hypothesis_ranked r ≡ hypothesis
     ranked_names r stands numbered =
-        same_Some (hypothesis_with r.set r.doubts) hypothesis (sym (ranked_passes r stands).may.listed ∙ ap (slice_get docket.hypotheses) numbered ∙ at)
+        same_Some (hypothesis_ranked r) hypothesis (sym (ranked_passes r stands).may.listed ∙ ap (slice_get docket.hypotheses) numbered ∙ at)
 
     -- so does the open one
-    pub open_names : (named : NamedSet) → Contains read.unsettled named → named.number ≡ number → hypothesis_with named.set named.doubts ≡ hypothesis
+    pub open_names : (named : NamedSet) → Contains read.unsettled named → named.number ≡ number → hypothesis_named named ≡ hypothesis
     open_names named stands numbered =
-        same_Some (hypothesis_with named.set named.doubts) hypothesis (sym (open_passes named stands).listed ∙ ap (slice_get docket.hypotheses) numbered ∙ at)
+        same_Some (hypothesis_named named) hypothesis (sym (open_passes named stands).listed ∙ ap (slice_get docket.hypotheses) numbered ∙ at)
 
     -- a ranked one is not closed,
     ranked_not_closed : IsRankedLine read number → IsClosed docket read number → ⊥
@@ -135,7 +135,7 @@ module _ (docket : Docket) (line : ℕ) (read : ReadRound) (passes : RoundPasses
       → key_read r ≡ record { cost = cost_of docket.graph hypothesis; robust = robustness_of docket.graph docket.log reach hypothesis.doubts; number = number }
   key_of_line r stands number hypothesis reach at numbered is =
       let may = (ranked_passes r stands).may in
-      let names : hypothesis_with r.set r.doubts ≡ hypothesis = ranked_names number hypothesis at r stands numbered in
+      let names : hypothesis_ranked r ≡ hypothesis = ranked_names number hypothesis at r stands numbered in
       let same_reach : may.reach ≡ reach =
       reach_is_one docket.graph hypothesis.set may.reach (subst (λ (h : Hypothesis). IsReachOf docket.graph h may.reach) names may.reach_is) reach is in
       λ i. record {
@@ -147,8 +147,8 @@ module _ (docket : Docket) (line : ℕ) (read : ReadRound) (passes : RoundPasses
   same_key : (one other : RankedLine) → Contains read.ranked one → Contains read.ranked other → one.number ≡ other.number → key_read one ≡ key_read other
   same_key one other stands also same =
       let may = (ranked_passes other also).may in
-      key_of_line one stands other.number (hypothesis_with other.set other.doubts) may.reach may.listed same may.reach_is
-      ∙ sym (key_of_line other also other.number (hypothesis_with other.set other.doubts) may.reach may.listed refl may.reach_is)
+      key_of_line one stands other.number (hypothesis_ranked other) may.reach may.listed same may.reach_is
+      ∙ sym (key_of_line other also other.number (hypothesis_ranked other) may.reach may.listed refl may.reach_is)
 
   -- no two lines have one number
   pub not_twice : (i j : ℕ) (one other : RankedLine) → i < j → slice_get read.ranked i ≡ Some one → slice_get read.ranked j ≡ Some other → one.number ≡ other.number → ⊥
@@ -194,8 +194,8 @@ module _ (docket : Docket) (line : ℕ) (read : ReadRound) (passes : RoundPasses
 
     -- The finding of the number of a ranked line is on its hypothesis, and has its status.
     pub ranked_finding : (r : RankedLine) (stands : Contains read.ranked r)
-        → (finding : Finding) × (slice_get findings r.number ≡ Some finding) × IsReadFinding docket read r.number (hypothesis_with r.set r.doubts) finding × (finding.status ≡ status_read r)
+        → (finding : Finding) × (slice_get findings r.number ≡ Some finding) × IsReadFinding docket read r.number (hypothesis_ranked r) finding × (finding.status ≡ status_read r)
     ranked_finding r stands =
-        let found = finding_there r.number (hypothesis_with r.set r.doubts) (ranked_passes r stands).may.listed in
-        let ranked = (ranked_exactly r.number (hypothesis_with r.set r.doubts) (ranked_passes r stands).may.listed found.0 found.2).1 (r, stands, refl) in
-        (found.0, found.1, found.2, status_by r stands (record { number = r.number; hypothesis = hypothesis_with r.set r.doubts; reach = found.2.reach }) found.0.status refl found.2.has ranked)
+        let found = finding_there r.number (hypothesis_ranked r) (ranked_passes r stands).may.listed in
+        let ranked = (ranked_exactly r.number (hypothesis_ranked r) (ranked_passes r stands).may.listed found.0 found.2).1 (r, stands, refl) in
+        (found.0, found.1, found.2, status_by r stands (record { number = r.number; hypothesis = hypothesis_ranked r; reach = found.2.reach }) found.0.status refl found.2.has ranked)

@@ -22,7 +22,7 @@ use Rattle.tfpg_hyp.specs.declared.place.Place.{Place}
 use Rattle.tfpg_hyp.proofs.FindingsOfRound.{steps_so_far-push}
 use Rattle.tfpg_report.specs.declared.read_round.RankedLine.{RankedLine}
 use Rattle.tfpg_report.specs.declared.read_round.ReadRound.{ReadRound}
-use Rattle.tfpg_report.specs.ReportLines.{hypothesis_with}
+use Rattle.tfpg_report.specs.ReadRounds.{hypothesis_ranked}
 use Rattle.tfpg_check.specs.Judging.{Docket, IsNumberOf, HasRankedPartIn, key_read, steps_read}
 use Rattle.tfpg_check.specs.inside.Passing.{RankedPasses, RoundPasses}
 use Rattle.tfpg_check.proofs.passing.ByNumber.{AllPairs-from_before, map-same}
@@ -96,7 +96,7 @@ module _ (docket : Docket) (line : ℕ) (read : ReadRound) (passes : RoundPasses
         passed : RankedPasses docket read (take stands.0 read.ranked) r
         passed = ranked_passes docket line read passes r stands
 
-        names : hypothesis_with r.set r.doubts ≡ hypothesis
+        names : hypothesis_ranked r ≡ hypothesis
         names = ranked_names docket line read passes number hypothesis at r stands numbered
 
         same_reach : passed.may.reach ≡ is.reach

@@ -19,7 +19,7 @@ use Rattle.tfpg_report.specs.declared.read_round.ReadRound.{ReadRound}
 use Rattle.tfpg_report.specs.declared.report_line.ReportLine.{ReportLine}
 use Rattle.tfpg_report.specs.declared.report_line.ReportLine.TheVariants.{Round, Hyp, Ranked, At, Open, Rejected, Counts}
 use Rattle.tfpg_report.specs.Blocks.{lines_of_finding, lines_if_ranked, open_line, rejected_line, round_lines}
-use Rattle.tfpg_report.specs.ReadRounds.{NumberedLine, numbered_from, step_lines, lines_of_steps, lines_of_part, lines_of_ranked, line_of_open, line_of_rejected, lines_of_round, HasLineForEachStep}
+use Rattle.tfpg_report.specs.ReadRounds.{NumberedLine, numbered_from, step_lines, lines_of_steps, lines_of_part, lines_of_ranked, line_of_open, line_of_rejected, lines_of_round, HasLineForEachStep, hypothesis_ranked}
 use Rattle.tfpg_check.specs.Judging.{Docket, NumberedHypothesis, named_by}
 use Rattle.tfpg_check.specs.inside.Passing.{RoundPasses}
 use Rattle.tfpg_check.proofs.passing.ReadFindings.{AreReadFindings}
@@ -77,16 +77,16 @@ with_steps_alone (f ∷ findings) = by (eqb (length f.steps) 0) (with_steps_alon
 
 -- their lines, by what they name
 abbrev pub line_of_open_named : NumberedHypothesis → ReportLine
-line_of_open_named named = Open named.number named.hypothesis.set named.hypothesis.doubts
+line_of_open_named named = Open named.number named.hypothesis
 
 abbrev pub line_of_rejected_named : NumberedHypothesis → ReportLine
-line_of_rejected_named named = Rejected named.number named.hypothesis.set named.hypothesis.doubts
+line_of_rejected_named named = Rejected named.number named.hypothesis
 
 -- ---- ranked ones
 
 -- the lines of a ranked hypothesis without their numbers
 abbrev pub ranked_said : RankedLine → List ReportLine
-ranked_said r = Ranked r.number r.cost r.alarmed r.monitored r.set r.doubts ∷ map At r.trace
+ranked_said r = Ranked r.number r.cost r.alarmed r.monitored (hypothesis_ranked r) ∷ map At r.trace
 
 module _ (docket : Docket) (line : ℕ) (read : ReadRound) (passes : RoundPasses docket line read) (findings : List Finding) (are : AreReadFindings docket read findings) where
   -- the lines of the finding of a number, if there is one

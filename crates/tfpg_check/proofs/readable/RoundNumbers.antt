@@ -164,7 +164,7 @@ module _ (graph : Tfpg) (valid : IsValid graph) (terms : Terms) (has_reports : H
     ranked_small finding hypothesis reach steps (status.Ranked trace cost alarmed monitored) small few reached own =
         let robust = robust_small graph valid (log_for log hypothesis) hypothesis.set reach finding.doubts reached in
         let now = now_within log within in
-        All-cons HasSmallNumbers (Ranked finding.number cost alarmed monitored finding.set finding.doubts) (map At trace) (
+        All-cons HasSmallNumbers (Ranked finding.number cost alarmed monitored (hypothesis_of finding)) (map At trace) (
           small,
           subst IsSmall (sym own.3) (cost_small graph valid (hypothesis_of finding) few),
           subst IsSmall (ap (λ (f : Fraction). f.alarmed) own.4) robust.0,

@@ -29,7 +29,7 @@ use Rattle.tfpg_report.specs.declared.report_line.ReportLine.TheVariants.{Head, 
 use Rattle.tfpg_report.specs.SetText.{hyphen_or_joined, set_word}
 use Rattle.tfpg_graph.specs.Members.{doubt_word, member_words}
 use Rattle.tfpg_report.specs.LineWords.{edge_words, head_words, lost_words, old_head_words, robustness_word}
-use Rattle.tfpg_report.specs.ReportLines.{IsCauseWithin, hypothesis_with, line_words, written_line}
+use Rattle.tfpg_report.specs.ReportLines.{IsCauseWithin, line_words, written_line}
 use Rattle.tfpg_check.proofs.readable.SmallNumbers.{HasFewMembers, HasSmallName, HasSmallNumbers, HasSmallReason}
 
 -- ---- words
@@ -265,12 +265,12 @@ module _ (graph : Tfpg) (valid : IsValid graph) where
       few_words (line_words graph (Cycle count)) (by_recursion (line_words graph (Cycle count)) (keyword (codes "cycle") refl, (number_short count (omega (arith, small)), tt)) (omega arith))
   line_short (Why reason) small = few_words (line_words graph (Why reason)) (reason_short reason small)
   line_short Again small = few_words (line_words graph Again) (by_recursion (line_words graph Again) (keyword (codes "again") refl, tt) (omega arith))
-  line_short (Ranked number cost alarmed monitored set doubts) small =
+  line_short (Ranked number cost alarmed monitored hypothesis) small =
       let one = small.0 in
       let two = small.1 in
       with_long
       (codes "ranked" ∷ decimal number ∷ codes "cost" ∷ decimal cost ∷ codes "robust" ∷ robustness_word alarmed monitored ∷ codes "set" ∷ [])
-      (set_word graph (hypothesis_with set doubts))
+      (set_word graph hypothesis)
       (by_recursion (codes "ranked" ∷ decimal number ∷ codes "cost" ∷ decimal cost ∷ codes "robust" ∷ robustness_word alarmed monitored ∷ codes "set" ∷ []) (
         keyword (codes "ranked") refl,
         (
@@ -284,20 +284,20 @@ module _ (graph : Tfpg) (valid : IsValid graph) where
           ),
         ),
       ) (omega arith))
-      (set_short (hypothesis_with set doubts) small.4)
+      (set_short hypothesis small.4)
   line_short (At activation) small =
       few_words (line_words graph (At activation))
       (by_recursion (line_words graph (At activation)) (keyword (codes "at") refl, (name activation.node, (number_short activation.time (omega (arith, small)), tt))) (omega arith))
-  line_short (Open number set doubts) small =
+  line_short (Open number hypothesis) small =
       let one = small.0 in
-      with_long (codes "open" ∷ decimal number ∷ codes "set" ∷ []) (set_word graph (hypothesis_with set doubts))
+      with_long (codes "open" ∷ decimal number ∷ codes "set" ∷ []) (set_word graph hypothesis)
       (by_recursion (codes "open" ∷ decimal number ∷ codes "set" ∷ []) (keyword (codes "open") refl, (number_short number (omega (arith, one)), (keyword (codes "set") refl, tt))) (omega arith))
-      (set_short (hypothesis_with set doubts) small.1)
-  line_short (Rejected number set doubts) small =
+      (set_short hypothesis small.1)
+  line_short (Rejected number hypothesis) small =
       let one = small.0 in
-      with_long (codes "rejected" ∷ decimal number ∷ codes "set" ∷ []) (set_word graph (hypothesis_with set doubts))
+      with_long (codes "rejected" ∷ decimal number ∷ codes "set" ∷ []) (set_word graph hypothesis)
       (by_recursion (codes "rejected" ∷ decimal number ∷ codes "set" ∷ []) (keyword (codes "rejected") refl, (number_short number (omega (arith, one)), (keyword (codes "set") refl, tt))) (omega arith))
-      (set_short (hypothesis_with set doubts) small.1)
+      (set_short hypothesis small.1)
   line_short (Counts counts) small =
       let one = small.ranked in
       let two = small.covered in

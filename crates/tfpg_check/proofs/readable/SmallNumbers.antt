@@ -42,11 +42,11 @@ HasSmallNumbers (Split name) = HasSmallName name
 HasSmallNumbers (Cycle count) = IsSmall count
 HasSmallNumbers (Why reason) = HasSmallReason reason
 HasSmallNumbers Again = Unit {0}
-HasSmallNumbers (Ranked number cost alarmed monitored set doubts) =
+HasSmallNumbers (Ranked number cost alarmed monitored hypothesis) =
     IsSmall number × IsSmall cost × IsSmall alarmed × IsSmall monitored × HasFewMembers set doubts
 HasSmallNumbers (At activation) = activation.time ≤ MAX_TIME
-HasSmallNumbers (Open number set doubts) = IsSmall number × HasFewMembers set doubts
-HasSmallNumbers (Rejected number set doubts) = IsSmall number × HasFewMembers set doubts
+HasSmallNumbers (Open number hypothesis) = IsSmall number × HasFewMembers set doubts
+HasSmallNumbers (Rejected number hypothesis) = IsSmall number × HasFewMembers set doubts
 HasSmallNumbers (Counts counts) = AreCountsWithin counts
 HasSmallNumbers (Panel panel no_memory) = panel ≤ MAX_PANEL_NUMBER
 
@@ -77,9 +77,9 @@ module _ (graph : Tfpg) where
   line_within (Cycle count) named small = small
   line_within (Why reason) named small = reason_within reason named small
   line_within Again named small = tt
-  line_within (Ranked number cost alarmed monitored set doubts) named small = (small.0, small.1, small.2, small.3, named)
+  line_within (Ranked number cost alarmed monitored hypothesis) named small = (small.0, small.1, small.2, small.3, named)
   line_within (At activation) named small = (named, small)
-  line_within (Open number set doubts) named small = (small.0, named)
-  line_within (Rejected number set doubts) named small = (small.0, named)
+  line_within (Open number hypothesis) named small = (small.0, named)
+  line_within (Rejected number hypothesis) named small = (small.0, named)
   line_within (Counts counts) named small = small
   line_within (Panel panel no_memory) named small = small

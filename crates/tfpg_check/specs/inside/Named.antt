@@ -3,10 +3,10 @@ use Rattle.std.specs.Prelude.{◌≡◌, ◌⊎◌, ℕ, ◌+◌, ◌≤◌, Lis
 use Rattle.tfpg_base.specs.Hypothesis.{Hypothesis}
 use Rattle.tfpg_evidence.specs.declared.step.Step.{Step}
 use Rattle.tfpg_clause.specs.Trees.{split_count}
-use Rattle.tfpg_report.specs.ReportLines.{hypothesis_with}
 use Rattle.tfpg_report.specs.declared.read_round.Part.{Part}
 use Rattle.tfpg_report.specs.declared.read_round.NamedSet.{NamedSet}
 use Rattle.tfpg_report.specs.declared.read_round.ReadRound.{ReadRound}
+use Rattle.tfpg_report.specs.ReadRounds.{hypothesis_named}
 use Rattle.tfpg_check.specs.declared.round.hearing.Hearing.{Hearing}
 use Rattle.tfpg_check.specs.inside.Hearings.{flag_at}
 
@@ -19,7 +19,7 @@ steps_heard hearing number =
 -- What an open line says is right, by what is looked up.
 pub record IsLeftOpen (hearing : Hearing) (next : ℕ) (named : NamedSet) : Type 0 where
   pub rising : next ≤ named.number
-  pub listed : slice_get hearing.table.now.hypotheses named.number ≡ Some (hypothesis_with named.set named.doubts)
+  pub listed : slice_get hearing.table.now.hypotheses named.number ≡ Some (hypothesis_named named)
   pub not_closed : IsTrue (flag_at hearing.closed.now named.number) → ⊥
   pub not_ranked : IsTrue (flag_at hearing.ranked.now named.number) → ⊥
   pub no_part : IsTrue (flag_at hearing.part_ranked.now named.number) → ⊥
@@ -50,7 +50,7 @@ pub record IsEachKnown (hearing : Hearing) : Type 0 where
 abbrev pub Names : List Hypothesis → ℕ → Option NamedSet → Type 0
 Names hypotheses number None = ⊥
 Names hypotheses number (Some named) =
-    (named.number ≡ number) × (slice_get hypotheses number ≡ Some (hypothesis_with named.set named.doubts))
+    (named.number ≡ number) × (slice_get hypotheses number ≡ Some (hypothesis_named named))
 
 -- The counts are right, by what is looked up.
 pub record AreCountsHeard (hearing : Hearing) : Type 0 where

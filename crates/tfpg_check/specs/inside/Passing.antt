@@ -8,7 +8,7 @@ use Rattle.tfpg_report.specs.declared.read_round.Part.{Part}
 use Rattle.tfpg_report.specs.declared.read_round.RankedLine.{RankedLine}
 use Rattle.tfpg_report.specs.declared.read_round.NamedSet.{NamedSet}
 use Rattle.tfpg_report.specs.declared.read_round.ReadRound.{ReadRound}
-use Rattle.tfpg_report.specs.ReportLines.{hypothesis_with}
+use Rattle.tfpg_report.specs.ReadRounds.{hypothesis_ranked}
 use Rattle.tfpg_check.specs.Judging.{Docket, BeginsWell, MayHaveSteps, MayBeRanked, MayBeOpen, AreNewlyClosed, EachHasStatus, AreRightCounts, named_by}
 
 -- The part may stand there, and its steps go on with those before, as a partial tree or to a refutation.
@@ -22,7 +22,7 @@ pub record PartPasses (docket : Docket) (before : List Part) (part : Part) : Typ
 -- The ranked hypothesis may stand there, and its trace explains what it sees of the log.
 pub record RankedPasses (docket : Docket) (read : ReadRound) (before : List RankedLine) (r : RankedLine) : Type 0 where
   pub may : MayBeRanked docket read before r
-  pub explains : Explains docket.graph (log_for docket.log (hypothesis_with r.set r.doubts)) r.set r.trace
+  pub explains : Explains docket.graph (log_for docket.log (hypothesis_ranked r)) r.set r.trace
 
 -- No test of the round fails.
 pub record RoundPasses (docket : Docket) (line : ℕ) (read : ReadRound) : Type 0 where

@@ -3,8 +3,8 @@ use Rattle.std.specs.Prelude.{◌≡◌, ◌↔◌, ℕ, ◌≤◌, List, All, I
 use Rattle.tfpg_log.specs.Log.{Logbook}
 use Rattle.tfpg_hyp.specs.Ranking.{cost_of, robustness_of, IsRankedBefore}
 use Rattle.tfpg_hyp.specs.declared.place.Place.{Place}
-use Rattle.tfpg_report.specs.ReportLines.{hypothesis_with}
 use Rattle.tfpg_report.specs.declared.read_round.RankedLine.{RankedLine}
+use Rattle.tfpg_report.specs.ReadRounds.{hypothesis_ranked}
 use Rattle.tfpg_check.specs.declared.round.hearing.Hearing.{Hearing}
 use Rattle.tfpg_check.specs.Judging.{key_read}
 use Rattle.tfpg_check.specs.inside.Hearings.{flag_at}
@@ -33,9 +33,9 @@ HasRobustness hearing log r =
 
 -- What the line says is right, by what is looked up.
 pub record SaysRight (hearing : Hearing) (log : Logbook) (last : Option Place) (r : RankedLine) : Type 0 where
-  pub listed : slice_get hearing.table.now.hypotheses r.number ≡ Some (hypothesis_with r.set r.doubts)
+  pub listed : slice_get hearing.table.now.hypotheses r.number ≡ Some (hypothesis_ranked r)
   pub not_closed : IsTrue (flag_at hearing.closed.now r.number) → ⊥
-  pub cost : r.cost ≡ cost_of hearing.graph.now (hypothesis_with r.set r.doubts)
+  pub cost : r.cost ≡ cost_of hearing.graph.now (hypothesis_ranked r)
   pub robust : HasRobustness hearing log r
   pub after : ComesAfter last (key_read r)
   pub no_part : IsTrue (flag_at hearing.part_ranked.now r.number) → ⊥

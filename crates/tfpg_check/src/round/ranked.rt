@@ -4,8 +4,8 @@ ghost use Rattle.std.specs.Prelude.{◌≡◌, ◌↔◌, ◌≤◌, ◌<◌, Li
 ghost use Rattle.tfpg_log.specs.Log.{IsLogOf};
 ghost use Rattle.tfpg_log.specs.Explains.{Explains};
 ghost use Rattle.tfpg_hyp.specs.Views.{log_for};
-ghost use Rattle.tfpg_report.specs.ReportLines.{hypothesis_with};
 ghost use Rattle.tfpg_report.specs.declared.read_round.RankedLine.{RankedLine as RankedRead};
+ghost use Rattle.tfpg_report.specs.ReadRounds.{hypothesis_ranked};
 ghost use Rattle.tfpg_check.specs.inside.ReadRoundOf.{IsRankedLineOf};
 ghost use Rattle.tfpg_check.specs.Judging.{Docket, RankedFails, key_read};
 ghost use Rattle.tfpg_check.specs.Tests.{InTurn};
@@ -140,7 +140,7 @@ fn is_explained(graph: &Graph, log: &mut Log, r: &RankedLine) -> bool
     requires ignores { log.old.ignored ≡ [] }
     requires line { IsRankedLineOf graph.now r.now }
     ensures explains { IsTrue result ↔
-        Explains graph.now (log_for log.old (hypothesis_with r.now.set r.now.doubts)) r.now.set r.now.trace }
+        Explains graph.now (log_for log.old (hypothesis_ranked r.now)) r.now.set r.now.trace }
     ensures log { log.new ≡ log.old }
 {
     log.ignore(r.doubts);

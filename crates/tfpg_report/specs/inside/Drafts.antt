@@ -1,5 +1,6 @@
 -- What a reader of reports keeps of a round that has not ended, and what a line changes of it.
-use Rattle.std.specs.Prelude.{ℕ, List, [], ◌∷◌, ◌++◌, Bool, true, false}
+use Rattle.std.specs.Prelude.{ℕ, [], ◌∷◌, ◌++◌, Bool, true, false}
+use Rattle.tfpg_base.specs.Hypothesis.{Hypothesis}
 use Rattle.tfpg_base.specs.Trace.{with_time}
 use Rattle.tfpg_base.specs.declared.activation.Activation.{Activation}
 use Rattle.tfpg_evidence.specs.declared.round.Counts.{Counts as CountsOf}
@@ -128,9 +129,10 @@ round_of counts counts_line draft = record {
   counts_line = counts_line;
 }
 
--- a named set on this line
-abbrev pub named_at : ℕ → ℕ → List ℕ → List ℕ → NamedSet
-named_at first_line number set doubts = record { first_line = first_line; number = number; set = set; doubts = doubts }
+-- the number of a hypothesis and its sets, on this line
+abbrev pub named_at : ℕ → ℕ → Hypothesis → NamedSet
+named_at first_line number hypothesis =
+    record { first_line = first_line; number = number; set = hypothesis.set; doubts = hypothesis.doubts }
 
 -- a part of this number that begins on this line, without a step
 abbrev pub new_part : ℕ → ℕ → UnderWay
@@ -148,17 +150,17 @@ lets now _ = true
 
 -- The line says a hypothesis with its set.
 abbrev pub says_set : ReportLine → Bool
-says_set (Ranked number cost alarmed monitored set doubts) = true
-says_set (Open number set doubts) = true
-says_set (Rejected number set doubts) = true
+says_set (Ranked number cost alarmed monitored hypothesis) = true
+says_set (Open number hypothesis) = true
+says_set (Rejected number hypothesis) = true
 says_set _ = false
 
 -- the draft with the hypothesis that the line with this number says
 abbrev pub with_hypothesis : ℕ → ReportLine → Draft → Draft
-with_hypothesis at (Ranked number cost alarmed monitored set doubts) draft =
-    with_begun (under_way.Ranked (record { first_line = at; number = number; cost = cost; alarmed = alarmed; monitored = monitored; set = set; doubts = doubts; trace = [] })) draft
-with_hypothesis at (Open number set doubts) draft = with_open (named_at at number set doubts) draft
-with_hypothesis at (Rejected number set doubts) draft = with_rejected (named_at at number set doubts) draft
+with_hypothesis at (Ranked number cost alarmed monitored hypothesis) draft =
+    with_begun (under_way.Ranked (record { first_line = at; number = number; cost = cost; alarmed = alarmed; monitored = monitored; set = hypothesis.set; doubts = hypothesis.doubts; trace = [] })) draft
+with_hypothesis at (Open number hypothesis) draft = with_open (named_at at number hypothesis) draft
+with_hypothesis at (Rejected number hypothesis) draft = with_rejected (named_at at number hypothesis) draft
 with_hypothesis at _ draft = draft
 
 -- the draft after the line with this number, after which the reader has this stand
@@ -173,11 +175,11 @@ draft_after at next (Split name) draft = with_step at (step.Split name) draft
 draft_after at next (Cycle count) draft = with_cycle at next draft
 draft_after at next (Why reason) draft = with_reason reason next draft
 draft_after at next Again draft = with_step at step.Again draft
-draft_after at next (Ranked number cost alarmed monitored set doubts) draft =
-    with_hypothesis at (Ranked number cost alarmed monitored set doubts) draft
+draft_after at next (Ranked number cost alarmed monitored hypothesis) draft =
+    with_hypothesis at (Ranked number cost alarmed monitored hypothesis) draft
 draft_after at next (At activation) draft = with_activation activation draft
-draft_after at next (Open number set doubts) draft = with_hypothesis at (Open number set doubts) draft
-draft_after at next (Rejected number set doubts) draft = with_hypothesis at (Rejected number set doubts) draft
+draft_after at next (Open number hypothesis) draft = with_hypothesis at (Open number hypothesis) draft
+draft_after at next (Rejected number hypothesis) draft = with_hypothesis at (Rejected number hypothesis) draft
 draft_after at next (Counts counts) draft = opened 0 0 0 0
 draft_after at next (Panel panel memory) draft = draft
 

@@ -2,7 +2,6 @@
 use Rattle.std.specs.Prelude.{◌≡◌, ℕ, List, [], ◌∷◌, Option, None, Result, Ok, Err}
 use Rattle.tfpg_base.specs.Hypothesis.{Hypothesis}
 use Rattle.tfpg_graph.specs.Graph.{Tfpg}
-use Rattle.tfpg_report.specs.ReadSets.{hypothesis_of}
 use Rattle.tfpg_report.specs.ReportLines.{IsLineWithin, IsSmall, line_words}
 use Rattle.tfpg_report.specs.LineWords.{numbered_set_words}
 use Rattle.tfpg_report.specs.SetText.{IsHypothesisOf}
@@ -10,7 +9,6 @@ use Rattle.tfpg_report.specs.inside.LinesRead.{plain_line_in}
 use Rattle.tfpg_report.specs.declared.report_line.ReportLine.{ReportLine}
 use Rattle.tfpg_report.specs.declared.reading.read_line.LineRefusal.{LineRefusal}
 use Rattle.tfpg_report.specs.declared.reading.read_line.LineRefusal.TheVariants.{NotALine, NoMemory}
-use Rattle.tfpg_report.specs.declared.reading.set_word.Members.{Members}
 
 -- The line is written with these words, and its names and numbers are within their limits.
 pub record HasWords (graph : Tfpg) (words : List (List ℕ)) (line : ReportLine) : Type 0 where
@@ -35,7 +33,7 @@ pub record HasNumbered (graph : Tfpg) (words : List (List ℕ)) (number : ℕ) (
   pub of_graph : IsHypothesisOf graph hypothesis
 
 -- A number and a set that were read have these words. If none were, none have them, or memory ran out.
-abbrev pub AreNumberedRead : Tfpg → List (List ℕ) → Result (ℕ × Members) LineRefusal → Type 0
-AreNumberedRead graph words (Ok read) = HasNumbered graph words read.0 (hypothesis_of read.1)
+abbrev pub AreNumberedRead : Tfpg → List (List ℕ) → Result (ℕ × Hypothesis) LineRefusal → Type 0
+AreNumberedRead graph words (Ok read) = HasNumbered graph words read.0 read.1
 AreNumberedRead graph words (Err NotALine) = (number : ℕ) (hypothesis : Hypothesis) → HasNumbered graph words number hypothesis → ⊥
 AreNumberedRead graph words (Err NoMemory) = Unit {0}

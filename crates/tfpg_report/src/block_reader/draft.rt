@@ -1,7 +1,7 @@
 //! What a reader of reports keeps of a round that has not ended.
 
 ghost use Rattle.std.specs.Prelude.{◌≡◌, true, OnOk};
-ghost use Rattle.tfpg_report.specs.inside.Drafts.{part_with, ranked_with, has_part, has_ranked, lets, says_set, with_hypothesis, with_step, with_activation, settled, with_begun, with_open, with_rejected, with_cycle_ended, with_cycle, with_reason, opened, round_of, new_part, draft_with, left_after, completed};
+ghost use Rattle.tfpg_report.specs.inside.Drafts.{part_with, ranked_with, has_part, has_ranked, lets, says_set, with_hypothesis, with_step, with_activation, settled, with_begun, with_open, with_rejected, with_cycle_ended, with_cycle, with_reason, opened, round_of, named_at, new_part, draft_with, left_after, completed};
 
 use crate::{
     Fed, NamedSet, NamedSetList, Part, PartList, RankedLine, RankedLineList, ReadRound, ReportLine,
@@ -9,7 +9,7 @@ use crate::{
 };
 use std::alloc::Global;
 use std::mem;
-use tfpg_base::{Activation, LineList, NoMemory, Trace};
+use tfpg_base::{Activation, Hypothesis, LineList, NoMemory, Trace};
 use tfpg_evidence::{Counts, Reason, Reasons, Step, StepList};
 
 /// What was read of a round that has not ended. Each list has what is whole, in the order of the lines.
@@ -144,8 +144,7 @@ impl Draft {
                 cost,
                 alarmed,
                 monitored,
-                set,
-                doubts,
+                hypothesis,
             } => {
                 self.begin(UnderWay::Ranked(RankedLine {
                     first_line: at,
@@ -153,34 +152,16 @@ impl Draft {
                     cost: *cost,
                     alarmed: *alarmed,
                     monitored: *monitored,
-                    set: *set,
-                    doubts: *doubts,
+                    set: hypothesis.set,
+                    doubts: hypothesis.doubts,
                     trace: Trace::new(alloc),
                 }))
             }
-            ReportLine::Open {
-                number,
-                set,
-                doubts,
-            } => {
-                self.add_open(NamedSet {
-                    first_line: at,
-                    number: *number,
-                    set: *set,
-                    doubts: *doubts,
-                })
+            ReportLine::Open { number, hypothesis } => {
+                self.add_open(named_at(at, *number, hypothesis))
             }
-            ReportLine::Rejected {
-                number,
-                set,
-                doubts,
-            } => {
-                self.add_rejected(NamedSet {
-                    first_line: at,
-                    number: *number,
-                    set: *set,
-                    doubts: *doubts,
-                })
+            ReportLine::Rejected { number, hypothesis } => {
+                self.add_rejected(named_at(at, *number, hypothesis))
             }
             _ => unreachable!(),
         }
@@ -303,6 +284,18 @@ impl Draft {
             counts,
             counts_line,
         }
+    }
+}
+
+/// The number of a hypothesis and its sets, on this line.
+fn named_at(first_line: u64, number: u32, hypothesis: &Hypothesis) -> NamedSet
+    ensures { result ≡ named_at first_line number hypothesis.now }
+{
+    NamedSet {
+        first_line,
+        number,
+        set: hypothesis.set,
+        doubts: hypothesis.doubts,
     }
 }
 

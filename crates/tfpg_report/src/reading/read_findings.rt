@@ -8,10 +8,10 @@ use super::first_words::{
     after_word, node_first, number_first, set_last, small, small_after, small_first,
 };
 use super::read_steps::step_line_in;
-use super::{LineRefusal, Members, read_set};
+use super::{LineRefusal, read_set};
 use crate::ReportLine;
 use std::alloc::Global;
-use tfpg_base::{Activation, MAX_TIME};
+use tfpg_base::{Activation, Hypothesis, MAX_TIME};
 use tfpg_graph::Graph;
 
 /// What the line of a ranked hypothesis says before its set.
@@ -77,7 +77,7 @@ fn ranked_in(alloc: Global, graph: &Graph, words: &[&[u8]]) -> Result<ReportLine
     let Some((ranked, set)) = ranked_words(words) else {
         return Err(LineRefusal::NotALine);
     };
-    let Some(members) = read_set(alloc, graph, set)? else {
+    let Some(hypothesis) = read_set(alloc, graph, set)? else {
         return Err(LineRefusal::NotALine);
     };
     Ok(ReportLine::Ranked {
@@ -85,8 +85,7 @@ fn ranked_in(alloc: Global, graph: &Graph, words: &[&[u8]]) -> Result<ReportLine
         cost: ranked.cost,
         alarmed: ranked.alarmed,
         monitored: ranked.monitored,
-        set: members.set,
-        doubts: members.doubts,
+        hypothesis,
     })
 }
 
@@ -152,12 +151,8 @@ fn open_in(alloc: Global, graph: &Graph, words: &[&[u8]]) -> Result<ReportLine, 
     ensures { AreWordsRead graph.now (codes "open" ∷ map (λ word. word.now) words.now) result }
 {
     graph.is_always_valid();
-    let (number, members) = numbered_in(alloc, graph, words)?;
-    Ok(ReportLine::Open {
-        number,
-        set: members.set,
-        doubts: members.doubts,
-    })
+    let (number, hypothesis) = numbered_in(alloc, graph, words)?;
+    Ok(ReportLine::Open { number, hypothesis })
 }
 
 /// The line of a hypothesis that the round rejected.
@@ -165,16 +160,16 @@ fn rejected_in(alloc: Global, graph: &Graph, words: &[&[u8]]) -> Result<ReportLi
     ensures { AreWordsRead graph.now (codes "rejected" ∷ map (λ word. word.now) words.now) result }
 {
     graph.is_always_valid();
-    let (number, members) = numbered_in(alloc, graph, words)?;
-    Ok(ReportLine::Rejected {
-        number,
-        set: members.set,
-        doubts: members.doubts,
-    })
+    let (number, hypothesis) = numbered_in(alloc, graph, words)?;
+    Ok(ReportLine::Rejected { number, hypothesis })
 }
 
-/// The number and the members of a hypothesis.
-fn numbered_in(alloc: Global, graph: &Graph, words: &[&[u8]]) -> Result<(u32, Members), LineRefusal>
+/// The number of a hypothesis, and the hypothesis.
+fn numbered_in(
+    alloc: Global,
+    graph: &Graph,
+    words: &[&[u8]],
+) -> Result<(u32, Hypothesis), LineRefusal>
     ensures { AreNumberedRead graph.now (map (λ word. word.now) words.now) result }
 {
     graph.is_always_valid();
@@ -182,7 +177,7 @@ fn numbered_in(alloc: Global, graph: &Graph, words: &[&[u8]]) -> Result<(u32, Me
         return Err(LineRefusal::NotALine);
     };
     match read_set(alloc, graph, set)? {
-        Some(members) => Ok((number, members)),
+        Some(hypothesis) => Ok((number, hypothesis)),
         None => Err(LineRefusal::NotALine),
     }
 }

@@ -7,8 +7,9 @@ ghost use Rattle.tfpg_report.specs.declared.report_line.ReportLine.{ReportLine a
 use super::read_findings::line_in;
 use crate::ReportLine;
 use std::alloc::Global;
-use tfpg_base::{LONGEST_LINE, NoMemory, Words};
+use tfpg_base::{NoMemory, Words};
 use tfpg_graph::Graph;
+use tfpg_log::is_too_long;
 
 /// Why a line of a report is not read.
 #[derive(Clone, Copy, Debug, PartialEq, Eq)]
@@ -35,7 +36,7 @@ pub fn read_report_line(
         Says graph.now read line.now → ⊥ }
 {
     graph.is_always_valid();
-    if line.len() > LONGEST_LINE {
+    if is_too_long(line) {
         return Err(LineRefusal::NotALine);
     }
     match &Words::of(line) {

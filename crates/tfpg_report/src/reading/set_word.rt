@@ -1,4 +1,4 @@
-//! The text of a set, read: its failure modes, and the monitors that it does not believe.
+//! The text of a set, read as a hypothesis.
 
 ghost use Rattle.std.specs.Prelude.{◌≡◌, ◌<◌, ◌≤◌, ℕ, List, length, map, unwrap_or, position, IfSome, IsNone, IfOk};
 ghost use Rattle.tfpg_base.specs.Hypothesis.{Hypothesis};
@@ -7,41 +7,32 @@ ghost use Rattle.tfpg_graph.specs.Graph.{failure_word};
 ghost use Rattle.tfpg_graph.specs.declared.limits.TheConstants.{MAX_NODES};
 ghost use Rattle.tfpg_report.specs.SetText.{IsHypothesisOf};
 ghost use Rattle.tfpg_graph.specs.Members.{doubt_word, member_words};
-ghost use Rattle.tfpg_report.specs.ReadSets.{hypothesis_of, AreMembersIn};
+ghost use Rattle.tfpg_report.specs.ReadSets.{IsHypothesisIn};
 ghost use Rattle.tfpg_report.specs.inside.ReadMembers.{position_named, monitor_named, doubt_named, is_marked, IsPosition, IsMonitor, AreRisingFrom};
 
 use std::alloc::Global;
-use tfpg_base::{Doubts, NoMemory, Set, parts_at_commas};
+use tfpg_base::{Doubts, Hypothesis, NoMemory, Set, parts_at_commas};
 use tfpg_graph::Graph;
 
-/// The members of a hypothesis: failure modes, and monitors that it does not believe.
-#[derive(Clone, Copy)]
-pub struct Members {
-    pub set: Set,
-    pub doubts: Doubts,
-}
-
-/// The members of the hypothesis whose text the word is, or None where it is the text of none. Takes time linear in the
-/// length of the word, and memory for its parts.
-pub fn read_set(alloc: Global, graph: &Graph, word: &[u8]) -> Result<Option<Members>, NoMemory>
-    ensures { IfOk result (AreMembersIn graph.now word.now) }
+/// The hypothesis whose text the word is, or None where it is the text of none. Takes time linear in the length of the word,
+/// and memory for its parts.
+pub fn read_set(alloc: Global, graph: &Graph, word: &[u8]) -> Result<Option<Hypothesis>, NoMemory>
+    ensures { IfOk result (IsHypothesisIn graph.now word.now) }
 {
     graph.is_always_valid();
     if word == b"-".as_slice() {
-        return Ok(Some(Members {
-            set: Set::empty(),
-            doubts: Doubts::empty(),
-        }));
+        return Ok(Some(Hypothesis::believing(Set::empty())));
     }
     let words = parts_at_commas(alloc, word)?;
-    let members = members_of(graph, &words);
-    Ok(members)
+    let hypothesis = hypothesis_of(graph, &words);
+    Ok(hypothesis)
 }
 
-/// The members that these words stand for: names of failure modes first, and then monitors with their marks, each in order.
-fn members_of(graph: &Graph, words: &[&[u8]]) -> Option<Members>
-    ensures found { IfSome result (λ members. IsHypothesisOf graph.now (hypothesis_of members)
-        × (member_words graph.now (hypothesis_of members) ≡ map (λ word. word.now) words.now)) }
+/// The hypothesis whose members these words are: names of failure modes first, and then monitors with their marks, each in
+/// order.
+fn hypothesis_of(graph: &Graph, words: &[&[u8]]) -> Option<Hypothesis>
+    ensures found { IfSome result (λ hypothesis. IsHypothesisOf graph.now hypothesis
+        × (member_words graph.now hypothesis ≡ map (λ word. word.now) words.now)) }
     ensures none { IsNone result → (hypothesis : Hypothesis) → IsHypothesisOf graph.now hypothesis →
         member_words graph.now hypothesis ≡ map (λ word. word.now) words.now → ⊥ }
 {
@@ -49,7 +40,7 @@ fn members_of(graph: &Graph, words: &[&[u8]]) -> Option<Members>
     let (names, marked) = words.split_at(unmarked_count(words));
     let set = rising_positions(graph, names, 0)?;
     let doubts = rising_doubts(graph, marked, 0)?;
-    Some(Members { set, doubts })
+    Some(Hypothesis { set, doubts })
 }
 
 /// How many words stand before the first that begins with an exclamation mark.

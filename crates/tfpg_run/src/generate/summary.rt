@@ -1,8 +1,7 @@
 //! The three lines that `generate` writes.
 
-ghost use Rattle.std.specs.Prelude.{◌≡◌, ◌↔◌, Any, Contains, IfOk, IsSomeAnd, IsTrue, length};
+ghost use Rattle.std.specs.Prelude.{◌≡◌, Any, Contains, IfOk, IsSomeAnd, length};
 ghost use Rattle.tfpg_base.specs.Append.{Appends};
-ghost use Rattle.tfpg_base.specs.Hypothesis.{believing};
 ghost use Rattle.tfpg_evidence.specs.Findings.{hypothesis_of};
 ghost use Rattle.tfpg_graph.specs.Graph.{AreFailures};
 ghost use Rattle.tfpg_run.specs.generate.Summary.{drawing, drawn_text, rounds_text, status_word, truth_text};
@@ -11,7 +10,7 @@ ghost use Rattle.tfpg_run.specs.inside.generate.Summary.{HasFindingOn, SaysOfRou
 use crate::diagnosis::Diagnosis;
 use itoa::Buffer;
 use std::alloc::Global;
-use tfpg_base::{Doubts, NoMemory, Set, append_line};
+use tfpg_base::{Hypothesis, NoMemory, Set, append_line};
 use tfpg_evidence::{Counts, Finding, Round, Status};
 use tfpg_graph::Graph;
 use tfpg_report::{append_counts, append_set};
@@ -55,7 +54,7 @@ fn summary_text(
     ensures { IfOk result (λ text. SaysOfRound (drawing number size graph.now rounds) set text.items
         last.entry.now) }
 {
-    let finding = finding_on(last.findings.as_slice(), set);
+    let finding = finding_on(last.findings.as_slice(), Hypothesis::believing(set));
     let mut text = Vec::new(alloc);
     append_drawn(number, size, graph, rounds, &mut text)?;
     append_rounds(rounds, last.counts, &mut text)?;
@@ -63,25 +62,18 @@ fn summary_text(
     Ok(text)
 }
 
-/// The finding on the set that believes each monitor.
-fn finding_on(findings: &[Finding], set: Set) -> &Finding
-    requires { Any (λ finding. hypothesis_of finding ≡ believing set) findings.now }
+/// The finding on the hypothesis.
+fn finding_on(findings: &[Finding], hypothesis: Hypothesis) -> &Finding
+    requires { Any (λ finding. hypothesis_of finding ≡ hypothesis) findings.now }
     ensures there { Contains findings.now result.now }
-    ensures on_set { hypothesis_of result.now ≡ believing set }
+    ensures hypothesis { hypothesis_of result.now ≡ hypothesis }
 {
     for finding in findings {
-        if is_on(finding, set) {
+        if finding.hypothesis().is_same(hypothesis) {
             return finding;
         }
     }
     unreachable!()
-}
-
-/// Whether the finding is on the set and believes each monitor.
-fn is_on(finding: &Finding, set: Set) -> bool
-    ensures { IsTrue result ↔ (hypothesis_of finding.now ≡ believing set) }
-{
-    finding.set == set && finding.doubts.len() == 0
 }
 
 /// Appends the line that says what was drawn.
@@ -139,7 +131,7 @@ fn append_truth(
     ensures { Appends result into.old.items into.new.items (truth_text graph.now set status.now) }
 {
     into.extend_from_slice(b"truth ")?;
-    append_set(graph, set, Doubts::empty(), into)?;
+    append_set(graph, Hypothesis::believing(set), into)?;
     into.push(b' ')?;
     into.extend_from_slice(status_word(status))?;
     into.push(b'\n')?;

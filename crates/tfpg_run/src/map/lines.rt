@@ -2,26 +2,29 @@
 
 ghost use Rattle.std.specs.Prelude.{◌≡◌, option_map, IfSome, IsNone, IfOk, IsErrOf, decimal};
 ghost use Rattle.tfpg_base.specs.declared.activation.Activation.{Activation};
-ghost use Rattle.tfpg_base.specs.Hypothesis.{Hypothesis};
+ghost use Rattle.tfpg_base.specs.Hypothesis.{Hypothesis as Members};
 ghost use Rattle.tfpg_base.specs.Words.{words_of};
 ghost use Rattle.tfpg_graph.specs.Graph.{name_word};
 ghost use Rattle.tfpg_report.specs.LineWords.{activation_line};
 ghost use Rattle.tfpg_report.specs.SetText.{IsHypothesisOf};
-ghost use Rattle.tfpg_report.specs.ReadSets.{hypothesis_of};
 ghost use Rattle.tfpg_run.specs.map.Spelling.{IsActivationOf, set_line};
 ghost use Rattle.tfpg_run.specs.inside.map.Lines.{word_after_set, words_after_at};
 
 use super::MapFault;
 use std::alloc::Global;
-use tfpg_base::{Activation, MAX_TIME, Number, Words, read_number};
+use tfpg_base::{Activation, Hypothesis, MAX_TIME, Number, Words, read_number};
 use tfpg_graph::Graph;
-use tfpg_report::{Members, read_set};
+use tfpg_report::read_set;
 
-/// The members of the set that the line spells.
-pub(crate) fn read_set_line(alloc: Global, graph: &Graph, line: &[u8]) -> Result<Members, MapFault>
-    ensures set { IfOk result (λ members. IsHypothesisOf graph.now (hypothesis_of members)
-        × (line.now ≡ set_line graph.now (hypothesis_of members))) }
-    ensures bad { IsErrOf result MapFault.BadMap → (hypothesis : Hypothesis) →
+/// The hypothesis whose set the line spells.
+pub(crate) fn read_set_line(
+    alloc: Global,
+    graph: &Graph,
+    line: &[u8],
+) -> Result<Hypothesis, MapFault>
+    ensures set { IfOk result (λ hypothesis. IsHypothesisOf graph.now hypothesis
+        × (line.now ≡ set_line graph.now hypothesis)) }
+    ensures bad { IsErrOf result MapFault.BadMap → (hypothesis : Members) →
         IsHypothesisOf graph.now hypothesis → line.now ≡ set_line graph.now hypothesis → ⊥ }
 {
     graph.is_always_valid();
@@ -29,7 +32,7 @@ pub(crate) fn read_set_line(alloc: Global, graph: &Graph, line: &[u8]) -> Result
         return Err(MapFault::BadMap);
     };
     match read_set(alloc, graph, word)? {
-        Some(members) => Ok(members),
+        Some(hypothesis) => Ok(hypothesis),
         None => Err(MapFault::BadMap),
     }
 }

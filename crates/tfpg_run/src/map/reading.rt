@@ -27,7 +27,7 @@ pub(crate) fn read_map<S: Source>(alloc: Global, graph: &Graph, input: &mut S) -
     ensures nodes { IfOk result (λ map. All (λ activation. activation.node < length graph.now.nodes)
         map.trace) }
     ensures monitors { IfOk result (λ map. All (λ node. IsTrue (is_monitored graph.now node))
-        map.members.doubts) }
+        map.hypothesis.doubts) }
     ensures none { IfErr result (LacksMap graph.now (S.state input.old) (S.state input.new)) }
 {
     let mut reader = MapReader::new(alloc);
@@ -79,9 +79,11 @@ fn not_a_map(lines: &Lines) -> NoMap
 fn map_of(reader: MapReader) -> Result<Map, NoMap>
     ensures { ReturnsMap reader result }
 {
-    let MapReader { members, trace, .. } = reader;
-    match members {
-        Some(members) => Ok(Map { members, trace }),
+    let MapReader {
+        hypothesis, trace, ..
+    } = reader;
+    match hypothesis {
+        Some(hypothesis) => Ok(Map { hypothesis, trace }),
         None => Err(NoMap::Refused { line: 1 }),
     }
 }

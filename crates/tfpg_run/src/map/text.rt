@@ -6,7 +6,7 @@ ghost use Rattle.tfpg_graph.specs.Graph.{AreFailures};
 ghost use Rattle.tfpg_run.specs.map.MapText.{map_text};
 
 use std::alloc::Global;
-use tfpg_base::{Doubts, NoMemory, Set, Trace};
+use tfpg_base::{Hypothesis, NoMemory, Set, Trace};
 use tfpg_graph::Graph;
 use tfpg_report::{append_activations, append_set_line};
 
@@ -23,7 +23,7 @@ pub(crate) fn map_text(
     ensures { IfOk result (λ text. text.items ≡ map_text graph.now (believing set) trace.now) }
 {
     let mut text = Vec::new(alloc);
-    append_set_line(graph, &[b"set "], set, Doubts::empty(), &mut text)?;
+    append_set_line(graph, &[b"set "], Hypothesis::believing(set), &mut text)?;
     append_activations(graph, trace.as_slice(), &mut text)?;
     Ok(text)
 }

@@ -30,7 +30,7 @@ pub(super) fn append_outlook(
         (outlook_text graph.now probed.now finding.entry.now outlook.entry.now) }
 {
     let mut set = Vec::new(alloc);
-    append_set(graph, finding.set, finding.doubts, &mut set)?;
+    append_set(graph, finding.hypothesis(), &mut set)?;
     let mut number_digits = Buffer::new();
     let mut time_digits = Buffer::new();
     let number = number_digits.format(finding.number).as_bytes();

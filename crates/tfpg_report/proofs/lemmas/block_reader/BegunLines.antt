@@ -10,7 +10,7 @@ use Rattle.tfpg_evidence.specs.declared.finding.Status.{Status}
 use Rattle.tfpg_evidence.specs.declared.finding.Status.TheVariants as status
 use Rattle.tfpg_evidence.specs.declared.finding.Finding.{Finding}
 use Rattle.tfpg_evidence.specs.declared.round.Round.{Round as RoundOf}
-use Rattle.tfpg_evidence.specs.Findings.{ranked_in_order, open_in, newly_rejected}
+use Rattle.tfpg_evidence.specs.Findings.{ranked_in_order, open_in, newly_rejected, hypothesis_of}
 use Rattle.tfpg_report.specs.declared.stand.Stand.{Stand}
 use Rattle.tfpg_report.specs.declared.stand.Stand.TheVariants as stand
 use Rattle.tfpg_report.specs.declared.report_line.ReportLine.{ReportLine}
@@ -104,7 +104,7 @@ finding_within finding =
 
 ranked_within : (finding : Finding) (is : Status) → All IsWithin (lines_if_ranked finding is)
 ranked_within finding (status.Ranked trace cost alarmed monitored) =
-    All-cons IsWithin (Ranked finding.number cost alarmed monitored finding.set finding.doubts) (map At trace) refl (all_mapped At (λ activation. refl) trace)
+    All-cons IsWithin (Ranked finding.number cost alarmed monitored (hypothesis_of finding)) (map At trace) refl (all_mapped At (λ activation. refl) trace)
 ranked_within finding (status.Covered by) = All-nil IsWithin
 ranked_within finding status.Rejected = All-nil IsWithin
 ranked_within finding status.Open = All-nil IsWithin

@@ -160,17 +160,17 @@ fits_after before draft at (Why reason) next fits same =
 fits_after before draft at Again next fits same =
     then_some_is (λ s. Fits s (draft_after at s Again draft)) (may_step before) stand.Step next same
     (λ may. step_fits at step.Again draft (steps_fit before draft may fits))
-fits_after before draft at (Ranked number cost alarmed monitored set doubts) next fits same =
-    then_some_is (λ s. Fits s (draft_after at s (Ranked number cost alarmed monitored set doubts) draft)) (may_rank before) (stand.Ranked None) next same
+fits_after before draft at (Ranked number cost alarmed monitored hypothesis) next fits same =
+    then_some_is (λ s. Fits s (draft_after at s (Ranked number cost alarmed monitored hypothesis) draft)) (may_rank before) (stand.Ranked None) next same
     (λ may. (refl, (is_settled before draft (open_or_reject before (rank_or_open before may)) fits).steps, no_sets before draft may fits))
 fits_after before draft at (At activation) next fits same =
     after_activation_is (λ s t. Fits s draft → Fits t (with_activation activation draft)) before next activation.node same
     (λ last later fits. (ranked_fits last activation draft.under_way fits.0 later, fits.1, fits.2)) fits
-fits_after before draft at (Open number set doubts) next fits same =
-    then_some_is (λ s. Fits s (draft_after at s (Open number set doubts) draft)) (may_open before) stand.Open next same
+fits_after before draft at (Open number hypothesis) next fits same =
+    then_some_is (λ s. Fits s (draft_after at s (Open number hypothesis) draft)) (may_open before) stand.Open next same
     (λ may. (tt, (is_settled before draft (open_or_reject before may) fits).steps, none_rejected before draft may fits))
-fits_after before draft at (Rejected number set doubts) next fits same =
-    then_some_is (λ s. Fits s (draft_after at s (Rejected number set doubts) draft)) (may_reject before) stand.Rejected next same
+fits_after before draft at (Rejected number hypothesis) next fits same =
+    then_some_is (λ s. Fits s (draft_after at s (Rejected number hypothesis) draft)) (may_reject before) stand.Rejected next same
     (λ may. (tt, (is_settled before draft may fits).steps))
 fits_after before draft at (Counts counts) next fits same =
     then_some_is (λ s. Fits s (draft_after at s (Counts counts) draft)) (may_reject before) (stand.Counts None) next same (λ _. tt)
@@ -206,8 +206,8 @@ lets_fit before draft (OldHead k budget) next fits same = refl
 lets_fit before draft (Refused line cause) next fits same = refl
 lets_fit before draft (Round number line now) next fits same = refl
 lets_fit before draft (Hyp number) next fits same = refl
-lets_fit before draft (Ranked number cost alarmed monitored set doubts) next fits same = refl
-lets_fit before draft (Open number set doubts) next fits same = refl
-lets_fit before draft (Rejected number set doubts) next fits same = refl
+lets_fit before draft (Ranked number cost alarmed monitored hypothesis) next fits same = refl
+lets_fit before draft (Open number hypothesis) next fits same = refl
+lets_fit before draft (Rejected number hypothesis) next fits same = refl
 lets_fit before draft (Counts counts) next fits same = refl
 lets_fit before draft (Panel panel memory) next fits same = refl

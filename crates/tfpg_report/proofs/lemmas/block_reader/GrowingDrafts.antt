@@ -15,7 +15,7 @@ use Rattle.tfpg_report.specs.declared.block_reader.draft.Draft.{Draft}
 use Rattle.tfpg_report.specs.declared.block_reader.draft.UnderWay.{UnderWay}
 use Rattle.tfpg_report.specs.declared.block_reader.draft.UnderWay.TheVariants as under_way
 use Rattle.tfpg_report.specs.Stands.{may_begin, may_begin_block, may_begin_steps, may_step, may_rank, may_open, may_reject, after_reasons, is_later, stand_after}
-use Rattle.tfpg_report.specs.ReadRounds.{NumberedLine, numbered_from, step_lines, lines_of_ranked}
+use Rattle.tfpg_report.specs.ReadRounds.{NumberedLine, numbered_from, step_lines, lines_of_ranked, hypothesis_ranked}
 use Rattle.tfpg_report.specs.inside.Drafts.{ranked_with, under_way_with_step, under_way_with_activation, with_step, with_cycle, with_reason, with_open, with_rejected, settled, named_at, draft_with, draft_after, completed}
 use Rattle.tfpg_report.specs.inside.Fitting.{whole_lines, lines_under_way, lines_so_far, cycle_lines, begun_lines, IsPart, IsRankedUpTo, HasSteps, Fits, Feeds}
 use Rattle.tfpg_report.proofs.lemmas.block_reader.NumberedLines.{numbered, numbered_from_more, numbers_end, lines_of_part_with, with_time_at_end}
@@ -110,9 +110,9 @@ why_feeds owed draft at reason next same number fits =
 
 -- one activation more
 ranked_lines_with : (activation : Activation) (ranked : RankedLine) → with_time activation.node activation.time ranked.trace ≡ ranked.trace ++ activation ∷ []
-    → lines_of_ranked (ranked_with activation ranked) ≡ lines_of_ranked ranked ++ numbered (ranked.first_line + length (Ranked ranked.number ranked.cost ranked.alarmed ranked.monitored ranked.set ranked.doubts ∷ map At ranked.trace)) (At activation) ∷ []
+    → lines_of_ranked (ranked_with activation ranked) ≡ lines_of_ranked ranked ++ numbered (ranked.first_line + length (Ranked ranked.number ranked.cost ranked.alarmed ranked.monitored (hypothesis_ranked ranked) ∷ map At ranked.trace)) (At activation) ∷ []
 ranked_lines_with activation ranked at_end =
-    let head : ReportLine = Ranked ranked.number ranked.cost ranked.alarmed ranked.monitored ranked.set ranked.doubts in
+    let head : ReportLine = Ranked ranked.number ranked.cost ranked.alarmed ranked.monitored (hypothesis_ranked ranked) in
     ap (λ trace. numbered_from ranked.first_line (head ∷ map At trace)) at_end
     ∙ ap (λ ats. numbered_from ranked.first_line (head ∷ ats)) (map-append At ranked.trace (activation ∷ []))
     ∙ numbered_from_more ranked.first_line (head ∷ map At ranked.trace) (At activation)
@@ -123,7 +123,7 @@ activation_feeds : (before : List NumberedLine) (last : Option ℕ) (activation 
 activation_feeds before last activation at under_way.Nothing is later number = absurd is
 activation_feeds before last activation at (under_way.Part part) is later number = absurd is
 activation_feeds before last activation at (under_way.Ranked ranked) up_to later number =
-    let head : ReportLine = Ranked ranked.number ranked.cost ranked.alarmed ranked.monitored ranked.set ranked.doubts in
+    let head : ReportLine = Ranked ranked.number ranked.cost ranked.alarmed ranked.monitored (hypothesis_ranked ranked) in
     let at_is : ranked.first_line + length (head ∷ map At ranked.trace) ≡ at =
     numbers_end before ranked.first_line head (map At ranked.trace) number.first number.said number.are ∙ sym number.next_is in
     ap (λ lines. before ++ lines) (ranked_lines_with activation ranked (with_time_at_end activation.node activation.time ranked.trace (nodes_below last activation.node ranked.trace up_to later)))
@@ -177,29 +177,29 @@ feeds_after before draft at (Why reason) next fits number same =
 feeds_after before draft at Again next fits number same =
     then_some_is (FeedsAfter before draft at Again) (may_step before) stand.Step next same
     (λ may. (refl, step_feeds before draft at step.Again Again refl may fits))
-feeds_after before draft at (Ranked number cost alarmed monitored set doubts) next fits after same =
-    let line : ReportLine = Ranked number cost alarmed monitored set doubts in
+feeds_after before draft at (Ranked number cost alarmed monitored hypothesis) next fits after same =
+    let line : ReportLine = Ranked number cost alarmed monitored hypothesis in
     then_some_is (FeedsAfter before draft at line) (may_rank before) (stand.Ranked None) next same
     (λ may. (refl, ap (λ lines. lines ++ numbered at line ∷ []) (sym (lines_when_settled before draft (open_or_reject before (rank_or_open before may)) fits))))
 feeds_after before draft at (At activation) next fits number same =
     after_activation_is (λ s t. Fits s draft → IsNumberAfter (begun_lines s draft) at → FeedsAfter s draft at (At activation) t) before next activation.node same
     (λ last later fits number. (refl, activation_feeds (whole_lines draft) last activation at draft.under_way fits.0 later number)) fits number
-feeds_after before draft at (Open number set doubts) next fits after same =
-    let line : ReportLine = Open number set doubts in
+feeds_after before draft at (Open number hypothesis) next fits after same =
+    let line : ReportLine = Open number hypothesis in
     then_some_is (FeedsAfter before draft at line) (may_open before) stand.Open next same
     (λ may. (
       refl,
-      append-nil (whole_lines (with_open (named_at at number set doubts) draft))
-          ∙ open_more (settled draft) (named_at at number set doubts) (none_rejected before draft may fits)
+      append-nil (whole_lines (with_open (named_at at number hypothesis) draft))
+          ∙ open_more (settled draft) (named_at at number hypothesis) (none_rejected before draft may fits)
           ∙ ap (λ lines. lines ++ numbered at line ∷ []) (sym (lines_when_settled before draft (open_or_reject before may) fits)),
     ))
-feeds_after before draft at (Rejected number set doubts) next fits after same =
-    let line : ReportLine = Rejected number set doubts in
+feeds_after before draft at (Rejected number hypothesis) next fits after same =
+    let line : ReportLine = Rejected number hypothesis in
     then_some_is (FeedsAfter before draft at line) (may_reject before) stand.Rejected next same
     (λ may. (
       refl,
-      append-nil (whole_lines (with_rejected (named_at at number set doubts) draft))
-          ∙ rejected_more (settled draft) (named_at at number set doubts)
+      append-nil (whole_lines (with_rejected (named_at at number hypothesis) draft))
+          ∙ rejected_more (settled draft) (named_at at number hypothesis)
           ∙ ap (λ lines. lines ++ numbered at line ∷ []) (sym (lines_when_settled before draft may fits)),
     ))
 feeds_after before draft at (Counts counts) next fits after same =

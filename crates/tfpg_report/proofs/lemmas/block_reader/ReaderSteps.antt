@@ -89,10 +89,10 @@ left_with at next (Split name) draft = refl
 left_with at next (Cycle count) draft = refl
 left_with at next (Why reason) draft = refl
 left_with at next Again draft = refl
-left_with at next (Ranked number cost alarmed monitored set doubts) draft = refl
+left_with at next (Ranked number cost alarmed monitored hypothesis) draft = refl
 left_with at next (At activation) draft = refl
-left_with at next (Open number set doubts) draft = refl
-left_with at next (Rejected number set doubts) draft = refl
+left_with at next (Open number hypothesis) draft = refl
+left_with at next (Rejected number hypothesis) draft = refl
 left_with at next (Counts counts) draft = refl
 left_with at next (Panel panel memory) draft = refl
 

@@ -12,7 +12,7 @@ use Rattle.tfpg_report.specs.declared.read_round.NamedSet.{NamedSet}
 use Rattle.tfpg_report.specs.declared.read_round.ReadRound.{ReadRound}
 use Rattle.tfpg_report.specs.declared.report_line.ReportLine.{ReportLine}
 use Rattle.tfpg_report.specs.declared.report_line.ReportLine.TheVariants.{Head, OldHead, Refused, Round, Hyp, Split, Cycle, Why, Again, Ranked, At, Open, Rejected, Counts, Panel}
-use Rattle.tfpg_report.specs.ReadRounds.{NumberedLine, numbered_from, step_lines, lines_of_steps, lines_of_part, lines_of_ranked, line_of_open, line_of_rejected, lines_of_round, HasLineForEachStep}
+use Rattle.tfpg_report.specs.ReadRounds.{NumberedLine, numbered_from, step_lines, lines_of_steps, lines_of_part, lines_of_ranked, line_of_open, line_of_rejected, lines_of_round, HasLineForEachStep, hypothesis_ranked, hypothesis_named}
 use Rattle.tfpg_report.specs.Reading.{IsReadFrom}
 
 -- ---- from the last line to the first
@@ -66,7 +66,7 @@ with_line_before at (Split name) later = with_step_before at (step.Split name) l
 with_line_before at (Cycle count) later = with_step_before at (step.Cycle later.reasons) (record later { reasons = [] })
 with_line_before at (Why reason) later = record later { reasons = reason ∷ later.reasons }
 with_line_before at Again later = with_step_before at step.Again later
-with_line_before at (Ranked number cost alarmed monitored set doubts) later = record later {
+with_line_before at (Ranked number cost alarmed monitored hypothesis) later = record later {
   round = record later.round {
     ranked = record {
       first_line = at;
@@ -74,8 +74,8 @@ with_line_before at (Ranked number cost alarmed monitored set doubts) later = re
       cost = cost;
       alarmed = alarmed;
       monitored = monitored;
-      set = set;
-      doubts = doubts;
+      set = hypothesis.set;
+      doubts = hypothesis.doubts;
       trace = later.trace;
     }
         ∷ later.round.ranked;
@@ -83,14 +83,14 @@ with_line_before at (Ranked number cost alarmed monitored set doubts) later = re
   trace = [];
 }
 with_line_before at (At activation) later = record later { trace = activation ∷ later.trace }
-with_line_before at (Open number set doubts) later = record later {
+with_line_before at (Open number hypothesis) later = record later {
   round = record later.round {
-    unsettled = record { first_line = at; number = number; set = set; doubts = doubts } ∷ later.round.unsettled;
+    unsettled = record { first_line = at; number = number; set = hypothesis.set; doubts = hypothesis.doubts } ∷ later.round.unsettled;
   };
 }
-with_line_before at (Rejected number set doubts) later = record later {
+with_line_before at (Rejected number hypothesis) later = record later {
   round = record later.round {
-    rejected = record { first_line = at; number = number; set = set; doubts = doubts } ∷ later.round.rejected;
+    rejected = record { first_line = at; number = number; set = hypothesis.set; doubts = hypothesis.doubts } ∷ later.round.rejected;
   };
 }
 with_line_before at (Counts counts) later =
@@ -111,11 +111,11 @@ with_lines_append (line ∷ front) back later = ap (with_line_before line.number
 
 rejected_back : (named : List NamedSet) (round : ReadRound) → with_lines_before (map line_of_rejected named) (gathered round) ≡ gathered (record round { rejected = named ++ round.rejected })
 rejected_back [] round = refl
-rejected_back (one ∷ named) round = ap (with_line_before one.first_line (Rejected one.number one.set one.doubts)) (rejected_back named round)
+rejected_back (one ∷ named) round = ap (with_line_before one.first_line (Rejected one.number (hypothesis_named one))) (rejected_back named round)
 
 open_back : (named : List NamedSet) (round : ReadRound) → with_lines_before (map line_of_open named) (gathered round) ≡ gathered (record round { unsettled = named ++ round.unsettled })
 open_back [] round = refl
-open_back (one ∷ named) round = ap (with_line_before one.first_line (Open one.number one.set one.doubts)) (open_back named round)
+open_back (one ∷ named) round = ap (with_line_before one.first_line (Open one.number (hypothesis_named one))) (open_back named round)
 
 trace_back : (first : ℕ) (trace : List Activation) (round : ReadRound) → with_lines_before (numbered_from first (map At trace)) (gathered round) ≡ record (gathered round) { trace = trace }
 trace_back first [] round = refl
@@ -126,7 +126,7 @@ ranked_back [] round = refl
 ranked_back (one ∷ ranked) round =
     with_lines_append (lines_of_ranked one) (flat_map lines_of_ranked ranked) (gathered round)
     ∙ ap (with_lines_before (lines_of_ranked one)) (ranked_back ranked round)
-    ∙ ap (with_line_before one.first_line (Ranked one.number one.cost one.alarmed one.monitored one.set one.doubts))
+    ∙ ap (with_line_before one.first_line (Ranked one.number one.cost one.alarmed one.monitored (hypothesis_ranked one)))
     (trace_back (one.first_line + 1) one.trace (record round { ranked = ranked ++ round.ranked }))
 
 -- with these steps before what is whole

@@ -19,7 +19,7 @@ use Rattle.tfpg_evidence.specs.declared.finding.Status.TheVariants as status
 use Rattle.tfpg_evidence.specs.declared.finding.Finding.{Finding}
 use Rattle.tfpg_evidence.specs.declared.round.Round.{Round as RoundOf}
 use Rattle.tfpg_evidence.specs.RoundOf.{finding_numbered}
-use Rattle.tfpg_evidence.specs.Findings.{ranked_in_order, open_in, newly_rejected}
+use Rattle.tfpg_evidence.specs.Findings.{ranked_in_order, open_in, newly_rejected, hypothesis_of}
 use Rattle.tfpg_report.specs.declared.stand.Stand.{Stand}
 use Rattle.tfpg_report.specs.declared.stand.Stand.TheVariants as stand
 use Rattle.tfpg_report.specs.declared.report_line.ReportLine.{ReportLine}
@@ -145,7 +145,7 @@ trace_arrives (first ∷ others) last later rising =
 -- the lines of a finding, if it is ranked
 ranked_arrives : (finding : Finding) (is : Status) → HasRisingTrace is → (from : Stand) → may_rank from ≡ true → Arrives (λ s. may_rank s ≡ true) from (lines_if_ranked finding is)
 ranked_arrives finding (status.Ranked trace cost alarmed monitored) rising from may =
-    arrives_cons (λ s. may_rank s ≡ true) from (stand.Ranked None) (Ranked finding.number cost alarmed monitored finding.set finding.doubts) (map At trace)
+    arrives_cons (λ s. may_rank s ≡ true) from (stand.Ranked None) (Ranked finding.number cost alarmed monitored (hypothesis_of finding)) (map At trace)
     (let_be (may_rank from) (stand.Ranked None) may)
     (trace_arrives trace None (all_later trace) rising)
   where

@@ -12,7 +12,7 @@ use Rattle.tfpg_evidence.specs.declared.finding.Status.TheVariants as status
 use Rattle.tfpg_evidence.specs.declared.finding.Finding.{Finding}
 use Rattle.tfpg_evidence.specs.declared.round.Counts.{Counts as CountsOf}
 use Rattle.tfpg_evidence.specs.declared.round.Round.{Round as RoundOf}
-use Rattle.tfpg_evidence.specs.Findings.{ranked_in_order, open_in, newly_rejected}
+use Rattle.tfpg_evidence.specs.Findings.{ranked_in_order, open_in, newly_rejected, hypothesis_of}
 use Rattle.tfpg_report.specs.declared.read_round.ReadRound.{ReadRound}
 use Rattle.tfpg_report.specs.declared.report_line.ReportLine.{ReportLine}
 use Rattle.tfpg_report.specs.declared.report_line.ReportLine.TheVariants.{Head, OldHead, Refused, Round, Hyp, Split, Cycle, Why, Again, Ranked, At, Open, Rejected, Counts, Panel}
@@ -77,15 +77,14 @@ saying (Split name) later = record later { steps = step.Split name ∷ later.ste
 saying (Cycle count) later = record later { steps = step.Cycle later.reasons ∷ later.steps; reasons = [] }
 saying (Why reason) later = record later { reasons = reason ∷ later.reasons }
 saying Again later = record later { steps = step.Again ∷ later.steps }
-saying (Ranked number cost alarmed monitored set doubts) later = record later {
+saying (Ranked number cost alarmed monitored hypothesis) later = record later {
   whole = record later.whole {
     ranked = record {
       number = number;
       cost = cost;
       alarmed = alarmed;
       monitored = monitored;
-      set = set;
-      doubts = doubts;
+      hypothesis = hypothesis;
       trace = later.trace;
     }
         ∷ later.whole.ranked;
@@ -93,10 +92,10 @@ saying (Ranked number cost alarmed monitored set doubts) later = record later {
   trace = [];
 }
 saying (At activation) later = record later { trace = activation ∷ later.trace }
-saying (Open number set doubts) later =
-    record later { whole = record later.whole { unsettled = record { number = number; set = set; doubts = doubts } ∷ later.whole.unsettled } }
-saying (Rejected number set doubts) later =
-    record later { whole = record later.whole { rejected = record { number = number; set = set; doubts = doubts } ∷ later.whole.rejected } }
+saying (Open number hypothesis) later =
+    record later { whole = record later.whole { unsettled = record { number = number; hypothesis = hypothesis } ∷ later.whole.unsettled } }
+saying (Rejected number hypothesis) later =
+    record later { whole = record later.whole { rejected = record { number = number; hypothesis = hypothesis } ∷ later.whole.rejected } }
 saying (Counts counts) later = record later { whole = record later.whole { counts = counts } }
 saying (Panel panel memory) later = later
 
@@ -121,10 +120,10 @@ one_said at (Split name) later = refl
 one_said at (Cycle count) later = refl
 one_said at (Why reason) later = refl
 one_said at Again later = refl
-one_said at (Ranked number cost alarmed monitored set doubts) later = refl
+one_said at (Ranked number cost alarmed monitored hypothesis) later = refl
 one_said at (At activation) later = refl
-one_said at (Open number set doubts) later = refl
-one_said at (Rejected number set doubts) later = refl
+one_said at (Open number hypothesis) later = refl
+one_said at (Rejected number hypothesis) later = refl
 one_said at (Counts counts) later = refl
 one_said at (Panel panel memory) later = refl
 
@@ -185,7 +184,7 @@ trace_said (activation ∷ trace) said = ap (saying (At activation)) (trace_said
 
 ranked_said : (finding : Finding) (is : Status) (said : Said) → saying_all (lines_if_ranked finding is) (whole_alone said) ≡ whole_alone (record said { ranked = ranked_of_finding finding is ++ said.ranked })
 ranked_said finding (status.Ranked trace cost alarmed monitored) said =
-    ap (saying (Ranked finding.number cost alarmed monitored finding.set finding.doubts)) (trace_said trace said)
+    ap (saying (Ranked finding.number cost alarmed monitored (hypothesis_of finding))) (trace_said trace said)
 ranked_said finding (status.Covered by) said = refl
 ranked_said finding status.Rejected said = refl
 ranked_said finding status.Open said = refl

@@ -14,14 +14,13 @@ use Rattle.tfpg_base.proofs.lists.SameBytes.{bytes_eq-same}
 use Rattle.tfpg_graph.specs.Graph.{Tfpg}
 use Rattle.tfpg_graph.specs.Valid.{IsValid}
 use Rattle.tfpg_report.specs.SetText.{IsHypothesisOf, set_word}
-use Rattle.tfpg_report.specs.ReadSets.{AreMembersIn, hypothesis_of}
+use Rattle.tfpg_report.specs.ReadSets.{IsHypothesisIn}
 use Rattle.tfpg_report.specs.ReportLines.{IsLineWithin, Says, line_words}
 use Rattle.tfpg_report.specs.declared.report_line.ReportLine.{ReportLine}
 use Rattle.tfpg_report.specs.declared.report_line.ReportLine.TheVariants as variant
 use Rattle.tfpg_report.specs.declared.reading.read_findings.RankedNumbers.{RankedNumbers}
 use Rattle.tfpg_report.specs.declared.reading.read_line.LineRefusal.{LineRefusal}
 use Rattle.tfpg_report.specs.declared.reading.read_line.LineRefusal.TheVariants.{NotALine, NoMemory}
-use Rattle.tfpg_report.specs.declared.reading.set_word.Members.{Members}
 use Rattle.tfpg_report.specs.inside.LinesRead.{numbered_in, plain_line_in, ranked_in}
 use Rattle.tfpg_report.specs.inside.WordsRead.{AreNumberedRead, AreWordsRead, HasNumbered, HasWords, plain_words_in}
 use Rattle.tfpg_report.proofs.SetWords.{one_hypothesis}
@@ -48,25 +47,25 @@ module _ (graph : Tfpg) (valid : IsValid graph) where
 
     module _ (number : ℕ) (set : List ℕ) (read : numbered_in words ≡ Some (number, set)) where
       -- nor are those whose last word is the text of no hypothesis
-      pub no_numbered-set : AreMembersIn graph set None → (other : ℕ) (hypothesis : Hypothesis) → HasNumbered graph words other hypothesis → ⊥
+      pub no_numbered-set : IsHypothesisIn graph set None → (other : ℕ) (hypothesis : Hypothesis) → HasNumbered graph words other hypothesis → ⊥
       no_numbered-set none other hypothesis has =
           let same = same_Some _ _ (sym read ∙ ap numbered_in has.words_are ∙ numbered-reads other (set_word graph hypothesis) has.small) in
           none hypothesis has.of_graph (ap (λ (r : ℕ × List ℕ). r.1) same)
 
       -- others are
-      pub numbered_read : (members : Members) → AreMembersIn graph set (Some members) → HasNumbered graph words number (hypothesis_of members)
-      numbered_read members is =
+      pub numbered_read : (hypothesis : Hypothesis) → IsHypothesisIn graph set (Some hypothesis) → HasNumbered graph words number hypothesis
+      numbered_read hypothesis is =
           let has = numbered-is words (number, set) read in
           record { words_are = has.words_are ∙ ap (λ (word : List ℕ). decimal number ∷ codes "set" ∷ word ∷ []) is.1; small = has.within; of_graph = is.0 }
 
     -- ---- the lines of an open and of a rejected hypothesis
 
     -- words that are those for a number and a set
-    record AreNumbered (made : ℕ → List ℕ → List ℕ → ReportLine) (line : ReportLine) : Type 0 where
+    record AreNumbered (made : ℕ → Hypothesis → ReportLine) (line : ReportLine) : Type 0 where
       number : ℕ
       hypothesis : Hypothesis
       has : HasNumbered graph words number hypothesis
-      line_is : line ≡ made number hypothesis.set hypothesis.doubts
+      line_is : line ≡ made number hypothesis
 
     -- the words of a line that begins so
     of_open : (line : ReportLine) → HasWords graph (codes "open" ∷ words) line → AreNumbered variant.Open line
@@ -76,7 +75,7 @@ module _ (graph : Tfpg) (valid : IsValid graph) where
         by (inl plain) = absurd (let none = ap (plain_words_in graph) has.words_are ∙ plain in cc)
         by (inr (inl ranked)) = absurd (apart (codes "open") (codes "ranked") words _ refl (has.words_are ∙ ap (line_words graph) ranked.is))
         by (inr (inr (inl is))) =
-            let same : codes "open" ∷ words ≡ line_words graph (variant.Open is.number is.hypothesis.set is.hypothesis.doubts) = has.words_are ∙ ap (line_words graph) is.is in
+            let same : codes "open" ∷ words ≡ line_words graph (variant.Open is.number is.hypothesis) = has.words_are ∙ ap (line_words graph) is.is in
             let within = subst (IsLineWithin graph) is.is has.within in
             record { number = is.number; hypothesis = is.hypothesis; has = record { words_are = cc; small = within.0; of_graph = within.1 }; line_is = is.is }
         by (inr (inr (inr rejected))) = absurd (apart (codes "open") (codes "rejected") words _ refl (has.words_are ∙ ap (line_words graph) rejected.is))
@@ -89,19 +88,19 @@ module _ (graph : Tfpg) (valid : IsValid graph) where
         by (inr (inl ranked)) = absurd (apart (codes "rejected") (codes "ranked") words _ refl (has.words_are ∙ ap (line_words graph) ranked.is))
         by (inr (inr (inl of))) = absurd (apart (codes "rejected") (codes "open") words _ refl (has.words_are ∙ ap (line_words graph) of.is))
         by (inr (inr (inr is))) =
-            let same : codes "rejected" ∷ words ≡ line_words graph (variant.Rejected is.number is.hypothesis.set is.hypothesis.doubts) = has.words_are ∙ ap (line_words graph) is.is in
+            let same : codes "rejected" ∷ words ≡ line_words graph (variant.Rejected is.number is.hypothesis) = has.words_are ∙ ap (line_words graph) is.is in
             let within = subst (IsLineWithin graph) is.is has.within in
             record { number = is.number; hypothesis = is.hypothesis; has = record { words_are = cc; small = within.0; of_graph = within.1 }; line_is = is.is }
 
     -- two lines of the same kind are one
-    one_numbered : (made : ℕ → List ℕ → List ℕ → ReportLine) (one other : ReportLine) → AreNumbered made one → AreNumbered made other → one ≡ other
+    one_numbered : (made : ℕ → Hypothesis → ReportLine) (one other : ReportLine) → AreNumbered made one → AreNumbered made other → one ≡ other
     one_numbered made one other are too =
         let same = same_Some _ _ (sym (numbered-reads are.number (set_word graph are.hypothesis) are.has.small)
         ∙ ap numbered_in (sym are.has.words_are ∙ too.has.words_are)
         ∙ numbered-reads too.number (set_word graph too.hypothesis) too.has.small) in
         let hypothesis : are.hypothesis ≡ too.hypothesis =
         one_hypothesis graph valid are.hypothesis too.hypothesis are.has.of_graph too.has.of_graph (ap (λ (r : ℕ × List ℕ). r.1) same) in
-        are.line_is ∙ (λ i. made (same i).0 (hypothesis i).set (hypothesis i).doubts) ∙ sym too.line_is
+        are.line_is ∙ (λ i. made (same i).0 (hypothesis i)) ∙ sym too.line_is
 
     -- no line begins so, where no number and set were read
     pub no_open : (refusal : LineRefusal) → AreNumberedRead graph words (Err refusal) → AreWordsRead graph (codes "open" ∷ words) (Err refusal)
@@ -118,7 +117,7 @@ module _ (graph : Tfpg) (valid : IsValid graph) where
     record AreRanked (line : ReportLine) : Type 0 where
       numbers : RankedNumbers
       hypothesis : Hypothesis
-      line_is : line ≡ variant.Ranked numbers.number numbers.cost numbers.alarmed numbers.monitored hypothesis.set hypothesis.doubts
+      line_is : line ≡ variant.Ranked numbers.number numbers.cost numbers.alarmed numbers.monitored hypothesis
       words_are : words ≡ ranked_words numbers (codes "set" ∷ set_word graph hypothesis ∷ [])
       within : AreRankedWithin numbers
       of_graph : IsHypothesisOf graph hypothesis
@@ -129,7 +128,7 @@ module _ (graph : Tfpg) (valid : IsValid graph) where
         by : KindOf graph valid line → AreRanked line
         by (inl plain) = absurd (let none = ap (plain_words_in graph) has.words_are ∙ plain in cc)
         by (inr (inl is)) =
-            let same : codes "ranked" ∷ words ≡ line_words graph (variant.Ranked is.number is.cost is.alarmed is.monitored is.hypothesis.set is.hypothesis.doubts) =
+            let same : codes "ranked" ∷ words ≡ line_words graph (variant.Ranked is.number is.cost is.alarmed is.monitored is.hypothesis) =
             has.words_are ∙ ap (line_words graph) is.is in
             let within = subst (IsLineWithin graph) is.is has.within in
             record {
@@ -152,7 +151,7 @@ module _ (graph : Tfpg) (valid : IsValid graph) where
         let hypothesis : are.hypothesis ≡ too.hypothesis =
         one_hypothesis graph valid are.hypothesis too.hypothesis are.of_graph too.of_graph (ap (λ (r : RankedNumbers × List ℕ). r.1) same) in
         are.line_is
-        ∙ (λ i. variant.Ranked (same i).0.number (same i).0.cost (same i).0.alarmed (same i).0.monitored (hypothesis i).set (hypothesis i).doubts)
+        ∙ (λ i. variant.Ranked (same i).0.number (same i).0.cost (same i).0.alarmed (same i).0.monitored (hypothesis i))
         ∙ sym too.line_is
 
     -- words that are not read so are those of no line
@@ -164,16 +163,16 @@ module _ (graph : Tfpg) (valid : IsValid graph) where
 
     module _ (numbers : RankedNumbers) (set : List ℕ) (read : ranked_in words ≡ Some (numbers, set)) where
       -- nor are those whose last word is the text of no hypothesis
-      pub no_ranked-set : AreMembersIn graph set None → (line : ReportLine) → HasWords graph (codes "ranked" ∷ words) line → ⊥
+      pub no_ranked-set : IsHypothesisIn graph set None → (line : ReportLine) → HasWords graph (codes "ranked" ∷ words) line → ⊥
       no_ranked-set none line has =
           let are = of_ranked line has in
           let same = same_Some _ _ (sym read ∙ ap ranked_in are.words_are ∙ ranked-reads are.numbers (set_word graph are.hypothesis) are.within) in
           none are.hypothesis are.of_graph (ap (λ (r : RankedNumbers × List ℕ). r.1) same)
 
       -- others are
-      pub ranked_read : (members : Members) → AreMembersIn graph set (Some members)
-          → HasWords graph (codes "ranked" ∷ words) (variant.Ranked numbers.number numbers.cost numbers.alarmed numbers.monitored members.set members.doubts)
-      ranked_read members is =
+      pub ranked_read : (hypothesis : Hypothesis) → IsHypothesisIn graph set (Some hypothesis)
+          → HasWords graph (codes "ranked" ∷ words) (variant.Ranked numbers.number numbers.cost numbers.alarmed numbers.monitored hypothesis)
+      ranked_read hypothesis is =
           let has = ranked-is words (numbers, set) read in
           record {
             words_are = ap (λ (ws : List (List ℕ)). codes "ranked" ∷ ws)

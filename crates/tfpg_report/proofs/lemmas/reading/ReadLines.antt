@@ -16,7 +16,7 @@ use Rattle.tfpg_log.specs.declared.refused_line.RefusedLine.TheVariants.{TooLong
 use Rattle.tfpg_report.specs.declared.report_line.ReportLine.{ReportLine}
 use Rattle.tfpg_report.specs.declared.report_line.ReportLine.TheVariants.{Head, OldHead, Refused, Round, Hyp, Split, Cycle, Why, Again, Ranked, At, Open, Rejected, Counts, Panel}
 use Rattle.tfpg_report.specs.LineWords.{cause_words, clause_words, reason_words}
-use Rattle.tfpg_report.specs.ReportLines.{IsCauseWithin, IsLineWithin, IsNameWithin, IsReasonWithin, IsSmall, hypothesis_with, line_words}
+use Rattle.tfpg_report.specs.ReportLines.{IsCauseWithin, IsLineWithin, IsNameWithin, IsReasonWithin, IsSmall, line_words}
 use Rattle.tfpg_report.specs.inside.LinesRead.{cause_in, clause_in, loss_in, reason_in, span_and_horizon}
 use Rattle.tfpg_report.specs.inside.WordsRead.{plain_words_in}
 use Rattle.tfpg_report.proofs.lemmas.reading.FirstWords.{edge_first-reads, node_first-reads, number_first-reads, small_first-reads}
@@ -74,19 +74,19 @@ module _ (graph : Tfpg) (valid : IsValid graph) where
     pub alarmed : ℕ
     pub monitored : ℕ
     pub hypothesis : Hypothesis
-    pub is : line ≡ Ranked number cost alarmed monitored hypothesis.set hypothesis.doubts
+    pub is : line ≡ Ranked number cost alarmed monitored hypothesis
 
   -- that of an open one
   pub record IsOpen (line : ReportLine) : Type 0 where
     pub number : ℕ
     pub hypothesis : Hypothesis
-    pub is : line ≡ Open number hypothesis.set hypothesis.doubts
+    pub is : line ≡ Open number hypothesis
 
   -- and that of a rejected one
   pub record IsRejected (line : ReportLine) : Type 0 where
     pub number : ℕ
     pub hypothesis : Hypothesis
-    pub is : line ≡ Rejected number hypothesis.set hypothesis.doubts
+    pub is : line ≡ Rejected number hypothesis
 
   -- Each line is of one of these kinds.
   abbrev pub KindOf : ReportLine → Type 0
@@ -127,15 +127,15 @@ module _ (graph : Tfpg) (valid : IsValid graph) where
   kind_of (Cycle count) within = inl (rw (small_first-reads count [] within) refl)
   kind_of (Why why) within = inl (rw (reason-reads why within) refl)
   kind_of Again within = inl refl
-  kind_of (Ranked number cost alarmed monitored set doubts) within =
-      inr (inl (record { number = number; cost = cost; alarmed = alarmed; monitored = monitored; hypothesis = hypothesis_with set doubts; is = refl }))
+  kind_of (Ranked number cost alarmed monitored hypothesis) within =
+      inr (inl (record { number = number; cost = cost; alarmed = alarmed; monitored = monitored; hypothesis = hypothesis; is = refl }))
   kind_of (At activation) within =
       inl (rw (
         node_first-reads graph valid activation.node (decimal activation.time ∷ []) within.0,
         number_first-reads MAX_TIME activation.time [] (omega arith) within.1,
       ) refl)
-  kind_of (Open number set doubts) within = inr (inr (inl (record { number = number; hypothesis = hypothesis_with set doubts; is = refl })))
-  kind_of (Rejected number set doubts) within = inr (inr (inr (record { number = number; hypothesis = hypothesis_with set doubts; is = refl })))
+  kind_of (Open number hypothesis) within = inr (inr (inl (record { number = number; hypothesis = hypothesis; is = refl })))
+  kind_of (Rejected number hypothesis) within = inr (inr (inr (record { number = number; hypothesis = hypothesis; is = refl })))
   kind_of (Counts counts) within =
       inl (rw (
         small_first-reads counts.ranked (codes "covered" ∷ decimal counts.covered ∷ codes "rejected" ∷ decimal counts.rejected ∷ codes "open" ∷ decimal counts.unsettled ∷ []) within.ranked,

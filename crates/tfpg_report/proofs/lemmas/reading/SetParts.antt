@@ -10,8 +10,7 @@ use Rattle.tfpg_base.specs.Hypothesis.{Hypothesis}
 use Rattle.tfpg_base.specs.Words.{comma_parts}
 use Rattle.tfpg_graph.specs.Graph.{Tfpg}
 use Rattle.tfpg_graph.specs.Valid.{IsValid}
-use Rattle.tfpg_report.specs.ReadSets.{AreMembersIn, hypothesis_of}
-use Rattle.tfpg_report.specs.declared.reading.set_word.Members.{Members}
+use Rattle.tfpg_report.specs.ReadSets.{IsHypothesisIn}
 use Rattle.tfpg_report.specs.SetText.{IsHypothesisOf, hyphen_or_joined, set_word}
 use Rattle.tfpg_graph.specs.Members.{member_words}
 use Rattle.tfpg_report.proofs.SetWords.{set_word-parts}
@@ -32,9 +31,9 @@ set_parts graph valid word hypothesis no_hyphen of e =
     (λ is. false≢true (sym no_hyphen ∙ (bytes_eq-Decides word (codes "-")).1 (e ∙ is))))
 
 -- what was read of the parts of a word that is no hyphen was read of the word
-pub members_of_word : (graph : Tfpg) → IsValid graph → (word : List ℕ) (words : List (List ℕ)) (members : Option Members) → bytes_eq word (codes "-") ≡ false → words ≡ comma_parts word
-    → IfSome members (λ found. IsHypothesisOf graph (hypothesis_of found) × (member_words graph (hypothesis_of found) ≡ words))
-    → (IsNone members → (hypothesis : Hypothesis) → IsHypothesisOf graph hypothesis → member_words graph hypothesis ≡ words → ⊥) → AreMembersIn graph word members
-members_of_word graph valid word words (Some found) no_hyphen parts is none = (is.0, set_spelled graph word (hypothesis_of found) (is.1 ∙ parts))
-members_of_word graph valid word words None no_hyphen parts is none =
+pub hypothesis_of_word : (graph : Tfpg) → IsValid graph → (word : List ℕ) (words : List (List ℕ)) (hypothesis : Option Hypothesis) → bytes_eq word (codes "-") ≡ false → words ≡ comma_parts word
+    → IfSome hypothesis (λ found. IsHypothesisOf graph found × (member_words graph found ≡ words))
+    → (IsNone hypothesis → (other : Hypothesis) → IsHypothesisOf graph other → member_words graph other ≡ words → ⊥) → IsHypothesisIn graph word hypothesis
+hypothesis_of_word graph valid word words (Some found) no_hyphen parts is none = (is.0, set_spelled graph word found (is.1 ∙ parts))
+hypothesis_of_word graph valid word words None no_hyphen parts is none =
     λ hypothesis of e. none refl hypothesis of (set_parts graph valid word hypothesis no_hyphen of e ∙ sym parts)

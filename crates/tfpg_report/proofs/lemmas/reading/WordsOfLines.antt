@@ -21,7 +21,7 @@ use Rattle.tfpg_log.specs.declared.refused_line.RefusedLine.TheVariants.{TooLong
 use Rattle.tfpg_report.specs.declared.report_line.ReportLine.{ReportLine}
 use Rattle.tfpg_report.specs.declared.report_line.ReportLine.TheVariants.{Head, OldHead, Refused, Round, Hyp, Split, Cycle, Why, Again, Ranked, At, Open, Rejected, Counts, Panel}
 use Rattle.tfpg_report.specs.LineWords.{cause_words, clause_words, edge_words, reason_words, robustness_word}
-use Rattle.tfpg_report.specs.ReportLines.{IsLineWithin, IsNameWithin, hypothesis_with, line_words, written_line}
+use Rattle.tfpg_report.specs.ReportLines.{IsLineWithin, IsNameWithin, line_words, written_line}
 use Rattle.tfpg_report.proofs.CleanLines.{number_lacks}
 use Rattle.tfpg_report.proofs.SetWords.{set_word-no_space}
 use Rattle.tfpg_report.proofs.lemmas.reading.FirstWords.{edge_at}
@@ -143,7 +143,7 @@ module _ (graph : Tfpg) (valid : IsValid graph) where
       let are = onto 3 (codes "why") (reason_words graph why) (lacks_checked 32 (codes "why") refl) (reason_clean why) in
       record { some = are.some; few = omega (arith, are.few); clean = are.clean }
   line_clean Again within = record { some = omega arith; few = omega arith; clean = (lacks_checked 32 (codes "again") refl, tt) }
-  line_clean (Ranked n cost alarmed monitored set doubts) within = record {
+  line_clean (Ranked n cost alarmed monitored hypothesis) within = record {
     some = omega arith;
     few = omega arith;
     clean = (
@@ -156,7 +156,7 @@ module _ (graph : Tfpg) (valid : IsValid graph) where
             number cost,
             (
               lacks_checked 32 (codes "robust") refl,
-              (robust alarmed monitored, (lacks_checked 32 (codes "set") refl, (set_word-no_space graph valid (hypothesis_with set doubts) within.4, tt))),
+              (robust alarmed monitored, (lacks_checked 32 (codes "set") refl, (set_word-no_space graph valid hypothesis within.4, tt))),
             ),
           ),
         ),
@@ -165,20 +165,20 @@ module _ (graph : Tfpg) (valid : IsValid graph) where
   }
   line_clean (At activation) within =
       record { some = omega arith; few = omega arith; clean = (lacks_checked 32 (codes "at") refl, (name activation.node, (number activation.time, tt))) }
-  line_clean (Open n set doubts) within = record {
+  line_clean (Open n hypothesis) within = record {
     some = omega arith;
     few = omega arith;
     clean = (
       lacks_checked 32 (codes "open") refl,
-      (number n, (lacks_checked 32 (codes "set") refl, (set_word-no_space graph valid (hypothesis_with set doubts) within.1, tt))),
+      (number n, (lacks_checked 32 (codes "set") refl, (set_word-no_space graph valid hypothesis within.1, tt))),
     );
   }
-  line_clean (Rejected n set doubts) within = record {
+  line_clean (Rejected n hypothesis) within = record {
     some = omega arith;
     few = omega arith;
     clean = (
       lacks_checked 32 (codes "rejected") refl,
-      (number n, (lacks_checked 32 (codes "set") refl, (set_word-no_space graph valid (hypothesis_with set doubts) within.1, tt))),
+      (number n, (lacks_checked 32 (codes "set") refl, (set_word-no_space graph valid hypothesis within.1, tt))),
     );
   }
   line_clean (Counts counts) within = record {

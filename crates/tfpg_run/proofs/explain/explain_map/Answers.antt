@@ -11,8 +11,8 @@ use Rattle.tfpg_run.proofs.explain.explain_map.Goals as goal
 
 pub verdict_line-requires : goal.verdict_line-requires
 verdict_line-requires g c =
-    names_node c.args.graph.now c.ignore.new.self c.in_ok-map.map.members.set c.in_ok-map.map.trace
-    (ignoring_of c.args.graph.now c.args.log.now c.ignore.new.self c.in_ok-map.map.members.doubts c.requires c.in_ok-map.ensures.monitors c.ignore.ensures)
+    names_node c.args.graph.now c.ignore.new.self c.in_ok-map.map.hypothesis.set c.in_ok-map.map.trace
+    (ignoring_of c.args.graph.now c.args.log.now c.ignore.new.self c.in_ok-map.map.hypothesis.doubts c.requires c.in_ok-map.ensures.monitors c.ignore.ensures)
     c.explains-verdict.result c.explains-verdict.ensures.verdict
 
 pub returns-in_err-write_all-clause-stopped : goal.returns-in_err-write_all-clause-stopped

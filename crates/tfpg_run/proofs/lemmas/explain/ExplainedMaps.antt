@@ -11,13 +11,12 @@ use Rattle.tfpg_run.specs.declared.map.Map.{Map}
 use Rattle.tfpg_run.specs.explain.Explaining.{HasVerdict, ExplainsMap}
 use Rattle.tfpg_run.specs.Streams.{Streams, streams}
 use Rattle.tfpg_run.specs.explain.Verdicts.{verdict_text}
-use Rattle.tfpg_report.specs.ReadSets.{hypothesis_of}
 use Rattle.tfpg_run.specs.inside.map.Reading.{ReadsMap}
 
 module _ (graph : Tfpg) (log : Logbook) (before : Streams) (input : SourceState) (map : Map) (reads : ReadsMap graph before.input input map)
-    (v : Verdict) (right : IsVerdict graph (ignoring log map.members.doubts) map.members.set map.trace v) where
+    (v : Verdict) (right : IsVerdict graph (ignoring log map.hypothesis.doubts) map.hypothesis.set map.trace v) where
   has_verdict : (text : List ℕ) → text ≡ verdict_text graph v → HasVerdict graph log input reads.taken text
-  has_verdict text is = record { hypothesis = hypothesis_of map.members; trace = map.trace; gives = reads.gives; verdict = v; right = right; text_is = is }
+  has_verdict text is = record { hypothesis = map.hypothesis; trace = map.trace; gives = reads.gives; verdict = v; right = right; text_is = is }
 
   -- the verdict is written
   pub explains_well : (line text : List ℕ) (output : SinkState) → line ≡ verdict_text graph v → text ≡ line → Puts before.output output text

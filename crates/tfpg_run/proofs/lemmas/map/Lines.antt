@@ -15,8 +15,6 @@ use Rattle.tfpg_graph.specs.Valid.{IsValid}
 use Rattle.tfpg_report.specs.LineWords.{activation_line}
 use Rattle.tfpg_report.specs.SetText.{IsHypothesisOf}
 use Rattle.tfpg_run.specs.map.Spelling.{IsActivationOf, SpellsMap, BeginsMap, set_line}
-use Rattle.tfpg_report.specs.declared.reading.set_word.Members.{Members}
-use Rattle.tfpg_report.specs.ReadSets.{hypothesis_of}
 use Rattle.tfpg_run.specs.inside.map.Lines.{HasRead, TakesActivation, IsNoActivation}
 use Rattle.tfpg_run.proofs.lemmas.map.LineWords.{one_node}
 
@@ -156,7 +154,7 @@ none_of graph = record {
 }
 
 -- the lines that were read begin a map
-pub HasRead-begins : (graph : Tfpg) (members : Option Members) (trace : List Activation) (lines : List (List ℕ)) → HasRead graph members trace lines → BeginsMap graph lines
+pub HasRead-begins : (graph : Tfpg) (hypothesis : Option Hypothesis) (trace : List Activation) (lines : List (List ℕ)) → HasRead graph hypothesis trace lines → BeginsMap graph lines
 HasRead-begins graph None trace lines read = (
   set_line graph (believing []) ∷ [],
   (
@@ -166,17 +164,17 @@ HasRead-begins graph None trace lines read = (
         (SpellsMap-set graph (set_line graph (believing [])) (believing []) (none_of graph) refl (omega arith)),
   ),
 )
-HasRead-begins graph (Some members) trace lines read =
-    ([], (hypothesis_of members, trace, subst (λ (ls : List (List ℕ)). SpellsMap graph ls (hypothesis_of members) trace) (sym (append-nil lines)) read))
+HasRead-begins graph (Some hypothesis) trace lines read =
+    ([], (hypothesis, trace, subst (λ (ls : List (List ℕ)). SpellsMap graph ls hypothesis trace) (sym (append-nil lines)) read))
 
 -- one more line
-pub HasRead-more : (graph : Tfpg) (members : Members) (seen : Option Members) (trace now : List Activation) (lines : List (List ℕ)) (line : List ℕ) → seen ≡ Some members → HasRead graph seen trace lines
-    → TakesActivation graph trace line now → length line ≤ LONGEST_LINE → HasRead graph (Some members) now (lines ++ line ∷ [])
-HasRead-more graph members seen trace now lines line is read takes short =
-    SpellsMap-more graph lines (hypothesis_of members) trace now line (subst (λ (s : Option Members). HasRead graph s trace lines) is read) takes short
+pub HasRead-more : (graph : Tfpg) (hypothesis : Hypothesis) (seen : Option Hypothesis) (trace now : List Activation) (lines : List (List ℕ)) (line : List ℕ) → seen ≡ Some hypothesis → HasRead graph seen trace lines
+    → TakesActivation graph trace line now → length line ≤ LONGEST_LINE → HasRead graph (Some hypothesis) now (lines ++ line ∷ [])
+HasRead-more graph hypothesis seen trace now lines line is read takes short =
+    SpellsMap-more graph lines hypothesis trace now line (subst (λ (s : Option Hypothesis). HasRead graph s trace lines) is read) takes short
 
 -- a line that is at fault
-pub HasRead-fault : (graph : Tfpg) → IsValid graph → (members : Members) (seen : Option Members) (trace : List Activation) (lines : List (List ℕ)) (line : List ℕ) → seen ≡ Some members
+pub HasRead-fault : (graph : Tfpg) → IsValid graph → (hypothesis : Hypothesis) (seen : Option Hypothesis) (trace : List Activation) (lines : List (List ℕ)) (line : List ℕ) → seen ≡ Some hypothesis
     → HasRead graph seen trace lines → IsNoActivation graph trace line → BeginsMap graph (lines ++ line ∷ []) → ⊥
-HasRead-fault graph valid members seen trace lines line is read none =
-    no_map-activation graph valid lines (hypothesis_of members) trace line (subst (λ (s : Option Members). HasRead graph s trace lines) is read) none
+HasRead-fault graph valid hypothesis seen trace lines line is read none =
+    no_map-activation graph valid lines hypothesis trace line (subst (λ (s : Option Hypothesis). HasRead graph s trace lines) is read) none

@@ -19,10 +19,8 @@ use Rattle.tfpg_graph.specs.Graph.{Tfpg, is_monitored}
 use Rattle.tfpg_run.specs.map.Spelling.{SpellsMap, BeginsMap, IsActivationOf}
 use Rattle.tfpg_run.specs.declared.map.Map.{Map}
 use Rattle.tfpg_run.specs.declared.map.MapReader.{MapReader}
-use Rattle.tfpg_report.specs.declared.reading.set_word.Members.{Members}
 use Rattle.tfpg_run.specs.declared.map.NoMap.{NoMap}
 use Rattle.tfpg_run.specs.declared.map.NoMap.TheVariants as none
-use Rattle.tfpg_report.specs.ReadSets.{hypothesis_of}
 use Rattle.tfpg_run.specs.inside.map.Lines.{HasRead, MapRepresents}
 use Rattle.tfpg_run.specs.inside.map.Reading.{IsReadingMap, HasReadAll, ReadsMap, ReturnsMap, LacksMap, map_reading_at}
 use Rattle.tfpg_base.proofs.lists.Cuts.{front_is_within, front_before, front_with}
@@ -42,7 +40,7 @@ few_read graph before now lines map under =
 module _ (graph : Tfpg) (before now : SourceState) (lines lines' : LinesState) (map : MapReader) (input : SourceState) (under : IsReadingMap graph before (map_reading_at now lines map)) where
   -- the lines so far begin a map
   so_far : BeginsMap graph under.reading.given
-  so_far = HasRead-begins graph map.members map.trace under.reading.given under.read
+  so_far = HasRead-begins graph map.hypothesis map.trace under.reading.given under.read
 
   -- the reader of lines reports a fault
   pub lacks_by_fault : (f : LineFault) → Continues under.reading under.reading.ended now input (Err f) lines' → LacksMap graph before input (none.Lines f)
@@ -189,8 +187,8 @@ module _ (graph : Tfpg) (before now : SourceState) (reader : MapReader) (all : H
     taken = all.taken;
     takes = all.takes;
     gives = record {
-      spells = subst (λ (members : Option Members). HasRead graph members map.trace (lines_of all.taken)) returns.0
-          (subst (λ (trace : List Activation). HasRead graph reader.members trace (lines_of all.taken)) returns.1 all.read);
+      spells = subst (λ (hypothesis : Option Hypothesis). HasRead graph hypothesis map.trace (lines_of all.taken)) returns.0
+          (subst (λ (trace : List Activation). HasRead graph reader.hypothesis trace (lines_of all.taken)) returns.1 all.read);
       few = all.few;
       at_end = all.at_end;
     };
@@ -201,7 +199,7 @@ module _ (graph : Tfpg) (before now : SourceState) (reader : MapReader) (all : H
   pub gives_none : (result : Result Map NoMap) → ReturnsMap reader result → IfErr result (LacksMap graph before now)
   gives_none (Ok map) returns = tt
   gives_none (Err fault) returns =
-      let read : HasRead graph None reader.trace (lines_of all.taken) = subst (λ (members : Option Members). HasRead graph members reader.trace (lines_of all.taken)) returns.0 all.read in
+      let read : HasRead graph None reader.trace (lines_of all.taken) = subst (λ (hypothesis : Option Hypothesis). HasRead graph hypothesis reader.trace (lines_of all.taken)) returns.0 all.read in
       let whole : all.taken ++ rest_of now ≡ all.taken = ap (λ (rest : List ℕ). all.taken ++ rest) (rest_at_end now all.at_end) ∙ append-nil all.taken in
       subst (LacksMap graph before now) (sym returns.1) (record {
         taken = all.taken;
@@ -218,11 +216,11 @@ module _ (graph : Tfpg) (before now : SourceState) (reader : MapReader) (all : H
 -- a map that was read names only nodes of the graph
 pub map_in_graph : (graph : Tfpg) (before now : SourceState) (result : Result Map NoMap) → IfOk result (ReadsMap graph before now)
     → IfOk result (λ map. All (λ activation. activation.node < length graph.nodes) map.trace)
-map_in_graph graph before now (Ok map) reads = spelled_in_graph graph (lines_of reads.taken) (hypothesis_of map.members) map.trace reads.gives.spells
+map_in_graph graph before now (Ok map) reads = spelled_in_graph graph (lines_of reads.taken) map.hypothesis map.trace reads.gives.spells
 map_in_graph graph before now (Err fault) reads = tt
 
 -- and ignores only monitored ones
 pub map_of_monitors : (graph : Tfpg) (before now : SourceState) (result : Result Map NoMap) → IfOk result (ReadsMap graph before now)
-    → IfOk result (λ map. All (λ node. IsTrue (is_monitored graph node)) map.members.doubts)
+    → IfOk result (λ map. All (λ node. IsTrue (is_monitored graph node)) map.hypothesis.doubts)
 map_of_monitors graph before now (Ok map) reads = reads.gives.spells.of_graph.monitored
 map_of_monitors graph before now (Err fault) reads = tt

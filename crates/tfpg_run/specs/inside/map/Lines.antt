@@ -1,11 +1,10 @@
 -- What the reader of maps reads of a line, and what it has read so far.
 use Rattle.std.specs.Prelude.{◌≡◌, ℕ, List, [], ◌∷◌, if◌then◌else◌, Option, Some, None, codes, bytes_eq}
+use Rattle.tfpg_base.specs.Hypothesis.{Hypothesis}
 use Rattle.tfpg_base.specs.declared.activation.Activation.{Activation}
 use Rattle.tfpg_base.specs.Trace.{time_of, with_time}
 use Rattle.tfpg_graph.specs.Graph.{Tfpg}
 use Rattle.tfpg_run.specs.declared.map.MapReader.{MapReader}
-use Rattle.tfpg_report.specs.declared.reading.set_word.Members.{Members}
-use Rattle.tfpg_report.specs.ReadSets.{hypothesis_of}
 use Rattle.tfpg_report.specs.LineWords.{activation_line}
 use Rattle.tfpg_run.specs.map.Spelling.{SpellsMap, IsActivationOf}
 
@@ -39,11 +38,11 @@ IsNoActivation graph trace line =
     (activation : Activation) → IsActivationOf graph activation → line ≡ activation_line graph activation
     → time_of trace activation.node ≡ None → ⊥
 
--- the reader with these members and this trace has read these lines
-abbrev pub HasRead : Tfpg → Option Members → List Activation → List (List ℕ) → Type 0
+-- the reader with this hypothesis and this trace has read these lines
+abbrev pub HasRead : Tfpg → Option Hypothesis → List Activation → List (List ℕ) → Type 0
 HasRead graph None trace lines = (lines ≡ []) × (trace ≡ [])
-HasRead graph (Some members) trace lines = SpellsMap graph lines (hypothesis_of members) trace
+HasRead graph (Some hypothesis) trace lines = SpellsMap graph lines hypothesis trace
 
 -- The reader represents these lines.
 abbrev pub MapRepresents : Tfpg → MapReader → List (List ℕ) → Type 0
-MapRepresents graph reader lines = HasRead graph reader.members reader.trace lines
+MapRepresents graph reader lines = HasRead graph reader.hypothesis reader.trace lines

@@ -14,7 +14,6 @@ use Rattle.tfpg_run.specs.declared.map.NoMap.TheVariants.{Refused, Lines, NoMemo
 use Rattle.tfpg_base.specs.declared.line.LineFault.TheVariants.{ReadFault, TooMuchInput}
 use Rattle.tfpg_run.specs.declared.map.reading.NextLine.{NextLine}
 use Rattle.tfpg_run.specs.declared.map.reading.NextLine.TheVariants.{Read, Ended}
-use Rattle.tfpg_report.specs.ReadSets.{hypothesis_of}
 use Rattle.tfpg_run.specs.inside.map.Lines.{MapRepresents}
 
 -- the reading of a map at one moment: the input, the reader of lines and the reader of the map
@@ -56,13 +55,13 @@ ReadsOn graph before number now Ended = HasReadAll graph before now.input now.ma
 pub record ReadsMap (graph : Tfpg) (before now : SourceState) (map : Map) : Type 0 where
   pub taken : List ℕ
   pub takes : Takes before now taken
-  pub gives : GivesMap graph now taken (hypothesis_of map.members) map.trace
+  pub gives : GivesMap graph now taken map.hypothesis map.trace
   pub no_fault : now.faults ≡ before.faults
 
 -- what a reader that has read all lines gives: its map, or that there is no line
 abbrev pub ReturnsMap : MapReader → Result Map NoMap → Type 0
-ReturnsMap reader (Ok map) = (reader.members ≡ Some map.members) × (reader.trace ≡ map.trace)
-ReturnsMap reader (Err fault) = (reader.members ≡ None) × (fault ≡ Refused 1)
+ReturnsMap reader (Ok map) = (reader.hypothesis ≡ Some map.hypothesis) × (reader.trace ≡ map.trace)
+ReturnsMap reader (Err fault) = (reader.hypothesis ≡ None) × (fault ≡ Refused 1)
 
 -- what shows why there is no map, where these bytes were taken
 abbrev pub ShowsNoMap : Tfpg → SourceState → SourceState → List ℕ → NoMap → Type 0

@@ -11,4 +11,4 @@ returns-in_default c =
 pub returns-in-Some-2 : goal.returns-in-Some-2
 returns-in-Some-2 c =
     let read : numbered_in (map (λ word. word.now) c.args.words.now) ≡ Some (c.in-Some.number, c.in-Some.set.now) = search rules in
-    numbered_read c.args.graph.now c.is_always_valid.ensures.valid _ c.in-Some.number c.in-Some.set.now read c.in-Some-2.members (search rules)
+    numbered_read c.args.graph.now c.is_always_valid.ensures.valid _ c.in-Some.number c.in-Some.set.now read c.in-Some-2.hypothesis (search rules)

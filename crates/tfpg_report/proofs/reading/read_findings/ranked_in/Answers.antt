@@ -16,4 +16,4 @@ returns-in_default-2 c =
 pub returns : goal.returns
 returns c =
     let read : ranked_in (map (λ word. word.now) c.args.words.now) ≡ Some (c.in-Some.ranked, c.in-Some.set.now) = search rules in
-    ranked_read c.args.graph.now c.is_always_valid.ensures.valid _ c.in-Some.ranked c.in-Some.set.now read c.in-Some-2.members (search rules)
+    ranked_read c.args.graph.now c.is_always_valid.ensures.valid _ c.in-Some.ranked c.in-Some.set.now read c.in-Some-2.hypothesis (search rules)

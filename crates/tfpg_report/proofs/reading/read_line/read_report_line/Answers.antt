@@ -1,7 +1,8 @@
-use Rattle.std.proofs.Common.{◌≡◌, ◌<◌, length, map, subst, ◌∙◌, arith}
+use Rattle.std.proofs.Common.{◌≡◌, ◌<◌, ◌≤◌, length, map, sym, subst, ◌∙◌}
+use Rattle.std.proofs.lemmas.Bool.{ltb-false}
 use Rattle.std.proofs.lemmas.Option.{MatchOption-at_none, MatchOption-at_some}
 use Rattle.tfpg_base.specs.Words.{words_of}
-use Rattle.tfpg_base.specs.declared.limits.TheConstants.{MAX_WORDS}
+use Rattle.tfpg_base.specs.declared.limits.TheConstants.{LONGEST_LINE, MAX_WORDS}
 use Rattle.tfpg_report.specs.inside.WordsRead.{AreWordsRead}
 use Rattle.tfpg_report.proofs.lemmas.reading.LinesSay.{says_few, words_read-none, words_read-say}
 use Rattle.tfpg_report.proofs.reading.read_line.read_report_line.Goals as goal
@@ -15,7 +16,8 @@ pub returns-in-Some-clause-says : goal.returns-in-Some-clause-says
 returns-in-Some-clause-says c =
     let cut : c.in-Some.words ≡ words_of c.args.line.now = MatchOption-at_some _ (λ words. words ≡ words_of c.args.line.now) c.in-Some.words c.in-Some.is c.of.ensures in
     let words : map (λ word. word.now) c.as_slice.result.now ≡ words_of c.args.line.now = c.as_slice.ensures ∙ cut in
-    words_read-say c.args.graph.now c.is_always_valid.ensures.valid c.args.line.now (omega arith) c.line_in.result
+    let short : length c.args.line.now ≤ LONGEST_LINE = ltb-false LONGEST_LINE (length c.args.line.now) (sym c.is_too_long.ensures ∙ c.if-is_too_long.false) in
+    words_read-say c.args.graph.now c.is_always_valid.ensures.valid c.args.line.now short c.line_in.result
     (subst (λ ws. AreWordsRead c.args.graph.now ws c.line_in.result) words c.line_in.ensures)
 
 pub returns-in-Some-clause-none : goal.returns-in-Some-clause-none

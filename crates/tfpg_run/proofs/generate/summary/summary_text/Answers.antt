@@ -10,7 +10,7 @@ returns c =
       has = record {
         finding = finding;
         there = subst (λ (findings : List Finding). Contains findings finding) c.as_slice.ensures c.finding_on-finding.ensures.there;
-        on_set = c.finding_on-finding.ensures.on_set;
+        on_set = c.finding_on-finding.ensures.hypothesis ∙ c.believing.ensures;
       };
       text_is = c.in_ok-append_truth.ensures
           ∙ ap (λ (t : List ℕ). t ++ truth_text c.args.graph.now c.args.set finding.status)

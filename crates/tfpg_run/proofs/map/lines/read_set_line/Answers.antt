@@ -1,7 +1,7 @@
 use Rattle.std.proofs.Common.{rules, ◌≡◌, ℕ, List, Bor, None, Some, sym, subst, ap, ◌∙◌}
 use Rattle.std.specs.Option.{option_map}
 use Rattle.tfpg_base.specs.Words.{words_of}
-use Rattle.tfpg_report.specs.ReadSets.{AreMembersIn, hypothesis_of}
+use Rattle.tfpg_report.specs.ReadSets.{IsHypothesisIn}
 use Rattle.tfpg_run.specs.inside.map.Lines.{word_after_set}
 use Rattle.tfpg_run.proofs.lemmas.map.LineWords.{no_set-unread, no_set-read, set_line_spelled}
 use Rattle.tfpg_run.proofs.map.lines.read_set_line.Goals as goal
@@ -14,10 +14,10 @@ returns-in_default-clause-bad c bad =
 pub returns-in-Some-2-clause-set : goal.returns-in-Some-2-clause-set
 returns-in-Some-2-clause-set c =
     let read : word_after_set (words_of c.args.line.now) ≡ Some c.in-Some.word.now = sym c.word_after_set.ensures ∙ ap (option_map (λ (word : Bor (List ℕ)). word.now)) c.in-Some.is in
-    let members = subst (AreMembersIn c.args.graph.now c.in-Some.word.now) c.in-Some-2.is c.in_ok-members.ensures in
-    (members.0, set_line_spelled c.args.graph.now c.args.line.now c.in-Some.word.now (hypothesis_of c.in-Some-2.members) read members.1)
+    let of = subst (IsHypothesisIn c.args.graph.now c.in-Some.word.now) c.in-Some-2.is c.in_ok-hypothesis.ensures in
+    (of.0, set_line_spelled c.args.graph.now c.args.line.now c.in-Some.word.now c.in-Some-2.hypothesis read of.1)
 
 pub returns-in-None-clause-bad : goal.returns-in-None-clause-bad
 returns-in-None-clause-bad c bad =
     let read : word_after_set (words_of c.args.line.now) ≡ Some c.in-Some.word.now = sym c.word_after_set.ensures ∙ ap (option_map (λ (word : Bor (List ℕ)). word.now)) c.in-Some.is in
-    no_set-read c.args.graph.now c.is_always_valid.ensures.valid c.args.line.now c.in-Some.word.now read (subst (AreMembersIn c.args.graph.now c.in-Some.word.now) c.in-None.is c.in_ok-members.ensures)
+    no_set-read c.args.graph.now c.is_always_valid.ensures.valid c.args.line.now c.in-Some.word.now read (subst (IsHypothesisIn c.args.graph.now c.in-Some.word.now) c.in-None.is c.in_ok-hypothesis.ensures)

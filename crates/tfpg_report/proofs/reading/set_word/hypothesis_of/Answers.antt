@@ -1,6 +1,6 @@
 use Rattle.std.proofs.Common.{rules, ℕ, List, Bor, map, sym, ap, ◌∙◌}
 use Rattle.tfpg_report.proofs.lemmas.reading.CutMembers.{doubts_rise, parts_of_members, positions_rise}
-use Rattle.tfpg_report.proofs.reading.set_word.members_of.Goals as goal
+use Rattle.tfpg_report.proofs.reading.set_word.hypothesis_of.Goals as goal
 
 pub returns-in_err-set-clause-none : goal.returns-in_err-set-clause-none
 returns-in_err-set-clause-none c none hypothesis of e =
