@@ -22,8 +22,8 @@ TOP = Path(__file__).resolve().parent.parent
 DOCUMENTS = ["README.md", "CONTRIBUTING.md", "docs/*.md", "bench/README.md", "examples/README.md"]
 TOPS = ("bench/", "crates/", "docs/", "examples/", "include/")
 FOREIGN = {
-    "CONTRACTS.md", "Ord::max", "at_exit", "put_at", "out/",
-    "Is", "Are", "Tr", "ghosts-HELPER", "NAME-inside", "proofs/lemmas.antt", "lemmas/reading.antt",
+    "CONTRACTS.md", "Ord::max", "Snapshot::of", "at_exit", "put_at", "out/",
+    "Boxed", "Is", "Are", "Tr", "ghosts-HELPER", "NAME-inside", "proofs/lemmas.antt", "lemmas/reading.antt",
 }
 ENDINGS = "rt antt md py sh c h edit txt tfpg log report map verdict".split()
 COMMENTS = {".rt": r"//.*", ".antt": r"--.*", ".py": r"#.*", ".sh": r"#.*"}
