@@ -1,0 +1,23 @@
+"""Takes the output of a fleet apart: the log and the report of each vehicle."""
+
+from .texts import LONGEST_LINE, lines_of
+
+
+def own_log(stream, name):
+    """What stands after the name and a space in the lines that belong to this vehicle."""
+    own = [line[len(name) + 1 :] for line in lines_of(stream) if line.startswith(name + b" ") and len(line) <= LONGEST_LINE]
+    return b"".join(line + b"\n" for line in own)
+
+
+def reports_of(stream, output):
+    """The log and the report of each vehicle, in the order in which they are named first."""
+    reports, taking = {}, None
+    for line in lines_of(output):
+        kind, _, rest = line.partition(b" ")
+        if kind == b"vehicle":
+            taking = reports.setdefault(rest, [])
+        elif kind in (b"stray", b"mode"):
+            taking = None
+        elif taking is not None:
+            taking.append(line + b"\n")
+    return [(own_log(stream, name), b"".join(lines)) for name, lines in reports.items()]

@@ -1,0 +1,42 @@
+"""Reads the files of a page, and refuses one that is none."""
+
+from pathlib import Path
+
+from .graph_json import read_graph_json
+from .graph_text import read_graph_text
+from .report_text import CHECKS
+from .texts import Fault, kind_of
+
+
+def read_file(name):
+    try:
+        return Path(name).read_bytes()
+    except OSError as fault:
+        raise SystemExit(f"tfpg-page: {name}: {fault.strerror}") from None
+
+
+def read_graph(text):
+    return read_graph_json(text) if text.lstrip().startswith(b"{") else read_graph_text(text)
+
+
+def need_kind(kind, text, names):
+    """Refuses a text that is not of this kind. Any lines are a log, but those that begin as another text does."""
+    if kind != "log":
+        return CHECKS[kind](text, names)
+    if kind_of(text) != "log":
+        raise Fault(1, f"this is no log, but begins as {kind_of(text)}")
+
+
+def read_texts(files):
+    """The graph, and the texts by the name of their place on the page. A place is a kind, and for forecasts a number after it."""
+    texts, graph = {}, None
+    for place, name in files.items():
+        texts[place] = read_file(name)
+        try:
+            if place == "graph":
+                graph = read_graph(texts[place])
+            else:
+                need_kind(place.rstrip("0123456789"), texts[place], {node.name for node in graph.nodes})
+        except Fault as fault:
+            raise SystemExit(f"tfpg-page: {name} line {fault.line}: {fault.cause}") from None
+    return graph, texts

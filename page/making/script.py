@@ -1,0 +1,43 @@
+"""Puts the modules of the script after one another, each after those that it imports, and each as a function that returns what it exports."""
+
+import re
+from pathlib import Path
+
+IMPORT = re.compile(r'^import \{[^}]*\} from "([^"]+)";\n', re.MULTILINE)
+EXPORT = re.compile(r"^export ((?:async )?(?:function|const|class) (\w+))", re.MULTILINE)
+D3 = Path("/usr/share/nodejs/d3/dist/d3.min.js")
+
+
+def in_order(module, done):
+    """Adds the text of a module to those that are done, after those that it imports."""
+    if module in done:
+        return
+    text = module.read_text()
+    for name in IMPORT.findall(text):
+        in_order((module.parent / name).resolve(), done)
+    done[module] = text
+
+
+def as_function(text):
+    names = ", ".join(name for _, name in EXPORT.findall(text))
+    body = EXPORT.sub(r"\1", IMPORT.sub("", text))
+    if not names:
+        return "(() => {\n" + body + "})();\n"
+    return f"const {{ {names} }} = (() => {{\n{body}return {{ {names} }};\n}})();\n"
+
+
+def joined(main):
+    """The modules that this one needs, and itself. What they export stands in one function, so an exported name stands in one module only."""
+    modules = {}
+    in_order(main.resolve(), modules)
+    return '"use strict";\n(() => {\n' + "\n".join(map(as_function, modules.values())) + "})();\n"
+
+
+def script(main):
+    """The whole script of the page: d3, and then what the modules say."""
+    if not D3.exists():
+        raise SystemExit(f"tfpg-page: d3 is not there: no file {D3} (Debian's package node-d3)")
+    text = D3.read_text() + "\n" + joined(main)
+    if "</script" in text.lower() or "<!--" in text:
+        raise SystemExit("tfpg-page: a module has what ends a script")
+    return text

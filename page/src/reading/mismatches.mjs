@@ -1,0 +1,35 @@
+// What does not fit between a log and a report. Whether a report is right is for `tfpg check` to say, and not for this.
+import { setText } from "./hypotheses.mjs";
+
+const MOST = 20;
+
+export function mismatchesOf(graph, table, log, report) {
+  const found = [];
+  report.blocks.forEach((block, index) => {
+    if (found.length < MOST) found.push(...mismatchOf(block, log.lines[index]));
+  });
+  if (report.blocks.length < log.lines.length) {
+    found.push("the log has " + log.lines.length + " lines, and the report has blocks for " + report.blocks.length + " of them");
+  }
+  for (const round of report.rounds) if (found.length < MOST) found.push(...wrongSets(graph, table, round));
+  return found.slice(0, MOST);
+}
+
+function mismatchOf(block, entry) {
+  if (!entry) return ["the report has a block for line " + block.line + ", which the log does not have"];
+  if (block.line !== entry.number) return ["line " + block.at + " of the report is of line " + block.line + ", where line " + entry.number + " is due"];
+  if (block.refused !== entry.refused) return ["line " + block.line + " is " + (block.refused ? "refused in the report as " + block.refused
+    : "a round in the report") + ", and by the log it is " + (entry.refused ? "refused as " + entry.refused : "accepted")];
+  if (!block.refused && block.now !== entry.event.time) {
+    return ["round " + block.number + " is at " + block.now + ", and line " + block.line + " at " + entry.event.time];
+  }
+  return [];
+}
+
+function wrongSets(graph, table, round) {
+  return [...round.ranked, ...round.open, ...round.rejected].flatMap(({ hypothesis, set, at }) => {
+    if (!table[hypothesis]) return ["line " + at + " of the report names set " + hypothesis + ", of which there is none"];
+    const right = setText(graph, table[hypothesis]);
+    return right === set ? [] : ["line " + at + " of the report says " + set + ", where set " + hypothesis + " is " + right];
+  });
+}

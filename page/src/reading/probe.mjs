@@ -1,0 +1,41 @@
+// The probed graph and the probed log, which the steps of a forecast are about. docs/least-times.md has the rules.
+import { withProbe } from "./graph.mjs";
+import { addEvent, isSilence, newLog } from "./log.mjs";
+
+// The bound that the steps of a forecast refute, or that a search left open. There are no steps for the least time 0.
+export function boundOf(forecast) {
+  if (forecast.outlook === "never") return forecast.to;
+  return forecast.outlook === "earliest" ? forecast.time - 1 : forecast.time;
+}
+
+export function probedFor(graph, log, forecast) {
+  const bound = boundOf(forecast), probed = withProbe(graph, forecast.node, [forecast.to - bound, forecast.to]);
+  const kept = newLog(), probe = probed.nodes.length - 1;
+  const last = lastOfEach(graph, log);
+  for (const event of log.events) for (const some of keptOf(graph, log, last, event)) addEvent(kept, { ...some, number: kept.events.length + 1 });
+  addEvent(kept, { number: kept.events.length + 1, line: null, time: forecast.to, kind: "alarm", node: probe, mode: null });
+  return { graph: probed, log: kept, probe, bound };
+}
+
+// The numbers of the last alarm and of the last silence of each monitored node.
+function lastOfEach(graph, log) {
+  const alarms = new Map(), silences = new Map();
+  for (const event of log.events) {
+    if (event.kind === "alarm") alarms.set(event.node, event.number);
+    if (event.kind === "silent") silences.set(event.node, event.number);
+    if (event.kind === "sweep") for (const node of graph.monitored) if (isSilence(graph, log, event, node)) silences.set(node, event.number);
+  }
+  return { alarms, silences };
+}
+
+// What is kept of an event: a change of mode, the first and the last alarm of a node, and of its last silence a silence of its own.
+function keptOf(graph, log, { alarms, silences }, event) {
+  if (event.kind === "mode") return [event];
+  if (event.kind === "alarm") {
+    const isKept = log.firstAlarm.get(event.node) === event.number || alarms.get(event.node) === event.number;
+    return isKept ? [event] : [];
+  }
+  if (event.kind === "tick") return [];
+  const silent = graph.monitored.filter(node => silences.get(node) === event.number);
+  return silent.map(node => ({ ...event, kind: "silent", node }));
+}

@@ -1,0 +1,130 @@
+// What the things of the texts say, as lists of words and of references: a node, an edge, a line of the log or a line of the report.
+// `speech` has the graph, the log, the units of times, and the words of the set that is spoken of.
+import { NEVER } from "./constraints.mjs";
+import { durationWords, rangeWords, timeWords } from "./times.mjs";
+
+export function setWords(set) {
+  if (set === "-") return "no failure";
+  return set.split(",").map(member => member[0] === "!" ? "wrong monitor of " + member.slice(1) : member).join(" + ");
+}
+
+export function nodeWords(graph, node, units) {
+  const { kind, rarity, lags } = graph.nodes[node];
+  if (kind === "failure") return "failure mode, rarity " + rarity;
+  if (!lags) return kind.toUpperCase() + ", hidden";
+  const lag = lags[0] ? durationWords(lags[0], units) + " to " + durationWords(lags[1], units) : "up to " + durationWords(lags[1], units);
+  return kind.toUpperCase() + ", monitored, lag " + lag;
+}
+
+// The modes in which an edge is active, or nothing if it is in all.
+export function edgeModes(graph, edge) {
+  return edge.modes.size === graph.modes.length ? "" : [...edge.modes].map(mode => graph.modes[mode]).join(", ");
+}
+
+function spanWords({ graph, units }, { lo, hi, mode }) {
+  const time = "from " + timeWords(lo, units) + " to " + timeWords(hi, units);
+  return graph.modes.length > 1 ? "in mode " + graph.modes[mode] + " " + time : time;
+}
+
+// ---- constraints and reasons
+
+export function constraintSentence({ units }, constraint) {
+  const { form, node, edge, value } = constraint;
+  if (form === "atMost") return [{ node }, value < 0 ? " active before 0" : value >= NEVER ? " active at some time or never" : " active by " + timeWords(value, units)];
+  if (form === "atLeast") return [{ node }, value >= NEVER ? " never active" : " not active before " + timeWords(value, units)];
+  const ends = [{ node: edge.target }, " ", { node: edge.source }];
+  if (value === 0) ends[1] = form === "atMostAfter" ? " not after " : " not before ";
+  else ends[1] = (form === "atMostAfter" ? " at most " : " at least ") + durationWords(value, units) + " after ";
+  return ends;
+}
+
+function eventReference({ log }, number) {
+  const event = log.events[number - 1];
+  return event.line === null ? "the probe" : { logLine: event.line };
+}
+
+// A reason of a contradiction, with why it holds.
+export function reasonSentence(speech, reason, constraint) {
+  const { graph, log, units, set } = speech, said = constraintSentence(speech, constraint), last = " not active by " + timeWords(constraint.value - 1, units);
+  if (reason.kind === "zero") return [...said, ": no time is"];
+  if (reason.kind === "pick") return [...said, " (by case " + constraint.of.number + " of choice " + constraint.split.number + ")"];
+  if (reason.kind === "top") return said;
+  const node = { node: constraint.node };
+  if (reason.kind === "unreached") return [node, last, set === "-" ? ": nothing reaches it without a failure" : ": nothing that " + setWords(set) + " causes reaches it"];
+  const line = eventReference(speech, reason.event), [least, greatest] = graph.nodes[constraint.node].lags;
+  if (reason.kind === "upto") return [...said, ": the alarm of ", line, ...(least ? [" comes at least " + durationWords(least, units) + " after it"] : [])];
+  if (reason.kind === "from") return [...said, ": the alarm of ", line, greatest ? " comes at most " + durationWords(greatest, units) + " after it" : " comes at once"];
+  const isSweep = log.events[reason.event - 1].kind === "sweep";
+  return [node, last, ": silent " + (isSweep ? "in the sweep of " : "by "), line, ...(least ? [", and an alarm may come " + durationWords(least, units) + " late"] : [])];
+}
+
+// A contradiction: its reasons, after each difference what follows from it, and why both ends cannot hold.
+export function contradictionSentences(speech, { links, throughZero, gap }) {
+  const { units } = speech, reasons = links.map(({ constraint, reason, node, least }, index) => {
+    const said = reasonSentence(speech, reason, constraint), isDifference = constraint.edge !== undefined;
+    const follows = throughZero && isDifference && index < links.length - 1 ? [": so ", { node }, " not active before " + timeWords(least, units)] : [];
+    return { words: [...said, ...follows], at: reason.at };
+  });
+  const last = links[links.length - 1], before = links[links.length - 2], gapWords = " (gap " + durationWords(gap, units) + ")";
+  if (!throughZero || !before) return { reasons, end: ["Together they cannot hold: ", { node: last.node }, " would be active before itself" + gapWords] };
+  const end = last.constraint.bound;
+  const early = before.least >= NEVER ? " never" : " not before " + timeWords(before.least, units);
+  return { reasons, end: ["Both cannot hold: ", { node: before.node }, early + ", and " + (end < 0 ? "before 0" : "by " + timeWords(end, units)) + gapWords] };
+}
+
+
+// ---- choices and cases
+
+export function splitSentence(speech, split) {
+  const { units } = speech, { kind, node, edge } = split.clause;
+  const parts = "becomes active before the time " + spanWords(speech, split.span) + ", after it, or within it ";
+  if (kind === "ormay") return [{ node }, " " + parts + "over one of its edges:"];
+  if (kind === "andmay") return [{ node }, " needs all its causes at one instant. It " + parts + "over ", { edge }, ":"];
+  const time = " from " + timeWords(split.window.lo, units) + " to " + timeWords(split.window.hi, units);
+  if (kind === "ormust") return [{ edge }, " is active" + time + ", and carries within " + durationWords(edge.greatest, units) + ". So:"];
+  return ["All edges into ", { node }, " are active" + time + ", and carry in time if all their sources are active. So:"];
+}
+
+export function caseSentence(speech, split, taken) {
+  const { units } = speech, { node } = split.clause, { label, edge, constraints } = taken, value = constraints[0].value;
+  if (label === "before") return [{ node }, value < 0 ? " active before 0" : " active by " + timeWords(value, units)];
+  if (label === "after") return [{ node }, " not active by " + timeWords(value - 1, units)];
+  if (label === "late") return [{ node: edge.source }, " not active before " + timeWords(value, units) + ": too late for ", { edge }, " to be due"];
+  if (label !== "over") return constraintSentence(speech, constraints[0]);
+  const times = ", from " + timeWords(constraints[1].value, units) + " to " + timeWords(constraints[2].value, units);
+  return [{ node }, " over ", { edge }, edge.least ? ", at least " + durationWords(edge.least, units) + " after " : ", not before ", { node: edge.source }, times];
+}
+
+export function excludedSentence({ graph, units }, split, { edge, arrival }) {
+  if (arrival === null) return [{ edge }, " is not active in mode " + graph.modes[split.span.mode]];
+  return [{ edge }, " brings nothing before " + timeWords(arrival, units)];
+}
+
+// A case that one reason closes together with the case itself, in one line: that reason. Null for all other cases.
+export function trivialReason(split, taken) {
+  const { child } = taken;
+  if (!child || child.kind !== "cycle" || child.reasons.length !== 2) return null;
+  const own = child.constraints.findIndex(constraint => constraint.split === split && constraint.of === taken);
+  return own < 0 ? null : { reason: child.reasons[1 - own], constraint: child.constraints[1 - own] };
+}
+
+export function reusedSentence(taken) {
+  return "closed as case " + taken.reused.by + " is: no contradiction there rests on what case " + taken.reused.by + " says";
+}
+
+// ---- histories
+
+function arrivalWords({ graph, units }, { edge, age, modes }) {
+  const ran = edgeModes(graph, edge) ? " in mode " + modes.map(mode => graph.modes[mode]).join(" and ") : "";
+  return [{ edge }, " (after " + durationWords(age, units) + ran + ", of " + rangeWords(edge, units) + ")"];
+}
+
+// What one activation of a history says, after its time.
+export function activationSentence(speech, { node, time, arrivals, alarms }) {
+  const { graph, units } = speech, between = graph.nodes[node].kind === "and" ? " and " : " or ";
+  const over = arrivals.flatMap((arrival, index) => [index ? between : ", over ", ...arrivalWords(speech, arrival)]);
+  const raised = alarms.slice(0, 5).flatMap((alarm, index) => [index ? ", " : "; alarm by ", { logLine: alarm.line },
+    alarm.time === time ? " at once" : alarm.time > time ? " after " + durationWords(alarm.time - time, units) : " before it"]);
+  const more = alarms.length > 5 ? [" and " + (alarms.length - 5) + " more"] : [];
+  return [{ node }, graph.nodes[node].kind === "failure" ? " fails" : " active", ...over, ...raised, ...more];
+}

@@ -1,0 +1,44 @@
+// Texts are bytes. As a string a text has one character for each byte, so that lengths and places are those of the bytes.
+
+export class BadText extends Error {
+  constructor(line, cause) {
+    super("line " + line + ": " + cause);
+    this.line = line;
+    this.cause = cause;
+  }
+}
+
+const CHUNK = 32768;
+
+export function textOf(bytes) {
+  if (!bytes.some(byte => byte > 127)) return new TextDecoder("utf-8", { ignoreBOM: true }).decode(bytes);
+  const parts = [];
+  for (let from = 0; from < bytes.length; from += CHUNK) parts.push(String.fromCharCode(...bytes.subarray(from, from + CHUNK)));
+  return parts.join("");
+}
+
+// What a reader sees of a text of bytes: its characters, if it is UTF-8.
+export function shown(text) {
+  return /^[\x00-\x7f]*$/.test(text) ? text : new TextDecoder().decode(Uint8Array.from(text, character => character.charCodeAt(0)));
+}
+
+export function linesOf(text) {
+  const lines = text.split("\n");
+  if (lines[lines.length - 1] === "") lines.pop();
+  return lines;
+}
+
+const KINDS = [["graph", /^(tfpg [12]\n|\s*\{)/], ["report", /^report [12] k /], ["ask", /^questions now /], ["predict", /^predict \S+ now /],
+  ["fleet", /^vehicle /]];
+
+// The kind of a text by its first line. What has no other is a log.
+export function kindOf(text) {
+  const found = KINDS.find(([, shape]) => shape.test(text.slice(0, 200)));
+  return found ? found[0] : "log";
+}
+
+export function lineAt(text, place) {
+  let line = 1;
+  for (let at = text.indexOf("\n"); at >= 0 && at < place; at = text.indexOf("\n", at + 1)) line++;
+  return line;
+}

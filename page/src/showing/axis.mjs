@@ -1,0 +1,41 @@
+// The axis of time of the tracks: by even steps from one instant to the next, or by the true scale.
+import { state, view } from "./state.mjs";
+import { nowOf } from "../reading/log.mjs";
+
+const MOST_STEPS = 4000, LABEL = 74; // pixels
+
+// The last instant that the tracks show.
+export function lastInstant() {
+  const times = view.trace ? [...view.trace.values()] : [];
+  return Math.max(1, nowOf(state.log), times.reduce((most, time) => Math.max(most, time), 0), state.forecast ? state.forecast.now : 0);
+}
+
+// Where an instant stands in so many pixels, and which instants are named.
+export function axisOf(width) {
+  const last = lastInstant(), isEven = state.isEven && state.log.events.length <= MOST_STEPS;
+  if (!isEven) {
+    const scale = d3.scaleLinear().domain([0, last]).range([0, width]);
+    return { at: scale, named: namedOf(evenTicks(last, width), scale), last };
+  }
+  const times = [0, last, ...state.log.events.map(event => event.time), ...(view.trace ? view.trace.values() : [])];
+  const instants = [...new Set(times)].sort((one, other) => one - other);
+  const scale = d3.scaleLinear().domain(instants).range(instants.map((_, index) => width * index / Math.max(1, instants.length - 1)));
+  return { at: scale, named: namedOf(instants, scale), last };
+}
+
+const SIZES_OF_STEPS = [1, 2, 5, 10, 20, 50, 100, 200, 500, 1e3, 2e3, 5e3, 1e4, 15e3, 3e4, 6e4, 12e4, 3e5, 6e5, 9e5, 18e5, 36e5, 72e5, 216e5, 432e5, 864e5];
+
+function evenTicks(last, width) {
+  let step = SIZES_OF_STEPS.find(size => last / size <= width / 100) || SIZES_OF_STEPS[SIZES_OF_STEPS.length - 1];
+  while (last / step > width / 100) step *= 2;
+  return Array.from({ length: Math.floor(last / step) + 1 }, (_, index) => index * step);
+}
+
+function namedOf(instants, scale) {
+  let free = -1;
+  return instants.filter(instant => {
+    if (scale(instant) < free) return false;
+    free = scale(instant) + LABEL;
+    return true;
+  });
+}

@@ -1,0 +1,149 @@
+// The texts of the page: those that it carries, those that are opened on it, and saving them as they are.
+import { byId, element } from "./elements.mjs";
+import { kindOf, textOf } from "../reading/texts.mjs";
+import { readAsk, readFleet, readPredict, ownLines } from "../reading/answers.mjs";
+import { readGraph } from "../reading/graph.mjs";
+import { readLog } from "../reading/log.mjs";
+import { readReport } from "../reading/report.mjs";
+import { hypothesesOf, rejectionsOf } from "../reading/hypotheses.mjs";
+import { mismatchesOf } from "../reading/mismatches.mjs";
+import { runsOf } from "../reading/runs.mjs";
+import { change, state } from "./state.mjs";
+
+// ---- bytes
+
+async function unpacked(text) {
+  const packed = atob(text), bytes = new Uint8Array(packed.length);
+  for (let place = 0; place < packed.length; place++) bytes[place] = packed.charCodeAt(place);
+  return new Uint8Array(await new Response(new Blob([bytes]).stream().pipeThrough(new DecompressionStream("gzip"))).arrayBuffer());
+}
+
+// The SHA-256 of bytes, or null where the browser has none for this page.
+async function digestOf(bytes) {
+  if (!bytes || !globalThis.crypto || !crypto.subtle) return null;
+  return [...new Uint8Array(await crypto.subtle.digest("SHA-256", bytes))].map(byte => byte.toString(16).padStart(2, "0")).join("");
+}
+
+async function digestsOf(texts) {
+  const kinds = ["graph", "log", "report"], digests = await Promise.all(kinds.map(kind => digestOf(texts[kind])));
+  return Object.fromEntries(kinds.map((kind, index) => [kind, digests[index]]));
+}
+
+// ---- reading
+
+// What the texts say. A text that is none is an error with the name of its file.
+function read(texts, names) {
+  const of = (kind, reader) => texts[kind] ? named(names[kind], () => reader(textOf(texts[kind]))) : null;
+  const graph = state.graph || of("graph", readGraph), log = of("log", text => readLog(graph, text)), report = of("report", text => readReport(graph, text));
+  const table = report ? hypothesesOf(graph, report.terms) : [];
+  const predictions = Object.keys(texts).filter(kind => kind.startsWith("predict")).map(kind => of(kind, text => readPredict(graph, text)));
+  const problems = !report ? [] : log ? mismatchesOf(graph, table, log, report) : ["The report is about a log that is not here. Open the log too."];
+  const rounds = report ? report.rounds : [];
+  return { graph, log: log || (report ? readLog(graph, "") : null), report, table, predictions, problems, ask: of("ask", text => readAsk(graph, text)), rejections: report ? rejectionsOf(report) : new Map(),
+    runs: report ? runsOf(report) : [], roundOfLine: new Map(rounds.map((round, index) => [round.line, index])) };
+}
+
+function named(name, reader) {
+  try {
+    return reader();
+  } catch (fault) {
+    throw new Error(name + " " + fault.message);
+  }
+}
+
+async function showTexts(texts, names, more) {
+  const found = read(texts, names), digests = await digestsOf(texts);
+  const round = found.report ? Math.max(0, found.report.rounds.length - 1) : 0;
+  change({ ...found, texts, names, digests, round, chosen: null, forecast: null, marked: null, logLine: null, reportLine: null, ...more });
+}
+
+// ---- carried texts
+
+export async function readCarried() {
+  state.about = JSON.parse(byId("about").textContent);
+  const texts = {}, { names } = state.about;
+  for (const carried of document.querySelectorAll("script.carried")) {
+    texts[carried.dataset.kind] = await unpacked(carried.textContent);
+    carried.remove();
+  }
+  state.graph = readGraph(textOf(texts.graph));
+  return { texts, names: { ...names } };
+}
+
+export async function showCarried({ texts, names }) {
+  if (texts.fleet) await showFleet(texts, names);
+  else await showTexts(texts, names, {});
+}
+
+// ---- fleets
+
+// The output of a fleet, and the stream of its lines in the place of a log. The first vehicle is opened.
+async function showFleet(texts, names) {
+  const fleet = named(names.fleet, () => readFleet(state.graph, textOf(texts.fleet)));
+  fleet.summaries = new Map([...fleet.vehicles].map(([name, lines]) => {
+    const { rounds } = named(names.fleet + ", vehicle " + name + ",", () => readReport(state.graph, ownText(lines)));
+    return [name, { rounds: rounds.length, last: rounds[rounds.length - 1] || null }];
+  }));
+  Object.assign(state, { fleet, texts: { graph: texts.graph, stream: texts.log, fleet: texts.fleet }, names: { graph: names.graph, stream: names.log, fleet: names.fleet } });
+  await openVehicle(fleet.vehicles.keys().next().value, "fleet");
+}
+
+function ownText(lines) {
+  return lines.map(line => line + "\n").join("");
+}
+
+function bytesOf(text) {
+  return Uint8Array.from(text, character => character.charCodeAt(0));
+}
+
+export async function openVehicle(name, tab) {
+  const own = { log: bytesOf(ownText(ownLines(textOf(state.texts.stream), name))), report: bytesOf(ownText(state.fleet.vehicles.get(name))) };
+  const names = { log: name + ".log", report: name + ".report" };
+  await showTexts({ ...state.texts, ...own }, { ...state.names, ...names }, { vehicle: name, tab });
+}
+
+// ---- opened and saved texts
+
+// Opens files on the page. What they are is known by their first lines. Another graph is refused, and so is a text that is none.
+export async function openFiles(files) {
+  try {
+    const opened = await Promise.all(files.map(async file => {
+      const bytes = new Uint8Array(await file.arrayBuffer());
+      return { name: file.name, bytes, kind: kindOf(textOf(bytes.subarray(0, 4096))) };
+    }));
+    await takeOpened(opened);
+  } catch (fault) {
+    change({ problems: ["Not opened: " + fault.message] });
+  }
+}
+
+async function takeOpened(opened) {
+  const kinds = new Set(opened.map(({ kind }) => kind)), texts = { ...state.texts }, names = { ...state.names };
+  for (const kind of leftOut(kinds, Object.keys(texts))) delete texts[kind];
+  let count = 0;
+  for (const { kind, name, bytes } of opened) {
+    if (kind === "graph" && await digestOf(bytes) !== state.about.graph) throw new Error("this page is laid out for the graph " + state.names.graph + ", and " + name + " is another. Make a page for it with tfpg-page");
+    const place = kind === "predict" ? "predict" + ++count : kind;
+    texts[place] = bytes;
+    names[place] = name;
+  }
+  if (kinds.has("fleet")) await showFleet(texts, names);
+  else await showTexts(texts, names, { fleet: null, vehicle: null });
+}
+
+// The places whose texts are no longer of use: another log has another report and other answers.
+function leftOut(kinds, places) {
+  const gone = places.filter(place => place === "stream" || place === "fleet");
+  if (kinds.has("log")) gone.push(...places.filter(place => place === "report" || place === "ask" || place.startsWith("predict")));
+  if (kinds.has("predict")) gone.push(...places.filter(place => place.startsWith("predict")));
+  return gone;
+}
+
+// Saves each text under its name, byte for byte.
+export function saveTexts() {
+  for (const [place, bytes] of Object.entries(state.texts)) {
+    const link = element("a", { href: URL.createObjectURL(new Blob([bytes], { type: "application/octet-stream" })), download: state.names[place] });
+    link.click();
+    setTimeout(() => URL.revokeObjectURL(link.href), 5000);
+  }
+}

@@ -1,0 +1,69 @@
+// Links: to a node, an edge, a line of the log, a line of the report, or a set. One listener of the document follows them all.
+import { element } from "./elements.mjs";
+import { setWords } from "../reading/sentences.mjs";
+import { change, choose, state } from "./state.mjs";
+
+function link(attributes, ...words) {
+  return element("span", { class: "link", role: "link", tabindex: "0", ...attributes }, words);
+}
+
+export function nodeName(node) {
+  return state.graph.nodes[node] ? state.graph.nodes[node].name : "the probe";
+}
+
+export function nodeLink(node) {
+  return state.graph.nodes[node] ? link({ "data-node": nodeName(node) }, nodeName(node)) : "the probe";
+}
+
+export function edgeName(edge) {
+  return nodeName(edge.source) + " to " + nodeName(edge.target);
+}
+
+export function edgeLink(edge) {
+  const isOfGraph = edge.number < state.graph.edges.length;
+  return isOfGraph ? link({ "data-edge": nodeName(edge.source) + " " + nodeName(edge.target) }, edgeName(edge)) : edgeName(edge);
+}
+
+export function logLink(line) {
+  return link({ "data-log-line": line, title: state.log.lines[line - 1].text.slice(0, 200) }, "line " + line);
+}
+
+export function reportLink(at) {
+  return link({ "data-report-line": at, title: "line " + at + " of the report" }, "¶" + at);
+}
+
+export function setLink(hypothesis, set, tab) {
+  return link({ "data-set": set, "data-hypothesis": hypothesis, "data-to": tab }, setWords(set));
+}
+
+// The words and references of a sentence, as words and links.
+export function linked(sentence) {
+  return sentence.map(piece => {
+    if (typeof piece === "string") return piece;
+    if (piece.node !== undefined) return nodeLink(piece.node);
+    return piece.edge ? edgeLink(piece.edge) : logLink(piece.logLine);
+  });
+}
+
+export function follow(target) {
+  const { node, edge, logLine, reportLine, hypothesis, to } = target.dataset;
+  if (node !== undefined) change({ marked: { node: state.graph.numberOf.get(node) }, tab: "node" });
+  else if (edge !== undefined) change({ marked: { edge: edgeOfWords(edge) } });
+  else if (logLine !== undefined) change({ logLine: Number(logLine), tab: "log" });
+  else if (reportLine !== undefined) change({ reportLine: Number(reportLine), tab: "report" });
+  else if (hypothesis !== undefined) choose(Number(hypothesis), to);
+}
+
+export function edgeOfWords(words) {
+  const [source, target] = words.split(" ").map(name => state.graph.numberOf.get(name));
+  return state.graph.edgeOf(source, target);
+}
+
+export function followLinks() {
+  document.addEventListener("click", event => {
+    const target = event.target.closest && event.target.closest(".link");
+    if (!target) return;
+    event.preventDefault(); // a link in a summary does not open it
+    follow(target);
+  });
+}

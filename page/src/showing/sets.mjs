@@ -1,0 +1,49 @@
+// All sets by status, with a filter.
+import { byId, element } from "./elements.mjs";
+import { timeWords } from "../reading/times.mjs";
+import { setText } from "../reading/hypotheses.mjs";
+import { setWords } from "../reading/sentences.mjs";
+import { choose, coveringNow, state, statusNow, view } from "./state.mjs";
+import { more } from "./ranking.mjs";
+
+const MOST_LISTED = 400, STATUSES = ["ranked", "open", "rejected", "covered"];
+
+export function setsPanel() {
+  const filter = element("input", { id: "set-filter", placeholder: "part of a name", value: state.filter, input: event => refill({ filter: event.target.value }) });
+  const options = ["", ...STATUSES].map(status => element("option", { value: status, selected: status === state.statusFilter ? "" : null }, status || "all"));
+  const choice = element("select", { id: "status-filter", "aria-label": "status", change: event => refill({ statusFilter: event.target.value }) }, options);
+  return [element("p", {}, filter, " ", choice, " of " + state.table.length + " sets"), element("div", { id: "sets" }, setsTable())];
+}
+
+function refill(values) {
+  Object.assign(state, values);
+  byId("sets").replaceChildren(...setsTable().filter(Boolean));
+}
+
+function setsTable() {
+  const wanted = state.filter.toLowerCase(), rows = [];
+  let left = 0;
+  for (let hypothesis = 0; view.round && hypothesis < state.table.length; hypothesis++) {
+    const found = statusNow(hypothesis), set = setText(state.graph, state.table[hypothesis]);
+    if ((state.statusFilter && found.status !== state.statusFilter) || !setWords(set).toLowerCase().includes(wanted)) continue;
+    if (rows.length < MOST_LISTED) rows.push(setRow(hypothesis, set, found));
+    else left++;
+  }
+  const head = element("tr", {}, element("th", { class: "number" }, "no."), element("th", {}, "set"), element("th", {}, "status in round " + (view.round ? view.round.number : "-")));
+  return [element("table", {}, element("thead", {}, head), element("tbody", {}, rows)), more(left, "Narrow the filter.")];
+}
+
+function setRow(hypothesis, set, found) {
+  const { status } = found, tab = status === "ranked" ? "ranking" : "why";
+  return element("tr", { "data-set": set, "data-hypothesis": hypothesis, "data-status": status, "aria-selected": String(state.chosen === hypothesis), click: () => choose(hypothesis, tab) },
+    element("td", { class: "number dim" }, hypothesis), element("td", {}, setWords(set)),
+    element("td", {}, element("span", { class: "status " + status }, status), " ", statusWords(hypothesis, found)));
+}
+
+function statusWords(hypothesis, { status, place, since }) {
+  if (status === "ranked") return "#" + place;
+  if (status === "rejected") return "since round " + since.number + ", " + timeWords(since.now, state.units);
+  if (status === "open") return "the budget was spent";
+  const [first] = coveringNow(hypothesis);
+  return first ? "by " + setWords(first.set) : "";
+}

@@ -1,0 +1,94 @@
+// What the page has read and what is chosen on it. Whoever draws is told of each change.
+import { believedIn, coveringOf, setOf, setText, statusOf, statusesOf } from "../reading/hypotheses.mjs";
+import { carriedIn, historyOf } from "../reading/histories.mjs";
+import { modeAt } from "../reading/spans.mjs";
+import { monitorsAt } from "../reading/monitors.mjs";
+import { nowOf } from "../reading/log.mjs";
+import { traceOf } from "../reading/report.mjs";
+
+// `round` is an index, `chosen` the number of a hypothesis or null for the first in the ranking, and `forecast` one that is shown in its place.
+export const state = {
+  texts: {}, names: {}, digests: {}, about: null, graph: null, log: null, report: null, table: [], rejections: new Map(),
+  ask: null, predictions: [], fleet: null, vehicle: null, problems: [],
+  round: 0, chosen: null, forecast: null, tab: "ranking", marked: null, logLine: null, reportLine: null, graphLine: null,
+  units: { unit: "clock", start: 0 }, filter: "", statusFilter: "", isEven: true, widening: 1
+};
+
+// What follows from the state: the round, what the log says by then, and the history that is shown.
+export const view = {};
+
+const drawers = [];
+
+export function whenChanged(draw) {
+  drawers.push(draw);
+}
+
+export function change(values) {
+  Object.assign(state, values);
+  derive();
+  for (const draw of drawers) draw();
+}
+
+export function goTo(round) {
+  if (!state.report || !state.report.rounds.length) return;
+  change({ round: Math.max(0, Math.min(round, state.report.rounds.length - 1)), forecast: null });
+}
+
+export function choose(hypothesis, tab) {
+  change({ chosen: hypothesis, forecast: null, tab: tab || state.tab });
+}
+
+export function show(tab) {
+  change({ tab });
+}
+
+export function mark(marked) {
+  change({ marked });
+}
+
+function derive() {
+  const { graph, log, report, forecast } = state, round = report ? report.rounds[state.round] || null : null;
+  const isWhole = !round || forecast;
+  view.round = round;
+  view.count = round && !forecast ? round.number : log ? log.events.length : 0;
+  view.now = isWhole ? log ? nowOf(log) : 0 : round.now;
+  view.mode = log ? modeAt(log, view.now) : 0;
+  view.statuses = round ? statusesOf(state.rejections, round) : new Map();
+  view.monitors = log ? monitorsAt(graph, log, view.count) : new Map();
+  view.ranked = round && !forecast ? rankedLine(round) : null;
+  deriveHistory();
+}
+
+// The line of the chosen hypothesis in the ranking, or of the first one if none is chosen.
+function rankedLine(round) {
+  if (state.chosen === null) return round.ranked[0] || null;
+  return round.ranked.find(line => line.hypothesis === state.chosen) || null;
+}
+
+function deriveHistory() {
+  const { graph, log, report, forecast } = state, shown = forecast || view.ranked;
+  view.set = shown ? shown.set : state.chosen !== null && state.table[state.chosen] ? setText(graph, state.table[state.chosen]) : null;
+  view.hypothesis = view.set === null ? null : setOf(graph, view.set);
+  view.trace = forecast ? forecast.trace : shown ? traceOf(graph, report, shown) : null;
+  view.horizon = forecast ? forecast.to : view.now;
+  view.history = view.trace && log ? historyOf(graph, log, view.trace, view.horizon, view.monitors) : [];
+  view.carried = carriedIn(view.history);
+}
+
+export function speechOf(set) {
+  return { graph: state.graph, log: state.log, units: state.units, set };
+}
+
+export function statusNow(hypothesis) {
+  return statusOf(view.statuses, hypothesis);
+}
+
+export function coveringNow(hypothesis) {
+  return state.table[hypothesis] ? coveringOf(state.table, view.round, hypothesis) : [];
+}
+
+// The monitored nodes that the shown set could make alarm, and that have no alarm so far.
+export function waitingNow() {
+  if (!view.hypothesis) return [];
+  return believedIn(state.graph, view.hypothesis).filter(node => !view.monitors.has(node) || !view.monitors.get(node).alarms.length);
+}

@@ -1,0 +1,102 @@
+// The tracks on one axis of time: modes, log, the sets over the rounds, and the chosen history against what the log says.
+import { byId, drawn, element } from "./elements.mjs";
+import { timeWords } from "../reading/times.mjs";
+import { rowsFirst } from "../reading/runs.mjs";
+import { setWords } from "../reading/sentences.mjs";
+import { axisOf } from "./axis.mjs";
+import { logTrack, modeTrack, nodeTrack, setTrack } from "./trackmarks.mjs";
+import { edgeTip } from "./drawing.mjs";
+import { nodeName } from "./links.mjs";
+import { change, choose, state, view, whenChanged } from "./state.mjs";
+
+const NAMES = 190, ROW = 20, TOP = 24, MOST_SETS = 25, MOST_NODES = 60, MOST_OTHERS = 40; // widths and heights in pixels
+
+export function prepareTracks() {
+  byId("even").addEventListener("change", event => change({ isEven: event.target.checked }));
+  byId("narrow").addEventListener("click", () => change({ widening: Math.max(1, state.widening / 2) }));
+  byId("wide").addEventListener("click", () => change({ widening: Math.min(64, state.widening * 2) }));
+  addEventListener("resize", drawTracks);
+  whenChanged(drawTracks);
+}
+
+function drawTracks() {
+  const place = byId("tracks");
+  byId("times").hidden = !state.log;
+  if (!state.log || place.clientWidth === 0) return;
+  const width = Math.max(300, place.clientWidth - NAMES - 60) * state.widening, axis = axisOf(width);
+  const rows = rowsNow(), height = TOP + ROW * rows.length + 6;
+  const names = drawn("svg", { class: "track-names", width: NAMES, height }), marks = drawn("svg", { width: width + 56, height });
+  const body = drawn("g", { transform: "translate(6,0)" }, gridPart(axis, width, height));
+  rows.forEach((row, index) => {
+    const top = TOP + ROW * index, group = drawn("g", { "data-track": row.track, "data-name": row.name, transform: "translate(0," + top + ")" });
+    if (row.draw) group.append(...[row.draw(axis, width + 40)].flat(Infinity).filter(Boolean));
+    names.append(rowName(row, top));
+    body.append(group);
+  });
+  body.append(...linksOfHistory(rows, axis), ...nowPart(axis, width, height));
+  marks.append(body);
+  const [left, top] = [place.scrollLeft, place.scrollTop];
+  place.replaceChildren(element("div", { class: "track-rows" }, names, marks));
+  place.scrollTo(left, top);
+}
+
+// ---- rows
+
+function rowsNow() {
+  const rows = state.graph.modes.length > 1 ? [{ track: "mode", name: "mode", draw: modeTrack }] : [];
+  return [...rows, { track: "log", name: "log", draw: logTrack }, ...setRows(), ...nodeRows()];
+}
+
+function setRows() {
+  if (!view.round) return [];
+  const shown = rowsFirst(state.runs, view.round, MOST_SETS), left = state.runs.length - shown.length;
+  const rows = shown.map(row => ({
+    track: "set", name: setWords(row.set), choose: () => choose(row.hypothesis), isChosen: view.ranked !== null && view.ranked.hypothesis === row.hypothesis,
+    draw: (axis, end) => setTrack(row, axis, end)
+  }));
+  return [{ track: "heading", name: "ranked sets" }, ...rows, ...(left > 0 ? [{ track: "note", name: "… and " + left + " more" }] : [])];
+}
+
+// The active nodes of the history by time, and the other monitored nodes of which the log says something.
+function nodeRows() {
+  const active = view.history.slice(0, MOST_NODES).map(entry => entry.node), others = [];
+  for (const [node, said] of view.monitors) {
+    const isSaid = said.alarms.length || said.silences.length;
+    if (isSaid && !(view.trace && view.trace.has(node)) && others.length < MOST_OTHERS) others.push(node);
+  }
+  const rows = [...active, ...others].map(node => ({
+    track: "node", name: nodeName(node), node, isChosen: state.marked !== null && state.marked.node === node,
+    choose: () => change({ marked: { node }, tab: "node" }), draw: (axis, end) => nodeTrack(node, axis, end)
+  }));
+  return [{ track: "heading", name: view.trace ? "history of " + setWords(view.set) : "monitors" }, ...rows];
+}
+
+function rowName(row, top) {
+  const words = row.name.length > 28 ? row.name.slice(0, 27) + "…" : row.name, isHeading = row.track === "heading";
+  const kind = isHeading ? "heading" : row.choose ? row.isChosen ? "choice chosen" : "choice" : "";
+  return drawn("text", { class: kind, x: isHeading ? 6 : 14, y: top + 14, click: row.choose || null }, words, drawn("title", {}, row.name));
+}
+
+// ---- what goes over all rows
+
+function gridPart({ at, named }, width, height) {
+  return named.flatMap(instant => {
+    const x = at(instant), anchor = x < 24 ? "start" : x > width + 10 ? "end" : "middle";
+    return [drawn("line", { class: "grid", x1: x, x2: x, y1: 18, y2: height }), drawn("text", { x, y: 13, "text-anchor": anchor }, timeWords(instant, state.units))];
+  });
+}
+
+function nowPart({ at, last }, width, height) {
+  const x = at(view.now), ahead = view.now < last ? drawn("rect", { class: "ahead", x, y: 18, width: Math.max(0, width + 40 - x), height: height - 18 }) : null;
+  return [ahead, drawn("line", { class: "now", x1: x, x2: x, y1: 16, y2: height })].filter(Boolean);
+}
+
+// From the activation of a source to that of the node to which the failure came over an edge.
+function linksOfHistory(rows, { at }) {
+  const middles = new Map(rows.map((row, index) => [row.node, TOP + ROW * index + ROW / 2]).filter(([node]) => node !== undefined && view.trace && view.trace.has(node)));
+  return view.history.flatMap(({ node, arrivals }) => arrivals.map(({ edge }) => {
+    if (!middles.has(node) || !middles.has(edge.source)) return null;
+    const [from, to] = [at(view.trace.get(edge.source)), at(view.trace.get(node))];
+    return drawn("path", { class: "carried-link", d: `M${from},${middles.get(edge.source)}V${middles.get(node)}H${to}` }, drawn("title", {}, edgeTip(edge)));
+  })).filter(Boolean);
+}
