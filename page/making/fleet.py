@@ -9,15 +9,21 @@ def own_log(stream, name):
     return b"".join(line + b"\n" for line in own)
 
 
-def reports_of(stream, output):
-    """The log and the report of each vehicle, in the order in which they are named first."""
+def reports_in(lines):
+    """The report of each vehicle, in the order in which they are named first: its lines, each with its number in the output."""
     reports, taking = {}, None
-    for line in lines_of(output):
+    for number, line in enumerate(lines, 1):
         kind, _, rest = line.partition(b" ")
         if kind == b"vehicle":
             taking = reports.setdefault(rest, [])
         elif kind in (b"stray", b"mode"):
             taking = None
         elif taking is not None:
-            taking.append(line + b"\n")
-    return [(own_log(stream, name), b"".join(lines)) for name, lines in reports.items()]
+            taking.append((number, line))
+    return reports
+
+
+def reports_of(stream, output):
+    """The log and the report of each vehicle."""
+    reports = reports_in(lines_of(output))
+    return [(own_log(stream, name), b"".join(line + b"\n" for _, line in report)) for name, report in reports.items()]

@@ -4,12 +4,15 @@ import re
 import subprocess
 
 MOST_NODES = 80  # a graph with more of them is also drawn in part
+LAST_BYTES = 4000000  # of a report, in which the nodes for that are looked for
 MOST_BOTH_WAYS = 150  # a drawing with more nodes is tried from left to right alone
 MOST_LABELS = 160  # a drawing with more edges has no labels on them
-WIDTH = 1.6  # of the place on the page, for each unit of its height
+WIDTH = 2.4  # of the place on the page, for each unit of its height
 UNITS = (("h", 3600000), ("min", 60000), ("s", 1000))
 SHAPES = {b"failure": "box", b"or": "ellipse", b"and": "octagon"}
-ATTRIBUTES = "bgcolor=transparent; nodesep=0.2; ranksep=0.3; pad=0.15; nslimit=4; nslimit1=4; mclimit=0.5;"
+MANY_EDGES = 400  # with more of them Graphviz is told to take less pains
+ATTRIBUTES = "bgcolor=transparent; nodesep=0.2; ranksep=0.3; pad=0.15;"
+PAINS = {False: "nslimit=4; nslimit1=4; mclimit=1;", True: "nslimit=1; nslimit1=1; mclimit=0.25;"}  # by whether the edges are many
 
 
 def duration_words(milliseconds):
@@ -58,7 +61,7 @@ def picture_text(graph, direction, prefix, kept):
         for number, edge in edges
     ]
     fonts = 'node [fontname="DejaVu Sans", fontsize=13, margin="0.1,0.05"]; edge [fontname="DejaVu Sans", fontsize=10, arrowsize=0.7];'
-    return "\n".join(["digraph tfpg {", f"rankdir={direction}; {ATTRIBUTES}", fonts, *nodes, *links, "}", ""])
+    return "\n".join(["digraph tfpg {", f"rankdir={direction}; {ATTRIBUTES} {PAINS[len(edges) > MANY_EDGES]}", fonts, *nodes, *links, "}", ""])
 
 
 def start_layout(graph, direction, prefix, kept):
@@ -86,10 +89,11 @@ def finished(running):
 def named_nodes(graph, log, report):
     """The nodes with an alarm, and those that the traces of the last rounds name, until there are as many as a drawing should have."""
     found = dict.fromkeys(re.findall(rb"^\d+ alarm (\S+)$", log, re.MULTILINE))
-    for name in reversed(re.findall(rb"^at (\S+) ", report, re.MULTILINE)):
+    for line in reversed(report[-LAST_BYTES:].split(b"\n")):
         if len(found) >= MOST_NODES:
             break
-        found[name] = None
+        if line.startswith(b"at "):
+            found[line.split(b" ")[1]] = None
     return {node.name for node in graph.nodes if node.name in found}
 
 

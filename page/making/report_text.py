@@ -1,8 +1,13 @@
-"""Whether a text is a report, or what `ask`, `predict` or `fleet` writes. Each test goes over the whole text at once, for speed."""
+"""Whether a text is a report, or what `ask`, `predict` or `fleet` writes.
+
+Reports are long, and most of their lines stand in them many times. So shapes and names are tested once for each different line, and the
+order of lines once for each different pair of first words.
+"""
 
 import re
 
-from .texts import NAME, NUMBER, Fault, first_without, known_names, line_at, lines_of
+from .fleet import reports_in
+from .texts import NAME, NUMBER, Fault, line_at, lines_of
 
 SET = rb"(?:-|!?%s(?:,!?%s)*)" % (NAME, NAME)
 REFUSAL = rb"(?:BadLine|BadNumber|TimeTooLarge|TimeBack %s|UnknownName|NotMonitored|NotAMode|LogFull|ModesFull|TooLong)" % NUMBER
@@ -38,68 +43,85 @@ BLOCKS = [
     shape("panel N (?:lost|memory)"),
 ]
 HEAD = rb"(?:%s|%s)" % (shape("report 1 k N budget N"), shape("report 2 k N doubt N budget N"))
-STEP_WORDS, RANKING_WORDS = "split|again|cycle", "ranked|open|rejected|counts"
-NEXT = {  # the first words that a line may have after one with this first word
-    "report|refused": "refused|round",
-    "counts|panel": "refused|round|panel",
-    "round": "hyp|" + RANKING_WORDS,
+STEP_WORDS, RANKING_WORDS = "split again cycle", "ranked open rejected counts"
+NEXT = {  # the first words that a line may have after one with one of these first words
+    "report refused": "refused round",
+    "counts panel": "refused round panel",
+    "round": "hyp " + RANKING_WORDS,
     "hyp": STEP_WORDS,
-    "split|again": f"{STEP_WORDS}|hyp|{RANKING_WORDS}",
-    "cycle|why": f"why|{STEP_WORDS}|hyp|{RANKING_WORDS}",
-    "ranked|at": "at|" + RANKING_WORDS,
-    "open": "open|rejected|counts",
-    "rejected": "rejected|counts",
+    "split again": f"{STEP_WORDS} hyp {RANKING_WORDS}",
+    "cycle why": f"why {STEP_WORDS} hyp {RANKING_WORDS}",
+    "ranked at": "at " + RANKING_WORDS,
+    "open": "open rejected counts",
+    "rejected": "rejected counts",
 }
-NAMES_AFTER = [b"at", b"why zero", b"why top", b"why unreached", rb"why quiet \d+", b"split \\w+", rb"split (?:andmay|ormust) \S+"]
+PAIRS = {(here.encode().ljust(3)[:3], there.encode().ljust(3)[:3]) for heres, theres in NEXT.items() for here in heres.split() for there in theres.split()}
+NAMING = re.compile(rb"^(?:at|ask|mode|predict|why (?:zero|top|unreached)|why quiet \d+|split (?:ormay|andmust)) (\S+)", re.MULTILINE)
+NAMING_TWICE = re.compile(rb"^split (?:andmay|ormust) (\S+) (\S+)", re.MULTILINE)
+MEMBERS = re.compile(rb"^(?:ranked|open|rejected|forecast) .*set (\S+)", re.MULTILINE)
 
 
-def need_order(text, after):
-    """Refuses the first line that may not come after the one before, by their first words."""
-    pairs = "|".join(f"(?:{here})(?: .*)?\n(?!(?:{there})[ \n]|\\Z)" for here, there in after.items())
-    wrong = re.search(b"^(?:%s)" % pairs.encode(), text, re.MULTILINE)
-    if wrong:
-        raise Fault(line_at(text, wrong.end()), "BadReport")
+class Lines:
+    """The lines of a text, and the different ones among them."""
+
+    def __init__(self, text):
+        self.all = lines_of(text)
+        self.different = b"\n".join(dict.fromkeys(self.all[1:]))
+
+    def refuse(self, line, cause):
+        raise Fault(self.all.index(line) + 1, cause)
+
+    def need_head(self, head, cause):
+        if not self.all or not re.fullmatch(head, self.all[0]):
+            raise Fault(1, cause)
+
+    def need_shapes(self, shapes, cause):
+        other = re.search(rb"^(?!(?:%s)$).*$" % b"|".join(shapes), self.different, re.MULTILINE)
+        if other and self.all[1:]:
+            self.refuse(other[0], cause)
+
+    def need_names(self, names):
+        """Refuses a line that names a node which the graph does not have."""
+        named = set(NAMING.findall(self.different))
+        for sets in set(MEMBERS.findall(self.different)) - {b"-"}:
+            named |= {member.lstrip(b"!") for member in sets.split(b",")}
+        for pair in set(NAMING_TWICE.findall(self.different)):
+            named |= set(pair)
+        for name in named - names:
+            wrong = re.compile(rb"(?:^|[ ,!])%s(?:[ ,]|$)" % re.escape(name))
+            self.refuse(next(line for line in self.all[1:] if wrong.search(line)), "UnknownName")
+
+    def need_order(self):
+        """Refuses a line that may not come after the one before, by their first words: these differ in their first three bytes."""
+        begins = [line[:3] for line in self.all]
+        if not set(zip(begins, begins[1:])) <= PAIRS:
+            wrong = next(place for place, pair in enumerate(zip(begins, begins[1:])) if pair not in PAIRS)
+            raise Fault(wrong + 2, "BadReport")
 
 
-def need_reasons(text):
+def need_reasons(text, lines):
     """Refuses a cycle that has not as many reasons as it says."""
-    for cycle in re.finditer(rb"^cycle (\d+)\n((?:why .*\n)*)", text, re.MULTILINE):
-        if int(cycle[1]) != cycle[2].count(b"\n"):
-            raise Fault(line_at(text, cycle.start()), "BadReport")
+    counts = sorted({int(line[6:]) for line in lines.different.split(b"\n") if line.startswith(b"cycle ")})
+    wanted = "|".join(rf"{count}\n(?:why .*\n){{{count}}}(?!why)" for count in counts if count < 10000)
+    wrong = re.search(rf"^cycle (?!{wanted})".encode() if wanted else b"^cycle ", text, re.MULTILINE)
+    if wrong:
+        raise Fault(line_at(text, wrong.start()), "BadReport")
 
 
-def need_members(text, names):
-    """Refuses the first set with a member that is no name of the graph."""
-    for sets in re.finditer(rb"^(?:ranked|open|rejected|forecast) .*set (\S+)", text, re.MULTILINE):
-        if sets[1] != b"-" and not {member.lstrip(b"!") for member in sets[1].split(b",")} <= names:
-            raise Fault(line_at(text, sets.start()), "UnknownName")
+def with_end(text):
+    return text if text.endswith(b"\n") else text + b"\n"
 
 
 def check_report(text, names):
     """Refuses a text that is no report of whole blocks about nodes of these names."""
-    lines = lines_of(text)
-    first, rest = (lines + [b""])[0], text.split(b"\n", 1)[1:]
-    if not re.fullmatch(HEAD, first):
-        raise Fault(1, "BadReport")
-    wrong = first_without(BLOCKS, rest[0]) if rest else None
-    if wrong:
-        raise Fault(wrong + 1, "BadReport")
-    whole = text if text.endswith(b"\n") else text + b"\n"
-    need_order(whole, NEXT)
-    need_reasons(whole)
-    known_names(NAMES_AFTER, whole, names)
-    need_members(whole, names)
-    if lines[-1].split(b" ")[0] not in (b"report", b"refused", b"counts", b"panel"):
-        raise Fault(len(lines) + 1, "EndsEarly")
-
-
-def need_shapes(text, head, shapes, cause):
-    lines = text.split(b"\n", 1)
-    if not re.fullmatch(head, lines[0]):
-        raise Fault(1, cause)
-    wrong = first_without(shapes, lines[1]) if lines[1:] else None
-    if wrong:
-        raise Fault(wrong + 1, cause)
+    lines = Lines(text)
+    lines.need_head(HEAD, "BadReport")
+    lines.need_shapes(BLOCKS, "BadReport")
+    lines.need_order()
+    need_reasons(with_end(text), lines)
+    lines.need_names(names)
+    if lines.all[-1].split(b" ")[0] not in (b"report", b"refused", b"counts", b"panel"):
+        raise Fault(len(lines.all) + 1, "EndsEarly")
 
 
 def probe_name(names):
@@ -111,23 +133,35 @@ def probe_name(names):
 
 
 def check_ask(text, names):
-    need_shapes(text, shape("questions now N ranked N open N"), [shape("ask M silent N alarm N unknown N"), b"refused LogFull"], "BadAnswer")
-    known_names([b"ask"], text, names)
+    lines = Lines(text)
+    lines.need_head(shape("questions now N ranked N open N"), "BadAnswer")
+    lines.need_shapes([shape("ask M silent N alarm N unknown N"), b"refused LogFull"], "BadAnswer")
+    lines.need_names(names)
 
 
 def check_predict(text, names):
+    lines = Lines(text)
+    lines.need_head(shape("predict M now N to N"), "BadAnswer")
     forecast = shape("forecast N set S") + b" (?:%s|never|%s)" % (shape("earliest N"), shape("unsettled N"))
-    need_shapes(text, shape("predict M now N to N"), [forecast, *TRACE, *STEPS], "BadAnswer")
-    known_names([b"predict", *NAMES_AFTER], text, names | {probe_name(names)})
-    need_reasons(text if text.endswith(b"\n") else text + b"\n")
-    need_members(text, names)
+    lines.need_shapes([forecast, *TRACE, *STEPS], "BadAnswer")
+    if lines.all[0].split(b" ")[1] not in names:
+        raise Fault(1, "UnknownName")
+    if lines.all[1:] and not lines.all[1].startswith(b"forecast "):
+        raise Fault(2, "BadAnswer")
+    need_reasons(with_end(text), lines)
+    lines.need_names(names | {probe_name(names)})
 
 
 def check_fleet(text, names):
-    counts = shape("mode M vehicles N")
-    need_shapes(text, shape("vehicle M"), [shape("vehicle M"), shape("stray N"), counts, HEAD, *BLOCKS], "BadAnswer")
-    known_names([*NAMES_AFTER, b"mode"], text, names)
-    need_members(text, names)
+    lines = Lines(text)
+    lines.need_head(shape("vehicle M"), "BadAnswer")
+    lines.need_shapes([shape("vehicle M"), shape("stray N"), shape("mode M vehicles N"), HEAD, *BLOCKS], "BadAnswer")
+    lines.need_names(names)
+    for report in reports_in(lines.all).values():
+        try:
+            check_report(b"".join(line + b"\n" for _, line in report), names)
+        except Fault as fault:
+            raise Fault(report[min(fault.line, len(report)) - 1][0], fault.cause) from None
 
 
 CHECKS = {"report": check_report, "ask": check_ask, "predict": check_predict, "fleet": check_fleet}

@@ -39,17 +39,3 @@ def kind_of(text):
 def line_at(text, place):
     """The number of the line in which the byte of this index stands."""
     return text.count(b"\n", 0, place) + 1
-
-
-def first_without(shapes, text):
-    """The number of the first line that has none of the shapes, or nothing. The shapes are expressions for whole lines."""
-    other = re.search(rb"^(?!(?:%s)$).*$" % b"|".join(shapes), text[:-1] if text.endswith(b"\n") else text, re.MULTILINE)
-    return line_at(text, other.start()) if other and text else None
-
-
-def known_names(before, text, names):
-    """Refuses the first line with a name after one of these beginnings which is none of the names."""
-    found = re.compile(rb"^(?:%s) (%s)" % (b"|".join(before), NAME), re.MULTILINE)
-    if not set(found.findall(text)) <= names:
-        wrong = next(match for match in found.finditer(text) if match[1] not in names)
-        raise Fault(line_at(text, wrong.start()), "UnknownName")

@@ -44,17 +44,10 @@ export function setOf(graph, text) {
   };
 }
 
-// The round in which each rejected hypothesis was rejected.
-export function rejectionsOf(report) {
-  const rejections = new Map();
-  for (const round of report.rounds) for (const { hypothesis } of round.rejected) rejections.set(hypothesis, round);
-  return rejections;
-}
-
 // The status of each hypothesis in a round, but for those that are covered, which no line of a report names.
-export function statusesOf(rejections, round) {
+export function statusesOf(report, round) {
   const statuses = new Map();
-  for (const [hypothesis, since] of rejections) if (since.number <= round.number) statuses.set(hypothesis, { status: "rejected", since });
+  for (const [hypothesis, since] of report.rejections) if (since.number <= round.number) statuses.set(hypothesis, { status: "rejected", since });
   round.open.forEach(line => statuses.set(line.hypothesis, { status: "open", line }));
   round.ranked.forEach((line, index) => statuses.set(line.hypothesis, { status: "ranked", line, place: index + 1 }));
   return statuses;

@@ -11,7 +11,7 @@ export function mismatchesOf(graph, table, log, report) {
   if (report.blocks.length < log.lines.length) {
     found.push("the log has " + log.lines.length + " lines, and the report has blocks for " + report.blocks.length + " of them");
   }
-  for (const round of report.rounds) if (found.length < MOST) found.push(...wrongSets(graph, table, round));
+  found.push(...wrongSets(graph, table, report));
   return found.slice(0, MOST);
 }
 
@@ -26,10 +26,9 @@ function mismatchOf(block, entry) {
   return [];
 }
 
-function wrongSets(graph, table, round) {
-  return [...round.ranked, ...round.open, ...round.rejected].flatMap(({ hypothesis, set, at }) => {
-    if (!table[hypothesis]) return ["line " + at + " of the report names set " + hypothesis + ", of which there is none"];
-    const right = setText(graph, table[hypothesis]);
-    return right === set ? [] : ["line " + at + " of the report says " + set + ", where set " + hypothesis + " is " + right];
-  });
+// Numbers of hypotheses that do not go with their sets.
+function wrongSets(graph, table, report) {
+  const named = [...[...report.sets].map(([hypothesis, set]) => ({ hypothesis, set })), ...report.misnamed];
+  return named.filter(({ hypothesis, set }) => !table[hypothesis] || setText(graph, table[hypothesis]) !== set).map(({ hypothesis, set }) =>
+    "the report says " + set + " of set " + hypothesis + (table[hypothesis] ? ", which is " + setText(graph, table[hypothesis]) : ", of which there is none"));
 }

@@ -4,18 +4,24 @@ const LAST_SILENCES = 200; // of a node; earlier ones say no more than these
 
 // What the first events say, so many of them: all alarms of each node, and its last silences, its own and those of sweeps.
 export function monitorsAt(graph, log, count) {
-  const monitors = new Map(graph.monitored.map(node => [node, { alarms: [], silences: [] }])), sweeps = [];
-  for (const event of log.events.slice(0, count)) {
-    if (event.kind === "alarm") monitors.get(event.node).alarms.push(event);
-    else if (event.kind === "silent") monitors.get(event.node).silences.push(event);
-    else if (event.kind === "sweep") sweeps.push(event);
+  const monitors = new Map(graph.monitored.map(node => [node, { alarms: [], silences: [], sweepCount: null }])), sweeps = [];
+  for (let index = 0; index < count; index++) {
+    const event = log.events[index], said = event.node === null ? null : monitors.get(event.node);
+    if (event.kind === "sweep") sweeps.push(event);
+    else if (event.kind === "silent") said.silences.push(event);
+    else if (event.kind === "alarm") {
+      if (!said.alarms.length) said.sweepCount = sweeps.length;
+      said.alarms.push(event);
+    }
   }
-  for (const [node, said] of monitors) {
-    const first = log.firstAlarm.has(node) ? log.firstAlarm.get(node) : Infinity;
-    const swept = sweeps.filter(event => event.number < first).slice(-LAST_SILENCES);
-    said.silences = [...said.silences.slice(-LAST_SILENCES), ...swept].sort((one, other) => one.number - other.number).slice(-LAST_SILENCES);
-  }
+  for (const said of monitors.values()) said.silences = lastSilences(said, sweeps);
   return monitors;
+}
+
+// A sweep silences a node only before its first alarm.
+function lastSilences({ silences, sweepCount }, sweeps) {
+  const swept = sweeps.slice(0, sweepCount === null ? sweeps.length : sweepCount).slice(-LAST_SILENCES);
+  return [...silences.slice(-LAST_SILENCES), ...swept].sort((one, other) => one.number - other.number).slice(-LAST_SILENCES);
 }
 
 // The interval of an alarm: the instants that it leaves for the activation of its node.

@@ -1,29 +1,44 @@
-// The place of each set in the rankings, over the rounds.
+// The places of the sets in the rankings, over the rounds.
 
-// For each set that is ranked or open in some round its runs: the rounds, by index, in which the same is said of it.
-export function runsOf(report) {
-  const rows = new Map();
-  report.rounds.forEach((round, index) => {
-    round.ranked.forEach((line, place) => extend(rows, line, index, { status: "ranked", place: place + 1, words: "#" + (place + 1) + " " + line.alarmed + "/" + line.monitored }));
-    round.open.forEach(line => extend(rows, line, index, { status: "open", place: null, words: "open" }));
-  });
-  return [...rows.values()];
+// Collects, for each set that is ranked or open in some round, its runs: the rounds, by index, in which the same is said of it.
+export class Runs {
+  constructor() {
+    Object.assign(this, { byHypothesis: new Map(), round: -1, place: 0 });
+  }
+
+  nextRound() {
+    this.round++;
+    this.place = 0;
+  }
+
+  ranked(hypothesis, set, share) {
+    this.place++;
+    this.extend(hypothesis, set, "ranked", this.place, share);
+  }
+
+  open(hypothesis, set) {
+    this.extend(hypothesis, set, "open", null, null);
+  }
+
+  extend(hypothesis, set, status, place, share) {
+    if (!this.byHypothesis.has(hypothesis)) this.byHypothesis.set(hypothesis, { hypothesis, set, runs: [] });
+    const { runs } = this.byHypothesis.get(hypothesis), last = runs[runs.length - 1];
+    if (last && last.to === this.round - 1 && last.place === place && last.share === share) last.to = this.round;
+    else runs.push({ from: this.round, to: this.round, status, place, share });
+  }
+
+  rows() {
+    return [...this.byHypothesis.values()];
+  }
 }
 
-function extend(rows, { hypothesis, set }, index, said) {
-  if (!rows.has(hypothesis)) rows.set(hypothesis, { hypothesis, set, runs: [] });
-  const { runs } = rows.get(hypothesis), last = runs[runs.length - 1];
-  if (last && last.to === index - 1 && last.words === said.words) last.to = index;
-  else runs.push({ ...said, from: index, to: index });
+export function runWords({ status, place, share }) {
+  return status === "open" ? "open" : "#" + place + " " + share;
 }
 
 // The rows that a reader wants first: those ranked in this round in their order, then those that were ranked last.
 export function rowsFirst(rows, round, count) {
-  const places = new Map(round.ranked.map((line, place) => [line.hypothesis, place])), placeOf = row => places.has(row.hypothesis) ? places.get(row.hypothesis) : Infinity;
-  const lastOf = row => row.runs[row.runs.length - 1].to;
-  return rows.slice().sort((one, other) => compare(placeOf(one), placeOf(other)) || lastOf(other) - lastOf(one) || one.hypothesis - other.hypothesis).slice(0, count);
-}
-
-function compare(one, other) {
-  return one === other ? 0 : one - other;
+  const places = new Map(round.ranked.map((line, place) => [line.hypothesis, place])), lastOf = row => row.runs[row.runs.length - 1].to;
+  const placeOf = row => places.has(row.hypothesis) ? places.get(row.hypothesis) : places.size;
+  return rows.slice().sort((one, other) => placeOf(one) - placeOf(other) || lastOf(other) - lastOf(one) || one.hypothesis - other.hypothesis).slice(0, count);
 }

@@ -8,6 +8,14 @@ export function setWords(set) {
   return set.split(",").map(member => member[0] === "!" ? "wrong monitor of " + member.slice(1) : member).join(" + ");
 }
 
+// The title of a history: what failed, and which monitors are wrong.
+export function historyTitle(set) {
+  const words = set === "-" ? [] : set.split(","), failures = words.filter(member => member[0] !== "!"), wrong = words.filter(member => member[0] === "!");
+  const title = failures.length ? "A history of " + failures.join(" + ") : "A history without a failure";
+  if (!wrong.length) return title;
+  return title + ", if the monitor" + (wrong.length > 1 ? "s" : "") + " of " + wrong.map(member => member.slice(1)).join(" and ") + (wrong.length > 1 ? " are wrong" : " is wrong");
+}
+
 export function nodeWords(graph, node, units) {
   const { kind, rarity, lags } = graph.nodes[node];
   if (kind === "failure") return "failure mode, rarity " + rarity;

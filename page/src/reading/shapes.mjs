@@ -49,9 +49,10 @@ export function needOrder(text) {
 
 // Refuses the first line that names a node which the graph does not have.
 export function needNames(graph, text) {
-  const naming = /\n(?:at|ask|why (?:zero|top|unreached)|why quiet \d+|split (?:ormay|andmust)|split (?:andmay|ormust) \S+) ([^ \n]+)/g;
+  const naming = /\n(?:at|ask|why (?:zero|top|unreached)|why quiet \d+|split (?:ormay|andmust)|split (?:andmay|ormust) ([^ \n]+)) ([^ \n]+)/g;
   for (let found = naming.exec(text); found; found = naming.exec(text)) {
-    if (!graph.numberOf.has(found[1])) throw new BadText(lineAt(text, found.index + 1), "UnknownName");
+    const [, source, name] = found;
+    if (!graph.numberOf.has(name) || (source && !graph.numberOf.has(source))) throw new BadText(lineAt(text, found.index + 1), "UnknownName");
   }
 }
 

@@ -31,8 +31,6 @@ function readReason(graph, [kind, ...words], at) {
 
 // The steps that were found for a hypothesis in all rounds up to this number.
 export function stepsOf(graph, report, hypothesis, upTo) {
-  return report.rounds.filter(round => round.number <= upTo && round.parts.has(hypothesis)).flatMap(round => {
-    const part = round.parts.get(hypothesis);
-    return readSteps(graph, linesBetween(report.text, part), part.at + 1, round);
-  });
+  const parts = (report.parts.get(hypothesis) || []).filter(({ round }) => round.number <= upTo);
+  return parts.flatMap(part => readSteps(graph, linesBetween(report.text, part), part.at, part.round));
 }

@@ -10,8 +10,14 @@ export class BadText extends Error {
 
 const CHUNK = 32768;
 
+function isAscii(bytes) {
+  let all = 0;
+  for (let place = 0; place < bytes.length; place++) all |= bytes[place];
+  return all < 128;
+}
+
 export function textOf(bytes) {
-  if (!bytes.some(byte => byte > 127)) return new TextDecoder("utf-8", { ignoreBOM: true }).decode(bytes);
+  if (isAscii(bytes)) return new TextDecoder("utf-8", { ignoreBOM: true }).decode(bytes);
   const parts = [];
   for (let from = 0; from < bytes.length; from += CHUNK) parts.push(String.fromCharCode(...bytes.subarray(from, from + CHUNK)));
   return parts.join("");

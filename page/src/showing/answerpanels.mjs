@@ -3,11 +3,12 @@ import { bar, element } from "./elements.mjs";
 import { durationWords, timeWords } from "../reading/times.mjs";
 import { boundOf, probedFor } from "../reading/probe.mjs";
 import { readSteps } from "../reading/steps.mjs";
-import { activationSentence, setWords } from "../reading/sentences.mjs";
+import { historyTitle, setWords } from "../reading/sentences.mjs";
 import { setOf } from "../reading/hypotheses.mjs";
 import { treeOf } from "../reading/trees.mjs";
-import { linked, nodeLink, nodeName } from "./links.mjs";
+import { nodeLink, nodeName } from "./links.mjs";
 import { openVehicle } from "./files.mjs";
+import { activationPart } from "./ranking.mjs";
 import { treePart } from "./why.mjs";
 import { change, speechOf, state, view } from "./state.mjs";
 
@@ -58,8 +59,8 @@ function evidenceWords({ trace, steps }) {
 
 // The history that attains the time, and why no earlier one does.
 function forecastPart(forecast) {
-  const rows = view.history.map(entry => element("li", { "data-node": nodeName(entry.node), "data-time": entry.time }, element("b", {}, timeWords(entry.time, state.units)), " ", linked(activationSentence(speechOf(forecast.set), entry))));
-  const history = rows.length ? [element("h2", {}, "A history of " + setWords(forecast.set) + " that attains it"), element("ol", { id: "history" }, rows)] : [];
+  const rows = view.history.map(entry => activationPart(forecast.set, entry));
+  const history = rows.length ? [element("h2", {}, historyTitle(forecast.set) + ", which attains it"), element("ol", { id: "history" }, rows)] : [];
   if (!forecast.steps.length || !state.log) return history;
   const probed = probedFor(state.graph, state.log, forecast), round = { number: probed.log.events.length, now: forecast.to };
   const tree = treeOf(probed.graph, probed.log, setOf(state.graph, forecast.set), readSteps(probed.graph, forecast.steps, forecast.stepsAt, round));

@@ -5,9 +5,8 @@ import { readAsk, readFleet, readPredict, ownLines } from "../reading/answers.mj
 import { readGraph } from "../reading/graph.mjs";
 import { readLog } from "../reading/log.mjs";
 import { readReport } from "../reading/report.mjs";
-import { hypothesesOf, rejectionsOf } from "../reading/hypotheses.mjs";
+import { hypothesesOf } from "../reading/hypotheses.mjs";
 import { mismatchesOf } from "../reading/mismatches.mjs";
-import { runsOf } from "../reading/runs.mjs";
 import { change, state } from "./state.mjs";
 
 // ---- bytes
@@ -39,8 +38,8 @@ function read(texts, names) {
   const predictions = Object.keys(texts).filter(kind => kind.startsWith("predict")).map(kind => of(kind, text => readPredict(graph, text)));
   const problems = !report ? [] : log ? mismatchesOf(graph, table, log, report) : ["The report is about a log that is not here. Open the log too."];
   const rounds = report ? report.rounds : [];
-  return { graph, log: log || (report ? readLog(graph, "") : null), report, table, predictions, problems, ask: of("ask", text => readAsk(graph, text)), rejections: report ? rejectionsOf(report) : new Map(),
-    runs: report ? runsOf(report) : [], roundOfLine: new Map(rounds.map((round, index) => [round.line, index])) };
+  return { graph, log: log || (report ? readLog(graph, "") : null), report, table, predictions, problems,
+    ask: of("ask", text => readAsk(graph, text)), roundOfLine: new Map(rounds.map((round, index) => [round.line, index])) };
 }
 
 function named(name, reader) {
@@ -106,6 +105,7 @@ export async function openVehicle(name, tab) {
 
 // Opens files on the page. What they are is known by their first lines. Another graph is refused, and so is a text that is none.
 export async function openFiles(files) {
+  delete document.documentElement.dataset.ready;
   try {
     const opened = await Promise.all(files.map(async file => {
       const bytes = new Uint8Array(await file.arrayBuffer());
@@ -115,6 +115,7 @@ export async function openFiles(files) {
   } catch (fault) {
     change({ problems: ["Not opened: " + fault.message] });
   }
+  document.documentElement.dataset.ready = "yes";
 }
 
 async function takeOpened(opened) {

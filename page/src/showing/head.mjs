@@ -85,6 +85,8 @@ function drawPanel() {
   panel.dataset.tab = chosen;
   panel.setAttribute("aria-labelledby", "tab-" + chosen);
   panel.scrollTop = isSame ? top : 0;
-  const current = panel.querySelector("[aria-current=true], tr[aria-selected=true]");
-  if (current) current.scrollIntoView({ block: "nearest" });
+  const current = panel.querySelector(".lines [aria-current=true]");
+  if (current) panel.scrollTop = current.offsetTop - panel.offsetTop - panel.clientHeight / 3;
+  const row = panel.querySelector("tr[aria-selected=true]");
+  if (row) row.scrollIntoView({ block: "nearest" });
 }

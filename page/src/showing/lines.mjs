@@ -7,15 +7,10 @@ import { change, goTo, state, view } from "./state.mjs";
 const BEFORE = 150, MOST_LINES = 400;
 
 export function logPanel() {
-  const { log } = state, rounds = new Map((state.report ? state.report.rounds : []).map((round, index) => [round.line, index]));
-  const lines = log.lines.map(({ number, text, refused }) => ({ number, text, note: refused ? "refused: " + refused : null, refused, round: rounds.get(number) }));
-  const current = state.logLine || (view.round ? view.round.line : null);
-  return [place("line of the log", current || 1, log.lines.length, line => change({ logLine: line })), listOfLines("log-lines", around(lines, current), current)];
-}
-
-function around(lines, current) {
-  const first = Math.max(0, (current || 1) - BEFORE);
-  return lines.slice(first, first + MOST_LINES);
+  const { log, roundOfLine: rounds } = state;
+  const current = state.logLine || (view.round ? view.round.line : 1), first = Math.max(0, current - BEFORE);
+  const lines = log.lines.slice(first, first + MOST_LINES).map(({ number, text, refused }) => ({ number, text, note: refused ? "refused: " + refused : null, refused, round: rounds.get(number) }));
+  return [place("line of the log", current, log.lines.length, line => change({ logLine: line })), listOfLines("log-lines", lines, current)];
 }
 
 export function reportPanel() {

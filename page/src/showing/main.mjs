@@ -4,13 +4,12 @@ import { ZERO, NEVER } from "../reading/constraints.mjs";
 import { readAsk, readFleet, readPredict, ownLines } from "../reading/answers.mjs";
 import { reachOf, readGraph } from "../reading/graph.mjs";
 import { arrivalsAt, historyOf } from "../reading/histories.mjs";
-import { coveringOf, hypothesesOf, rejectionsOf, setOf, setText, statusesOf, statusOf } from "../reading/hypotheses.mjs";
+import { coveringOf, hypothesesOf, setOf, setText, statusesOf, statusOf } from "../reading/hypotheses.mjs";
 import { isSilence, readLog } from "../reading/log.mjs";
 import { mismatchesOf } from "../reading/mismatches.mjs";
 import { intervalOf, monitorsAt } from "../reading/monitors.mjs";
 import { probedFor } from "../reading/probe.mjs";
 import { readReport, traceOf } from "../reading/report.mjs";
-import { runsOf } from "../reading/runs.mjs";
 import { edgeWindow, modeAt, spansAt, windowOf } from "../reading/spans.mjs";
 import { readSteps, stepsOf } from "../reading/steps.mjs";
 import { BadText, kindOf, linesOf, textOf } from "../reading/texts.mjs";
@@ -29,8 +28,8 @@ import { prepareTracks } from "./tracks.mjs";
 
 globalThis.Tfpg = {
   BadText, NEVER, ZERO, alternativesOf, arrivalsAt, chainOf, contradictionsIn, coveringOf, durationWords, edgeWindow, factOf, historyOf, hypothesesOf, intervalOf, isSilence, kindOf,
-  linesOf, mismatchesOf, modeAt, monitorsAt, ownLines, probedFor, rangeWords, reachOf, readAsk, readFleet, readGraph, readLog, readPredict, readReport, readSteps, rejectionsOf,
-  restsOn, runsOf, setOf, setText, spansAt, statusOf, statusesOf, stepsOf, textOf, timeWords, traceOf, treeOf, verdictOf, windowOf
+  linesOf, mismatchesOf, modeAt, monitorsAt, ownLines, probedFor, rangeWords, reachOf, readAsk, readFleet, readGraph, readLog, readPredict, readReport, readSteps,
+  restsOn, setOf, setText, spansAt, statusOf, statusesOf, stepsOf, textOf, timeWords, traceOf, treeOf, verdictOf, windowOf
 };
 globalThis.Page = { choose, goTo, open: openFiles, openVehicle, show, state, view };
 

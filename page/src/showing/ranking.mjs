@@ -2,7 +2,7 @@
 import { bar, element } from "./elements.mjs";
 import { believedIn, setOf } from "../reading/hypotheses.mjs";
 import { timeWords } from "../reading/times.mjs";
-import { activationSentence, setWords } from "../reading/sentences.mjs";
+import { activationSentence, historyTitle, setWords } from "../reading/sentences.mjs";
 import { linked, nodeLink, reportLink, setLink } from "./links.mjs";
 import { choose, speechOf, state, statusNow, view, waitingNow } from "./state.mjs";
 
@@ -26,16 +26,19 @@ function rankingTable(lines) {
 }
 
 // A set that can make no monitor alarm has 1/1 in a report.
-export function alarmsWords({ alarmed, monitored, set }) {
-  const canAlarm = monitored > 1 || believedIn(state.graph, setOf(state.graph, set)).length > 0;
-  return canAlarm ? alarmed + " of " + monitored + " alarms" : "no alarm to raise";
+function canAlarm({ monitored, set }) {
+  return monitored > 1 || believedIn(state.graph, setOf(state.graph, set)).length > 0;
+}
+
+export function alarmsWords(line) {
+  return canAlarm(line) ? line.alarmed + " of " + line.monitored + " alarms" : "no alarm to raise";
 }
 
 function rankingRow(line, index) {
   const isChosen = view.ranked !== null && line.hypothesis === view.ranked.hypothesis;
   return element("tr", { "data-set": line.set, "data-hypothesis": line.hypothesis, "aria-selected": String(isChosen), click: () => choose(line.hypothesis) },
     element("td", { class: "number" }, index + 1), element("td", {}, setWords(line.set)), element("td", { class: "number cost" }, line.cost),
-    element("td", { class: "alarms" }, bar(line.alarmed / line.monitored), alarmsWords(line)), element("td", {}, reportLink(line.at)));
+    element("td", { class: "alarms" }, canAlarm(line) ? bar(line.alarmed / line.monitored) : null, alarmsWords(line)), element("td", {}, reportLink(line.at)));
 }
 
 function listOf(lines, status, words) {
@@ -50,10 +53,14 @@ function listOf(lines, status, words) {
 function historyPart() {
   const { ranked, set, history } = view;
   if (!ranked) return set === null ? [] : [element("p", { id: "not-ranked" }, setLink(state.chosen, set, "why"), " is " + statusNow(state.chosen).status + " in this round, so it has no history here.")];
-  const rows = history.slice(0, MOST_ACTIVATIONS).map(entry => element("li", { "data-node": state.graph.nodes[entry.node].name, "data-time": entry.time },
-    element("b", {}, timeWords(entry.time, state.units)), " ", linked(activationSentence(speechOf(set), entry))));
-  return [element("h2", {}, "A history of " + setWords(set)), history.length ? null : element("p", {}, "Nothing became active."),
+  const rows = history.slice(0, MOST_ACTIVATIONS).map(entry => activationPart(set, entry));
+  return [element("h2", {}, historyTitle(set)), history.length ? null : element("p", {}, "Nothing became active."),
     element("ol", { id: "history" }, rows), more(history.length - MOST_ACTIVATIONS, ""), waitingPart(), doubtsPart()];
+}
+
+export function activationPart(set, entry) {
+  const words = element("span", {}, linked(activationSentence(speechOf(set), entry)));
+  return element("li", { "data-node": state.graph.nodes[entry.node].name, "data-time": entry.time }, element("b", {}, timeWords(entry.time, state.units)), " ", words);
 }
 
 function listed(nodes) {
@@ -61,7 +68,7 @@ function listed(nodes) {
 }
 
 function waitingPart() {
-  if (view.set === "-") return null;
+  if (!canAlarm(view.ranked)) return view.set === "-" ? null : element("p", { id: "waiting" }, "This set can make no monitor alarm that it believes.");
   const waiting = waitingNow();
   return element("p", { id: "waiting" }, waiting.length ? ["Could alarm by this set, and have not: ", listed(waiting), "."] : "All monitors that this set can make alarm have alarmed.");
 }

@@ -1,7 +1,7 @@
 // The sheet that is printed: one page for a round, as a crew hands it over.
 import { byId, element } from "./elements.mjs";
 import { timeWords } from "../reading/times.mjs";
-import { activationSentence, setWords } from "../reading/sentences.mjs";
+import { activationSentence, historyTitle, setWords } from "../reading/sentences.mjs";
 import { copyOfDrawing } from "./drawing.mjs";
 import { roundWords } from "./head.mjs";
 import { linked } from "./links.mjs";
@@ -49,5 +49,5 @@ function historySheet() {
   if (!view.trace) return null;
   const rows = view.history.slice(0, MOST_ENTRIES).map(entry => element("li", {}, timeWords(entry.time, state.units) + " ", linked(activationSentence(speechOf(view.set), entry))));
   const left = view.history.length - MOST_ENTRIES, waiting = waitingNow().slice(0, 20).map(node => state.graph.nodes[node].name).join(", ");
-  return [element("h2", {}, "A history of " + setWords(view.set)), element("ol", {}, rows), left > 0 ? element("p", {}, "… and " + left + " more") : null, waiting && view.set !== "-" ? element("p", {}, "Could alarm, and have not: " + waiting) : null];
+  return [element("h2", {}, historyTitle(view.set)), element("ol", {}, rows), left > 0 ? element("p", {}, "… and " + left + " more") : null, waiting && view.set !== "-" ? element("p", {}, "Could alarm, and have not: " + waiting) : null];
 }

@@ -8,7 +8,7 @@ import { traceOf } from "../reading/report.mjs";
 
 // `round` is an index, `chosen` the number of a hypothesis or null for the first in the ranking, and `forecast` one that is shown in its place.
 export const state = {
-  texts: {}, names: {}, digests: {}, about: null, graph: null, log: null, report: null, table: [], rejections: new Map(),
+  texts: {}, names: {}, digests: {}, about: null, graph: null, log: null, report: null, table: [],
   ask: null, predictions: [], fleet: null, vehicle: null, problems: [],
   round: 0, chosen: null, forecast: null, tab: "ranking", marked: null, logLine: null, reportLine: null, graphLine: null,
   units: { unit: "clock", start: 0 }, filter: "", statusFilter: "", isEven: true, widening: 1
@@ -53,7 +53,7 @@ function derive() {
   view.count = round && !forecast ? round.number : log ? log.events.length : 0;
   view.now = isWhole ? log ? nowOf(log) : 0 : round.now;
   view.mode = log ? modeAt(log, view.now) : 0;
-  view.statuses = round ? statusesOf(state.rejections, round) : new Map();
+  view.statuses = round ? statusesOf(report, round) : new Map();
   view.monitors = log ? monitorsAt(graph, log, view.count) : new Map();
   view.ranked = round && !forecast ? rankedLine(round) : null;
   deriveHistory();

@@ -1,6 +1,7 @@
 // What stands in one row of the tracks.
 import { drawn } from "./elements.mjs";
 import { intervalOf } from "../reading/monitors.mjs";
+import { runWords } from "../reading/runs.mjs";
 import { setWords } from "../reading/sentences.mjs";
 import { shown } from "../reading/texts.mjs";
 import { spansAt } from "../reading/spans.mjs";
@@ -46,7 +47,7 @@ function openLine(number, round) {
 }
 
 export function setTrack(row, { at }, end) {
-  const { rounds } = state.report, since = state.rejections.get(row.hypothesis);
+  const { rounds } = state.report, since = state.report.rejections.get(row.hypothesis);
   let free = -1;
   const runs = row.runs.map(run => {
     const x = at(rounds[run.from].now), to = run.to + 1 < rounds.length ? at(rounds[run.to + 1].now) : end, width = Math.max(2, to - x - 1);
@@ -61,8 +62,8 @@ export function setTrack(row, { at }, end) {
 function runPart(row, run, x, width) {
   const opacity = run.status === "ranked" ? Math.max(0.3, 1 - 0.16 * (run.place - 1)) : 1, isDark = run.status === "ranked" && run.place < 4;
   const shape = drawn("rect", { class: run.status + "-run", x, y: 3, width, height: HEIGHT - 6, opacity, click: () => change({ chosen: row.hypothesis, round: run.to, forecast: null }) });
-  const words = setWords(row.set) + " " + run.words + " from round " + state.report.rounds[run.from].number + " to " + state.report.rounds[run.to].number;
-  return [titled(shape, words), width > 46 ? drawn("text", { class: "run-words", x: x + 4, y: 14, fill: isDark ? "white" : "#222" }, run.words) : null];
+  const words = setWords(row.set) + " " + runWords(run) + " from round " + state.report.rounds[run.from].number + " to " + state.report.rounds[run.to].number;
+  return [titled(shape, words), width > 46 ? drawn("text", { class: "run-words", x: x + 4, y: 14, fill: isDark ? "white" : "#222" }, runWords(run)) : null];
 }
 
 export function nodeTrack(node, { at, last }, end) {

@@ -9,7 +9,7 @@ import { edgeTip } from "./drawing.mjs";
 import { nodeName } from "./links.mjs";
 import { change, choose, state, view, whenChanged } from "./state.mjs";
 
-const NAMES = 190, ROW = 20, TOP = 24, MOST_SETS = 25, MOST_NODES = 60, MOST_OTHERS = 40; // widths and heights in pixels
+const NAMES = 196, LETTERS = 26, ROW = 20, TOP = 24, MOST_SETS = 25, MOST_NODES = 60, MOST_OTHERS = 40; // widths and heights in pixels
 
 export function prepareTracks() {
   byId("even").addEventListener("change", event => change({ isEven: event.target.checked }));
@@ -49,7 +49,7 @@ function rowsNow() {
 
 function setRows() {
   if (!view.round) return [];
-  const shown = rowsFirst(state.runs, view.round, MOST_SETS), left = state.runs.length - shown.length;
+  const shown = rowsFirst(state.report.runs, view.round, MOST_SETS), left = state.report.runs.length - shown.length;
   const rows = shown.map(row => ({
     track: "set", name: setWords(row.set), choose: () => choose(row.hypothesis), isChosen: view.ranked !== null && view.ranked.hypothesis === row.hypothesis,
     draw: (axis, end) => setTrack(row, axis, end)
@@ -72,7 +72,8 @@ function nodeRows() {
 }
 
 function rowName(row, top) {
-  const words = row.name.length > 28 ? row.name.slice(0, 27) + "…" : row.name, isHeading = row.track === "heading";
+  const isHeading = row.track === "heading", most = isHeading || row.isChosen ? LETTERS - 3 : LETTERS;
+  const words = row.name.length > most ? row.name.slice(0, most - 1) + "…" : row.name;
   const kind = isHeading ? "heading" : row.choose ? row.isChosen ? "choice chosen" : "choice" : "";
   return drawn("text", { class: kind, x: isHeading ? 6 : 14, y: top + 14, click: row.choose || null }, words, drawn("title", {}, row.name));
 }

@@ -78,7 +78,7 @@ function nodePart(node, show) {
 function splitPart(split, show) {
   const { speech, link } = show, excluded = split.excluded.map((other, index) => [index ? "; " : "", linked(excludedSentence(speech, split, other))]);
   return element("div", { class: "split", "data-line": split.at },
-    element("div", {}, linked(splitSentence(speech, split)), " ", link(split.at)),
+    element("div", {}, element("span", { class: "case-name" }, "choice " + split.number + ": "), linked(splitSentence(speech, split)), " ", link(split.at)),
     split.cases.map(taken => casePart(split, taken, show)),
     excluded.length ? element("div", { class: "excluded" }, "No other way: ", excluded, ".") : null);
 }
