@@ -1,0 +1,40 @@
+"""Makes pages by the script `tfpg-page`, each once for the same words."""
+
+import subprocess
+import threading
+from pathlib import Path
+
+TOP = Path(__file__).resolve().parents[2]
+EXAMPLES, DATA = TOP / "examples", Path(__file__).resolve().parent / "data"
+CHECK = str(Path(__file__).resolve().parent / "slow_check")
+
+PUMP = (EXAMPLES / "pump.tfpg", EXAMPLES / "pump.log", EXAMPLES / "pump.report")
+RELAY = (EXAMPLES / "satellite.tfpg", EXAMPLES / "satellite-relay.log", EXAMPLES / "satellite-relay.report")
+ARRAY = (EXAMPLES / "satellite.tfpg", EXAMPLES / "satellite-array.log", EXAMPLES / "satellite-array.report")
+GAUGE = (EXAMPLES / "pump.tfpg", EXAMPLES / "pump-gauge.log", DATA / "pump-gauge.report")
+RANDOM = sorted(tuple(path.with_suffix(f".{kind}") for kind in ("tfpg", "log", "report")) for path in (DATA / "random").glob("*.tfpg"))
+
+
+class Maker:
+    def __init__(self, script, folder):
+        self.script, self.folder, self.made, self.lock = script, Path(folder), {}, threading.Lock()
+
+    def run(self, *words):
+        """The status, the page and what was said, of a run of the script."""
+        ran = subprocess.run([self.script, *map(str, words)], capture_output=True, cwd=self.folder)
+        return ran.returncode, ran.stdout, ran.stderr.decode(errors="replace")
+
+    def page(self, *words):
+        """The file of the page that the script makes of these words."""
+        with self.lock:
+            if words not in self.made:
+                status, page, said = self.run(*words)
+                if status != 0:
+                    raise RuntimeError(f"no page of {words}: status {status}, {said}")
+                self.made[words] = self.write(f"page-{len(self.made)}.html", page)
+            return self.made[words]
+
+    def write(self, name, text):
+        path = self.folder / name
+        path.write_bytes(text if isinstance(text, bytes) else text.encode())
+        return path

@@ -1,0 +1,98 @@
+"""Facts of one `ask`, one `predict` and one `fleet`, worked out by hand for the pump."""
+
+from making import DATA, EXAMPLES, RANDOM
+from probed import constraints_of_forecasts
+
+GRAPH = EXAMPLES / "pump.tfpg"
+ASK = (GRAPH, DATA / "pump-early.log", DATA / "pump-early.report", "--ask", DATA / "pump-early.ask")
+PREDICT = (GRAPH, DATA / "pump-first.log", DATA / "pump-first.report", "--predict", DATA / "pump-first.predict")
+PREDICTIONS = [(*files[:3], "--predict", files[0].with_suffix(".predict")) for files in RANDOM if files[0].with_suffix(".predict").exists()]
+FLEET = (GRAPH, EXAMPLES / "pumps.log", "--fleet", DATA / "pumps.fleet")
+CYCLES = """
+const {graph, log, predictions} = Page.state, found = {};
+const walk = node => {
+  if (!node) return;
+  if (node.cases) node.cases.forEach(one => walk(one.child));
+  else found[node.at] = node.constraints.map(one => [one.left, one.right, one.bound]);
+};
+predictions.forEach(prediction => prediction.forecasts.forEach(forecast => {
+  const probed = Tfpg.probedFor(graph, log, forecast), round = {number: probed.log.events.length, now: forecast.to};
+  const steps = Tfpg.readSteps(probed.graph, forecast.steps, forecast.stepsAt, round);
+  const tree = Tfpg.treeOf(probed.graph, probed.log, Tfpg.setOf(graph, forecast.set), steps);
+  if (tree.complaint) throw new Error(JSON.stringify(tree.complaint));
+  walk(tree.root);
+}));
+return found;
+"""
+
+
+def the_pressure_is_the_best_question(view):
+    """A silence of the pressure rules out the valve, and an alarm all three sets; heat and level would rule out nothing yet."""
+    view.show(*ASK)
+    view.open_tab("ask")
+    view.same(view.values("#questions tr[data-node]", "node"), ["HighPressure", "MotorHot", "LowLevel"], "the questions, best first")
+    view.same(view.texts("#questions td.silent"), ["1", "0", "0"], "what a silence rules out")
+    view.same(view.texts("#questions td.alarm"), ["3", "0", "0"], "what an alarm rules out")
+    view.has(view.text("#panel"), ["0:53:20", "3"], "of how many sets it is, and when")
+    view.quiet()
+
+
+def the_motor_is_hot_when_the_suction_was_weakest(view):
+    """The alarm at 0:45:15 leaves the flow five seconds. By the filter, the suction is weak up to 20 s before that. The motor is strained
+    30 s after the suction is weak, and hot two minutes later: not before 0:47:20."""
+    view.show(*PREDICT)
+    view.open_tab("predict")
+    view.same(view.values("#forecasts tr[data-set]", "set"), ["FilterClogged", "ValveStuck", "MotorBearing"], "the forecasts, as in the ranking")
+    rows = view.texts("#forecasts tr[data-set]")
+    view.has(rows[0], ["0:47:20", "2 min 5 s"], "by a clogged filter")
+    view.has(rows[1], ["0:47:26.500", "2 min 11.5 s"], "by a stuck valve")
+    view.has(rows[2], ["0:42:10", "3 min 5 s"], "by a dry bearing, which may have made it hot already")
+    view.quiet()
+
+
+def a_forecast_has_its_trace_and_its_refutation(view):
+    view.show(*PREDICT)
+    view.open_tab("predict")
+    view.click("#forecasts tr[data-set=FilterClogged]")
+    active = ["FilterClogged", "LowFlow", "LowLevel", "MotorHot", "MotorStrain", "WeakSuction"]
+    view.same(view.nodes("active"), active, "what is active by the trace that attains it: the level must fall in the hour ahead")
+    times = dict(zip(view.values("#history li", "node"), view.texts("#history li b")))
+    wanted = {"WeakSuction": "0:44:50", "LowFlow": "0:45:10", "MotorStrain": "0:45:20", "MotorHot": "0:47:20"}
+    view.same({node: times[node] for node in wanted}, wanted, "the history that attains it")
+    view.lacks(view.text("#panel"), "probe.0", "the name of the probe, in words for readers")
+    view.has(view.text("#panel"), ["0:47:20", "line 3"], "the evidence names the line of the log")
+    view.quiet()
+
+
+def three_vehicles_and_a_stray_line(view):
+    """East is left with the valve alone, north with three sets, and south with none failed; line 7 belongs to none."""
+    view.show(*FLEET)
+    view.open_tab("fleet")
+    view.same(view.values("#vehicles tr[data-vehicle]", "vehicle"), ["north", "south", "east"], "the vehicles")
+    rows = dict(zip(view.values("#vehicles tr[data-vehicle]", "vehicle"), view.texts("#vehicles tr[data-vehicle]")))
+    view.has(rows["north"], ["FilterClogged"], "the best set of the first")
+    view.has(rows["east"], ["ValveStuck"], "the best set of the third")
+    counts = dict(zip(view.values("#modes tr", "mode"), view.texts("#modes td.number")))
+    view.same(counts, {"FilterClogged": "1", "ValveStuck": "2", "MotorBearing": "1", "LevelWiring": "0"}, "vehicles by failure mode")
+    view.has(view.text("#panel"), ["Stray lines of the stream: 7"], "the line that belongs to none")
+    view.quiet()
+
+
+def a_vehicle_opens_its_own_report(view):
+    view.show(*FLEET)
+    view.open_tab("fleet")
+    view.click("#vehicles tr[data-vehicle=east]")
+    view.same(view.values("#ranking tr[data-set]", "set"), ["ValveStuck"], "the ranking of the third vehicle")
+    view.same(view.nodes("alarm"), ["HighPressure", "LowFlow"], "its alarms")
+    view.open_tab("log")
+    view.same(view.values("#log-lines [data-refused]", "refused"), ["TimeBack 2720000"], "its own refused line")
+    view.has(view.text("#log-lines [data-line='3']"), "2710000 tick", "its lines have numbers of their own")
+    view.quiet()
+
+
+def each_reason_of_a_forecast_states_what_the_judge_says(view):
+    """By the probed graph and the probed log, which are made anew beside the page."""
+    for words in (PREDICT, *PREDICTIONS):
+        view.show(*words)
+        found = {int(line): constraints for line, constraints in view.run(CYCLES).items()}
+        view.same(found, constraints_of_forecasts(words[0], words[1], words[4]), f"the reasons of {words[4].name}")
