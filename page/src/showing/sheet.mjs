@@ -2,13 +2,14 @@
 import { byId, element } from "./elements.mjs";
 import { timeWords } from "../reading/times.mjs";
 import { activationSentence, historyTitle, setWords } from "../reading/sentences.mjs";
+import { shown } from "../reading/texts.mjs";
 import { copyOfDrawing } from "./drawing.mjs";
 import { roundWords } from "./head.mjs";
 import { linked } from "./links.mjs";
 import { alarmsWords } from "./ranking.mjs";
 import { goTo, speechOf, state, view, waitingNow } from "./state.mjs";
 
-const MOST_SETS_PRINTED = 12, MOST_ENTRIES = 22, MOST_SHEETS = 200;
+const MOST_SETS_PRINTED = 8, MOST_ENTRIES = 18, MOST_LINES_PRINTED = 8, MOST_SHEETS = 200;
 
 export function prepareSheets() {
   byId("print").addEventListener("click", () => print());
@@ -35,7 +36,7 @@ function sheet() {
   const { names } = state, { round } = view, badge = byId("badge").textContent;
   const files = [names.graph, names.log, names.report].filter(Boolean).join(", ");
   return element("section", { class: "sheet", "data-round": round ? round.number : "" }, element("h1", {}, byId("title").textContent), element("p", {}, files + ". " + badge + ". This sheet judges nothing."),
-    round ? element("p", {}, roundWords(round)) : null, copyOfDrawing(), round ? [rankingPart(round), historySheet()] : null);
+    round ? element("p", {}, roundWords(round)) : null, copyOfDrawing(), round ? [rankingPart(round), historySheet(), logPart(round)] : null);
 }
 
 function rankingPart({ ranked, open }) {
@@ -43,6 +44,14 @@ function rankingPart({ ranked, open }) {
   const left = ranked.length - MOST_SETS_PRINTED;
   return [element("h2", {}, "What explains all that was seen"), element("table", {}, element("tbody", {}, rows)), left > 0 ? element("p", {}, "… and " + left + " more") : null,
     open.length ? element("p", {}, "Open, since the budget was spent: " + open.slice(0, 10).map(({ set }) => setWords(set)).join("; ") + (open.length > 10 ? " …" : "")) : null];
+}
+
+// The last lines of the log up to this round.
+function logPart({ line }) {
+  const lines = state.log.lines.slice(Math.max(0, line - MOST_LINES_PRINTED), line);
+  const rows = lines.map(({ number, text, event, refused }) => element("tr", {}, element("td", {}, number), element("td", {}, event ? timeWords(event.time, state.units) : ""),
+    element("td", {}, element("code", {}, shown(text.slice(0, 100)))), element("td", {}, refused ? "refused: " + refused : "")));
+  return [element("h2", {}, "The last lines of the log"), element("table", {}, element("tbody", {}, rows))];
 }
 
 function historySheet() {
