@@ -61,6 +61,14 @@ NAMING_TWICE = re.compile(rb"^split (?:andmay|ormust) (\S+) (\S+)", re.MULTILINE
 MEMBERS = re.compile(rb"^(?:ranked|open|rejected|forecast) .*set (\S+)", re.MULTILINE)
 
 
+def names_in(text):
+    """The nodes that the lines of a text name, but for a first line."""
+    named = set(NAMING.findall(text))
+    for sets in set(MEMBERS.findall(text)) - {b"-"}:
+        named |= {member.lstrip(b"!") for member in sets.split(b",")}
+    return named.union(*NAMING_TWICE.findall(text))
+
+
 class Lines:
     """The lines of a text, and the different ones among them."""
 
@@ -82,14 +90,8 @@ class Lines:
 
     def need_names(self, names):
         """Refuses a line that names a node which the graph does not have."""
-        named = set(NAMING.findall(self.different))
-        for sets in set(MEMBERS.findall(self.different)) - {b"-"}:
-            named |= {member.lstrip(b"!") for member in sets.split(b",")}
-        for pair in set(NAMING_TWICE.findall(self.different)):
-            named |= set(pair)
-        for name in named - names:
-            wrong = re.compile(rb"(?:^|[ ,!])%s(?:[ ,]|$)" % re.escape(name))
-            self.refuse(next(line for line in self.all[1:] if wrong.search(line)), "UnknownName")
+        if not names_in(self.different) <= names:
+            self.refuse(next(line for line in self.all[1:] if not names_in(line) <= names), "UnknownName")
 
     def need_order(self):
         """Refuses a line that may not come after the one before, by their first words: these differ in their first three bytes."""

@@ -23,9 +23,10 @@ export function textOf(bytes) {
   return parts.join("");
 }
 
-// What a reader sees of a text of bytes: its characters, if it is UTF-8.
+// What a reader sees of a text of bytes: its characters, if it is UTF-8. Control characters have signs of their own, as CR has ␍.
 export function shown(text) {
-  return /^[\x00-\x7f]*$/.test(text) ? text : new TextDecoder().decode(Uint8Array.from(text, character => character.charCodeAt(0)));
+  const characters = /^[\x00-\x7f]*$/.test(text) ? text : new TextDecoder().decode(Uint8Array.from(text, character => character.charCodeAt(0)));
+  return characters.replace(/[\x00-\x1f]/g, control => String.fromCharCode(0x2400 + control.charCodeAt(0)));
 }
 
 export function linesOf(text) {

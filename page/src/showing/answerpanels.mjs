@@ -36,7 +36,7 @@ export function predictPanel() {
 
 function forecastTable({ forecasts, node }, index) {
   const head = ["by the set", "earliest", "from now", "evidence"].map(words => element("th", {}, words));
-  const rows = forecasts.map(forecast => element("tr", { "data-set": forecast.set, "data-hypothesis": forecast.hypothesis, "data-outlook": forecast.outlook, "aria-selected": String(forecast === state.forecast),
+  const rows = forecasts.map(forecast => element("tr", { "data-set": forecast.set, "data-hypothesis": forecast.hypothesis, "data-outlook": forecast.outlook, "aria-selected": String(forecast === state.forecast), tabindex: "0",
     click: () => change({ forecast, chosen: forecast.hypothesis }) },
     element("td", {}, setWords(forecast.set)), element("td", { class: "earliest" }, outlookWords(forecast)), element("td", {}, fromNow(forecast)), element("td", { class: "dim" }, evidenceWords(forecast))));
   return element("table", { id: index ? "forecasts-" + (index + 1) : "forecasts", class: "forecasts", "data-node": nodeName(node) }, element("thead", {}, element("tr", {}, head)), element("tbody", {}, rows));
@@ -83,7 +83,7 @@ export function fleetPanel() {
 }
 
 function vehicleRow(name, { rounds, last }) {
-  return element("tr", { "data-vehicle": name, "aria-selected": String(state.vehicle === name), click: () => openVehicle(name, "ranking") },
+  return element("tr", { "data-vehicle": name, "aria-selected": String(state.vehicle === name), tabindex: "0", click: () => openVehicle(name, "ranking") },
     element("td", {}, name), element("td", { class: "number" }, rounds), element("td", {}, last ? timeWords(last.now, state.units) : "no round"),
     element("td", {}, last && last.ranked.length ? setWords(last.ranked[0].set) : "none"), element("td", { class: "number" }, last ? last.ranked.length : ""));
 }

@@ -4,7 +4,7 @@ import { durationWords, rangeWords, timeWords } from "../reading/times.mjs";
 import { edgeModes, nodeWords, setWords } from "../reading/sentences.mjs";
 import { signOf } from "../reading/monitors.mjs";
 import { edgeName, nodeName } from "./links.mjs";
-import { change, state, view, whenChanged } from "./state.mjs";
+import { change, markNode, state, view, whenChanged } from "./state.mjs";
 
 const SIGNS = { alarm: "▲", silent: "○" };
 const drawings = []; // each with its root, its zoom, and the groups of its nodes and edges by number
@@ -40,7 +40,7 @@ function prepareNode(group) {
   group.querySelector("text:last-of-type").classList.add("when");
   group.append(drawn("text", { class: "sign", x: box.right + 2, y: box.top + 9 }));
   if (node.kind !== "failure" && !node.lags) group.classList.add("hidden-node");
-  group.addEventListener("click", () => change({ marked: { node: number }, tab: "node" }));
+  group.addEventListener("click", () => markNode(node.name));
   group.addEventListener("mousemove", event => tip(nodeTip(number), event));
   group.addEventListener("mouseleave", () => tip(null));
   return group;

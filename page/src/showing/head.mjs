@@ -72,21 +72,35 @@ function drawHead() {
   byId("forth").disabled = !round || state.round === report.rounds.length - 1;
   byId("round-words").replaceChildren(...(round ? [element("span", {}, roundWords(round))] : []));
   const main = document.querySelector("main");
+  main.classList.toggle("without-log", !state.log);
   Object.assign(main.dataset, { round: round ? round.number : "", set: view.set === null ? "" : view.set, tab: tabShown() });
 }
 
 // ---- the tabs
 
 function drawPanel() {
-  const chosen = tabShown(), panel = byId("panel"), isSame = panel.dataset.tab === chosen, top = panel.scrollTop;
+  const chosen = tabShown(), panel = byId("panel"), isSame = panel.dataset.tab === chosen, top = panel.scrollTop, focused = focusedRow(panel);
   byId("tabs").replaceChildren(...tabsThere().map((tab, index) => element("button", { role: "tab", id: "tab-" + tab, "data-tab": tab, "aria-selected": String(tab === chosen), "aria-controls": "panel",
     title: index < 9 ? "key " + (index + 1) : null, click: () => show(tab) }, TABS[tab].title || tab)));
   panel.replaceChildren(...TABS[chosen].panel().flat(Infinity).filter(Boolean));
   panel.dataset.tab = chosen;
   panel.setAttribute("aria-labelledby", "tab-" + chosen);
   panel.scrollTop = isSame ? top : 0;
-  const current = panel.querySelector(".lines [aria-current=true]");
-  if (current) panel.scrollTop = current.offsetTop - panel.offsetTop - panel.clientHeight / 3;
-  const row = panel.querySelector("tr[aria-selected=true]");
+  showCurrent(panel, isSame ? focused : null);
+}
+
+// The row of the panel that has the focus, by what tells it from others, so that it has it again when the panel is drawn anew.
+function focusedRow(panel) {
+  const row = document.activeElement;
+  if (!panel.contains(row) || !row.matches("[data-hypothesis], [data-vehicle], [data-line]")) return null;
+  const [name] = ["data-hypothesis", "data-vehicle", "data-line"].filter(attribute => row.hasAttribute(attribute));
+  return row.localName + "[" + name + "=" + CSS.escape(row.getAttribute(name)) + "]";
+}
+
+function showCurrent(panel, focused) {
+  const line = panel.querySelector(".lines [aria-current=true]"), row = panel.querySelector("tr[aria-selected=true]");
+  if (line) panel.scrollTop = line.offsetTop - panel.offsetTop - panel.clientHeight / 3;
   if (row) row.scrollIntoView({ block: "nearest" });
+  const again = focused && panel.querySelector(focused);
+  if (again) again.focus({ preventScroll: true });
 }

@@ -3,8 +3,7 @@ import { byId } from "./elements.mjs";
 import { fit, lookAt, nodesThatMatter, showOtherDrawing } from "./drawing.mjs";
 import { openFiles, saveTexts } from "./files.mjs";
 import { tabsThere } from "./head.mjs";
-import { follow } from "./links.mjs";
-import { change, choose, goTo, show, state, view } from "./state.mjs";
+import { choose, goTo, markNode, show, state, view } from "./state.mjs";
 
 const ACTIONS = {
   ArrowLeft: () => goTo(state.round - 1),
@@ -38,7 +37,7 @@ function takeKey(event) {
   const { target, key } = event;
   if (event.ctrlKey || event.altKey || event.metaKey) return;
   if (key === "Escape") target.blur();
-  else if (key === "Enter" && target.classList.contains("link")) follow(target);
+  else if (key === "Enter" && target.matches(".link, tr[aria-selected], .lines [data-round]")) target.click();
   else if ((key === "Enter" || key === " ") && target.classList.contains("button")) byId("open").click();
   else if (/^(INPUT|SELECT|TEXTAREA)$/.test(target.tagName)) return;
   else if (Object.hasOwn(ACTIONS, key) && !scrolls(target, key)) ACTIONS[key]();
@@ -63,6 +62,6 @@ function find(words) {
   const { graph } = state, part = words.toLowerCase();
   const node = graph.nodes.find(({ name }) => name === words) || graph.nodes.find(({ name }) => name.toLowerCase().includes(part));
   if (!words || !node) return;
-  change({ marked: { node: node.number }, tab: "node" });
+  markNode(node.name);
   lookAt([node.number]);
 }

@@ -8,9 +8,9 @@ const BEFORE = 150, MOST_LINES = 400;
 
 export function logPanel() {
   const { log, roundOfLine: rounds } = state;
-  const current = state.logLine || (view.round ? view.round.line : 1), first = Math.max(0, current - BEFORE);
+  const current = state.logLine || (view.round ? view.round.line : null), first = Math.max(0, (current || 1) - BEFORE);
   const lines = log.lines.slice(first, first + MOST_LINES).map(({ number, text, refused }) => ({ number, text, note: refused ? "refused: " + refused : null, refused, round: rounds.get(number) }));
-  return [place("line of the log", current, log.lines.length, line => change({ logLine: line })), listOfLines("log-lines", lines, current)];
+  return [place("line of the log", current || 1, log.lines.length, line => change({ logLine: line })), listOfLines("log-lines", lines, current)];
 }
 
 export function reportPanel() {
@@ -31,7 +31,7 @@ function place(label, current, count, go) {
 
 function listOfLines(id, lines, current) {
   const rows = lines.map(({ number, text, note, refused, round }) => element("div",
-    { "data-line": number, "data-refused": refused || null, "data-round": round === undefined ? null : round + 1, "aria-current": number === current ? "true" : null, click: round === undefined ? null : () => goTo(round) },
+    { "data-line": number, "data-refused": refused || null, "data-round": round === undefined ? null : round + 1, "aria-current": number === current ? "true" : null, tabindex: round === undefined ? null : "0", click: round === undefined ? null : () => goTo(round) },
     element("span", { class: "gutter" }, number), element("span", { class: "text" + (refused ? " refused" : "") }, shown(text)), note ? element("span", { class: "refused" }, "  ← " + note) : null));
   return element("div", { id, class: "lines" }, element("code", {}, rows));
 }

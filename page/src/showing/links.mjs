@@ -1,7 +1,7 @@
 // Links: to a node, an edge, a line of the log, a line of the report, or a set. One listener of the document follows them all.
 import { element } from "./elements.mjs";
 import { setWords } from "../reading/sentences.mjs";
-import { change, choose, state } from "./state.mjs";
+import { change, choose, markNode, state } from "./state.mjs";
 
 function link(attributes, ...words) {
   return element("span", { class: "link", role: "link", tabindex: "0", ...attributes }, words);
@@ -45,9 +45,9 @@ export function linked(sentence) {
   });
 }
 
-export function follow(target) {
+function follow(target) {
   const { node, edge, logLine, reportLine, hypothesis, to } = target.dataset;
-  if (node !== undefined) change({ marked: { node: state.graph.numberOf.get(node) }, tab: "node" });
+  if (node !== undefined) markNode(node);
   else if (edge !== undefined) change({ marked: { edge: edgeOfWords(edge) } });
   else if (logLine !== undefined) change({ logLine: Number(logLine), tab: "log" });
   else if (reportLine !== undefined) change({ reportLine: Number(reportLine), tab: "report" });

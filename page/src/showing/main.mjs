@@ -23,7 +23,7 @@ import { prepareHead } from "./head.mjs";
 import { prepareKeys } from "./keys.mjs";
 import { followLinks } from "./links.mjs";
 import { prepareSheets } from "./sheet.mjs";
-import { choose, goTo, show, state, view } from "./state.mjs";
+import { choose, goTo, markNode, show, state, view } from "./state.mjs";
 import { prepareTracks } from "./tracks.mjs";
 
 globalThis.Tfpg = {
@@ -31,7 +31,7 @@ globalThis.Tfpg = {
   linesOf, mismatchesOf, modeAt, monitorsAt, ownLines, probedFor, rangeWords, reachOf, readAsk, readFleet, readGraph, readLog, readPredict, readReport, readSteps,
   restsOn, setOf, setText, spansAt, statusOf, statusesOf, stepsOf, textOf, timeWords, traceOf, treeOf, verdictOf, windowOf
 };
-globalThis.Page = { choose, goTo, open: openFiles, openVehicle, show, state, view };
+globalThis.Page = { choose, goTo, mark: markNode, open: openFiles, openVehicle, show, state, view };
 
 async function begin() {
   const root = document.documentElement;

@@ -36,7 +36,7 @@ export function alarmsWords(line) {
 
 function rankingRow(line, index) {
   const isChosen = view.ranked !== null && line.hypothesis === view.ranked.hypothesis;
-  return element("tr", { "data-set": line.set, "data-hypothesis": line.hypothesis, "aria-selected": String(isChosen), click: () => choose(line.hypothesis) },
+  return element("tr", { "data-set": line.set, "data-hypothesis": line.hypothesis, "aria-selected": String(isChosen), tabindex: "0", click: () => choose(line.hypothesis) },
     element("td", { class: "number" }, index + 1), element("td", {}, setWords(line.set)), element("td", { class: "number cost" }, line.cost),
     element("td", { class: "alarms" }, canAlarm(line) ? bar(line.alarmed / line.monitored) : null, alarmsWords(line)), element("td", {}, reportLink(line.at)));
 }

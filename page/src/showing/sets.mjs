@@ -35,7 +35,7 @@ function setsTable() {
 
 function setRow(hypothesis, set, found) {
   const { status } = found, tab = status === "ranked" ? "ranking" : "why";
-  return element("tr", { "data-set": set, "data-hypothesis": hypothesis, "data-status": status, "aria-selected": String(state.chosen === hypothesis), click: () => choose(hypothesis, tab) },
+  return element("tr", { "data-set": set, "data-hypothesis": hypothesis, "data-status": status, "aria-selected": String(state.chosen === hypothesis), tabindex: "0", click: () => choose(hypothesis, tab) },
     element("td", { class: "number dim" }, hypothesis), element("td", {}, setWords(set)),
     element("td", {}, element("span", { class: "status " + status }, status), " ", statusWords(hypothesis, found)));
 }

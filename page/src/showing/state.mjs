@@ -42,8 +42,9 @@ export function show(tab) {
   change({ tab });
 }
 
-export function mark(marked) {
-  change({ marked });
+// Marks the node of this name, and shows what is known of it.
+export function markNode(name) {
+  change({ marked: { node: state.graph.numberOf.get(name) }, tab: "node" });
 }
 
 function derive() {

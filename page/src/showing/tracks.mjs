@@ -7,7 +7,7 @@ import { axisOf } from "./axis.mjs";
 import { logTrack, modeTrack, nodeTrack, setTrack } from "./trackmarks.mjs";
 import { edgeTip } from "./drawing.mjs";
 import { nodeName } from "./links.mjs";
-import { change, choose, state, view, whenChanged } from "./state.mjs";
+import { change, choose, markNode, state, view, whenChanged } from "./state.mjs";
 
 const NAMES = 196, LETTERS = 26, ROW = 20, TOP = 24, MOST_SETS = 25, MOST_NODES = 60, MOST_OTHERS = 40; // widths and heights in pixels
 
@@ -66,7 +66,7 @@ function nodeRows() {
   }
   const rows = [...active, ...others].map(node => ({
     track: "node", name: nodeName(node), node, isChosen: state.marked !== null && state.marked.node === node,
-    choose: () => change({ marked: { node }, tab: "node" }), draw: (axis, end) => nodeTrack(node, axis, end)
+    choose: () => markNode(nodeName(node)), draw: (axis, end) => nodeTrack(node, axis, end)
   }));
   return [{ track: "heading", name: view.trace ? "history of " + setWords(view.set) : "monitors" }, ...rows];
 }
