@@ -1,6 +1,6 @@
 """Facts of one `ask`, one `predict` and one `fleet`, worked out by hand for the pump."""
 
-from making import DATA, EXAMPLES, RANDOM
+from making import CHECK, DATA, EXAMPLES, RANDOM
 from probed import constraints_of_forecasts
 
 GRAPH = EXAMPLES / "pump.tfpg"
@@ -88,6 +88,16 @@ def a_vehicle_opens_its_own_report(view):
     view.same(view.values("#log-lines [data-refused]", "refused"), ["TimeBack 2720000"], "its own refused line")
     view.has(view.text("#log-lines [data-line='3']"), "2710000 tick", "its lines have numbers of their own")
     view.quiet()
+
+
+def the_report_of_each_vehicle_is_checked(view):
+    view.show(*FLEET, "--check", CHECK)
+    view.open_tab("fleet")
+    for vehicle in ("east", "north", "south"):
+        view.open_tab("fleet")
+        view.click(f"#vehicles tr[data-vehicle={vehicle}]")
+        view.wait("return document.documentElement.dataset.ready === 'yes' && Page.state.vehicle === arguments[0]", vehicle)
+        view.same((view.verdict(), "accepted 3" in view.text("#badge")), ("accepted", True), f"the badge of {vehicle}")
 
 
 def each_reason_of_a_forecast_states_what_the_judge_says(view):

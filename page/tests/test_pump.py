@@ -12,6 +12,9 @@ def nothing_failed_before_the_first_alarm(view):
         view.go_to(number)
         view.same(view.values("#ranking tr[data-set]", "set"), ["-"], f"what is ranked in round {number}")
         view.same([view.nodes("alarm"), view.nodes("active"), view.edges("carried")], [[], [], []], f"the graph in round {number}")
+        view.open_tab("sets")
+        view.same(set(list(view.statuses().values())[1:]), {"covered"}, f"the statuses of all sets but the empty one in round {number}")
+        view.open_tab("ranking")
     view.quiet()
 
 
