@@ -2,10 +2,12 @@
 import { BadText, linesOf } from "./texts.mjs";
 import { FLEETS, FORECASTS, needHead, needMembers, needNames, needShapes, shape } from "./shapes.mjs";
 
+const CAUSE = "BadAnswer"; // of a line that none of them writes
+
 // The questions, the most useful first: how many sets each answer rules out.
 export function readAsk(graph, text) {
-  const cause = "BadAnswer";
-  needShapes(text, needHead(text, [shape("questions now N ranked N open N")], cause), [shape("ask M silent N alarm N unknown N"), "refused LogFull"], cause);
+  const end = needHead(text, [shape("questions now N ranked N open N")], CAUSE);
+  needShapes(text, end, [shape("ask M silent N alarm N unknown N"), "refused LogFull"], CAUSE);
   needNames(graph, text);
   const [first, ...lines] = linesOf(text), words = first.split(" ");
   const isFull = lines.includes("refused LogFull");
@@ -18,8 +20,7 @@ export function readAsk(graph, text) {
 
 // The forecasts for a node, each with the lines of its steps, which are read when they are asked for.
 export function readPredict(graph, text) {
-  const cause = "BadAnswer";
-  needShapes(text, needHead(text, [shape("predict M now N to N")], cause), FORECASTS, cause);
+  needShapes(text, needHead(text, [shape("predict M now N to N")], CAUSE), FORECASTS, CAUSE);
   const [first, ...lines] = linesOf(text), [, name, , now, , to] = first.split(" ");
   if (!graph.numberOf.has(name)) throw new BadText(1, "UnknownName");
   const prediction = { node: graph.numberOf.get(name), now: Number(now), to: Number(to), forecasts: [], text };
@@ -31,9 +32,8 @@ function takeForecastLine(graph, prediction, line, at) {
   const words = line.split(" "), { forecasts } = prediction, last = forecasts[forecasts.length - 1];
   if (words[0] === "forecast") {
     needMembers(graph, line, words[3], 0);
-    const time = words[5] === undefined ? null : Number(words[5]), here = { hypothesis: Number(words[1]), set: words[3], outlook: words[4], time };
-    forecasts.push({ ...here, trace: new Map(), steps: [], at, stepsAt: at + 1, node: prediction.node, now: prediction.now, to: prediction.to });
-  } else if (!last) throw new BadText(at, "BadAnswer");
+    forecasts.push(forecastOf(prediction, words, at));
+  } else if (!last) throw new BadText(at, CAUSE);
   else if (words[0] === "at") {
     if (!graph.numberOf.has(words[1])) throw new BadText(at, "UnknownName");
     last.trace.set(graph.numberOf.get(words[1]), Number(words[2]));
@@ -41,9 +41,14 @@ function takeForecastLine(graph, prediction, line, at) {
   } else last.steps.push(line);
 }
 
+function forecastOf({ node, now, to }, [, hypothesis, , set, outlook, time], at) {
+  const said = { hypothesis: Number(hypothesis), set, outlook, time: time === undefined ? null : Number(time) };
+  return { ...said, trace: new Map(), steps: [], at, stepsAt: at + 1, node, now, to };
+}
+
 // The report of each vehicle, as a text, and for each failure mode how many vehicles may have it.
 export function readFleet(graph, text) {
-  needShapes(text, needHead(text, [shape("vehicle M")], "BadAnswer"), FLEETS, "BadAnswer");
+  needShapes(text, needHead(text, [shape("vehicle M")], CAUSE), FLEETS, CAUSE);
   const fleet = { vehicles: new Map(), strays: [], modes: [] };
   let taking = null;
   linesOf(text).forEach(line => {

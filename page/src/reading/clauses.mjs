@@ -49,7 +49,9 @@ function andMust(found, spans, { node, span: number }, edges) {
   const due = Math.max(...edges.map(edge => edgeWindow(spans, number, edge).lo + edge.greatest));
   if (due > window.hi) return null;
   found.window = window;
-  for (const edge of edges) found.alternatives.push({ label: "late", edge, constraints: [atLeast(edge.source, window.hi - edge.greatest + 1)] });
+  for (const edge of edges) {
+    found.alternatives.push({ label: "late", edge, constraints: [atLeast(edge.source, window.hi - edge.greatest + 1)] });
+  }
   for (const edge of edges) found.alternatives.push({ label: "follows", edge, constraints: [atMostAfter(edge, edge.greatest)] });
   found.alternatives.push({ label: "due", edge: null, constraints: [atMost(node, due)] });
   return found;
@@ -59,13 +61,21 @@ function andMust(found, spans, { node, span: number }, edges) {
 export function factOf(graph, log, reach, doubts, reason) {
   if (reason.kind === "zero") return atLeast(reason.node, 0);
   if (reason.kind === "top") return atMost(reason.node, NEVER);
-  if (reason.kind === "unreached") return reason.horizon <= nowOf(log) && !reach.has(reason.node) ? atLeast(reason.node, reason.horizon + 1) : null;
+  if (reason.kind === "unreached") {
+    const isUnreached = reason.horizon <= nowOf(log) && !reach.has(reason.node);
+    return isUnreached ? atLeast(reason.node, reason.horizon + 1) : null;
+  }
   const event = log.events[reason.event - 1];
   if (!event) return null;
   if (reason.kind === "quiet") return silenceFact(graph, log, doubts, event, reason.node);
-  if (event.kind !== "alarm" || doubts.includes(event.node)) return null;
+  return event.kind === "alarm" && !doubts.includes(event.node) ? alarmFact(graph, event, reason.kind) : null;
+}
+
+// An alarm comes at least the least lag after the activation, and at most the greatest.
+function alarmFact(graph, event, kind) {
   const [least, greatest] = graph.nodes[event.node].lags;
-  return reason.kind === "from" ? atLeast(event.node, Math.max(0, event.time - greatest)) : atMost(event.node, Math.max(0, event.time - least));
+  if (kind === "from") return atLeast(event.node, Math.max(0, event.time - greatest));
+  return atMost(event.node, Math.max(0, event.time - least));
 }
 
 function silenceFact(graph, log, doubts, event, node) {

@@ -53,7 +53,8 @@ function takeLine(graph, [kind, ...words], line) {
   else if (kind === "failure") graph.addNode(words[0], kind, Number(words[1]), null, line);
   else if (kind === "edge") {
     const [source, target, least, greatest, modes] = words;
-    graph.addEdge([source, target], Number(least), greatest === "inf" ? null : Number(greatest), modes === "*" ? null : modes.split(","), line);
+    const latest = greatest === "inf" ? null : Number(greatest), named = modes === "*" ? null : modes.split(",");
+    graph.addEdge([source, target], Number(least), latest, named, line);
   } else if (kind === "or" || kind === "and") {
     const lags = words[1] === "hidden" ? null : words.length === 3 ? [0, Number(words[2])] : [Number(words[2]), Number(words[3])];
     graph.addNode(words[0], kind, 0, lags, line);

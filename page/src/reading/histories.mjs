@@ -1,8 +1,8 @@
 // A trace as a history: what became active when, over which edges the failure had arrived, and what the log says of it.
 import { modesBetween, windowAt } from "./spans.mjs";
 
-// The edges over which the failure had arrived when the node became active. The age of an edge counts from when its source is active and the
-// edge itself, so it may be less than the time since the source became active.
+// The edges over which the failure had arrived when the node became active. The age of an edge counts from when both its source and
+// the edge are active, so it may be less than the time since the source became active.
 export function arrivalsAt(graph, log, trace, node, horizon) {
   const time = trace.get(node);
   return graph.incoming[node].flatMap(edge => {

@@ -6,7 +6,9 @@ const MOST_HYPOTHESES = 4096;
 // All hypotheses of at most `k` members, of which at most `doubt` are monitors: those with fewer members first, and then by their members.
 export function hypothesesOf(graph, { k, doubt }) {
   const count = graph.failures.length + (doubt ? graph.monitored.length : 0), table = [];
-  for (let size = 0; size <= Math.min(k, count) && table.length <= MOST_HYPOTHESES; size++) addOfSize(graph, { count, doubt, size }, [], table);
+  for (let size = 0; size <= Math.min(k, count) && table.length <= MOST_HYPOTHESES; size++) {
+    addOfSize(graph, { count, doubt, size }, [], table);
+  }
   return table;
 }
 
@@ -47,7 +49,9 @@ export function setOf(graph, text) {
 // The status of each hypothesis in a round, but for those that are covered, which no line of a report names.
 export function statusesOf(report, round) {
   const statuses = new Map();
-  for (const [hypothesis, since] of report.rejections) if (since.number <= round.number) statuses.set(hypothesis, { status: "rejected", since });
+  for (const [hypothesis, since] of report.rejections) {
+    if (since.number <= round.number) statuses.set(hypothesis, { status: "rejected", since });
+  }
   round.open.forEach(line => statuses.set(line.hypothesis, { status: "open", line }));
   round.ranked.forEach((line, index) => statuses.set(line.hypothesis, { status: "ranked", line, place: index + 1 }));
   return statuses;

@@ -17,9 +17,13 @@ export function mismatchesOf(graph, table, log, report) {
 
 function mismatchOf(block, entry) {
   if (!entry) return ["the report has a block for line " + block.line + ", which the log does not have"];
-  if (block.line !== entry.number) return ["line " + block.at + " of the report is of line " + block.line + ", where line " + entry.number + " is due"];
-  if (block.refused !== entry.refused) return ["line " + block.line + " is " + (block.refused ? "refused in the report as " + block.refused
-    : "a round in the report") + ", and by the log it is " + (entry.refused ? "refused as " + entry.refused : "accepted")];
+  if (block.line !== entry.number) {
+    return ["line " + block.at + " of the report is of line " + block.line + ", where line " + entry.number + " is due"];
+  }
+  if (block.refused !== entry.refused) {
+    const [said, right] = [block.refused, entry.refused].map(cause => cause ? "refused as " + cause : "accepted");
+    return ["line " + block.line + " is " + said + " in the report, and by the log it is " + right];
+  }
   if (!block.refused && block.now !== entry.event.time) {
     return ["round " + block.number + " is at " + block.now + ", and line " + block.line + " at " + entry.event.time];
   }
@@ -29,6 +33,9 @@ function mismatchOf(block, entry) {
 // Numbers of hypotheses that do not go with their sets.
 function wrongSets(graph, table, report) {
   const named = [...[...report.sets].map(([hypothesis, set]) => ({ hypothesis, set })), ...report.misnamed];
-  return named.filter(({ hypothesis, set }) => !table[hypothesis] || setText(graph, table[hypothesis]) !== set).map(({ hypothesis, set }) =>
-    "the report says " + set + " of set " + hypothesis + (table[hypothesis] ? ", which is " + setText(graph, table[hypothesis]) : ", of which there is none"));
+  const wrong = named.filter(({ hypothesis, set }) => !table[hypothesis] || setText(graph, table[hypothesis]) !== set);
+  return wrong.map(({ hypothesis, set }) => {
+    const right = table[hypothesis] ? ", which is " + setText(graph, table[hypothesis]) : ", of which there is none";
+    return "the report says " + set + " of set " + hypothesis + right;
+  });
 }

@@ -12,7 +12,8 @@ export function probedFor(graph, log, forecast) {
   const bound = boundOf(forecast), probed = withProbe(graph, forecast.node, [forecast.to - bound, forecast.to]);
   const kept = newLog(), probe = probed.nodes.length - 1;
   const last = lastOfEach(graph, log);
-  for (const event of log.events) for (const some of keptOf(graph, log, last, event)) addEvent(kept, { ...some, number: kept.events.length + 1 });
+  const some = log.events.flatMap(event => keptOf(graph, log, last, event));
+  some.forEach((event, index) => addEvent(kept, { ...event, number: index + 1 }));
   addEvent(kept, { number: kept.events.length + 1, line: null, time: forecast.to, kind: "alarm", node: probe, mode: null });
   return { graph: probed, log: kept, probe, bound };
 }
@@ -23,7 +24,8 @@ function lastOfEach(graph, log) {
   for (const event of log.events) {
     if (event.kind === "alarm") alarms.set(event.node, event.number);
     if (event.kind === "silent") silences.set(event.node, event.number);
-    if (event.kind === "sweep") for (const node of graph.monitored) if (isSilence(graph, log, event, node)) silences.set(node, event.number);
+    const swept = event.kind === "sweep" ? graph.monitored.filter(node => isSilence(graph, log, event, node)) : [];
+    for (const node of swept) silences.set(node, event.number);
   }
   return { alarms, silences };
 }

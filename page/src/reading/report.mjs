@@ -1,11 +1,11 @@
-// A report. One pass over its text keeps where its rounds and its steps stand. What a round says is read when it is asked for, since a report may
-// have 65,536 rounds.
+// A report. One pass over its text keeps where its rounds and its steps stand. What a round says is read when it is asked for, since a
+// report may have 65,536 rounds.
 import { BadText, lineAt } from "./texts.mjs";
 import { BLOCKS, HEADS, needHead, needNames, needOrder, needShapes } from "./shapes.mjs";
 import { Runs } from "./runs.mjs";
 
-// What a text says, if it is a report of whole blocks. `at` is the line of the report in which a thing begins. `parts` are the steps of each
-// hypothesis, `rejections` the round in which each rejected one was rejected, and `runs` its places in the rankings.
+// What a text says, if it is a report of whole blocks. `at` is the line of the report in which a thing begins. `parts` are the steps of
+// each hypothesis, `rejections` the round in which each rejected one was rejected, and `runs` its places in the rankings.
 export function readReport(graph, text) {
   needShapes(text, needHead(text, HEADS, "BadReport"), BLOCKS, "BadReport");
   needOrder(text);
@@ -35,7 +35,8 @@ const STEP_KINDS = new Set(["split", "again", "cycle", "why"]);
 class Pass {
   constructor(graph, text) {
     Object.assign(this, { graph, text, owed: 0, round: null, part: null, last: null, runs: new Runs() });
-    this.report = { text, terms: null, blocks: [], rounds: [], parts: new Map(), rejections: new Map(), runs: null, sets: new Map(), misnamed: [], lineCount: 0 };
+    this.report = { text, terms: null, blocks: [], rounds: [], parts: new Map(), rejections: new Map(), runs: null, sets: new Map(),
+      misnamed: [], lineCount: 0 };
   }
 
   run() {

@@ -40,5 +40,6 @@ export function runWords({ status, place, share }) {
 export function rowsFirst(rows, round, count) {
   const places = new Map(round.ranked.map((line, place) => [line.hypothesis, place])), lastOf = row => row.runs[row.runs.length - 1].to;
   const placeOf = row => places.has(row.hypothesis) ? places.get(row.hypothesis) : places.size;
-  return rows.slice().sort((one, other) => placeOf(one) - placeOf(other) || lastOf(other) - lastOf(one) || one.hypothesis - other.hypothesis).slice(0, count);
+  const order = (one, other) => placeOf(one) - placeOf(other) || lastOf(other) - lastOf(one) || one.hypothesis - other.hypothesis;
+  return rows.slice().sort(order).slice(0, count);
 }

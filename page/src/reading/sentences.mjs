@@ -3,6 +3,8 @@
 import { NEVER } from "./constraints.mjs";
 import { durationWords, rangeWords, timeWords } from "./times.mjs";
 
+const MOST_ALARMS = 5; // of an activation
+
 export function setWords(set) {
   if (set === "-") return "no failure";
   return set.split(",").map(member => member[0] === "!" ? "wrong monitor of " + member.slice(1) : member).join(" + ");
@@ -10,10 +12,12 @@ export function setWords(set) {
 
 // The title of a history: what failed, and which monitors are wrong.
 export function historyTitle(set) {
-  const words = set === "-" ? [] : set.split(","), failures = words.filter(member => member[0] !== "!"), wrong = words.filter(member => member[0] === "!");
+  const words = set === "-" ? [] : set.split(","), failures = words.filter(member => member[0] !== "!"),
+    wrong = words.filter(member => member[0] === "!");
   const title = failures.length ? "A history of " + failures.join(" + ") : "A history without a failure";
   if (!wrong.length) return title;
-  return title + ", if the monitor" + (wrong.length > 1 ? "s" : "") + " of " + wrong.map(member => member.slice(1)).join(" and ") + (wrong.length > 1 ? " are wrong" : " is wrong");
+  return title + ", if the monitor" + (wrong.length > 1 ? "s" : "") + " of " + wrong.map(member => member.slice(1)).join(" and ")
+    + (wrong.length > 1 ? " are wrong" : " is wrong");
 }
 
 export function nodeWords(graph, node, units) {
@@ -36,14 +40,17 @@ function spanWords({ graph, units }, { lo, hi, mode }) {
 
 // ---- constraints and reasons
 
-export function constraintSentence({ units }, constraint) {
-  const { form, node, edge, value } = constraint;
-  if (form === "atMost") return [{ node }, value < 0 ? " active before 0" : value >= NEVER ? " active at some time or never" : " active by " + timeWords(value, units)];
+export function constraintSentence({ units }, { form, node, edge, value }) {
+  if (form === "atMost") return [{ node }, byWords(value, units)];
   if (form === "atLeast") return [{ node }, value >= NEVER ? " never active" : " not active before " + timeWords(value, units)];
-  const ends = [{ node: edge.target }, " ", { node: edge.source }];
-  if (value === 0) ends[1] = form === "atMostAfter" ? " not after " : " not before ";
-  else ends[1] = (form === "atMostAfter" ? " at most " : " at least ") + durationWords(value, units) + " after ";
-  return ends;
+  const isMost = form === "atMostAfter", least = isMost ? " not after " : " not before ";
+  const after = (isMost ? " at most " : " at least ") + durationWords(value, units) + " after ";
+  return [{ node: edge.target }, value === 0 ? least : after, { node: edge.source }];
+}
+
+function byWords(time, units) {
+  if (time < 0) return " active before 0";
+  return time >= NEVER ? " active at some time or never" : " active by " + timeWords(time, units);
 }
 
 function eventReference({ log }, number) {
@@ -53,33 +60,49 @@ function eventReference({ log }, number) {
 
 // A reason of a contradiction, with why it holds.
 export function reasonSentence(speech, reason, constraint) {
-  const { graph, log, units, set } = speech, said = constraintSentence(speech, constraint), last = " not active by " + timeWords(constraint.value - 1, units);
+  const said = constraintSentence(speech, constraint);
+  if (reason.kind === "top") return said;
   if (reason.kind === "zero") return [...said, ": no time is"];
   if (reason.kind === "pick") return [...said, " (by case " + constraint.of.number + " of choice " + constraint.split.number + ")"];
-  if (reason.kind === "top") return said;
-  const node = { node: constraint.node };
-  if (reason.kind === "unreached") return [node, last, set === "-" ? ": nothing reaches it without a failure" : ": nothing that " + setWords(set) + " causes reaches it"];
-  const line = eventReference(speech, reason.event), [least, greatest] = graph.nodes[constraint.node].lags;
-  if (reason.kind === "upto") return [...said, ": the alarm of ", line, ...(least ? [" comes at least " + durationWords(least, units) + " after it"] : [])];
-  if (reason.kind === "from") return [...said, ": the alarm of ", line, greatest ? " comes at most " + durationWords(greatest, units) + " after it" : " comes at once"];
-  const isSweep = log.events[reason.event - 1].kind === "sweep";
-  return [node, last, ": silent " + (isSweep ? "in the sweep of " : "by "), line, ...(least ? [", and an alarm may come " + durationWords(least, units) + " late"] : [])];
+  if (reason.kind === "from" || reason.kind === "upto") return [...said, ": the alarm of ", ...alarmWords(speech, reason, constraint)];
+  const inactive = [{ node: constraint.node }, " not active by " + timeWords(constraint.value - 1, speech.units)];
+  return reason.kind === "unreached" ? [...inactive, ": " + unreachedWords(speech)] : [...inactive, ...silenceWords(speech, reason)];
+}
+
+function unreachedWords({ set }) {
+  return set === "-" ? "nothing reaches it without a failure" : "nothing that " + setWords(set) + " causes reaches it";
+}
+
+function alarmWords(speech, reason, { node }) {
+  const { graph, units } = speech, line = eventReference(speech, reason.event), [least, greatest] = graph.nodes[node].lags;
+  if (reason.kind === "upto") return [line, least ? " comes at least " + durationWords(least, units) + " after it" : ""];
+  return [line, greatest ? " comes at most " + durationWords(greatest, units) + " after it" : " comes at once"];
+}
+
+function silenceWords(speech, { event, node }) {
+  const { graph, log, units } = speech, [least] = graph.nodes[node].lags;
+  const isSweep = log.events[event - 1].kind === "sweep", late = ", and an alarm may come " + durationWords(least, units) + " late";
+  return [": silent " + (isSweep ? "in the sweep of " : "by "), eventReference(speech, event), least ? late : ""];
 }
 
 // A contradiction: its reasons, after each difference what follows from it, and why both ends cannot hold.
-export function contradictionSentences(speech, { links, throughZero, gap }) {
-  const { units } = speech, reasons = links.map(({ constraint, reason, node, least }, index) => {
-    const said = reasonSentence(speech, reason, constraint), isDifference = constraint.edge !== undefined;
-    const follows = throughZero && isDifference && index < links.length - 1 ? [": so ", { node }, " not active before " + timeWords(least, units)] : [];
-    return { words: [...said, ...follows], at: reason.at };
+export function contradictionSentences(speech, chain) {
+  const { links, throughZero } = chain;
+  const reasons = links.map(({ constraint, reason, node, least }, index) => {
+    const follows = throughZero && constraint.edge !== undefined && index < links.length - 1;
+    const so = follows ? [": so ", { node }, " not active before " + timeWords(least, speech.units)] : [];
+    return { words: [...reasonSentence(speech, reason, constraint), ...so], at: reason.at };
   });
-  const last = links[links.length - 1], before = links[links.length - 2], gapWords = " (gap " + durationWords(gap, units) + ")";
-  if (!throughZero || !before) return { reasons, end: ["Together they cannot hold: ", { node: last.node }, " would be active before itself" + gapWords] };
-  const end = last.constraint.bound;
-  const early = before.least >= NEVER ? " never" : " not before " + timeWords(before.least, units);
-  return { reasons, end: ["Both cannot hold: ", { node: before.node }, early + ", and " + (end < 0 ? "before 0" : "by " + timeWords(end, units)) + gapWords] };
+  return { reasons, end: endSentence(speech, chain) };
 }
 
+function endSentence({ units }, { links, throughZero, gap }) {
+  const [before, last] = links.slice(-2), gapWords = " (gap " + durationWords(gap, units) + ")";
+  if (!throughZero || !last) return ["Together they cannot hold: ", { node: before.node }, " would be active before itself" + gapWords];
+  const { bound } = last.constraint, early = before.least >= NEVER ? " never" : " not before " + timeWords(before.least, units);
+  const late = bound < 0 ? "before 0" : "by " + timeWords(bound, units);
+  return ["Both cannot hold: ", { node: before.node }, early + ", and " + late + gapWords];
+}
 
 // ---- choices and cases
 
@@ -94,13 +117,15 @@ export function splitSentence(speech, split) {
 }
 
 export function caseSentence(speech, split, taken) {
-  const { units } = speech, { node } = split.clause, { label, edge, constraints } = taken, value = constraints[0].value;
-  if (label === "before") return [{ node }, value < 0 ? " active before 0" : " active by " + timeWords(value, units)];
+  const { units } = speech, { node } = split.clause, { label, edge, constraints } = taken, [{ value }] = constraints;
+  if (label === "before") return [{ node }, byWords(value, units)];
   if (label === "after") return [{ node }, " not active by " + timeWords(value - 1, units)];
-  if (label === "late") return [{ node: edge.source }, " not active before " + timeWords(value, units) + ": too late for ", { edge }, " to be due"];
-  if (label !== "over") return constraintSentence(speech, constraints[0]);
-  const times = ", from " + timeWords(constraints[1].value, units) + " to " + timeWords(constraints[2].value, units);
-  return [{ node }, " over ", { edge }, edge.least ? ", at least " + durationWords(edge.least, units) + " after " : ", not before ", { node: edge.source }, times];
+  if (label === "follows" || label === "due") return constraintSentence(speech, constraints[0]);
+  const source = { node: edge.source };
+  if (label === "late") return [source, " not active before " + timeWords(value, units) + ": too late for ", { edge }, " to be due"];
+  const after = edge.least ? ", at least " + durationWords(edge.least, units) + " after " : ", not before ";
+  const [from, to] = constraints.slice(1).map(constraint => timeWords(constraint.value, units));
+  return [{ node }, " over ", { edge }, after, source, ", from " + from + " to " + to];
 }
 
 export function excludedSentence({ graph, units }, split, { edge, arrival }) {
@@ -129,10 +154,15 @@ function arrivalWords({ graph, units }, { edge, age, modes }) {
 
 // What one activation of a history says, after its time.
 export function activationSentence(speech, { node, time, arrivals, alarms }) {
-  const { graph, units } = speech, between = graph.nodes[node].kind === "and" ? " and " : " or ";
+  const { graph, units } = speech, { kind } = graph.nodes[node], between = kind === "and" ? " and " : " or ";
   const over = arrivals.flatMap((arrival, index) => [index ? between : ", over ", ...arrivalWords(speech, arrival)]);
-  const raised = alarms.slice(0, 5).flatMap((alarm, index) => [index ? ", " : "; alarm by ", { logLine: alarm.line },
-    alarm.time === time ? " at once" : alarm.time > time ? " after " + durationWords(alarm.time - time, units) : " before it"]);
-  const more = alarms.length > 5 ? [" and " + (alarms.length - 5) + " more"] : [];
-  return [{ node }, graph.nodes[node].kind === "failure" ? " fails" : " active", ...over, ...raised, ...more];
+  const raised = alarms.slice(0, MOST_ALARMS).flatMap((alarm, index) =>
+    [index ? ", " : "; alarm by ", { logLine: alarm.line }, laterWords(alarm.time - time, units)]);
+  const more = alarms.length > MOST_ALARMS ? [" and " + (alarms.length - MOST_ALARMS) + " more"] : [];
+  return [{ node }, kind === "failure" ? " fails" : " active", ...over, ...raised, ...more];
+}
+
+function laterWords(milliseconds, units) {
+  if (milliseconds === 0) return " at once";
+  return milliseconds > 0 ? " after " + durationWords(milliseconds, units) : " before it";
 }

@@ -9,7 +9,8 @@ export function shape(text) {
   return text.split(" ").map(word => ({ N: NUMBER, M: NAME, S: SET })[word] || word).join(" ");
 }
 
-export const STEPS = ["split (?:ormay|andmust) M N N", "split (?:andmay|ormust) M M N N", "again", "cycle N", "why (?:zero|top) M", "why unreached M N",
+export const STEPS = ["split (?:ormay|andmust) M N N", "split (?:andmay|ormust) M M N N", "again", "cycle N", "why (?:zero|top) M",
+  "why unreached M N",
   "why (?:from|upto) N", "why quiet N M", "why pick N N"].map(shape);
 export const TRACE = [shape("at M N")];
 export const HEADS = ["report 1 k N budget N", "report 2 k N doubt N budget N"].map(shape);
@@ -49,10 +50,12 @@ export function needOrder(text) {
 
 // Refuses the first line that names a node which the graph does not have.
 export function needNames(graph, text) {
-  const naming = /\n(?:at|ask|why (?:zero|top|unreached)|why quiet \d+|split (?:ormay|andmust)|split (?:andmay|ormust) ([^ \n]+)) ([^ \n]+)/g;
+  const before = "at|ask|why (?:zero|top|unreached)|why quiet \\d+|split (?:ormay|andmust)|split (?:andmay|ormust) ([^ \\n]+)";
+  const naming = new RegExp(`\\n(?:${before}) ([^ \\n]+)`, "g");
   for (let found = naming.exec(text); found; found = naming.exec(text)) {
     const [, source, name] = found;
-    if (!graph.numberOf.has(name) || (source && !graph.numberOf.has(source))) throw new BadText(lineAt(text, found.index + 1), "UnknownName");
+    const isKnown = graph.numberOf.has(name) && (source === undefined || graph.numberOf.has(source));
+    if (!isKnown) throw new BadText(lineAt(text, found.index + 1), "UnknownName");
   }
 }
 

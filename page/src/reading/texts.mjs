@@ -25,7 +25,7 @@ export function textOf(bytes) {
 
 // What a reader sees of a text of bytes: its characters, if it is UTF-8. Control characters have signs of their own, as CR has ␍.
 export function shown(text) {
-  const characters = /^[\x00-\x7f]*$/.test(text) ? text : new TextDecoder().decode(Uint8Array.from(text, character => character.charCodeAt(0)));
+  const bytes = Uint8Array.from(text, character => character.charCodeAt(0)), characters = new TextDecoder().decode(bytes);
   return characters.replace(/[\x00-\x1f]/g, control => String.fromCharCode(0x2400 + control.charCodeAt(0)));
 }
 
@@ -35,8 +35,13 @@ export function linesOf(text) {
   return lines;
 }
 
-const KINDS = [["graph", /^(tfpg [12]\n|\s*\{)/], ["report", /^report [12] k /], ["ask", /^questions now /], ["predict", /^predict \S+ now /],
-  ["fleet", /^vehicle /]];
+const KINDS = [
+  ["graph", /^(tfpg [12]\n|\s*\{)/],
+  ["report", /^report [12] k /],
+  ["ask", /^questions now /],
+  ["predict", /^predict \S+ now /],
+  ["fleet", /^vehicle /]
+];
 
 // The kind of a text by its first line. What has no other is a log.
 export function kindOf(text) {

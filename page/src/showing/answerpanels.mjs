@@ -1,7 +1,7 @@
 // What `ask`, `predict` and `fleet` said.
-import { bar, element } from "./elements.mjs";
+import { bar, cell, element, table } from "./elements.mjs";
 import { durationWords, timeWords } from "../reading/times.mjs";
-import { boundOf, probedFor } from "../reading/probe.mjs";
+import { probedFor } from "../reading/probe.mjs";
 import { readSteps } from "../reading/steps.mjs";
 import { historyTitle, setWords } from "../reading/sentences.mjs";
 import { setOf } from "../reading/hypotheses.mjs";
@@ -15,14 +15,21 @@ import { change, speechOf, state, view } from "./state.mjs";
 // ---- ask
 
 export function askPanel() {
-  const { ask } = state, all = Math.max(1, ask.ranked + ask.open);
-  const head = ["ask the monitor of", "if it is silent", "if it alarms", "rules out at least", "unknown"].map(words => element("th", {}, words));
-  const rows = ask.questions.map(({ node, silent, alarm, unknown }, index) => element("tr", { "data-node": nodeName(node), "aria-current": index === 0 ? "true" : null },
-    element("td", {}, nodeLink(node)), element("td", { class: "silent" }, bar(silent / all, "silences"), silent), element("td", { class: "alarm" }, bar(alarm / all, "alarms"), alarm),
-    element("td", { class: "least" }, Math.min(silent, alarm)), element("td", { class: "unknown" }, unknown)));
-  return [element("h2", {}, "What to look at next"), ask.isFull ? element("p", { class: "refused" }, "The log is full, so nothing can be asked.") : null,
-    element("p", {}, "At " + timeWords(ask.now, state.units) + " " + ask.ranked + " sets are ranked and " + ask.open + " open. How many of them does an answer rule out? The most useful question stands first."),
-    element("table", { id: "questions" }, element("thead", {}, element("tr", {}, head)), element("tbody", {}, rows))];
+  const { ask } = state, all = Math.max(1, ask.ranked + ask.open),
+    head = ["ask the monitor of", "if it is silent", "if it alarms", "at least", "unknown"];
+  return [
+    element("h2", {}, "What to look at next"),
+    ask.isFull ? element("p", { class: "refused" }, "The log is full, so nothing can be asked.") : null,
+    element("p", {}, "At " + timeWords(ask.now, state.units) + " " + ask.ranked + " sets are ranked and " + ask.open + " open."),
+    element("p", {}, "How many of them does an answer rule out? The most useful question stands first."),
+    table({ id: "questions" }, head, ask.questions.map((question, index) => questionRow(question, all, index === 0)))
+  ];
+}
+
+function questionRow({ node, silent, alarm, unknown }, all, isFirst) {
+  return element("tr", { "data-node": nodeName(node), "aria-current": isFirst ? "true" : null },
+    cell(null, nodeLink(node)), cell("silent", bar(silent / all, "silences"), silent), cell("alarm", bar(alarm / all, "alarms"), alarm),
+    cell("least", Math.min(silent, alarm)), cell("unknown", unknown));
 }
 
 // ---- predict
@@ -30,16 +37,23 @@ export function askPanel() {
 export function predictPanel() {
   return state.predictions.flatMap((prediction, index) => [
     element("h2", {}, "When can ", nodeLink(prediction.node), " become active at the earliest?"),
-    element("p", {}, "It is " + timeWords(prediction.now, state.units) + ". Looked ahead to " + timeWords(prediction.to, state.units) + "."),
-    forecastTable(prediction, index), ...(prediction.forecasts.includes(state.forecast) ? forecastPart(state.forecast) : [])]);
+    element("p", {}, "It is " + timeWords(prediction.now, state.units) + ". Looked ahead to " + timeWords(prediction.to, state.units)
+      + "."),
+    forecastTable(prediction, index),
+    ...(prediction.forecasts.includes(state.forecast) ? forecastPart(state.forecast) : [])
+  ]);
 }
 
 function forecastTable({ forecasts, node }, index) {
-  const head = ["by the set", "earliest", "from now", "evidence"].map(words => element("th", {}, words));
-  const rows = forecasts.map(forecast => element("tr", { "data-set": forecast.set, "data-hypothesis": forecast.hypothesis, "data-outlook": forecast.outlook, "aria-selected": String(forecast === state.forecast), tabindex: "0",
-    click: () => change({ forecast, chosen: forecast.hypothesis }) },
-    element("td", {}, setWords(forecast.set)), element("td", { class: "earliest" }, outlookWords(forecast)), element("td", {}, fromNow(forecast)), element("td", { class: "dim" }, evidenceWords(forecast))));
-  return element("table", { id: index ? "forecasts-" + (index + 1) : "forecasts", class: "forecasts", "data-node": nodeName(node) }, element("thead", {}, element("tr", {}, head)), element("tbody", {}, rows));
+  const attributes = { id: index ? "forecasts-" + (index + 1) : "forecasts", class: "forecasts", "data-node": nodeName(node) };
+  return table(attributes, ["by the set", "earliest", "from now", "evidence"], forecasts.map(forecastRow));
+}
+
+function forecastRow(forecast) {
+  const { set, hypothesis, outlook } = forecast, isChosen = String(forecast === state.forecast);
+  return element("tr", { "data-set": set, "data-hypothesis": hypothesis, "data-outlook": outlook, "aria-selected": isChosen, tabindex: "0",
+    click: () => change({ forecast, chosen: hypothesis }) },
+  cell(null, setWords(set)), cell("earliest", outlookWords(forecast)), cell(null, fromNow(forecast)), cell("dim", evidenceWords(forecast)));
 }
 
 function outlookWords({ outlook, time, to }) {
@@ -53,37 +67,52 @@ function fromNow({ outlook, time, now }) {
 }
 
 function evidenceWords({ trace, steps }) {
-  const parts = [trace.size ? "a history of " + trace.size + " nodes" : "", steps.length ? "a refutation of " + steps.length + " lines" : ""];
-  return parts.filter(Boolean).join(", ");
+  const history = trace.size ? "a history of " + trace.size + " nodes" : "";
+  const refutation = steps.length ? "a refutation of " + steps.length + " lines" : "";
+  return [history, refutation].filter(Boolean).join(", ");
 }
 
 // The history that attains the time, and why no earlier one does.
 function forecastPart(forecast) {
   const rows = view.history.map(entry => activationPart(forecast.set, entry));
-  const history = rows.length ? [element("h2", {}, historyTitle(forecast.set) + ", which attains it"), element("ol", { id: "history" }, rows)] : [];
-  if (!forecast.steps.length || !state.log) return history;
-  const probed = probedFor(state.graph, state.log, forecast), round = { number: probed.log.events.length, now: forecast.to };
-  const tree = treeOf(probed.graph, probed.log, setOf(state.graph, forecast.set), readSteps(probed.graph, forecast.steps, forecast.stepsAt, round));
-  const bound = timeWords(boundOf(forecast), state.units), title = forecast.outlook === "unsettled" ? "Can it be active by " + bound + "? Not settled" : "Why not by " + bound + "?";
-  const speech = { graph: probed.graph, log: probed.log, units: state.units, set: forecast.set };
-  const lineWords = at => element("span", { class: "dim small", title: "line of the prediction" }, "¶" + at);
-  return [...history, element("h2", {}, title), element("p", { class: "dim" }, "The probe becomes active at the same instant as " + nodeName(forecast.node) + ", and its alarm says: by " + bound + "."), ...treePart(tree, speech, lineWords)];
+  const history = [element("h2", {}, historyTitle(forecast.set) + ", which attains it"), element("ol", { id: "history" }, rows)];
+  return [...(rows.length ? history : []), ...(forecast.steps.length && state.log ? refutationPart(forecast) : [])];
+}
+
+function refutationPart(forecast) {
+  const { set, steps, stepsAt, to, node } = forecast, probed = probedFor(state.graph, state.log, forecast);
+  const bound = timeWords(probed.bound, state.units), round = { number: probed.log.events.length, now: to };
+  const tree = treeOf(probed.graph, probed.log, setOf(state.graph, set), readSteps(probed.graph, steps, stepsAt, round));
+  const speech = { graph: probed.graph, log: probed.log, units: state.units, set };
+  const title = forecast.outlook === "unsettled" ? "Can it be active by " + bound + "? Not settled" : "Why not by " + bound + "?";
+  const meaning = "The probe becomes active at the same instant as " + nodeName(node) + ", and its alarm says: by " + bound + ".";
+  return [element("h2", {}, title), element("p", { class: "dim" }, meaning), ...treePart(tree, speech, lineWords)];
+}
+
+function lineWords(at) {
+  return element("span", { class: "dim small", title: "line of the prediction" }, "¶" + at);
 }
 
 // ---- fleet
 
 export function fleetPanel() {
-  const { fleet, graph } = state, vehicles = [...fleet.vehicles.keys()];
-  const rows = vehicles.map(name => vehicleRow(name, fleet.summaries.get(name)));
-  const modes = fleet.modes.map(({ node, vehicles: count }) => element("tr", { "data-mode": graph.nodes[node].name }, element("td", {}, nodeLink(node)), element("td", { class: "number" }, count)));
-  const head = ["vehicle", "rounds", "last at", "best set", "ranked"].map(words => element("th", {}, words));
-  return [element("h2", {}, "Vehicles"), element("table", { id: "vehicles" }, element("thead", {}, element("tr", {}, head)), element("tbody", {}, rows)),
+  const { fleet } = state, rows = [...fleet.vehicles.keys()].map(name => vehicleRow(name, fleet.summaries.get(name)));
+  return [
+    element("h2", {}, "Vehicles"),
+    table({ id: "vehicles" }, ["vehicle", "rounds", "last at", "best set", "ranked"], rows),
     fleet.strays.length ? element("p", {}, "Stray lines of the stream: " + fleet.strays.slice(0, 40).join(", ") + ".") : null,
-    modes.length ? element("h2", {}, "How many vehicles may have a failure mode") : null, element("table", { id: "modes" }, element("tbody", {}, modes))];
+    fleet.modes.length ? element("h2", {}, "How many vehicles may have a failure mode") : null,
+    table({ id: "modes" }, [], fleet.modes.map(modeRow))
+  ];
+}
+
+function modeRow({ node, vehicles }) {
+  return element("tr", { "data-mode": nodeName(node) }, cell(null, nodeLink(node)), cell("number", vehicles));
 }
 
 function vehicleRow(name, { rounds, last }) {
-  return element("tr", { "data-vehicle": name, "aria-selected": String(state.vehicle === name), tabindex: "0", click: () => openVehicle(name, "ranking") },
-    element("td", {}, name), element("td", { class: "number" }, rounds), element("td", {}, last ? timeWords(last.now, state.units) : "no round"),
-    element("td", {}, last && last.ranked.length ? setWords(last.ranked[0].set) : "none"), element("td", { class: "number" }, last ? last.ranked.length : ""));
+  const best = last && last.ranked.length ? setWords(last.ranked[0].set) : "none", isOpen = String(state.vehicle === name);
+  return element("tr", { "data-vehicle": name, "aria-selected": isOpen, tabindex: "0", click: () => openVehicle(name, "ranking") },
+    cell(null, name), cell("number", rounds), cell(null, last ? timeWords(last.now, state.units) : "no round"), cell(null, best),
+    cell("number", last ? last.ranked.length : ""));
 }

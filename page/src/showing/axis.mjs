@@ -23,7 +23,8 @@ export function axisOf(width) {
   return { at: scale, named: namedOf(instants, scale), last };
 }
 
-const SIZES_OF_STEPS = [1, 2, 5, 10, 20, 50, 100, 200, 500, 1e3, 2e3, 5e3, 1e4, 15e3, 3e4, 6e4, 12e4, 3e5, 6e5, 9e5, 18e5, 36e5, 72e5, 216e5, 432e5, 864e5];
+const SIZES_OF_STEPS = [1, 2, 5, 10, 20, 50, 100, 200, 500, 1e3, 2e3, 5e3, 1e4, 15e3, 3e4, 6e4, 12e4, 3e5, 6e5, 9e5, 18e5, 36e5, 72e5,
+  216e5, 432e5, 864e5];
 
 function evenTicks(last, width) {
   let step = SIZES_OF_STEPS.find(size => last / size <= width / 100) || SIZES_OF_STEPS[SIZES_OF_STEPS.length - 1];

@@ -15,10 +15,14 @@ export function verdictOf(checks, digests, hasReport) {
   if (!hasReport) return { verdict: "none", words: "no report" };
   if (!checks.length) return { verdict: "unchecked", words: "not checked" };
   const check = checks.find(some => KINDS_CHECKED.every(kind => digests[kind] !== null && digests[kind] === some.digests[kind]));
-  if (!check) return { verdict: "other", words: "not checked: these are not the texts that were checked" };
-  const refused = /^not accepted (\d+) (\w+)$/.exec(check.said);
-  if (check.status === 0 && /^accepted \d+$/.test(check.said)) return { verdict: "accepted", words: "✓ checked by tfpg check: " + check.said, check };
-  if (check.status === 1 && refused) return { verdict: "refused", words: "✗ " + check.said, check, line: Number(refused[1]), cause: refused[2] };
+  return check ? answerOf(check) : { verdict: "other", words: "not checked: these are not the texts that were checked" };
+}
+
+// Only the two answers of `tfpg check` count, each with its own status.
+function answerOf(check) {
+  const { status, said } = check, refused = /^not accepted (\d+) \w+$/.exec(said);
+  if (status === 0 && /^accepted \d+$/.test(said)) return { verdict: "accepted", words: "✓ checked by tfpg check: " + said, check };
+  if (status === 1 && refused) return { verdict: "refused", words: "✗ " + said, check, line: Number(refused[1]) };
   return { verdict: "failed", words: "not checked: the check did not run", check };
 }
 
@@ -32,24 +36,31 @@ function drawBadge() {
   drawProblems(found);
 }
 
+const MEANINGS = {
+  none: "There is no report here, so there is nothing to check.",
+  unchecked: "Nobody ran tfpg check when this page was made, or this page does not say so.",
+  other: "The check that this page knows of was made of other bytes of graph, log or report.",
+  accepted: "When this page was made, tfpg check accepted exactly these bytes of graph, log and report.",
+  refused: "When this page was made, tfpg check refused this report.",
+  failed: "When this page was made, the command of the check ended with neither of its two answers."
+};
+const ADVICE = " A file can be forged, and its badge too. To check for yourself, save the texts, build tfpg from its source, and run ";
+
 function explanation({ verdict, check }, command) {
-  const means = {
-    none: "There is no report here, so there is nothing to check.",
-    unchecked: "Nobody ran tfpg check when this page was made, or this page does not say so.",
-    other: "The check that this page knows of was made of other bytes of graph, log or report.",
-    accepted: "When this page was made, tfpg check accepted exactly these bytes of graph, log and report.",
-    refused: "When this page was made, tfpg check refused this report.",
-    failed: "When this page was made, the command of the check ended with neither of its two answers."
-  };
-  const run = check ? "\nCommand: " + check.command + ". It ended with " + (check.status === null ? "no status" : "status " + check.status) + (check.said ? ": " + check.said.slice(0, 500) : "") : "";
-  const digests = KINDS_CHECKED.filter(kind => state.digests[kind]).map(kind => "\nSHA-256 of the " + kind + ": " + state.digests[kind]).join("");
-  return [means[verdict] + " A file can be forged, and its badge too. To check for yourself, save the texts, build tfpg from its source, and run ", element("code", {}, command), run, digests];
+  const digests = KINDS_CHECKED.filter(kind => state.digests[kind]).map(kind => "\nSHA-256 of the " + kind + ": " + state.digests[kind]);
+  return [MEANINGS[verdict] + ADVICE, element("code", {}, command), check ? runWordsOf(check) : "", ...digests];
+}
+
+function runWordsOf({ command, status, said }) {
+  const ended = status === null ? "It did not start" : "It ended with status " + status;
+  return "\nCommand: " + command + ". " + ended + (said ? ": " + said.slice(0, 500) : ".");
 }
 
 // What does not fit, and a report that was refused, stands above all else.
 function drawProblems({ verdict, line, check }) {
-  const parts = state.problems.map(problem => [problem, "\n"]);
-  if (verdict === "refused") parts.unshift(["tfpg check refuses this report: " + check.said + ". Believe nothing of it from ", reportLink(line), " on.", "\n"]);
-  byId("problems").hidden = !parts.length;
-  byId("problems").replaceChildren(...parts.flat());
+  const parts = state.problems.map(problem => problem + "\n");
+  const refused = verdict === "refused"
+    ? ["tfpg check refuses this report: " + check.said + ". Believe nothing of it from ", reportLink(line), " on.\n"] : [];
+  byId("problems").hidden = !refused.length && !parts.length;
+  byId("problems").replaceChildren(...refused, ...parts);
 }

@@ -92,7 +92,8 @@ export function nodeTip(number) {
   const times = events => events.slice(-4).map(event => timeWords(event.time, state.units)).join(", ");
   if (said && said.alarms.length) lines.push("alarm at " + times(said.alarms));
   if (said && said.silences.length) lines.push("silent at " + times(said.silences));
-  if (view.trace && view.trace.has(number)) lines.push("active from " + timeWords(view.trace.get(number), state.units) + " by the history of " + setWords(view.set));
+  const time = view.trace ? view.trace.get(number) : undefined;
+  if (time !== undefined) lines.push("active from " + timeWords(time, state.units) + " by the history of " + setWords(view.set));
   return lines.join("\n");
 }
 
@@ -109,8 +110,8 @@ function colour() {
 }
 
 function colourNode(group, number) {
-  const sign = signOf(view.monitors.get(number)), { hypothesis, trace, set } = view, isActive = trace !== null && trace.has(number);
-  const isMember = hypothesis !== null && set !== null && hypothesis.failures.includes(number), isDoubted = hypothesis !== null && hypothesis.doubts.includes(number);
+  const sign = signOf(view.monitors.get(number)), { hypothesis, trace } = view, isActive = trace !== null && trace.has(number);
+  const [isMember, isDoubted] = ["failures", "doubts"].map(part => hypothesis !== null && hypothesis[part].includes(number));
   const classes = { alarm: sign === "alarm", silent: sign === "silent", active: isActive, member: isMember, doubted: isDoubted };
   for (const [name, isSo] of Object.entries(classes)) group.classList.toggle(name, isSo);
   group.classList.toggle("far", !(sign === "alarm" || isActive || isMember || isDoubted));
@@ -177,13 +178,19 @@ function sample(...shapes) {
 function drawLegend() {
   const box = attributes => drawn("rect", { x: 2, y: 2, width: 18, height: 10, fill: "white", stroke: "#333", ...attributes });
   const line = attributes => drawn("line", { x1: 0, y1: 7, x2: 22, y2: 7, stroke: "#555", "stroke-width": 1.5, ...attributes });
+  const octagon = drawn("polygon", { points: "6,1 16,1 21,5 21,9 16,13 6,13 1,9 1,5", fill: "white", stroke: "#333" });
+  const whose = view.trace ? "the history of " + setWords(view.set) : "a history";
+  const hasDoubts = view.hypothesis !== null && view.hypothesis.doubts.length > 0;
   const entries = [
-    [box({ fill: "#f6b98c" }), "▲ alarm"], [box({ fill: "#cfe9f9" }), "○ asked, and silent"], [box({ "stroke-dasharray": "3 2" }), "hidden"],
-    [drawn("polygon", { points: "6,1 16,1 21,5 21,9 16,13 6,13 1,9 1,5", fill: "white", stroke: "#333" }), "AND: needs all its causes"],
-    [box({ stroke: "#b36b00", "stroke-width": 3 }), view.set && view.trace ? "active by the history of " + setWords(view.set) : "active by a history"],
-    [line({ stroke: "#b36b00", "stroke-width": 4 }), "edge that carried"], [line({ stroke: "#c3c9cf" }), "edge that is off in this mode"],
-    [line({ "stroke-dasharray": "4 3" }), "edge that is never forced"]
+    [box({ fill: "#f6b98c" }), "▲ alarm"],
+    [box({ fill: "#cfe9f9" }), "○ asked, and silent"],
+    [box({ "stroke-dasharray": "3 2" }), "hidden"],
+    [octagon, "AND: needs all its causes"],
+    [box({ stroke: "#b36b00", "stroke-width": 3 }), "active by " + whose],
+    [line({ stroke: "#b36b00", "stroke-width": 4 }), "edge that carried"],
+    [line({ stroke: "#c3c9cf" }), "edge that is off in this mode"],
+    [line({ "stroke-dasharray": "4 3" }), "edge that is never forced"],
+    ...(hasDoubts ? [[box({ stroke: "#7b2d8b", "stroke-width": 3, "stroke-dasharray": "2 3" }), "? monitor that is not believed"]] : [])
   ];
-  if (view.hypothesis && view.hypothesis.doubts.length) entries.push([box({ stroke: "#7b2d8b", "stroke-width": 3, "stroke-dasharray": "2 3" }), "? monitor that is not believed"]);
   byId("legend").replaceChildren(...entries.map(([shape, words]) => element("span", {}, sample(shape), words)));
 }

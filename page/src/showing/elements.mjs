@@ -1,5 +1,6 @@
 // Makes elements of the document. All words become text, never markup.
 const SVG = "http://www.w3.org/2000/svg";
+const NUMBERS = new Set(["#", "no.", "cost", "rounds", "ranked", "vehicles"]); // columns of numbers stand to the right
 
 export function byId(id) {
   return document.getElementById(id);
@@ -26,6 +27,16 @@ function filled(made, attributes, children) {
   }
   made.append(...children.flat(Infinity).filter(isThere).map(child => child instanceof Node ? child : String(child)));
   return made;
+}
+
+// A cell of a table, of a kind if that is not null.
+export function cell(kind, ...words) {
+  return element("td", { class: kind }, words);
+}
+
+export function table(attributes, head, rows) {
+  const names = head.map(name => element("th", { class: NUMBERS.has(name) ? "number" : null }, name));
+  return element("table", attributes, head.length ? element("thead", {}, element("tr", {}, names)) : null, element("tbody", {}, rows));
 }
 
 // A bar that is filled to a share.

@@ -33,13 +33,18 @@ async function digestsOf(texts) {
 // What the texts say. A text that is none is an error with the name of its file.
 function read(texts, names) {
   const of = (kind, reader) => texts[kind] ? named(names[kind], () => reader(textOf(texts[kind]))) : null;
-  const graph = state.graph || of("graph", readGraph), log = of("log", text => readLog(graph, text)), report = of("report", text => readReport(graph, text));
-  const table = report ? hypothesesOf(graph, report.terms) : [];
-  const predictions = Object.keys(texts).filter(kind => kind.startsWith("predict")).map(kind => of(kind, text => readPredict(graph, text)));
-  const problems = !report ? [] : log ? mismatchesOf(graph, table, log, report) : ["The report is about a log that is not here. Open the log too."];
-  const rounds = report ? report.rounds : [];
-  return { graph, log: log || (report ? readLog(graph, "") : null), report, table, predictions, problems,
-    ask: of("ask", text => readAsk(graph, text)), roundOfLine: new Map(rounds.map((round, index) => [round.line, index])) };
+  const { graph } = state, log = of("log", text => readLog(graph, text)), report = of("report", text => readReport(graph, text));
+  const ask = of("ask", text => readAsk(graph, text)), places = Object.keys(texts).filter(place => place.startsWith("predict"));
+  const predictions = places.map(place => of(place, text => readPredict(graph, text)));
+  const table = report ? hypothesesOf(graph, report.terms) : [], rounds = report ? report.rounds : [];
+  const found = { log: log || (report ? readLog(graph, "") : null), report, table, ask, predictions };
+  const roundOfLine = new Map(rounds.map((round, index) => [round.line, index]));
+  return { ...found, roundOfLine, problems: problemsOf(table, log, report) };
+}
+
+function problemsOf(table, log, report) {
+  if (!report) return [];
+  return log ? mismatchesOf(state.graph, table, log, report) : ["The report is about a log that is not here. Open the log too."];
 }
 
 function named(name, reader) {
@@ -83,7 +88,8 @@ async function showFleet(texts, names) {
     const { rounds } = named(names.fleet + ", vehicle " + name + ",", () => readReport(state.graph, ownText(lines)));
     return [name, { rounds: rounds.length, last: rounds[rounds.length - 1] || null }];
   }));
-  Object.assign(state, { fleet, texts: { graph: texts.graph, stream: texts.log, fleet: texts.fleet }, names: { graph: names.graph, stream: names.log, fleet: names.fleet } });
+  const streamed = from => ({ graph: from.graph, stream: from.log, fleet: from.fleet });
+  Object.assign(state, { fleet, texts: streamed(texts), names: streamed(names) });
   await openVehicle(fleet.vehicles.keys().next().value, "fleet");
 }
 
@@ -96,7 +102,8 @@ function bytesOf(text) {
 }
 
 export async function openVehicle(name, tab) {
-  const own = { log: bytesOf(ownText(ownLines(textOf(state.texts.stream), name))), report: bytesOf(ownText(state.fleet.vehicles.get(name))) };
+  const lines = { log: ownLines(textOf(state.texts.stream), name), report: state.fleet.vehicles.get(name) };
+  const own = { log: bytesOf(ownText(lines.log)), report: bytesOf(ownText(lines.report)) };
   const names = { log: name + ".log", report: name + ".report" };
   await showTexts({ ...state.texts, ...own }, { ...state.names, ...names }, { vehicle: name, tab });
 }
@@ -123,13 +130,19 @@ async function takeOpened(opened) {
   for (const kind of leftOut(kinds, Object.keys(texts))) delete texts[kind];
   let count = 0;
   for (const { kind, name, bytes } of opened) {
-    if (kind === "graph" && await digestOf(bytes) !== state.about.graph) throw new Error("this page is laid out for the graph " + state.names.graph + ", and " + name + " is another. Make a page for it with tfpg-page");
+    if (kind === "graph") await needSameGraph(name, bytes);
     const place = kind === "predict" ? "predict" + ++count : kind;
     texts[place] = bytes;
     names[place] = name;
   }
   if (kinds.has("fleet")) await showFleet(texts, names);
   else await showTexts(texts, names, { fleet: null, vehicle: null });
+}
+
+async function needSameGraph(name, bytes) {
+  if (await digestOf(bytes) === state.about.graph) return;
+  const advice = " is another. Make a page for it with tfpg-page";
+  throw new Error("this page is laid out for the graph " + state.names.graph + ", and " + name + advice);
 }
 
 // The places whose texts are no longer of use: another log has another report and other answers.
@@ -143,7 +156,8 @@ function leftOut(kinds, places) {
 // Saves each text under its name, byte for byte.
 export function saveTexts() {
   for (const [place, bytes] of Object.entries(state.texts)) {
-    const link = element("a", { href: URL.createObjectURL(new Blob([bytes], { type: "application/octet-stream" })), download: state.names[place] });
+    const blob = new Blob([bytes], { type: "application/octet-stream" });
+    const link = element("a", { href: URL.createObjectURL(blob), download: state.names[place] });
     link.click();
     setTimeout(() => URL.revokeObjectURL(link.href), 5000);
   }

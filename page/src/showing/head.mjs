@@ -54,12 +54,16 @@ function tabShown() {
 // ---- the round
 
 export function roundWords(round) {
-  const { graph, log, report, units } = state, entry = log.lines[round.line - 1], counts = round.counts;
-  return [element("b", {}, "round " + round.number + " of " + report.rounds.length), " · " + timeWords(round.now, units) + " · ",
+  const { graph, log, report, units } = state, entry = log.lines[round.line - 1], { ranked, covered, rejected, open } = round.counts;
+  const lost = round.panels.map(panel => "panel " + panel.panel + (panel.lost === "lost" ? " was lost" : " ran out of memory"));
+  return [
+    element("b", {}, "round " + round.number + " of " + report.rounds.length),
+    " · " + timeWords(round.now, units) + " · ",
     entry ? [logLink(round.line), " ", element("code", {}, shown(entry.text.slice(0, 80)))] : "line " + round.line,
     graph.modes.length > 1 ? " · mode " + graph.modes[view.mode] : "",
-    " · ranked " + counts.ranked + ", covered " + counts.covered + ", rejected " + counts.rejected + ", open " + counts.open,
-    round.panels.length ? " · " + round.panels.map(({ panel, lost }) => "panel " + panel + (lost === "lost" ? " was lost" : " ran out of memory")).join(", ") : ""];
+    " · ranked " + ranked + ", covered " + covered + ", rejected " + rejected + ", open " + open,
+    lost.length ? " · " + lost.join(", ") : ""
+  ];
 }
 
 function drawHead() {
@@ -79,14 +83,20 @@ function drawHead() {
 // ---- the tabs
 
 function drawPanel() {
-  const chosen = tabShown(), panel = byId("panel"), isSame = panel.dataset.tab === chosen, top = panel.scrollTop, focused = focusedRow(panel);
-  byId("tabs").replaceChildren(...tabsThere().map((tab, index) => element("button", { role: "tab", id: "tab-" + tab, "data-tab": tab, "aria-selected": String(tab === chosen), "aria-controls": "panel",
-    title: index < 9 ? "key " + (index + 1) : null, click: () => show(tab) }, TABS[tab].title || tab)));
+  const chosen = tabShown(), panel = byId("panel"), isSame = panel.dataset.tab === chosen;
+  const top = isSame ? panel.scrollTop : 0, focused = isSame ? focusedRow(panel) : null;
+  byId("tabs").replaceChildren(...tabsThere().map((tab, index) => tabPart(tab, index, tab === chosen)));
   panel.replaceChildren(...TABS[chosen].panel().flat(Infinity).filter(Boolean));
   panel.dataset.tab = chosen;
   panel.setAttribute("aria-labelledby", "tab-" + chosen);
-  panel.scrollTop = isSame ? top : 0;
-  showCurrent(panel, isSame ? focused : null);
+  panel.scrollTop = top;
+  showCurrent(panel, focused);
+}
+
+function tabPart(tab, index, isChosen) {
+  const attributes = { role: "tab", id: "tab-" + tab, "data-tab": tab, "aria-selected": String(isChosen), "aria-controls": "panel" };
+  const title = index < 9 ? "key " + (index + 1) : null;
+  return element("button", { ...attributes, title, click: () => show(tab) }, TABS[tab].title || tab);
 }
 
 // The row of the panel that has the focus, by what tells it from others, so that it has it again when the panel is drawn anew.

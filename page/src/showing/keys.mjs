@@ -53,7 +53,8 @@ function scrolls(target, key) {
 
 function chooseBeside(step) {
   if (!view.round || !view.round.ranked.length) return;
-  const { ranked } = view.round, place = ranked.indexOf(view.ranked), next = place < 0 ? 0 : Math.max(0, Math.min(place + step, ranked.length - 1));
+  const { ranked } = view.round, place = ranked.indexOf(view.ranked);
+  const next = place < 0 ? 0 : Math.max(0, Math.min(place + step, ranked.length - 1));
   choose(ranked[next].hypothesis);
 }
 

@@ -27,8 +27,10 @@ import { choose, goTo, markNode, show, state, view } from "./state.mjs";
 import { prepareTracks } from "./tracks.mjs";
 
 globalThis.Tfpg = {
-  BadText, NEVER, ZERO, alternativesOf, arrivalsAt, chainOf, contradictionsIn, coveringOf, durationWords, edgeWindow, factOf, historyOf, hypothesesOf, intervalOf, isSilence, kindOf,
-  linesOf, mismatchesOf, modeAt, monitorsAt, ownLines, probedFor, rangeWords, reachOf, readAsk, readFleet, readGraph, readLog, readPredict, readReport, readSteps,
+  BadText, NEVER, ZERO, alternativesOf, arrivalsAt, chainOf, contradictionsIn, coveringOf, durationWords, edgeWindow, factOf, historyOf,
+    hypothesesOf, intervalOf, isSilence, kindOf,
+  linesOf, mismatchesOf, modeAt, monitorsAt, ownLines, probedFor, rangeWords, reachOf, readAsk, readFleet, readGraph, readLog, readPredict,
+    readReport, readSteps,
   restsOn, setOf, setText, spansAt, statusOf, statusesOf, stepsOf, textOf, timeWords, traceOf, treeOf, verdictOf, windowOf
 };
 globalThis.Page = { choose, goTo, mark: markNode, open: openFiles, openVehicle, show, state, view };

@@ -1,5 +1,5 @@
 // All sets by status, with a filter.
-import { byId, element } from "./elements.mjs";
+import { byId, cell, element, table } from "./elements.mjs";
 import { timeWords } from "../reading/times.mjs";
 import { setText } from "../reading/hypotheses.mjs";
 import { setWords } from "../reading/sentences.mjs";
@@ -9,10 +9,19 @@ import { more } from "./ranking.mjs";
 const MOST_LISTED = 400, STATUSES = ["ranked", "open", "rejected", "covered"];
 
 export function setsPanel() {
-  const filter = element("input", { id: "set-filter", placeholder: "part of a name", value: state.filter, input: event => refill({ filter: event.target.value }) });
-  const options = ["", ...STATUSES].map(status => element("option", { value: status, selected: status === state.statusFilter ? "" : null }, status || "all"));
-  const choice = element("select", { id: "status-filter", "aria-label": "status", change: event => refill({ statusFilter: event.target.value }) }, options);
+  const filter = element("input", { id: "set-filter", placeholder: "part of a name", value: state.filter, input: takeFilter });
+  const options = ["", ...STATUSES].map(status =>
+    element("option", { value: status, selected: status === state.statusFilter ? "" : null }, status || "all"));
+  const choice = element("select", { id: "status-filter", "aria-label": "status", change: takeStatus }, options);
   return [element("p", {}, filter, " ", choice, " of " + state.table.length + " sets"), element("div", { id: "sets" }, setsTable())];
+}
+
+function takeFilter(event) {
+  refill({ filter: event.target.value });
+}
+
+function takeStatus(event) {
+  refill({ statusFilter: event.target.value });
 }
 
 function refill(values) {
@@ -25,19 +34,21 @@ function setsTable() {
   let left = 0;
   for (let hypothesis = 0; view.round && hypothesis < state.table.length; hypothesis++) {
     const found = statusNow(hypothesis), set = setText(state.graph, state.table[hypothesis]);
-    if ((state.statusFilter && found.status !== state.statusFilter) || !setWords(set).toLowerCase().includes(wanted)) continue;
+    if (state.statusFilter && found.status !== state.statusFilter) continue;
+    if (!setWords(set).toLowerCase().includes(wanted)) continue;
     if (rows.length < MOST_LISTED) rows.push(setRow(hypothesis, set, found));
     else left++;
   }
-  const head = element("tr", {}, element("th", { class: "number" }, "no."), element("th", {}, "set"), element("th", {}, "status in round " + (view.round ? view.round.number : "-")));
-  return [element("table", {}, element("thead", {}, head), element("tbody", {}, rows)), more(left, "Narrow the filter.")];
+  const head = ["no.", "set", "status in round " + (view.round ? view.round.number : "-")];
+  return [table({}, head, rows), more(left, "Narrow the filter.")];
 }
 
 function setRow(hypothesis, set, found) {
-  const { status } = found, tab = status === "ranked" ? "ranking" : "why";
-  return element("tr", { "data-set": set, "data-hypothesis": hypothesis, "data-status": status, "aria-selected": String(state.chosen === hypothesis), tabindex: "0", click: () => choose(hypothesis, tab) },
-    element("td", { class: "number dim" }, hypothesis), element("td", {}, setWords(set)),
-    element("td", {}, element("span", { class: "status " + status }, status), " ", statusWords(hypothesis, found)));
+  const { status } = found, tab = status === "ranked" ? "ranking" : "why", isChosen = String(state.chosen === hypothesis);
+  const attributes = { "data-set": set, "data-hypothesis": hypothesis, "data-status": status, "aria-selected": isChosen, tabindex: "0" };
+  return element("tr", { ...attributes, click: () => choose(hypothesis, tab) },
+    cell("number dim", hypothesis), cell(null, setWords(set)),
+    cell(null, element("span", { class: "status " + status }, status), " ", statusWords(hypothesis, found)));
 }
 
 function statusWords(hypothesis, { status, place, since }) {

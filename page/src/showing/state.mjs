@@ -6,7 +6,8 @@ import { monitorsAt } from "../reading/monitors.mjs";
 import { nowOf } from "../reading/log.mjs";
 import { traceOf } from "../reading/report.mjs";
 
-// `round` is an index, `chosen` the number of a hypothesis or null for the first in the ranking, and `forecast` one that is shown in its place.
+// `round` is an index, `chosen` the number of a hypothesis or null for the first in the ranking, and `forecast` one that is shown in its
+// place.
 export const state = {
   texts: {}, names: {}, digests: {}, about: null, graph: null, log: null, report: null, table: [],
   ask: null, predictions: [], fleet: null, vehicle: null, problems: [],

@@ -28,7 +28,8 @@ function drawTracks() {
   const names = drawn("svg", { class: "track-names", width: NAMES, height }), marks = drawn("svg", { width: width + 56, height });
   const body = drawn("g", { transform: "translate(6,0)" }, gridPart(axis, width, height));
   rows.forEach((row, index) => {
-    const top = TOP + ROW * index, group = drawn("g", { "data-track": row.track, "data-name": row.name, transform: "translate(0," + top + ")" });
+    const top = TOP + ROW * index, transform = "translate(0," + top + ")";
+    const group = drawn("g", { "data-track": row.track, "data-name": row.name, transform });
     if (row.draw) group.append(...[row.draw(axis, width + 40)].flat(Infinity).filter(Boolean));
     names.append(rowName(row, top));
     body.append(group);
@@ -51,7 +52,8 @@ function setRows() {
   if (!view.round) return [];
   const shown = rowsFirst(state.report.runs, view.round, MOST_SETS), left = state.report.runs.length - shown.length;
   const rows = shown.map(row => ({
-    track: "set", name: setWords(row.set), choose: () => choose(row.hypothesis), isChosen: view.ranked !== null && view.ranked.hypothesis === row.hypothesis,
+    track: "set", name: setWords(row.set), choose: () => choose(row.hypothesis),
+    isChosen: view.ranked !== null && view.ranked.hypothesis === row.hypothesis,
     draw: (axis, end) => setTrack(row, axis, end)
   }));
   return [{ track: "heading", name: "ranked sets" }, ...rows, ...(left > 0 ? [{ track: "note", name: "… and " + left + " more" }] : [])];
@@ -83,21 +85,25 @@ function rowName(row, top) {
 function gridPart({ at, named }, width, height) {
   return named.flatMap(instant => {
     const x = at(instant), anchor = x < 24 ? "start" : x > width + 10 ? "end" : "middle";
-    return [drawn("line", { class: "grid", x1: x, x2: x, y1: 18, y2: height }), drawn("text", { x, y: 13, "text-anchor": anchor }, timeWords(instant, state.units))];
+    const name = drawn("text", { x, y: 13, "text-anchor": anchor }, timeWords(instant, state.units));
+    return [drawn("line", { class: "grid", x1: x, x2: x, y1: 18, y2: height }), name];
   });
 }
 
 function nowPart({ at, last }, width, height) {
-  const x = at(view.now), ahead = view.now < last ? drawn("rect", { class: "ahead", x, y: 18, width: Math.max(0, width + 40 - x), height: height - 18 }) : null;
-  return [ahead, drawn("line", { class: "now", x1: x, x2: x, y1: 16, y2: height })].filter(Boolean);
+  const x = at(view.now), line = drawn("line", { class: "now", x1: x, x2: x, y1: 16, y2: height });
+  const place = { x, y: 18, width: Math.max(0, width + 40 - x), height: height - 18 };
+  return view.now < last ? [drawn("rect", { class: "ahead", ...place }), line] : [line];
 }
 
 // From the activation of a source to that of the node to which the failure came over an edge.
 function linksOfHistory(rows, { at }) {
-  const middles = new Map(rows.map((row, index) => [row.node, TOP + ROW * index + ROW / 2]).filter(([node]) => node !== undefined && view.trace && view.trace.has(node)));
+  const isActive = node => node !== undefined && view.trace !== null && view.trace.has(node);
+  const middles = new Map(rows.map((row, index) => [row.node, TOP + ROW * index + ROW / 2]).filter(([node]) => isActive(node)));
   return view.history.flatMap(({ node, arrivals }) => arrivals.map(({ edge }) => {
     if (!middles.has(node) || !middles.has(edge.source)) return null;
     const [from, to] = [at(view.trace.get(edge.source)), at(view.trace.get(node))];
-    return drawn("path", { class: "carried-link", d: `M${from},${middles.get(edge.source)}V${middles.get(node)}H${to}` }, drawn("title", {}, edgeTip(edge)));
+    const d = `M${from},${middles.get(edge.source)}V${middles.get(node)}H${to}`;
+    return drawn("path", { class: "carried-link", d }, drawn("title", {}, edgeTip(edge)));
   })).filter(Boolean);
 }
