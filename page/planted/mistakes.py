@@ -102,7 +102,7 @@ MISTAKES = [
         "src/reading/probe.mjs",
         """if (event.kind === "silent") silences.set""",
         """if (event.kind === "silent" && !silences.has(event.node)) silences.set""",
-        "outlooks.each_reason_of_a_forecast_states_what_the_judge_says",
+        "reading.each_reason_of_a_forecast_states_what_the_judge_says",
     ),
     Mistake(
         "the steps of a forecast are read for the least time, and not for the instant before",
@@ -135,8 +135,8 @@ MISTAKES = [
     Mistake(
         "the status of the checker is all that counts, and not its answer",
         "src/showing/badge.mjs",
-        "if (check.status === 0 && /^accepted \\d+$/.test(check.said))",
-        "if (check.status === 0)",
+        r"/^accepted \d+$/.test(said)",
+        "said !== null",
         "badge.a_checker_that_answers_nonsense_accepts_nothing",
     ),
     Mistake(

@@ -29,9 +29,8 @@ def arrived(graph, log, times):
 
 def arrivals_by_instants(graph, log, report):
     """For each round, for each ranked set: what `arrived` says of its trace."""
-    graph, rounds, log = Graph(graph.read_bytes()), traces_of(graph, report), lines_of(log.read_bytes())
-    found = []
-    for last_line, traces in rounds:
+    graph, log, found = Graph(graph), lines_of(log), []
+    for last_line, traces in traces_of(graph, report):
         events = Log(graph)
         for line in log[:last_line]:
             events.offer(line)
@@ -41,8 +40,8 @@ def arrivals_by_instants(graph, log, report):
 
 def traces_of(graph, report):
     """For each round the line of the log, and the traces in their order."""
-    graph, rounds = Graph(graph.read_bytes()), []
-    for line in lines_of(report.read_bytes()):
+    rounds = []
+    for line in lines_of(report):
         kind, *said = line_said(graph, line)
         if kind == b"round":
             rounds.append((said[1], []))

@@ -57,8 +57,8 @@ def lines_of(text):
 
 
 def judged(graph, log, report):
-    """The judge after it has accepted the report of these files."""
-    judge = StatingJudge(Graph(graph.read_bytes()), lines_of(log.read_bytes()))
-    answer = judge.judge(report.read_bytes())
-    assert answer.startswith("accepted "), (report, answer)
+    """The judge after it has accepted a report of these texts."""
+    judge = StatingJudge(Graph(graph), lines_of(log))
+    answer = judge.judge(report)
+    assert answer.startswith("accepted "), answer
     return judge

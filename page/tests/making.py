@@ -12,7 +12,6 @@ PUMP = (EXAMPLES / "pump.tfpg", EXAMPLES / "pump.log", EXAMPLES / "pump.report")
 RELAY = (EXAMPLES / "satellite.tfpg", EXAMPLES / "satellite-relay.log", EXAMPLES / "satellite-relay.report")
 ARRAY = (EXAMPLES / "satellite.tfpg", EXAMPLES / "satellite-array.log", EXAMPLES / "satellite-array.report")
 GAUGE = (EXAMPLES / "pump.tfpg", EXAMPLES / "pump-gauge.log", DATA / "pump-gauge.report")
-RANDOM = sorted(tuple(path.with_suffix(f".{kind}") for kind in ("tfpg", "log", "report")) for path in (DATA / "random").glob("*.tfpg"))
 
 
 class Maker:

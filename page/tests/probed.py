@@ -68,14 +68,13 @@ def steps_of(graph, lines):
 
 def constraints_of_forecasts(graph, log, prediction):
     """What each cycle of a prediction states, by its line."""
-    graph_text, found = graph.read_bytes(), {}
-    events = Log(Graph(graph_text))
-    for line in lines_of(log.read_bytes()):
+    events, found = Log(Graph(graph)), {}
+    for line in lines_of(log):
         events.offer(line)
-    node, end, forecasts = forecasts_of(prediction.read_bytes())
+    node, end, forecasts = forecasts_of(prediction)
     assert end <= MOST_TIME
     for members, bound, lines in forecasts:
-        probed_graph, probed_log = probed(graph_text, events, node, bound, end)
+        probed_graph, probed_log = probed(graph, events, node, bound, end)
         names = [] if members == b"-" else members.split(b",")
         failures = [probed_graph.number_of[name] for name in names if not name.startswith(b"!")]
         tree = StatingTree(probed_graph, failures, [probed_graph.number_of[name[1:]] for name in names if name.startswith(b"!")])

@@ -39,7 +39,7 @@ def a_node_is_found_by_a_part_of_its_name(view):
 def thousands_of_steps_open_at_once(view):
     texts = {"tfpg": TWO_CAUSES, "log": ONE_ALARM, "report": report_of_choices(DEPTH)}
     files = [view.maker.write(f"choices.{kind}", text) for kind, text in texts.items()]
-    view.same(judged(*files).statuses, [["rejected"]], "the report, which the judge accepts")
+    view.same(judged(*(path.read_bytes() for path in files)).statuses, [["rejected"]], "the report, which the judge accepts")
     view.show(*files)
     view.open_tab("why")
     view.has(view.text("#rests-on"), [f"{SPLITS + LEAVES} steps", f"{LEAVES} contradictions", "line 1"], "how large it is")

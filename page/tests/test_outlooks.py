@@ -1,29 +1,13 @@
 """Facts of one `ask`, one `predict` and one `fleet`, worked out by hand for the pump."""
 
-from making import CHECK, DATA, EXAMPLES, RANDOM
+from making import CHECK, DATA, EXAMPLES
 from probed import constraints_of_forecasts
+from test_reading import FORECASTS, read
 
 GRAPH = EXAMPLES / "pump.tfpg"
 ASK = (GRAPH, DATA / "pump-early.log", DATA / "pump-early.report", "--ask", DATA / "pump-early.ask")
 PREDICT = (GRAPH, DATA / "pump-first.log", DATA / "pump-first.report", "--predict", DATA / "pump-first.predict")
-PREDICTIONS = [(*files[:3], "--predict", files[0].with_suffix(".predict")) for files in RANDOM if files[0].with_suffix(".predict").exists()]
 FLEET = (GRAPH, EXAMPLES / "pumps.log", "--fleet", DATA / "pumps.fleet")
-CYCLES = """
-const {graph, log, predictions} = Page.state, found = {};
-const walk = node => {
-  if (!node) return;
-  if (node.cases) node.cases.forEach(one => walk(one.child));
-  else found[node.at] = node.constraints.map(one => [one.left, one.right, one.bound]);
-};
-predictions.forEach(prediction => prediction.forecasts.forEach(forecast => {
-  const probed = Tfpg.probedFor(graph, log, forecast), round = {number: probed.log.events.length, now: forecast.to};
-  const steps = Tfpg.readSteps(probed.graph, forecast.steps, forecast.stepsAt, round);
-  const tree = Tfpg.treeOf(probed.graph, probed.log, Tfpg.setOf(graph, forecast.set), steps);
-  if (tree.complaint) throw new Error(JSON.stringify(tree.complaint));
-  walk(tree.root);
-}));
-return found;
-"""
 
 
 def the_pressure_is_the_best_question(view):
@@ -72,7 +56,7 @@ def three_vehicles_and_a_stray_line(view):
     rows = dict(zip(view.values("#vehicles tr[data-vehicle]", "vehicle"), view.texts("#vehicles tr[data-vehicle]")))
     view.has(rows["north"], ["FilterClogged"], "the best set of the first")
     view.has(rows["east"], ["ValveStuck"], "the best set of the third")
-    counts = dict(zip(view.values("#modes tr", "mode"), view.texts("#modes td.number")))
+    counts = dict(zip(view.values("#modes tr[data-mode]", "mode"), view.texts("#modes td.number")))
     view.same(counts, {"FilterClogged": "1", "ValveStuck": "2", "MotorBearing": "1", "LevelWiring": "0"}, "vehicles by failure mode")
     view.has(view.text("#panel"), ["Stray lines of the stream: 7"], "the line that belongs to none")
     view.quiet()
@@ -101,8 +85,7 @@ def the_report_of_each_vehicle_is_checked(view):
 
 
 def each_reason_of_a_forecast_states_what_the_judge_says(view):
-    """By the probed graph and the probed log, which are made anew beside the page."""
-    for words in (PREDICT, *PREDICTIONS):
-        view.show(*words)
-        found = {int(line): constraints for line, constraints in view.run(CYCLES).items()}
-        view.same(found, constraints_of_forecasts(words[0], words[1], words[4]), f"the reasons of {words[4].name}")
+    view.show(*PREDICT)
+    texts = [PREDICT[number].read_bytes() for number in (0, 1, 2, 4)]
+    found = {int(line): constraints for line, constraints in read(view, FORECASTS, texts).items()}
+    view.same(found, constraints_of_forecasts(texts[0], texts[1], texts[3]), "the reasons of the prediction of the pump")

@@ -6,7 +6,7 @@ from judged import judged
 
 def an_open_set_has_its_steps_so_far(view):
     files = written(view.maker, "three", THREE_ROUNDS)
-    view.same(judged(*files).statuses, [["ranked", "covered"], ["rejected", "open"], ["rejected", "rejected"]], "what the judge says")
+    view.same(judged(*(path.read_bytes() for path in files)).statuses, [["ranked", "covered"], ["rejected", "open"], ["rejected", "rejected"]], "what the judge says")
     view.show(*files)
     view.go_to(2)
     view.why_not("F")
@@ -41,7 +41,7 @@ def lost_panels_are_named(view):
 
 def a_reused_case_is_said_in_words(view):
     files = written(view.maker, "reused", REUSED)
-    view.same(judged(*files).statuses, [["rejected"]], "what the judge says")
+    view.same(judged(*(path.read_bytes() for path in files)).statuses, [["rejected"]], "what the judge says")
     view.show(*files)
     view.why_not("-")
     view.has(view.text("#panel"), ["Why not no failure?", "3 steps, 1 contradiction."], "how large it is")

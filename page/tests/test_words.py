@@ -1,6 +1,7 @@
 """Every tab, round and set of three examples and of the random reports, without a word or a fault that no text means."""
 
-from making import ARRAY, GAUGE, PUMP, RANDOM, RELAY
+from cases import written_cases
+from making import ARRAY, GAUGE, PUMP, RELAY
 
 # Collects what stands on the page, in titles and for those who do not see it, whenever `look` is called.
 LOOKING = r"""
@@ -51,20 +52,29 @@ for (const group of document.querySelectorAll("g.node, g.edge")) {{
 }}
 return found;
 """
+MOST_CASES = 8
 EACH_TAB = f"const where = 'the page'; {LOOKING} {TABS} return found;"
 
 
 def every_tab_of_every_round(view):
-    for files in (PUMP, RELAY, ARRAY, *RANDOM):
+    for files in (PUMP, RELAY, ARRAY):
         view.show(*files)
         view.same(view.run(EACH_ROUND), [], f"words of {files[2].name} that nobody means")
         view.quiet()
 
 
 def every_set_with_all_that_is_said_of_it(view):
-    for files in (PUMP, RELAY, ARRAY, GAUGE, *RANDOM):
+    for files in (PUMP, RELAY, ARRAY, GAUGE):
         view.show(*files)
         view.same(view.run(EACH_SET), [], f"words of {files[2].name} that nobody means")
+        view.quiet()
+
+
+def all_of_some_random_reports(view):
+    for files in list(written_cases(view.maker))[:MOST_CASES]:
+        view.show(*files)
+        for script in (EACH_ROUND, EACH_SET):
+            view.same(view.run(script), [], f"words of {files[2].name} that nobody means")
         view.quiet()
 
 
