@@ -40,12 +40,13 @@ pub(crate) fn new_findings<L: Ledger>(
 {
     let mut findings = Vec::with_capacity(alloc, table.len() as usize)?;
     for number in 0..table.len() {
+        let hypothesis = table.hypothesis(number);
+        log.ignore(hypothesis.doubts);
         let listed = Listed {
             number,
-            hypothesis: table.hypothesis(number),
+            hypothesis,
             reach: table.reach(number),
         };
-        log.ignore(listed.hypothesis.doubts);
         let slot = &mut slots[number as usize];
         let finding = new_finding(alloc, inquiry, log, &listed, &findings, slot, work)?;
         findings.push(finding)?;
