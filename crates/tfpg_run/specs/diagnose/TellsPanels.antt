@@ -20,7 +20,7 @@ desks before now = record { before = before; now = now }
 
 -- the loss that a report says after the round of this number, as the desk has it
 abbrev pub lost_at : ℕ → Loss → LostPanel
-lost_at number loss = record { panel = loss.panel; round = number; fault = if loss.no_memory then NoMemory else Lost }
+lost_at number loss = record { panel = loss.panel; round = number; fault = if loss.memory then NoMemory else Lost }
 
 -- the losses that a block says
 abbrev pub losses_in : Block → List LostPanel

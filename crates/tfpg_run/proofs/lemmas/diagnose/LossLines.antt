@@ -20,7 +20,7 @@ use Rattle.tfpg_run.proofs.Putting.{Puts-append, Puts-same, Writes-then, cut_fir
 use Rattle.tfpg_run.proofs.lemmas.diagnose.ToldBlocks.{none_came}
 
 -- the line of a lost panel in its three pieces
-parts_of : (panel : ℕ) (fault : PanelFault) → codes "panel " ++ (decimal panel ++ end_of_loss fault) ≡ lost_text (record { panel = panel; no_memory = is_memory fault })
+parts_of : (panel : ℕ) (fault : PanelFault) → codes "panel " ++ (decimal panel ++ end_of_loss fault) ≡ lost_text (record { panel = panel; memory = is_memory fault })
 parts_of panel Lost = ap (λ (t : List ℕ). codes "panel " ++ t) (sym (append_assoc (decimal panel) (codes " lost") (10 ∷ [])))
 parts_of panel NoMemory = ap (λ (t : List ℕ). codes "panel " ++ t) (sym (append_assoc (decimal panel) (codes " memory") (10 ∷ [])))
 

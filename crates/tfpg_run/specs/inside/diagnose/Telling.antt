@@ -20,7 +20,7 @@ is_memory NoMemory = true
 
 -- the loss as a report says it
 abbrev pub said_loss : LostPanel → Loss
-said_loss lost = record { panel = lost.panel; no_memory = is_memory lost.fault }
+said_loss lost = record { panel = lost.panel; memory = is_memory lost.fault }
 
 -- the end of the line of a panel that was lost for this fault
 abbrev pub end_of_loss : PanelFault → List ℕ
