@@ -45,8 +45,8 @@ same_losses xs ys same = map-injective (λ loss. Unit {0}) loss_line one_loss xs
     one_loss : (a b : Loss) → Unit {0} → Unit {0} → loss_line a ≡ loss_line b → a ≡ b
     one_loss a b of too is =
         let panels : a.panel ≡ b.panel = cc in
-        let memory : a.no_memory ≡ b.no_memory = cc in
-        λ i. record { panel = panels i; no_memory = memory i }
+        let memory : a.memory ≡ b.memory = cc in
+        λ i. record { panel = panels i; memory = memory i }
 
 begins_with_panel : (losses : List Loss) → BeginsPassing is_panel (map loss_line losses)
 begins_with_panel [] = tt

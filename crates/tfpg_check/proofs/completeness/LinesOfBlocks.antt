@@ -35,7 +35,7 @@ is_within (At activation) = true
 is_within (Open number hypothesis) = true
 is_within (Rejected number hypothesis) = true
 is_within (Counts counts) = false
-is_within (Panel panel no_memory) = false
+is_within (Panel panel memory) = false
 
 -- the line begins a block
 abbrev pub begins_block : ReportLine → Bool
@@ -45,7 +45,7 @@ begins_block _ = false
 
 -- the line is that of a lost panel
 abbrev pub is_panel : ReportLine → Bool
-is_panel (Panel panel no_memory) = true
+is_panel (Panel panel memory) = true
 is_panel _ = false
 
 -- the line completes a block that may fail: it is a refused line, or the counts of a round
@@ -61,7 +61,7 @@ within_not_last (OldHead k budget) within = absurd cc
 within_not_last (Refused line cause) within = absurd cc
 within_not_last (Round number line now) within = absurd cc
 within_not_last (Counts counts) within = absurd cc
-within_not_last (Panel panel no_memory) within = absurd cc
+within_not_last (Panel panel memory) within = absurd cc
 within_not_last _ within = refl
 
 -- begins no block,
@@ -72,7 +72,7 @@ within_begins_none _ within = refl
 
 -- and is that of no lost panel
 pub within_no_panel : (line : ReportLine) → is_within line ≡ true → is_panel line ≡ false
-within_no_panel (Panel panel no_memory) within = absurd cc
+within_no_panel (Panel panel memory) within = absurd cc
 within_no_panel _ within = refl
 
 -- what completes a block is a last line
@@ -83,7 +83,7 @@ last_completes _ completes = absurd cc
 
 -- that of a lost panel completes none
 pub panel_completes_none : (line : ReportLine) → is_panel line ≡ true → completes_block line ≡ false
-panel_completes_none (Panel panel no_memory) panel_is = refl
+panel_completes_none (Panel panel memory) panel_is = refl
 panel_completes_none _ panel_is = absurd cc
 
 -- ---- the lines within a round

@@ -24,7 +24,7 @@ use Rattle.tfpg_report.specs.declared.report_line.ReportLine.{ReportLine}
 use Rattle.tfpg_report.specs.declared.report_line.ReportLine.TheVariants.{Head, OldHead, Refused, Round, Hyp, Split, Cycle, Why, Again, Ranked, At, Open, Rejected, Counts, Panel}
 use Rattle.tfpg_report.specs.SetText.{IsHypothesisOf}
 use Rattle.tfpg_report.specs.Blocks.{Block, RefusedBlock, RoundBlock, block_lines, lines_of_finding, lines_if_ranked, loss_line, open_line, rejected_line, round_lines}
-use Rattle.tfpg_report.specs.ReadRounds.{step_lines, hypothesis_named}
+use Rattle.tfpg_report.specs.ReadRounds.{step_lines}
 use Rattle.tfpg_check.specs.Report.{AreBlocks}
 use Rattle.tfpg_check.proofs.EqualSayings.{RoundsAreOfTheirGraph}
 use Rattle.tfpg_check.proofs.RoundsOfReports.{round_there}
@@ -47,7 +47,7 @@ NamesOfGraph graph (At activation) = activation.node < length graph.nodes
 NamesOfGraph graph (Open number hypothesis) = IsHypothesisOf graph hypothesis
 NamesOfGraph graph (Rejected number hypothesis) = IsHypothesisOf graph hypothesis
 NamesOfGraph graph (Counts counts) = Unit {0}
-NamesOfGraph graph (Panel panel no_memory) = Unit {0}
+NamesOfGraph graph (Panel panel memory) = Unit {0}
 
 module _ (of_graph : RoundsAreOfTheirGraph) (graph : Tfpg) where
   abbrev AreNamed : List ReportLine → Type 0
@@ -86,8 +86,8 @@ module _ (of_graph : RoundsAreOfTheirGraph) (graph : Tfpg) where
   -- ---- a round
 
   module _ (terms : Terms) (line : ℕ) (rounds : List RoundOf) (log : Logbook) (round : RoundOf) (of : IsLogOf graph log) (is_round : IsRound graph terms rounds log line round) where
-    hypothesis_named : (number : ℕ) (finding : Finding) → slice_get round.findings number ≡ Some finding → IsHypothesisOf graph (hypothesis_of finding)
-    hypothesis_named number finding at =
+    named_hypothesis : (number : ℕ) (finding : Finding) → slice_get round.findings number ≡ Some finding → IsHypothesisOf graph (hypothesis_of finding)
+    named_hypothesis number finding at =
         let own = evidence is_round number finding at in
         let is = (is_round.table.exact own.0).0 (Contains-at is_round.hypotheses number own.0 own.1) in
         subst (IsHypothesisOf graph) (sym own.2.hypothesis_is) (record { set = is.of_graph; rising = is.doubts_of_graph.rising; monitored = is.doubts_of_graph.monitored })
@@ -97,7 +97,7 @@ module _ (of_graph : RoundsAreOfTheirGraph) (graph : Tfpg) where
         All-from_indexes IsNamed round.findings
         (λ number finding at. record {
           of = All-contains (IsFindingOf (sizes_of graph)) round.findings finding (of_graph graph terms line rounds log round of is_round).findings (Contains-at round.findings number finding at);
-          hypothesis = hypothesis_named number finding at;
+          hypothesis = named_hypothesis number finding at;
         })
 
     order_named : All IsNamed (ranked_in_order round)

@@ -74,7 +74,7 @@ place (At activation) = 2
 place (Open number hypothesis) = 3
 place (Rejected number hypothesis) = 4
 place (Counts counts) = 5
-place (Panel panel no_memory) = 6
+place (Panel panel memory) = 6
 
 -- The lines have this place.
 abbrev StandAt : ℕ → List ReportLine → Type 0

@@ -80,7 +80,7 @@ not_first reads read at completed stands completes others none = by completed co
     by (fed.Head k doubt budget) completed later = cc
     by (fed.Refused number cause) completed later = false≢true (ap may_be_first (sym completed) ∙ may)
     by (fed.Round round) completed later = false≢true (ap may_be_first (sym completed.0.1) ∙ may)
-    by (fed.Lost panel no_memory) completed later = false≢true (ap may_be_first (sym completed) ∙ may)
+    by (fed.Lost panel memory) completed later = false≢true (ap may_be_first (sym completed) ∙ may)
 
 -- ---- what is kept
 
@@ -183,9 +183,9 @@ module _ (matter : Matter) (reads : List ReportLine) (bytes : List ℕ) (read : 
         )
 
     -- a panel was lost
-    lost_goes_on : (panel : ℕ) (no_memory : Bool) → read ≡ Panel panel no_memory → new ≡ old → KeepsMore matter (reads ++ read ∷ []) new
-    lost_goes_on panel no_memory says same =
-        let gone = loss_goes_on matter terms blocks reads panel no_memory may_come.stand keeps.right (subst (IsLineWithin matter.graph) says may_come.says.within)
+    lost_goes_on : (panel : ℕ) (memory : Bool) → read ≡ Panel panel memory → new ≡ old → KeepsMore matter (reads ++ read ∷ []) new
+    lost_goes_on panel memory says same =
+        let gone = loss_goes_on matter terms blocks reads panel memory may_come.stand keeps.right (subst (IsLineWithin matter.graph) says may_come.says.within)
         (ap (λ (line : ReportLine). stand_of (reads ++ line ∷ [])) (sym says) ∙ may_come.stands) in
         let long = gone.as_many in (
           terms,
@@ -271,8 +271,8 @@ module _ (matter : Matter) (reads : List ReportLine) (bytes : List ℕ) (read : 
         (subst (λ (line : ReportLine). IsReadFrom (length reads - length (begun_in reads) + 1) (begun_in reads ++ line ∷ []) round) completes.0.1 completes.1)
         may_come.stand (ap (λ (line : ReportLine). stand_of (reads ++ line ∷ [])) (sym completes.0.1) ∙ may_come.stands) new judged.3 in
         subst (λ (line : ReportLine). KeepsMore matter (reads ++ line ∷ []) new) (sym completes.0.1) (more.0, gone.0, gone.1)
-    fed_goes_on (fed.Lost panel no_memory) completes judged =
-        let more = with_blocks (fed.Lost panel no_memory) completes refl in lost_goes_on more.0 more.1 more.2 panel no_memory completes judged.1
+    fed_goes_on (fed.Lost panel memory) completes judged =
+        let more = with_blocks (fed.Lost panel memory) completes refl in lost_goes_on more.0 more.1 more.2 panel memory completes judged.1
 
     -- one that completes a block that is wrong fails
     block_fails : (at : ℕ) (why : CheckCause) (more : KeepsMore matter reads old) → BlockFails matter more.0 more.1 reads read at why → IsJudged matter reads bytes (Err (NotAccepted at why))
@@ -302,7 +302,7 @@ module _ (matter : Matter) (reads : List ReportLine) (bytes : List ℕ) (read : 
         let more = with_blocks (fed.Round round) completes refl in block_fails at why more (round_fails more.0 more.1 more.2 round completes at why judged)
     fed_fails (fed.Round round) (TooMany count) completes judged = absurd judged
     fed_fails (fed.Round round) NoMemory completes judged = tt
-    fed_fails (fed.Lost panel no_memory) fault completes judged = let none = judged.0 in absurd cc
+    fed_fails (fed.Lost panel memory) fault completes judged = let none = judged.0 in absurd cc
 
 -- ---- a line
 
@@ -364,7 +364,7 @@ graph_stays at fed.More old new judged = ap (λ (s : BlocksState). s.graph) judg
 graph_stays at (fed.Head k doubt budget) old new judged = ap (λ (s : BlocksState). s.graph) judged.after
 graph_stays at (fed.Refused number cause) old new judged = ap (λ (s : BlocksState). s.graph) judged.0.after
 graph_stays at (fed.Round round) old new judged = ap (λ (s : BlocksState). s.graph) judged.3.after ∙ ap (λ (s : BlocksState). s.graph) judged.2.after
-graph_stays at (fed.Lost panel no_memory) old new judged = ap (λ (s : BlocksState). s.graph) judged.1
+graph_stays at (fed.Lost panel memory) old new judged = ap (λ (s : BlocksState). s.graph) judged.1
 
 -- there are hypotheses after each line
 docket_is_kept : (at : ℕ) (completed : Fed) (reads : List ReportLine) (read : ReportLine) (stand_is : Stand) (old new : BlocksState) → stand_of (reads ++ read ∷ []) ≡ Some stand_is
@@ -377,8 +377,8 @@ docket_is_kept at (fed.Refused number cause) reads read stand_is old new stands 
     not_first reads read stand_is (fed.Refused number cause) stands completes refl (begun (sym (ap (λ (s : BlocksState). s.docket) judged.0.after) ∙ none))
 docket_is_kept at (fed.Round round) reads read stand_is old new stands completes judged begun none =
     let some : Some judged.3.kept ≡ None = sym (ap (λ (s : BlocksState). s.docket) judged.3.after) ∙ none in cc
-docket_is_kept at (fed.Lost panel no_memory) reads read stand_is old new stands completes judged begun none =
-    not_first reads read stand_is (fed.Lost panel no_memory) stands completes refl (begun (sym (ap (λ (s : BlocksState). s.docket) judged.1) ∙ none))
+docket_is_kept at (fed.Lost panel memory) reads read stand_is old new stands completes judged begun none =
+    not_first reads read stand_is (fed.Lost panel memory) stands completes refl (begun (sym (ap (λ (s : BlocksState). s.docket) judged.1) ∙ none))
 
 -- lines within their limits stay so with one more
 within_still : (graph : Tfpg) (reads : List ReportLine) (read : ReportLine) → All (IsLineWithin graph) (begun_in reads) → IsLineWithin graph read

@@ -85,10 +85,10 @@ lines_of_last : (front : List Block) (block : Block) → flat_map block_lines (f
 lines_of_last front block =
     flat_map-append block_lines front (block ∷ []) ∙ ap (λ (ls : List ReportLine). flat_map block_lines front ++ ls) (append-nil (block_lines block))
 
-module _ (matter : Matter) (terms : Terms) (reads : List ReportLine) (panel : ℕ) (no_memory : Bool) (few : panel ≤ MAX_PANEL_NUMBER) (last : Option ℕ)
+module _ (matter : Matter) (terms : Terms) (reads : List ReportLine) (panel : ℕ) (memory : Bool) (few : panel ≤ MAX_PANEL_NUMBER) (last : Option ℕ)
     (stands : stand_of reads ≡ Some (stand.Counts last)) (later : is_later last panel ≡ true) where
   abbrev Lost : Loss
-  Lost = record { panel = panel; no_memory = no_memory }
+  Lost = record { panel = panel; memory = memory }
 
   -- where the lines end with those of a last block
   module _ (front : List Block) (block : Block) (right : AreRightSoFar matter terms (front ++ block ∷ []) reads) where
@@ -105,7 +105,7 @@ module _ (matter : Matter) (terms : Terms) (reads : List ReportLine) (panel : �
 
   -- a round
   with_loss : (front : List Block) (round : RoundOf) (losses : List Loss) → AreRightSoFar matter terms (front ++ RoundBlock round losses ∷ []) reads
-      → GoesOnWithLoss matter terms (front ++ RoundBlock round losses ∷ []) (reads ++ Panel panel no_memory ∷ [])
+      → GoesOnWithLoss matter terms (front ++ RoundBlock round losses ∷ []) (reads ++ Panel panel memory ∷ [])
   with_loss front round losses right =
       let block : Block = RoundBlock round losses in
       let next_is : Block = RoundBlock round (losses ++ Lost ∷ []) in
@@ -130,12 +130,12 @@ module _ (matter : Matter) (terms : Terms) (reads : List ReportLine) (panel : �
         more = front ++ next_is ∷ [];
         as_many = length-append front (next_is ∷ []) ∙ sym (length-append front (block ∷ []));
         same_rounds = rounds_with front block ∙ sym (rounds_with front next_is);
-        right = right_with_block matter terms right.has_reports right.head right.is_head front next_is (reads ++ Panel panel no_memory ∷ []) (front_is front block right) next
-            (ap (λ (ls : List ReportLine). ls ++ Panel panel no_memory ∷ []) same
+        right = right_with_block matter terms right.has_reports right.head right.is_head front next_is (reads ++ Panel panel memory ∷ []) (front_is front block right) next
+            (ap (λ (ls : List ReportLine). ls ++ Panel panel memory ∷ []) same
             ∙ ap (λ (ls : List ReportLine). right.head ∷ ls)
-            (append_assoc before (block_lines block) (Panel panel no_memory ∷ [])
+            (append_assoc before (block_lines block) (Panel panel memory ∷ [])
             ∙ ap (λ (ls : List ReportLine). before ++ ls)
-            (append_assoc (round_lines round) lost (Panel panel no_memory ∷ []) ∙ ap (λ (ls : List ReportLine). round_lines round ++ ls) (sym (map-append loss_line losses (Lost ∷ []))))));
+            (append_assoc (round_lines round) lost (Panel panel memory ∷ []) ∙ ap (λ (ls : List ReportLine). round_lines round ++ ls) (sym (map-append loss_line losses (Lost ∷ []))))));
       }
 
   -- no refused line
@@ -152,28 +152,28 @@ module _ (matter : Matter) (terms : Terms) (reads : List ReportLine) (panel : �
   not_first head (inr old) at = let none : Some stand.Block ≡ Some (stand.Counts last) = ap (λ (l : ReportLine). stand_of (l ∷ [])) (sym old.1) ∙ at in cc
 
   by_last : (front : List Block) (block : Block) → AreRightSoFar matter terms (front ++ block ∷ []) reads
-      → GoesOnWithLoss matter terms (front ++ block ∷ []) (reads ++ Panel panel no_memory ∷ [])
+      → GoesOnWithLoss matter terms (front ++ block ∷ []) (reads ++ Panel panel memory ∷ [])
   by_last front (RefusedBlock number cause) right = absurd (not_refused front number cause right)
   by_last front (RoundBlock round losses) right = with_loss front round losses right
 
-  by_blocks : (blocks : List Block) → AreRightSoFar matter terms blocks reads → GoesOnWithLoss matter terms blocks (reads ++ Panel panel no_memory ∷ [])
+  by_blocks : (blocks : List Block) → AreRightSoFar matter terms blocks reads → GoesOnWithLoss matter terms blocks (reads ++ Panel panel memory ∷ [])
   by_blocks [] right =
       let same : reads ≡ right.head ∷ [] = right.lines_are ∙ ap (λ (begun : List ReportLine). right.head ∷ begun) (none_begun reads (stand.Counts last) stands refl) in
       absurd (not_first right.head right.is_head (ap stand_of (sym same) ∙ stands))
   by_blocks (block ∷ blocks) right =
       let whole = ends_with block blocks in
-      subst (λ (bs : List Block). GoesOnWithLoss matter terms bs (reads ++ Panel panel no_memory ∷ [])) (sym whole.is)
+      subst (λ (bs : List Block). GoesOnWithLoss matter terms bs (reads ++ Panel panel memory ∷ [])) (sym whole.is)
       (by_last whole.front whole.last (subst (λ (bs : List Block). AreRightSoFar matter terms bs reads) whole.is right))
 
 -- A lost panel goes on right.
-pub loss_goes_on : (matter : Matter) (terms : Terms) (blocks : List Block) (reads : List ReportLine) (panel : ℕ) (no_memory : Bool) (at : Stand) → AreRightSoFar matter terms blocks reads
-    → panel ≤ MAX_PANEL_NUMBER → stand_of (reads ++ Panel panel no_memory ∷ []) ≡ Some at → GoesOnWithLoss matter terms blocks (reads ++ Panel panel no_memory ∷ [])
-loss_goes_on matter terms blocks reads panel no_memory at right few stands = by comes.between comes.front_leads comes.back_leads
+pub loss_goes_on : (matter : Matter) (terms : Terms) (blocks : List Block) (reads : List ReportLine) (panel : ℕ) (memory : Bool) (at : Stand) → AreRightSoFar matter terms blocks reads
+    → panel ≤ MAX_PANEL_NUMBER → stand_of (reads ++ Panel panel memory ∷ []) ≡ Some at → GoesOnWithLoss matter terms blocks (reads ++ Panel panel memory ∷ [])
+loss_goes_on matter terms blocks reads panel memory at right few stands = by comes.between comes.front_leads comes.back_leads
   where
-    comes : ComesBy stand.Nothing reads (Panel panel no_memory ∷ []) at
-    comes = comes_by stand.Nothing reads (Panel panel no_memory ∷ []) at stands
+    comes : ComesBy stand.Nothing reads (Panel panel memory ∷ []) at
+    comes = comes_by stand.Nothing reads (Panel panel memory ∷ []) at stands
 
-    by : (between : Stand) → stand_of reads ≡ Some between → after_loss between panel ≡ Some at → GoesOnWithLoss matter terms blocks (reads ++ Panel panel no_memory ∷ [])
+    by : (between : Stand) → stand_of reads ≡ Some between → after_loss between panel ≡ Some at → GoesOnWithLoss matter terms blocks (reads ++ Panel panel memory ∷ [])
     by (stand.Counts last) front leads =
-        by_blocks matter terms reads panel no_memory few last front (then_some-true (is_later last panel) (stand.Counts (Some panel)) at leads).0 blocks right
+        by_blocks matter terms reads panel memory few last front (then_some-true (is_later last panel) (stand.Counts (Some panel)) at leads).0 blocks right
     by _ front leads = absurd cc

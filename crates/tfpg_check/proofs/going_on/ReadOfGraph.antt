@@ -100,4 +100,4 @@ fed_of_graph graph reads bytes reader docket (fed.Round read) takes within begun
       (ap (λ (line : ReportLine). stand_of (line ∷ [])) (sym takes.completes.0.1)
       ∙ ap (λ (front : List ReportLine). stand_of (front ++ takes.read ∷ [])) (sym (begun none)) ∙ takes.may_come.stands),
 )
-fed_of_graph graph reads bytes reader docket (fed.Lost panel no_memory) takes within begun = tt
+fed_of_graph graph reads bytes reader docket (fed.Lost panel memory) takes within begun = tt

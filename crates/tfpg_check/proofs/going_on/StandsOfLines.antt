@@ -108,7 +108,7 @@ last_by_stand before at (At activation) leads may = absurd (false≢true (sym (b
 last_by_stand before at (Open number hypothesis) leads may = absurd (false≢true (sym (leads_elsewhere (may_open before) stand.Open at refl leads) ∙ may))
 last_by_stand before at (Rejected number hypothesis) leads may = absurd (false≢true (sym (leads_elsewhere (may_reject before) stand.Rejected at refl leads) ∙ may))
 last_by_stand before at (Counts counts) leads may = refl
-last_by_stand before at (Panel panel no_memory) leads may = refl
+last_by_stand before at (Panel panel memory) leads may = refl
 
 -- After a line that ends what it belongs to, a block may begin.
 pub last_leads : (before at : Stand) (line : ReportLine) → stand_after before line ≡ Some at → is_last line ≡ true → may_begin_block at ≡ true
@@ -116,8 +116,8 @@ last_leads before at (Head terms) leads last = ap may_begin_block (sym (then_som
 last_leads before at (OldHead k budget) leads last = ap may_begin_block (sym (then_some-true (may_begin before) stand.Block at leads).1)
 last_leads before at (Refused number cause) leads last = ap may_begin_block (sym (then_some-true (may_begin_block before) stand.Block at leads).1)
 last_leads before at (Counts counts) leads last = ap may_begin_block (sym (then_some-true (may_reject before) (stand.Counts None) at leads).1)
-last_leads (stand.Counts held) at (Panel panel no_memory) leads last = ap may_begin_block (sym (then_some-true (is_later held panel) (stand.Counts (Some panel)) at leads).1)
-last_leads _ at (Panel panel no_memory) leads last = absurd cc
+last_leads (stand.Counts held) at (Panel panel memory) leads last = ap may_begin_block (sym (then_some-true (is_later held panel) (stand.Counts (Some panel)) at leads).1)
+last_leads _ at (Panel panel memory) leads last = absurd cc
 last_leads before at _ leads last = absurd cc
 
 -- Where a block may begin, no round has begun.
@@ -162,8 +162,8 @@ none_read (read ∷ reads) stands =
     never_back before (Open number hypothesis) leads = let to = elsewhere (may_open before) stand.Open leads in cc
     never_back before (Rejected number hypothesis) leads = let to = elsewhere (may_reject before) stand.Rejected leads in cc
     never_back before (Counts counts) leads = let to = elsewhere (may_reject before) (stand.Counts None) leads in cc
-    never_back (stand.Counts last) (Panel panel no_memory) leads = let to = elsewhere (is_later last panel) (stand.Counts (Some panel)) leads in cc
-    never_back _ (Panel panel no_memory) leads = cc
+    never_back (stand.Counts last) (Panel panel memory) leads = let to = elsewhere (is_later last panel) (stand.Counts (Some panel)) leads in cc
+    never_back _ (Panel panel memory) leads = cc
 
 -- So a first line comes first.
 pub head_comes_first : (reads : List ReportLine) (terms : Terms) (read : ReportLine) (at : Stand) → IsHead terms read → stand_of (reads ++ read ∷ []) ≡ Some at → reads ≡ []

@@ -101,7 +101,7 @@ module _ (docket : Docket) (line : ℕ) (read : ReadRound) (passes : RoundPasses
       (λ earlier other before there same. omega (arith, before, same, (hypothesis_there docket line read passes findings are earlier other there).2.number_is)) in
       ap (λ (o : Option Finding). unwrap_or (option_map (λ (f : Finding). lines_if_ranked f f.status) o) []) at
       ∙ ap (lines_if_ranked found.0) found.3
-      ∙ (λ i. Ranked (found.2.number_is i) r.cost r.alarmed r.monitored (found.2.hypothesis_is i).set (found.2.hypothesis_is i).doubts ∷ map At r.trace)
+      ∙ (λ i. Ranked (found.2.number_is i) r.cost r.alarmed r.monitored (found.2.hypothesis_is i) ∷ map At r.trace)
 
   ranked_are : said (flat_map lines_of_ranked read.ranked)
       ≡ flat_map (λ (f : Finding). lines_if_ranked f f.status) (findings_at findings (map (λ (r : RankedLine). r.number) read.ranked))

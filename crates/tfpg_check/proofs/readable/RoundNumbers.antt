@@ -90,7 +90,7 @@ module _ (graph : Tfpg) (valid : IsValid graph) where
       by None = omega arith
       by (Some node) = of_node node (slice_get graph.nodes node) refl
 
-  cost_small : (hypothesis : Hypothesis) → HasFewMembers hypothesis.set hypothesis.doubts → IsSmall (cost_of graph hypothesis)
+  cost_small : (hypothesis : Hypothesis) → HasFewMembers hypothesis → IsSmall (cost_of graph hypothesis)
   cost_small hypothesis few = omega (arith, few, sum_by-le (rarity_at graph) MAX_RARITY hypothesis.set (λ k d within. rarity_small (get_or hypothesis.set k d)))
 
   -- a set reaches nodes of the graph alone
@@ -141,7 +141,7 @@ module _ (graph : Tfpg) (valid : IsValid graph) (terms : Terms) (has_reports : H
         let own = evidence is_round number finding at in
         subst (IsHypothesis graph terms) (sym own.2.hypothesis_is) ((is_round.table.exact own.0).0 (Contains-at is_round.hypotheses number own.0 own.1))
 
-    members_few : (number : ℕ) (finding : Finding) → slice_get round.findings number ≡ Some finding → HasFewMembers finding.set finding.doubts
+    members_few : (number : ℕ) (finding : Finding) → slice_get round.findings number ≡ Some finding → HasFewMembers (hypothesis_of finding)
     members_few number finding at =
         let size = (hypothesis_there number finding at).size in
         let few = has_reports.within.few_members in
@@ -159,7 +159,7 @@ module _ (graph : Tfpg) (valid : IsValid graph) (terms : Terms) (has_reports : H
         })
 
     -- the lines of a finding, if it is ranked
-    ranked_small : (finding : Finding) (hypothesis : Hypothesis) (reach : List ℕ) (steps : List Judged) (s : Status) → IsSmall finding.number → HasFewMembers finding.set finding.doubts
+    ranked_small : (finding : Finding) (hypothesis : Hypothesis) (reach : List ℕ) (steps : List Judged) (s : Status) → IsSmall finding.number → HasFewMembers (hypothesis_of finding)
         → IsReach graph hypothesis.set reach → HasEvidence (case_for graph log hypothesis reach) terms.budget round.findings steps finding s → AreSmall (lines_if_ranked finding s)
     ranked_small finding hypothesis reach steps (status.Ranked trace cost alarmed monitored) small few reached own =
         let robust = robust_small graph valid (log_for log hypothesis) hypothesis.set reach finding.doubts reached in
@@ -180,7 +180,7 @@ module _ (graph : Tfpg) (valid : IsValid graph) (terms : Terms) (has_reports : H
     -- What a finding says has small numbers.
     record IsSmallFinding (finding : Finding) : Type 0 where
       number : IsSmall finding.number
-      members : HasFewMembers finding.set finding.doubts
+      members : HasFewMembers (hypothesis_of finding)
       steps : All HasSmallStep finding.steps
       ranked : AreSmall (lines_if_ranked finding finding.status)
 

@@ -109,7 +109,7 @@ module _ (graph : Tfpg) (valid : IsValid graph) where
       by (Some node) = name node
 
   -- the text of a set of few members
-  set_short : (hypothesis : Hypothesis) → HasFewMembers hypothesis.set hypothesis.doubts → length (set_word graph hypothesis) ≤ 2200
+  set_short : (hypothesis : Hypothesis) → HasFewMembers hypothesis → length (set_word graph hypothesis) ≤ 2200
   set_short hypothesis few = by (member_words graph hypothesis) members (omega (arith, many, few))
     where
       many : length (member_words graph hypothesis) ≡ length hypothesis.set + length hypothesis.doubts
@@ -210,7 +210,7 @@ module _ (graph : Tfpg) (valid : IsValid graph) where
   refused_short line TooLong small within = refused_by line (codes "TooLong") small (keyword (codes "TooLong") refl)
   refused_short line (Offer refusal) small within = refusal_short refusal line small within
 
-  lost_short : (panel : ℕ) (no_memory : Bool) → panel ≤ MAX_LINE_NUMBER → AreFew (lost_words panel no_memory)
+  lost_short : (panel : ℕ) (memory : Bool) → panel ≤ MAX_LINE_NUMBER → AreFew (lost_words panel memory)
   lost_short panel true small =
       by_recursion (lost_words panel true) (keyword (codes "panel") refl, (number_short panel (omega (arith, small)), (keyword (codes "memory") refl, tt))) (omega arith)
   lost_short panel false small =
@@ -323,4 +323,4 @@ module _ (graph : Tfpg) (valid : IsValid graph) where
           ),
         ),
       ) (omega arith))
-  line_short (Panel panel no_memory) small = few_words (line_words graph (Panel panel no_memory)) (lost_short panel no_memory small)
+  line_short (Panel panel memory) small = few_words (line_words graph (Panel panel memory)) (lost_short panel memory small)

@@ -1,5 +1,6 @@
 -- Lines whose numbers are within their limits: whatever they name, as long as the graph has it, such lines are within their limits.
-use Rattle.std.proofs.Common.{ℕ, ◌+◌, ◌≤◌, List, length}
+use Rattle.std.proofs.Common.{ℕ, ◌+◌, ◌≤◌, length}
+use Rattle.tfpg_base.specs.Hypothesis.{Hypothesis}
 use Rattle.tfpg_base.specs.Terms.{AreReportTerms}
 use Rattle.tfpg_base.specs.declared.limits.TheConstants.{MAX_LINE_NUMBER, MAX_MEMBERS, MAX_PANEL_NUMBER, MAX_TIME}
 use Rattle.tfpg_graph.specs.Graph.{Tfpg}
@@ -28,8 +29,8 @@ HasSmallReason (Quiet event node) = IsSmall event
 HasSmallReason (Pick split constraint) = (split ≤ MAX_LINE_NUMBER) × IsSmall constraint
 
 -- A hypothesis has few members.
-abbrev pub HasFewMembers : List ℕ → List ℕ → Type 0
-HasFewMembers set doubts = length set + length doubts ≤ MAX_MEMBERS
+abbrev pub HasFewMembers : Hypothesis → Type 0
+HasFewMembers hypothesis = length hypothesis.set + length hypothesis.doubts ≤ MAX_MEMBERS
 
 -- The numbers of a line are within their limits, and so is how many members its set has.
 abbrev pub HasSmallNumbers : ReportLine → Type 0
@@ -43,12 +44,12 @@ HasSmallNumbers (Cycle count) = IsSmall count
 HasSmallNumbers (Why reason) = HasSmallReason reason
 HasSmallNumbers Again = Unit {0}
 HasSmallNumbers (Ranked number cost alarmed monitored hypothesis) =
-    IsSmall number × IsSmall cost × IsSmall alarmed × IsSmall monitored × HasFewMembers set doubts
+    IsSmall number × IsSmall cost × IsSmall alarmed × IsSmall monitored × HasFewMembers hypothesis
 HasSmallNumbers (At activation) = activation.time ≤ MAX_TIME
-HasSmallNumbers (Open number hypothesis) = IsSmall number × HasFewMembers set doubts
-HasSmallNumbers (Rejected number hypothesis) = IsSmall number × HasFewMembers set doubts
+HasSmallNumbers (Open number hypothesis) = IsSmall number × HasFewMembers hypothesis
+HasSmallNumbers (Rejected number hypothesis) = IsSmall number × HasFewMembers hypothesis
 HasSmallNumbers (Counts counts) = AreCountsWithin counts
-HasSmallNumbers (Panel panel no_memory) = panel ≤ MAX_PANEL_NUMBER
+HasSmallNumbers (Panel panel memory) = panel ≤ MAX_PANEL_NUMBER
 
 module _ (graph : Tfpg) where
   name_within : (name : ClauseName) → NamesOfGraph graph (Split name) → HasSmallName name → IsNameWithin graph name
@@ -82,4 +83,4 @@ module _ (graph : Tfpg) where
   line_within (Open number hypothesis) named small = (small.0, named)
   line_within (Rejected number hypothesis) named small = (small.0, named)
   line_within (Counts counts) named small = small
-  line_within (Panel panel no_memory) named small = small
+  line_within (Panel panel memory) named small = small
