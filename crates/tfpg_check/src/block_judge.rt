@@ -13,28 +13,29 @@ use crate::cause::CheckCause;
 use crate::docket::KeptDocket;
 use crate::judge_fault::JudgeFault;
 use crate::log_lines::LogLines;
+use crate::log_text::LogText;
 use crate::round_fault::RoundFault;
 use std::alloc::Global;
 use std::marker::Model;
-use tfpg_base::{LONGEST_LINE, NoMemory, Terms};
+use tfpg_base::{NoMemory, Terms};
 use tfpg_graph::Graph;
-use tfpg_log::{Event, Log, Offered};
-use tfpg_report::{Fed, ReadRound, RefusedLine};
+use tfpg_log::{Event, Log, Offered, RefusedLine, is_too_long};
+use tfpg_report::{Fed, ReadRound};
 
 /// Judges the blocks of a report, each by the next line of the log. After a fault it is of no more use.
 #[derive(Drop)]
-pub(crate) struct BlockJudge {
+pub(crate) struct BlockJudge<T: LogText> {
     alloc: Global,
     graph: Graph,
     /// The lines of the log that have no block yet.
-    log_lines: LogLines,
+    log_lines: LogLines<T>,
     /// The log of those that have one.
     log: Log,
     /// The hypotheses, once the first line of the report came.
     docket: Option<KeptDocket>,
 }
 
-impl Model for BlockJudge {
+impl<T: LogText> Model for BlockJudge<T> {
     ghost use Rattle.tfpg_check.specs.JudgeState.{BlocksState};
     ghost use Rattle.tfpg_check.specs.inside.BlockSteps.{AreOfGraph};
 
@@ -70,12 +71,12 @@ impl NextLine {
     }
 }
 
-impl BlockJudge {
+impl<T: LogText> BlockJudge<T> {
     /// The judge of a report of which no line came, by the graph and the text of the log. Takes no memory.
-    pub(crate) fn new(alloc: Global, graph: Graph, log_text: Vec<u8>) -> BlockJudge
+    pub(crate) fn new(alloc: Global, graph: Graph, log_text: T) -> BlockJudge<T>
         ensures { result ≡ record {
           graph = graph;
-          log_lines = record { passed = 0; left = lines_of log_text.items };
+          log_lines = record { passed = 0; left = lines_of (T.text log_text) };
           log = new_log;
           docket = None;
         } }
@@ -229,7 +230,7 @@ fn event_of(
     ensures err { OnErr result (log.new ≡ log.old) }
     ensures of { IsLogOf graph.now log.new }
 {
-    if line.len() > LONGEST_LINE {
+    if is_too_long(line) {
         return Ok(Err(RefusedLine::TooLong));
     }
     match log.offer(graph, line)? {

@@ -14,6 +14,7 @@ ghost use Rattle.tfpg_check.specs.inside.LineSteps.{CanRead, IsLineJudged};
 use crate::block_judge::BlockJudge;
 use crate::cause::CheckCause;
 use crate::judge_fault::JudgeFault;
+use crate::log_text::LogText;
 use std::alloc::Global;
 use std::marker::Model;
 use tfpg_graph::Graph;
@@ -23,15 +24,15 @@ use tfpg_report::BlockReader;
 /// what the next ones are judged by: the lines of the round that has not ended, the log, and for each hypothesis the path to the
 /// present leaf of its tree.
 #[derive(Drop)]
-pub struct Judge {
+pub struct Judge<T: LogText = Vec<u8>> {
     reader: BlockReader,
-    blocks: BlockJudge,
+    blocks: BlockJudge<T>,
     /// How many lines of the report it was given.
     lines: u64,
     fault: Option<JudgeFault>,
 }
 
-impl Model for Judge {
+impl<T: LogText> Model for Judge<T> {
     ghost use Rattle.tfpg_check.specs.JudgeState.{JudgeState};
     ghost use Rattle.tfpg_check.specs.inside.LineSteps.{IsJudge};
 
@@ -48,10 +49,22 @@ impl Model for Judge {
 }
 
 impl Judge {
-    /// The judge of a report of which no line came. Takes no memory.
+    /// The judge of a report of which no line came. It owns the text of the log. Takes no memory.
     pub fn new(alloc: Global, graph: Graph, log_text: Vec<u8>) -> Judge
         ensures represents { (matter : Matter) → matter.graph ≡ graph →
             matter.log_lines ≡ lines_of log_text.items → JudgeRepresents matter result [] }
+        ensures running { result.fault ≡ None }
+        ensures no_lines { result.lines ≡ 0 }
+    {
+        Judge::by(alloc, graph, log_text)
+    }
+}
+
+impl<T: LogText> Judge<T> {
+    /// The judge of a report of which no line came, by the text of a log that it owns or borrows. Takes no memory.
+    pub fn by(alloc: Global, graph: Graph, log_text: T) -> Judge<T>
+        ensures represents { (matter : Matter) → matter.graph ≡ graph →
+            matter.log_lines ≡ lines_of (T.text log_text) → JudgeRepresents matter result [] }
         ensures running { result.fault ≡ None }
         ensures no_lines { result.lines ≡ 0 }
     {
@@ -132,9 +145,9 @@ impl Judge {
 }
 
 /// Reads the line with this number, and judges what it completes.
-fn take_line(
+fn take_line<T: LogText>(
     reader: &mut BlockReader,
-    blocks: &mut BlockJudge,
+    blocks: &mut BlockJudge<T>,
     number: u64,
     line: &[u8],
 ) -> Result<(), JudgeFault>

@@ -1,7 +1,7 @@
 //! What a report of a list of lines is, and the judge of reports.
 //!
 //! - [`Judge`] takes a report line by line, and judges it by a graph and the text of a log. It keeps what the next lines are judged
-//!   by, and not the report.
+//!   by, and not the report. The text is a [`LogText`], which it owns or borrows.
 //! - [`JudgeFault`] is why a report is not accepted, and [`CheckCause`] the first test that it fails.
 //!
 //! [`laws`] says how far a report has come after each block, that equal reports say the same, that each line of a report can be read,
@@ -23,9 +23,11 @@ mod judge_fault;
 mod kept_flags;
 pub mod laws;
 mod log_lines;
+mod log_text;
 mod round;
 mod round_fault;
 
 pub use cause::CheckCause;
 pub use judge::Judge;
 pub use judge_fault::JudgeFault;
+pub use log_text::LogText;

@@ -4,34 +4,35 @@ ghost use Rattle.std.specs.Prelude.{◌≡◌, ◌≢◌, ◌+◌, ◌≤◌, []
 ghost use Rattle.tfpg_base.specs.Lines.{lines_of};
 ghost use Rattle.tfpg_check.specs.inside.LogLines.{IsLineEnd};
 
+use crate::log_text::LogText;
 use std::marker::Model;
 
 /// The lines of a log's text that were not passed yet.
 #[derive(Drop)]
-pub(crate) struct LogLines {
-    text: Vec<u8>,
+pub(crate) struct LogLines<T: LogText> {
+    text: T,
     /// Where they begin.
     next: usize,
     /// How many were passed.
     passed: u64,
 }
 
-impl Model for LogLines {
+impl<T: LogText> Model for LogLines<T> {
     ghost use Rattle.std.specs.Prelude.{◌≤◌, length, drop};
     ghost use Rattle.tfpg_base.specs.Lines.{lines_of};
     ghost use Rattle.tfpg_check.specs.JudgeState.{LogLinesState};
 
     ghost Value = { LogLinesState };
 
-    ghost view = { λ lines. record { passed = lines.passed; left = lines_of (drop lines.next lines.text.items) } };
+    ghost view = { λ lines. record { passed = lines.passed; left = lines_of (drop lines.next (T.text lines.text)) } };
 
-    ghost invariant = { λ lines. (lines.passed ≤ lines.next) × (lines.next ≤ length lines.text.items) };
+    ghost invariant = { λ lines. (lines.passed ≤ lines.next) × (lines.next ≤ length (T.text lines.text)) };
 }
 
-impl LogLines {
+impl<T: LogText> LogLines<T> {
     /// All lines of the text.
-    pub(crate) fn new(text: Vec<u8>) -> LogLines
-        ensures { result ≡ record { passed = 0; left = lines_of text.items } }
+    pub(crate) fn new(text: T) -> LogLines<T>
+        ensures { result ≡ record { passed = 0; left = lines_of (T.text text) } }
     {
         LogLines {
             text,
@@ -44,7 +45,7 @@ impl LogLines {
     pub(crate) fn first(&self) -> Option<&[u8]>
         ensures { MatchOption result (self.now.left ≡ []) (λ line. self.now.left ≡ line.now ∷ drop 1 self.now.left) }
     {
-        first_line(&self.text[self.next..])
+        first_line(&self.text.bytes()[self.next..])
     }
 
     /// Passes the first line. Goes through it once.
@@ -52,7 +53,7 @@ impl LogLines {
         requires { self.old.left ≢ [] }
         ensures { self.new ≡ record { passed = self.old.passed + 1; left = drop 1 self.old.left } }
     {
-        self.next += len_with_end(&self.text[self.next..]);
+        self.next += len_with_end(&self.text.bytes()[self.next..]);
         self.passed += 1;
     }
 

@@ -6,7 +6,7 @@ use Rattle.tfpg_check.proofs.going_on.BlocksJudged.{refused_as_said}
 use Rattle.tfpg_check.proofs.block_judge.BlockJudge.judge_refused.Goals as goal
 
 pub returns-then-number-passed-clause-judged : goal.returns-then-number-passed-clause-judged
-returns-then-number-passed-clause-judged c =
+returns-then-number-passed-clause-judged g c =
     let same : c.in-Refused.refused ≡ c.args.cause = search rules in
     refused_as_said c.args.self.now c.pass_line.new.self c.in-Refused.refused c.args.cause c.args.number c.passed.result
     (subst (IsNextLine c.args.self.now c.pass_line.new.self) c.in-Refused.is c.in_ok-pass_line.ensures.next) same

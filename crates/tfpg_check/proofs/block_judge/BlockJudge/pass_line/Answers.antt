@@ -5,7 +5,7 @@ use Rattle.tfpg_check.proofs.going_on.BlocksJudged.{offered_is_passed, passed_is
 use Rattle.tfpg_check.proofs.block_judge.BlockJudge.pass_line.Goals as goal
 
 pub returns-clause-next : goal.returns-clause-next
-returns-clause-next c =
+returns-clause-next g c =
     subst (IsNextLine c.args.self.now _) (sym c.of.ensures)
     (passed_is_next c.args.self.now _ c.in_ok-event.event
     (offered_is_passed c.args.self.now c.self.inside.graph c.self.inside.log_lines c.pass.new.self c.self.inside.log c.event_of.new.log c.self.inside.docket c.in-Some.text.now c.in_ok-event.event

@@ -7,7 +7,7 @@ use Rattle.tfpg_check.proofs.going_on.JudgedLines.{line_goes_on, line_is_judged,
 use Rattle.tfpg_check.proofs.judge.Judge.take.Goals as goal
 
 pub invariant_of-self : goal.invariant_of-self
-invariant_of-self c =
+invariant_of-self g c =
     let can = c.self.invariant.reading c.in_default.is in
     let numbered = c.requires.next (sym (ap (λ (s : JudgeState). s.fault) c.self.view_is) ∙ c.in_default.is) ∙ ap (λ (s : JudgeState). s.lines + 1) (sym c.self.view_is) in
     record {
@@ -19,7 +19,7 @@ invariant_of-self c =
     }
 
 pub returns-in-Ok-clause-judged : goal.returns-in-Ok-clause-judged
-returns-in-Ok-clause-judged c = λ matter reads represents.
+returns-in-Ok-clause-judged g c = λ matter reads represents.
     let numbered = c.requires.next represents.running ∙ ap (λ (n : ℕ). n + 1) represents.lines in
     let own = subst (λ (s : JudgeState). JudgeRepresents matter s reads) (sym c.self.view_is) represents in
     let gone = line_goes_on matter reads c.args.line.now
@@ -29,7 +29,7 @@ returns-in-Ok-clause-judged c = λ matter reads represents.
     (gone.read, gone.goes_on)
 
 pub returns-in-Ok-clause-goes_on : goal.returns-in-Ok-clause-goes_on
-returns-in-Ok-clause-goes_on c = λ matter reads represents.
+returns-in-Ok-clause-goes_on g c = λ matter reads represents.
     let numbered = c.requires.next represents.running ∙ ap (λ (n : ℕ). n + 1) represents.lines in
     let own = subst (λ (s : JudgeState). JudgeRepresents matter s reads) (sym c.self.view_is) represents in
     line_goes_on matter reads c.args.line.now
@@ -38,7 +38,7 @@ returns-in-Ok-clause-goes_on c = λ matter reads represents.
     (c.take_line.ensures.judged reads own.reader numbered) c.in-Ok.field-0 c.in-Ok.is c.args.number numbered c.in-Ok.ensures.ready c.self.inside.fault c.in_default.is
 
 pub returns-in-Err-clause-judged : goal.returns-in-Err-clause-judged
-returns-in-Err-clause-judged c = λ matter reads represents.
+returns-in-Err-clause-judged g c = λ matter reads represents.
     let numbered = c.requires.next represents.running ∙ ap (λ (n : ℕ). n + 1) represents.lines in
     let own = subst (λ (s : JudgeState). JudgeRepresents matter s reads) (sym c.self.view_is) represents in
     line_is_judged matter reads c.args.line.now
