@@ -1,6 +1,8 @@
 //! What is tried with one bound after the other: a look ahead by a hypothesis, lent.
 
-use tfpg_base::Hypothesis;
+ghost use Rattle.std.specs.Prelude.{◌≡◌};
+
+use tfpg_base::{Doubts, Hypothesis, Set};
 use tfpg_graph::Graph;
 use tfpg_log::Log;
 
@@ -16,4 +18,20 @@ pub(crate) struct Quest<'a> {
     pub(crate) to: u64,
     /// At least 1.
     pub(crate) budget: u64,
+}
+
+impl<'a> Quest<'a> {
+    /// The failure modes of the hypothesis.
+    pub(crate) fn set(&self) -> Set
+        ensures { result ≡ self.now.hypothesis.set }
+    {
+        self.hypothesis.set
+    }
+
+    /// The monitors that it doubts.
+    pub(crate) fn doubts(&self) -> Doubts
+        ensures { result ≡ self.now.hypothesis.doubts }
+    {
+        self.hypothesis.doubts
+    }
 }

@@ -37,7 +37,7 @@ pub(crate) fn try_bound<L: Ledger>(
     ensures { IfOk result (IsTried (asked_by quest.now) quest.now.hypothesis.set quest.now.budget bound) }
 {
     let mut probed = probed(alloc, quest.graph, quest.log, quest.node, quest.to, bound)?;
-    probed.log.ignore(quest.hypothesis.doubts);
+    probed.log.ignore(quest.doubts());
     let mut steps = StepList::new(alloc);
     let found = search(alloc, quest, &probed, bound, &mut steps, work)?;
     match found {
@@ -69,8 +69,9 @@ fn search<L: Ledger>(
     quest.log.is_always_ordered();
     probed.graph.is_always_valid();
     probed.log.is_always_ordered();
-    let reach = probed.graph.reach(quest.hypothesis.set);
-    let mut search = Search::new(alloc, &probed.graph, quest.hypothesis.set, reach)?;
+    let set = quest.set();
+    let reach = probed.graph.reach(set);
+    let mut search = Search::new(alloc, &probed.graph, set, reach)?;
     let found = search.round(&probed.graph, &probed.log, quest.budget, steps, work)?;
     Ok(found)
 }
