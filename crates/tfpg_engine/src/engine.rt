@@ -169,20 +169,6 @@ impl Engine {
         self.terms
     }
 
-    /// The greatest number of members of a hypothesis.
-    pub fn k(&self) -> u32
-        ensures { result ≡ self.now.terms.k }
-    {
-        self.terms.k
-    }
-
-    /// The greatest number of monitors that a hypothesis doubts.
-    pub fn doubt(&self) -> u32
-        ensures { result ≡ self.now.terms.doubt }
-    {
-        self.terms.doubt
-    }
-
     /// How many splits of a hypothesis a round has at most.
     pub fn budget(&self) -> u64
         ensures { result ≡ self.now.terms.budget }

@@ -5,7 +5,7 @@ ghost use Rattle.tfpg_fleet.specs.Belonging.{belongs, first_space};
 ghost use Rattle.tfpg_fleet.specs.FleetState.{VehicleState};
 
 use crate::vehicle::Vehicle;
-use tfpg_base::LONGEST_LINE;
+use tfpg_log::is_too_long;
 
 /// The index of the vehicle that a line belongs to, and the vehicle's own line.
 pub(crate) fn addressee<'a>(vehicles: &[Vehicle], line: &'a [u8]) -> Option<(usize, &'a [u8])>
@@ -13,7 +13,7 @@ pub(crate) fn addressee<'a>(vehicles: &[Vehicle], line: &'a [u8]) -> Option<(usi
         ≡ belongs (map (λ (vehicle : VehicleState). vehicle.name) vehicles.now) line.now }
     ensures within { IfSome result (λ found. found.0 < length vehicles.now) }
 {
-    if line.len() > LONGEST_LINE {
+    if is_too_long(line) {
         return None;
     }
     let space = first_space(line)?;

@@ -20,7 +20,7 @@ use itoa::Buffer;
 use report_lines::judge_lines;
 use std::alloc::Global;
 use tfpg_base::{NoMemory, Shelf, Sink, Source, append_line};
-use tfpg_check::Judge;
+use tfpg_check::{Judge, LogText};
 use tfpg_graph::Graph;
 
 /// Judges the report of the input by the graph and the log of the files of these names.
@@ -72,20 +72,20 @@ fn check_report<S: Source, K: Sink>(
 }
 
 /// Judges the report of the input by the graph and the lines of the log, and returns how many rounds it has.
-pub(crate) fn judge_report<S: Source>(
+pub(crate) fn judge_report<T: LogText, S: Source>(
     alloc: Global,
     graph: Graph,
-    log_text: Vec<u8>,
+    log_text: T,
     input: &mut S,
 ) -> Result<u32, CheckFault>
-    requires { length log_text.items ≤ LONGEST_FILE }
-    ensures accepted { IfOk result (AcceptsReport (matter_of graph log_text.items) (S.state input.old)
+    requires { length (T.text log_text) ≤ LONGEST_FILE }
+    ensures accepted { IfOk result (AcceptsReport (matter_of graph (T.text log_text)) (S.state input.old)
         (S.state input.new)) }
-    ensures stopped { IfErr result (LacksReport (matter_of graph log_text.items) (S.state input.old)
+    ensures stopped { IfErr result (LacksReport (matter_of graph (T.text log_text)) (S.state input.old)
         (S.state input.new)) }
 {
     graph.is_always_valid();
-    let mut judge = Judge::new(alloc, graph, log_text);
+    let mut judge = Judge::by(alloc, graph, log_text);
     judge_lines(alloc, &mut judge, input)
 }
 

@@ -13,12 +13,13 @@ ghost use Rattle.tfpg_run.specs.inside.diagnosis.Diagnosed.{HasDiagnosed};
 
 use std::alloc::Global;
 use std::sync::ledger::Ledger;
-use tfpg_base::{LONGEST_LINE, NoMemory, Steps, Terms, without_last_line_end};
+use tfpg_base::{NoMemory, Steps, Terms, without_last_line_end};
 use tfpg_engine::{Engine, Told};
 use tfpg_evidence::Round;
 use tfpg_graph::Graph;
 use tfpg_hyp::TableFault;
 use tfpg_hyp::laws::{rounds_say_which_sets_fit, statuses_are_those_of_minimal_sets};
+use tfpg_log::is_too_long;
 
 /// An engine, and the last round that it gave, where it gave one.
 #[derive(Drop)]
@@ -85,7 +86,7 @@ impl Diagnosis {
     {
         rounds_say_which_sets_fit();
         statuses_are_those_of_minimal_sets();
-        if line.len() > LONGEST_LINE {
+        if is_too_long(line) {
             return Ok(());
         }
         match self.engine.event(number, line, work)? {

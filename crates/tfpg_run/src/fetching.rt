@@ -11,9 +11,9 @@ ghost use Rattle.tfpg_run.specs.inside.Faults.{IsFetchFault, IsFileFault};
 
 use crate::fault::FetchFault;
 use std::alloc::Global;
-use tfpg_base::{LONGEST_LINE, NoMemory, Shelf, ShelfFault};
+use tfpg_base::{NoMemory, Shelf, ShelfFault};
 use tfpg_graph::{Graph, read};
-use tfpg_log::Log;
+use tfpg_log::{Log, is_too_long};
 
 /// Fetches the file of this name, and reads its graph.
 pub(crate) fn fetch_graph<F: Shelf>(
@@ -109,7 +109,7 @@ fn offer_line(log: &mut Log, graph: &Graph, line: &[u8]) -> Result<(), NoMemory>
     ensures log { OnOk result (log.new ≡ log_after graph.now log.old line.now) }
     ensures of_graph { IsLogOf graph.now log.new }
 {
-    if line.len() <= LONGEST_LINE {
+    if !is_too_long(line) {
         log.offer(graph, line)?;
     }
     Ok(())

@@ -4,7 +4,6 @@
 //! returns the block of each.
 
 mod checking;
-mod copying;
 mod fault;
 mod opening;
 mod reporting;

@@ -7,7 +7,7 @@ use Rattle.tfpg_base.proofs.lists.Cuts.{take-item}
 use Rattle.tfpg_log.specs.declared.event.Event.{Event}
 use Rattle.tfpg_log.specs.declared.event.Offered.{Offered}
 use Rattle.tfpg_log.specs.declared.event.Offered.TheVariants.{Accepted}
-use Rattle.tfpg_log.specs.Log.{Logbook, IsEventOf, IsLogOf, event_at, first_events, now_of, time_of_event}
+use Rattle.tfpg_log.specs.Log.{Logbook, IsEventOf, IsLogOf, event_at, first_events, now_of, time_of_event, with_event}
 use Rattle.tfpg_log.specs.LogOfLines.{log_after_reply}
 use Rattle.tfpg_whatif.specs.declared.asking.Asking.{Asking}
 use Rattle.tfpg_whatif.specs.declared.asking.LastEvent.{LastEvent}
@@ -54,12 +54,12 @@ asked_at_end asking lent copied (suc index) event is_copy is_log of at = record 
   goes_on = ([], ap (λ (l : Logbook). l.events) (is_copy ∙ is_log) ∙ sym (append-nil asking.engine.now.log.events));
 }
 
--- The event of a line that was accepted is at now, and these outcomes are known before it.
-pub known_before : (asking : Asking) (last : LastEvent) (old new : Logbook) (reply : Offered) (event : Event) (before : List Outcome) → last.event ≡ event → last.before.now ≡ before → new ≡ log_after_reply old reply
-    → reply ≡ Accepted event → old ≡ asking.engine.now.log → AreKnown (asked_of_lent asking) before → time_of_event event ≡ now_of asking.engine.now.log → IsLastEvent asking last new
-known_before asking last old new reply event before same_event same_before is accepted is_log known at_now = record {
+-- An event that was added is at now, and these outcomes are known before it.
+pub known_before : (asking : Asking) (last : LastEvent) (old new : Logbook) (event : Event) (before : List Outcome) → last.event ≡ event → last.before.now ≡ before → new ≡ with_event old event
+    → old ≡ asking.engine.now.log → AreKnown (asked_of_lent asking) before → time_of_event event ≡ now_of asking.engine.now.log → IsLastEvent asking last new
+known_before asking last old new event before same_event same_before longer is_log known at_now = record {
   earlier = old;
-  events = ap (λ (l : Logbook). l.events) (is ∙ ap (log_after_reply old) accepted) ∙ ap (λ (e : Event). old.events ++ e ∷ []) (sym same_event);
+  events = ap (λ (l : Logbook). l.events) longer ∙ ap (λ (e : Event). old.events ++ e ∷ []) (sym same_event);
   known = subst (AreKnown (asked_by asking old)) (sym same_before) (subst (λ (l : Logbook). AreKnown (asked_by asking l) before) (sym is_log) known);
   at_now = λ index outcome there. ap time_of_event same_event ∙ at_now ∙ sym (ap now_of is_log);
 }

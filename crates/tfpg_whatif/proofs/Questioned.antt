@@ -1,23 +1,15 @@
--- What the question of a node rests on: that its events may come next, that their lines are accepted, and its counts.
-use Rattle.std.proofs.Common.{◌≡◌, ℕ, ◌+◌, ◌-◌, ◌<◌, ◌≤◌, false, List, [], ◌∷◌, length, take, sym, ap, subst, ◌∙◌, arith, length-append}
+-- What the question of a node rests on: that its events may come next, and its counts.
+use Rattle.std.proofs.Common.{◌≡◌, ℕ, ◌+◌, ◌<◌, ◌≤◌, false, List, [], ◌∷◌, length, sym, ap, subst, ◌∙◌, arith, length-append}
 use Rattle.std.specs.Prelude.{All, IsTrue, count_by, nat_lt}
 use Rattle.std.proofs.lemmas.Bool.Decides.{nat_tests}
-use Rattle.std.proofs.lemmas.List.{take_at}
 use Rattle.tfpg_base.specs.Set.{Rises}
-use Rattle.tfpg_base.specs.Words.{line_of}
 use Rattle.tfpg_base.proofs.lists.Elements.{list_any-count}
 use Rattle.tfpg_graph.specs.Graph.{Tfpg, is_monitored}
-use Rattle.tfpg_graph.specs.Valid.{IsValid}
 use Rattle.tfpg_log.specs.declared.event.Event.{Event}
 use Rattle.tfpg_log.specs.declared.event.Event.TheVariants.{Alarm, Silent}
-use Rattle.tfpg_log.specs.declared.event.Offered.{Offered}
-use Rattle.tfpg_log.specs.declared.event.Offered.TheVariants.{Accepted, Refused}
-use Rattle.tfpg_log.specs.declared.refusal.Refusal.{Refusal}
 use Rattle.tfpg_log.specs.declared.limits.TheConstants.{MAX_EVENTS}
 use Rattle.tfpg_log.specs.Log.{Logbook, IsLogOf, IsEventOf, IsOrdered, now_of, with_event}
-use Rattle.tfpg_log.specs.LogOfLines.{log_after_reply}
-use Rattle.tfpg_log.specs.Accepted.{reply_to}
-use Rattle.tfpg_log.specs.EventLines.{IsNextEvent, event_words, event_line}
+use Rattle.tfpg_log.specs.EventLines.{IsNextEvent}
 use Rattle.tfpg_hyp.specs.Hypotheses.{Hypotheses}
 use Rattle.tfpg_hyp.specs.declared.limits.TheConstants.{MAX_HYPOTHESES}
 use Rattle.tfpg_whatif.specs.declared.asking.Asking.{Asking}
@@ -54,41 +46,19 @@ next_alarm graph log lent time node same ordered at_now monitored room = record 
   mode_room = λ changes. absurd cc;
 }
 
--- the line of an event is its text without the line end
-without_end : (graph : Tfpg) (event : Event) (text : List ℕ) (count : ℕ) → text ≡ event_line graph event → count ≡ length text → take (count - 1) text ≡ line_of (event_words graph event)
-without_end graph event text count is counted =
-    ap (take (count - 1)) is
-    ∙ take_at (line_of (event_words graph event)) (10 ∷ []) (count - 1) (omega (arith, counted, ap length is, length-append (line_of (event_words graph event)) (10 ∷ [])))
+-- the engine lends its graph and its log, and a copy of the log takes the same events
+pub next_lent : (graph lent : Tfpg) (log lent_log copied : Logbook) (event : Event) → lent ≡ graph → lent_log ≡ log → copied ≡ lent_log → IsNextEvent graph log event → IsNextEvent lent copied event
+next_lent graph lent log lent_log copied event same is_log is_copy next =
+    subst (λ (g : Tfpg). IsNextEvent g copied event) (sym same) (subst (λ (l : Logbook). IsNextEvent graph l event) (sym (is_copy ∙ is_log)) next)
 
--- That the line of an event that may come next is accepted is a law of logs.
-abbrev pub LinesAreAccepted : Type 0
-LinesAreAccepted = (graph : Tfpg) (log : Logbook) (event : Event) → IsValid graph → IsNextEvent graph log event → reply_to graph log (line_of (event_words graph event)) ≡ Accepted event
-
--- So what becomes of that line is its event,
-pub accepted_event : LinesAreAccepted → (graph lent : Tfpg) (log lent_log copied : Logbook) (event : Event) (text : List ℕ) (count : ℕ) (reply : Offered) → lent ≡ graph → IsValid lent
-    → IsNextEvent graph log event → lent_log ≡ log → copied ≡ lent_log → text ≡ event_line lent event → count ≡ length text → reply ≡ reply_to lent copied (take (count - 1) text) → reply ≡ Accepted event
-accepted_event accepts graph lent log lent_log copied event text count reply same valid next is_log is_copy is_text counted replied =
-    let next_lent : IsNextEvent lent copied event = subst (λ (g : Tfpg). IsNextEvent g copied event) (sym same) (subst (λ (l : Logbook). IsNextEvent graph l event) (sym (is_copy ∙ is_log)) next) in
-    replied ∙ ap (reply_to lent copied) (without_end lent event text count is_text counted) ∙ accepts lent copied event valid next_lent
-
--- and it is never refused.
-pub never_refused : LinesAreAccepted → (graph lent : Tfpg) (log lent_log copied : Logbook) (event : Event) (text : List ℕ) (count : ℕ) (reply : Offered) (refusal : Refusal) → lent ≡ graph → IsValid lent
-    → IsNextEvent graph log event → lent_log ≡ log → copied ≡ lent_log → text ≡ event_line lent event → count ≡ length text → reply ≡ reply_to lent copied (take (count - 1) text) → reply ≡ Refused refusal → ⊥
-never_refused accepts graph lent log lent_log copied event text count reply refusal same valid next is_log is_copy is_text counted replied refused =
-    let accepted : Refused refusal ≡ Accepted event =
-    sym refused ∙ accepted_event accepts graph lent log lent_log copied event text count reply same valid next is_log is_copy is_text counted replied in
-    cc
-
--- What is asked can be asked after an accepted line.
-pub asked_after : (asking : Asking) (lent : Tfpg) (old new : Logbook) (reply : Offered) (event : Event) → lent ≡ asking.engine.now.graph → IsLogOf lent new → old ≡ asking.engine.now.log
-    → new ≡ log_after_reply old reply → reply ≡ Accepted event → IsAskedAt asking new
-asked_after asking lent old new reply event same of is_log is accepted =
-    let longer : new ≡ with_event old event = is ∙ ap (log_after_reply old) accepted in
-    record {
-      own = subst (λ (g : Tfpg). All (IsEventOf g) new.events) same of.own;
-      event = omega (arith, ap (λ (log : Logbook). length log.events) longer, length-append old.events (event ∷ []));
-      goes_on = (event ∷ [], ap (λ (log : Logbook). log.events) (longer ∙ ap (λ (log : Logbook). with_event log event) is_log));
-    }
+-- What is asked can be asked after one more event.
+pub asked_after : (asking : Asking) (lent : Tfpg) (old new : Logbook) (event : Event) → lent ≡ asking.engine.now.graph → IsLogOf lent new → old ≡ asking.engine.now.log → new ≡ with_event old event
+    → IsAskedAt asking new
+asked_after asking lent old new event same of is_log longer = record {
+  own = subst (λ (g : Tfpg). All (IsEventOf g) new.events) same of.own;
+  event = omega (arith, ap (λ (log : Logbook). length log.events) longer, length-append old.events (event ∷ []));
+  goes_on = (event ∷ [], ap (λ (log : Logbook). log.events) (longer ∙ ap (λ (log : Logbook). with_event log event) is_log));
+}
 
 -- ---- the counts
 

@@ -23,7 +23,7 @@ pub type OutcomeList = Items<Outcome>;
 
 impl Outcome {
     /// Whether the hypothesis is shown to fall.
-    pub fn is_out(&self) -> bool
+    pub(crate) fn is_out(&self) -> bool
         ensures { result ≡ is_out self.now }
     {
         match self {
@@ -34,7 +34,7 @@ impl Outcome {
     }
 
     /// Whether the budget did not suffice.
-    pub fn is_unknown(&self) -> bool
+    pub(crate) fn is_unknown(&self) -> bool
         ensures { result ≡ is_unknown self.now }
     {
         match self {

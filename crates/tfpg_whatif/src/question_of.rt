@@ -17,8 +17,7 @@ use crate::question::Question;
 use std::alloc::Global;
 use std::sync::ledger::Ledger;
 use tfpg_base::{NoMemory, Steps};
-use tfpg_log::laws::the_line_of_an_event_is_accepted;
-use tfpg_log::{Event, Offered, append_event};
+use tfpg_log::Event;
 
 /// The question of a node: a silence and an alarm of it at now. What is known before are outcomes at the log as it is.
 pub(crate) fn question_of<L: Ledger>(
@@ -60,19 +59,10 @@ fn outcomes_after<L: Ledger>(
     requires next { IsNextEvent asking.now.engine.now.graph asking.now.engine.now.log event }
     ensures { IfOk result (AreAllFound (asked_by asking.now (with_event asking.now.engine.now.log event))) }
 {
-    let graph = asking.engine.graph();
-    graph.is_always_valid();
-    the_line_of_an_event_is_accepted();
-    let mut text = Vec::new(alloc);
-    append_event(graph, event, &mut text)?;
     let mut log = asking.engine.log().copy()?;
-    match log.offer(graph, &text[..text.len() - 1])? {
-        Offered::Accepted(_) => {
-            let last = LastEvent { event, before };
-            outcomes_at(alloc, asking, &last, &mut log, work)
-        }
-        Offered::Refused(_) => unreachable!(),
-    }
+    log.add(asking.engine.graph(), event)?;
+    let last = LastEvent { event, before };
+    outcomes_at(alloc, asking, &last, &mut log, work)
 }
 
 /// The question of a node with these outcomes.

@@ -8,7 +8,7 @@ ghost use Rattle.tfpg_run.specs.inside.check.UnderWay.{AcceptsReport, CanTakeNex
 use crate::fault::CheckFault;
 use std::alloc::Global;
 use tfpg_base::{Line, Lines, Source};
-use tfpg_check::{CheckCause, Judge};
+use tfpg_check::{CheckCause, Judge, LogText};
 
 /// Whether one more line is right, or the input has ended.
 #[derive(Clone, Copy)]
@@ -22,9 +22,9 @@ pub(super) enum NextReportLine {
 /// # Errors
 ///
 /// `NotAccepted` with the line of the first test that fails, or with the one after the last; `TooMany` at the first line.
-pub(super) fn judge_lines<S: Source>(
+pub(super) fn judge_lines<T: LogText, S: Source>(
     alloc: Global,
-    judge: &mut Judge,
+    judge: &mut Judge<T>,
     input: &mut S,
 ) -> Result<u32, CheckFault>
     requires { judge.old.lines ≡ 0 }
@@ -43,8 +43,8 @@ pub(super) fn judge_lines<S: Source>(
 }
 
 /// Takes the next line, and gives it to the judge.
-fn judge_next_line<S: Source>(
-    judge: &mut Judge,
+fn judge_next_line<T: LogText, S: Source>(
+    judge: &mut Judge<T>,
     lines: &mut Lines,
     input: &mut S,
 ) -> Result<NextReportLine, CheckFault>

@@ -9,7 +9,6 @@ ghost use Rattle.tfpg_run.specs.inside.texts.Faults.{check_texts_fault_of_check}
 ghost use Rattle.tfpg_run.specs.inside.texts.Judged.{LacksRounds};
 ghost use Rattle.tfpg_run.specs.texts.Checks.{AreAcceptedLines, CanAccept, CanRefuseText, IsAcceptedText, IsCheckTextsFault, checked_texts};
 
-use super::copying::copy_of;
 use super::fault::CheckTextsFault;
 use crate::check::judge_report;
 use crate::fault::{CheckFault, StreamFault};
@@ -61,20 +60,19 @@ fn judge_texts(
         return Err(CheckTextsFault::TooMuchInput);
     }
     let graph = read(alloc, graph_text)?;
-    let log = copy_of(alloc, log_text)?;
-    rounds_in(alloc, graph, log, report_text)
+    rounds_in(alloc, graph, log_text, report_text)
 }
 
 /// Judges the report by the graph and the lines of the log, and returns how many rounds it has.
 fn rounds_in(
     alloc: Global,
     graph: Graph,
-    log_text: Vec<u8>,
+    log_text: &[u8],
     report_text: &[u8],
 ) -> Result<u32, CheckTextsFault>
-    requires { length log_text.items ≤ LONGEST_FILE }
-    ensures accepted { IfOk result (AreAcceptedLines (matter_of graph log_text.items) (lines_of report_text.now)) }
-    ensures fault { IfErr result (LacksRounds (matter_of graph log_text.items) report_text.now) }
+    requires { length log_text.now ≤ LONGEST_FILE }
+    ensures accepted { IfOk result (AreAcceptedLines (matter_of graph log_text.now) (lines_of report_text.now)) }
+    ensures fault { IfErr result (LacksRounds (matter_of graph log_text.now) report_text.now) }
 {
     let mut report = SteadySource::new(report_text);
     match judge_report(alloc, graph, log_text, &mut report) {

@@ -10,7 +10,6 @@ ghost use Rattle.tfpg_check.specs.Report.{HasReports};
 ghost use Rattle.tfpg_run.specs.inside.texts.Faults.{IsWritingFault};
 ghost use Rattle.tfpg_run.specs.texts.Reports.{CanReport, IsPlainReport, IsReportFault, IsReportOfTexts};
 
-use super::copying::copy_of;
 use super::fault::ReportFault;
 use super::opening::open_engine;
 use crate::diagnose::report::write_report;
@@ -25,7 +24,7 @@ use tfpg_panel::{Desk, MemoryPanel, Panel};
 
 /// The report of the lines of the log, for the graph that the text spells, on these terms.
 ///
-/// Takes memory for the report twice, besides what a diagnosis takes.
+/// Takes memory for the report, besides what a diagnosis takes.
 pub fn diagnose_texts(
     alloc: Global,
     graph_text: &[u8],
@@ -88,7 +87,7 @@ fn report_counted<L: Ledger>(
     let mut out = MemorySink::new(alloc, usize::MAX, &[]);
     let mut desk = empty_desk(alloc)?;
     write_to_memory(alloc, engine, log_text, &mut out, &mut desk, &mut work)?;
-    Ok(copy_of(alloc, out.bytes())?)
+    Ok(out.into_bytes())
 }
 
 /// A desk with no panel.

@@ -1,6 +1,6 @@
 //! A diagnosis that takes the lines of a log one by one, and returns the block of each.
 
-ghost use Rattle.std.specs.Prelude.{◌≡◌, ◌↔◌, ◌<◌, ◌+◌, ◌++◌, ◌∷◌, [], ℕ, List, Err, IfErr, IfOk, IsTrue, None, OnErr, OnOk};
+ghost use Rattle.std.specs.Prelude.{◌≡◌, ◌↔◌, ◌<◌, ◌+◌, ◌++◌, ◌∷◌, [], ℕ, List, Err, IfErr, IfOk, None, OnErr, OnOk};
 ghost use Rattle.tfpg_base.specs.declared.limits.TheConstants.{MAX_LINE_NUMBER};
 ghost use Rattle.tfpg_base.specs.declared.terms.Terms.{Terms};
 ghost use Rattle.tfpg_graph.specs.Graph.{Tfpg};
@@ -17,9 +17,10 @@ use crate::diagnose::line_blocks::{LineBlock, line_block, refused_block};
 use std::alloc::Global;
 use std::marker::{Brand, Model};
 use std::sync::ledger::{Blank, Ledger};
-use tfpg_base::{LONGEST_LINE, MAX_LINE_NUMBER, NoMemory, Steps, Terms};
+use tfpg_base::{MAX_LINE_NUMBER, NoMemory, Steps, Terms};
 use tfpg_engine::{Engine, EventFault};
-use tfpg_report::{RefusedLine, head};
+use tfpg_log::{RefusedLine, is_too_long};
+use tfpg_report::head;
 
 /// An engine, and the number of its next line.
 ///
@@ -83,13 +84,6 @@ impl Session {
         self.next = Some(next);
         Ok(block)
     }
-
-    /// Whether memory ran out in an earlier call.
-    pub fn has_ended(&self) -> bool
-        ensures { IsTrue result ↔ (self.now.next ≡ None) }
-    {
-        self.next.is_none()
-    }
 }
 
 /// The number of the line after the one of this number.
@@ -152,7 +146,7 @@ fn next_block<L: Ledger>(
     ensures block { (graph : Tfpg) (terms : Terms) (before : Progress) → EngineReports graph terms engine.old before →
         IfOk result (λ block. HasPlainBlock graph terms before (numbered number text.now) block.text.items engine.new) }
 {
-    if text.len() > LONGEST_LINE {
+    if is_too_long(text) {
         return refused_block(alloc, number, RefusedLine::TooLong);
     }
     line_block(alloc, engine, number, text, work)

@@ -5,10 +5,10 @@ use Rattle.tfpg_run.proofs.check.judge_report.Goals as goal
 
 pub returns-clause-accepted : goal.returns-clause-accepted
 returns-clause-accepted g c =
-    let matter = matter_of c.args.graph c.args.log_text.items in
-    c.judge_lines.ensures.accepted matter (new_judge c.args.graph c.args.log_text.items c.new-judge.result c.is_always_valid.ensures.valid c.requires (c.new-judge.ensures.represents matter refl refl))
+    let matter = matter_of c.args.graph (g.T.LogText.text c.args.log_text) in
+    c.judge_lines.ensures.accepted matter (new_judge c.args.graph (g.T.LogText.text c.args.log_text) c.by-judge.result c.is_always_valid.ensures.valid c.requires (c.by-judge.ensures.represents matter refl refl))
 
 pub returns-clause-stopped : goal.returns-clause-stopped
 returns-clause-stopped g c =
-    let matter = matter_of c.args.graph c.args.log_text.items in
-    c.judge_lines.ensures.stopped matter (new_judge c.args.graph c.args.log_text.items c.new-judge.result c.is_always_valid.ensures.valid c.requires (c.new-judge.ensures.represents matter refl refl))
+    let matter = matter_of c.args.graph (g.T.LogText.text c.args.log_text) in
+    c.judge_lines.ensures.stopped matter (new_judge c.args.graph (g.T.LogText.text c.args.log_text) c.by-judge.result c.is_always_valid.ensures.valid c.requires (c.by-judge.ensures.represents matter refl refl))
