@@ -6,7 +6,7 @@ ghost use Rattle.tfpg_whatif.specs.Laws.{IsWellAsked};
 ghost use Rattle.tfpg_whatif.specs.inside.Asking.{IsAsking, asked_by};
 
 use crate::outcome::Outcome;
-use tfpg_base::{Hypothesis, NumberList};
+use tfpg_base::{Hypothesis, NumberList, Set};
 use tfpg_engine::Engine;
 use tfpg_graph::{Graph, NodeSet};
 use tfpg_log::{Event, Log};
@@ -33,6 +33,15 @@ pub(crate) struct Subject<'a> {
     pub(crate) kept: Option<&'a Search>,
     /// At least 1.
     pub(crate) budget: u64,
+}
+
+impl<'a> Subject<'a> {
+    /// The failure modes of the hypothesis.
+    pub(crate) fn set(&self) -> Set
+        ensures { result ≡ self.now.hypothesis.set }
+    {
+        self.hypothesis.set
+    }
 }
 
 /// The last event of the log at which is asked, and outcomes at the log before it: of the first hypotheses that are asked about.

@@ -147,7 +147,8 @@ fn search_anew<L: Ledger>(
     requires { IsSubject subject.now }
     ensures { IfOk result (IsShown (case_asked subject.now) subject.now.hypothesis.set subject.now.budget) }
 {
-    let mut search = Search::new(alloc, subject.graph, subject.hypothesis.set, subject.reach)?;
+    let set = subject.set();
+    let mut search = Search::new(alloc, subject.graph, set, subject.reach)?;
     let mut steps = StepList::new(alloc);
     let found = search.round(subject.graph, subject.log, subject.budget, &mut steps, work)?;
     Ok(outcome(found, steps))
