@@ -31,7 +31,8 @@ SPAN = re.compile(r"`([^`\n]+)`")
 PATH = re.compile(rf"(?=.*[a-z])(?:[\w.*-]+/)+[\w.*-]*|[\w*-]+\.(?:{'|'.join(ENDINGS)})")
 NAME = re.compile(r"[A-Za-z_][\w'-]*(?:::[A-Za-z_][\w']*)*")
 CRATE = re.compile(r"\btfpg_\w+|(?<=`)tfpg(?=[`/])")
-BLOCK = re.compile(r"^(?:pub )?(?:unsafe )?(?:impl(?:<[^{]*?>)? (?:.* for )?|struct |enum |trait )(\w+)")
+BLOCK = re.compile(r"^(?:pub(?:\(\w+\))? )?(?:unsafe )?(?:impl(?:<[^{]*?>)? (?:.* for )?|struct |enum |trait )(\w+)")
+TYPE = re.compile(r"^(?:pub(?:\(\w+\))? )?(?:struct|enum|trait) (\w+)", re.M)
 MEMBER = re.compile(r"^    (?:pub(?:\(\w+\))? )?(?:const )?(?:fn |type )?(\w+)")
 FUNCTION = re.compile(r"^ *(?:pub(?:\(\w+\))? )?(?:const )?(?:extern \S+ )?fn (\w+)")
 CLAUSE = re.compile(r"^ *(?:ensures|requires) (\w+) \{")
@@ -47,7 +48,7 @@ class Repository:
         for path in files:
             self.paths[path.name].append(str(path.relative_to(TOP)))
             self.paths[path.stem].append(str(path.relative_to(TOP)))
-        self.words, self.members, self.clauses = {}, defaultdict(set), defaultdict(set)
+        self.words, self.types, self.members, self.clauses = {}, set(), defaultdict(set), defaultdict(set)
         for path in files:
             if path.is_file():
                 self.read(path)
@@ -64,7 +65,8 @@ class Repository:
             self.read_source(text)
 
     def read_source(self, text):
-        """Notes the members of each type and the clauses of each function."""
+        """Notes the types, the members of each and the clauses of each function."""
+        self.types.update(TYPE.findall(text))
         block = function = None
         for line in text.splitlines():
             block = None if line == "}" else block
@@ -90,7 +92,7 @@ class Repository:
         """Whether the name is known, and each type in it has what stands after it."""
         parts = name.split("::")
         return all(part in self.known for part in parts) and all(
-            one not in self.members or other in self.members[one] for one, other in zip(parts, parts[1:])
+            one not in self.types or other in self.members[one] for one, other in zip(parts, parts[1:])
         )
 
 
