@@ -48,8 +48,13 @@ export function constraintSentence({ units }, { form, node, edge, value }) {
   return [{ node: edge.target }, value === 0 ? least : after, { node: edge.source }];
 }
 
+// The instant 0, as a time of day if there is a start.
+function beginWords(units) {
+  return units.start ? timeWords(0, units) : "0";
+}
+
 function byWords(time, units) {
-  if (time < 0) return " active before 0";
+  if (time < 0) return " active before " + beginWords(units);
   return time >= NEVER ? " active at some time or never" : " active by " + timeWords(time, units);
 }
 
@@ -100,7 +105,7 @@ function endSentence({ units }, { links, throughZero, gap }) {
   const [before, last] = links.slice(-2), gapWords = " (gap " + durationWords(gap, units) + ")";
   if (!throughZero || !last) return ["Together they cannot hold: ", { node: before.node }, " would be active before itself" + gapWords];
   const { bound } = last.constraint, early = before.least >= NEVER ? " never" : " not before " + timeWords(before.least, units);
-  const late = bound < 0 ? "before 0" : "by " + timeWords(bound, units);
+  const late = bound < 0 ? "before " + beginWords(units) : "by " + timeWords(bound, units);
   return ["Both cannot hold: ", { node: before.node }, early + ", and " + late + gapWords];
 }
 

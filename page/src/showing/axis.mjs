@@ -10,17 +10,30 @@ export function lastInstant() {
   return Math.max(1, nowOf(state.log), times.reduce((most, time) => Math.max(most, time), 0), state.forecast ? state.forecast.now : 0);
 }
 
-// Where an instant stands in so many pixels, and which instants are named.
+// Where an instant stands in so many pixels, which instants are named, and a key that is the same for the same axis.
 export function axisOf(width) {
   const last = lastInstant(), isEven = state.isEven && state.log.events.length <= MOST_STEPS;
   if (!isEven) {
-    const scale = d3.scaleLinear().domain([0, last]).range([0, width]);
-    return { at: scale, named: namedOf(evenTicks(last, width), scale), last };
+    const at = instant => instant / last * width;
+    return { at, named: namedOf(evenTicks(last, width), at), last, key: width + " true " + last };
   }
   const times = [0, last, ...state.log.events.map(event => event.time), ...(view.trace ? view.trace.values() : [])];
-  const instants = [...new Set(times)].sort((one, other) => one - other);
-  const scale = d3.scaleLinear().domain(instants).range(instants.map((_, index) => width * index / Math.max(1, instants.length - 1)));
-  return { at: scale, named: namedOf(instants, scale), last };
+  const instants = [...new Set(times)].sort((one, other) => one - other), at = stepsAt(instants, width);
+  return { at, named: namedOf(instants, at), last, key: width + " even " + instants.join(" ") };
+}
+
+// The scale by which each step from one of these instants to the next is as wide as every other.
+function stepsAt(instants, width) {
+  const step = width / Math.max(1, instants.length - 1);
+  return instant => {
+    let low = 0, high = instants.length - 2;
+    while (low < high) {
+      const middle = Math.ceil((low + high) / 2);
+      if (instants[middle] <= instant) low = middle;
+      else high = middle - 1;
+    }
+    return step * (low + (instant - instants[low]) / (instants[low + 1] - instants[low]));
+  };
 }
 
 const SIZES_OF_STEPS = [1, 2, 5, 10, 20, 50, 100, 200, 500, 1e3, 2e3, 5e3, 1e4, 15e3, 3e4, 6e4, 12e4, 3e5, 6e5, 9e5, 18e5, 36e5, 72e5,

@@ -30,7 +30,7 @@ function drawTracks() {
   rows.forEach((row, index) => {
     const top = TOP + ROW * index, transform = "translate(0," + top + ")";
     const group = drawn("g", { "data-track": row.track, "data-name": row.name, transform });
-    if (row.draw) group.append(...[row.draw(axis, width + 40)].flat(Infinity).filter(Boolean));
+    if (row.draw) group.append(row.isSteady ? keptMarks(row, axis, width + 40) : marksOf(row, axis, width + 40));
     names.append(rowName(row, top));
     body.append(group);
   });
@@ -41,11 +41,26 @@ function drawTracks() {
   place.scrollTo(left, top);
 }
 
+function marksOf(row, axis, end) {
+  return drawn("g", {}, row.draw(axis, end));
+}
+
+// The marks of steady rows are the same in each round, so they are kept until the axis or the texts change.
+let kept = { key: null, log: null, marks: new Map() };
+
+function keptMarks(row, axis, end) {
+  const key = axis.key + " " + state.units.unit + " " + state.units.start, name = row.track + " " + row.name;
+  if (kept.key !== key || kept.log !== state.log) kept = { key, log: state.log, marks: new Map() };
+  if (!kept.marks.has(name)) kept.marks.set(name, marksOf(row, axis, end));
+  return kept.marks.get(name);
+}
+
 // ---- rows
 
 function rowsNow() {
-  const rows = state.graph.modes.length > 1 ? [{ track: "mode", name: "mode", draw: modeTrack }] : [];
-  return [...rows, { track: "log", name: "log", draw: logTrack }, ...setRows(), ...nodeRows()];
+  const steady = (name, draw) => ({ track: name, name, isSteady: true, draw });
+  const modes = state.graph.modes.length > 1 ? [steady("mode", modeTrack)] : [];
+  return [...modes, steady("log", logTrack), ...setRows(), ...nodeRows()];
 }
 
 function setRows() {
@@ -53,7 +68,7 @@ function setRows() {
   const shown = rowsFirst(state.report.runs, view.round, MOST_SETS), left = state.report.runs.length - shown.length;
   const rows = shown.map(row => ({
     track: "set", name: setWords(row.set), choose: () => choose(row.hypothesis),
-    isChosen: view.ranked !== null && view.ranked.hypothesis === row.hypothesis,
+    isChosen: view.ranked !== null && view.ranked.hypothesis === row.hypothesis, isSteady: true,
     draw: (axis, end) => setTrack(row, axis, end)
   }));
   return [{ track: "heading", name: "ranked sets" }, ...rows, ...(left > 0 ? [{ track: "note", name: "… and " + left + " more" }] : [])];
