@@ -52,7 +52,8 @@ function derive() {
   const { graph, log, report, forecast } = state, round = report ? report.rounds[state.round] || null : null;
   const isWhole = !round || forecast;
   view.round = round;
-  view.count = round && !forecast ? round.number : log ? log.events.length : 0;
+  const eventCount = log ? log.events.length : 0; // a report that does not fit may have more rounds
+  view.count = isWhole ? eventCount : Math.min(round.number, eventCount);
   view.now = isWhole ? log ? nowOf(log) : 0 : round.now;
   view.mode = log ? modeAt(log, view.now) : 0;
   view.statuses = round ? statusesOf(report, round) : new Map();
