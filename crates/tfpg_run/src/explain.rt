@@ -62,8 +62,8 @@ fn explain_map<S: Source, K: Sink>(
         (streams (S.state input.new) (K.state out.new)) (Err fault)) }
 {
     let map = read_map(alloc, graph, input)?;
-    log.ignore(map.hypothesis.doubts);
-    let verdict = explains(graph, log, map.hypothesis.set, &map.trace);
+    log.ignore(map.doubts());
+    let verdict = explains(graph, log, map.set(), &map.trace);
     let line = verdict_line(alloc, graph, verdict)?;
     write_all(out, &line)?;
     Ok(())

@@ -14,7 +14,7 @@ use lines::{read_activation, read_set_line};
 pub(crate) use reading::read_map;
 use std::alloc::Global;
 pub(crate) use text::map_text;
-use tfpg_base::{Hypothesis, LineFault, NoMemory, Trace};
+use tfpg_base::{Doubts, Hypothesis, LineFault, NoMemory, Set, Trace};
 use tfpg_graph::Graph;
 
 /// Why a line is not taken.
@@ -42,6 +42,22 @@ pub(crate) enum NoMap {
 pub(crate) struct Map {
     pub(crate) hypothesis: Hypothesis,
     pub(crate) trace: Trace,
+}
+
+impl Map {
+    /// The failure modes of the hypothesis.
+    pub(crate) fn set(&self) -> Set
+        ensures { result ≡ self.now.hypothesis.set }
+    {
+        self.hypothesis.set
+    }
+
+    /// The monitors that the hypothesis ignores.
+    pub(crate) fn doubts(&self) -> Doubts
+        ensures { result ≡ self.now.hypothesis.doubts }
+    {
+        self.hypothesis.doubts
+    }
 }
 
 /// Reads the lines of a map one by one.

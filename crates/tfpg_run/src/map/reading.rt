@@ -80,7 +80,9 @@ fn map_of(reader: MapReader) -> Result<Map, NoMap>
     ensures { ReturnsMap reader result }
 {
     let MapReader {
-        hypothesis, trace, ..
+        hypothesis,
+        trace,
+        ..
     } = reader;
     match hypothesis {
         Some(hypothesis) => Ok(Map { hypothesis, trace }),
