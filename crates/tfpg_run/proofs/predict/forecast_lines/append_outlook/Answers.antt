@@ -1,5 +1,6 @@
 use Rattle.std.proofs.Common.{◌≡◌, ℕ, List, [], ◌∷◌, ◌++◌, codes, decimal, sym, ap, subst, ◌∙◌}
 use Rattle.tfpg_base.specs.Append.{Appends}
+use Rattle.tfpg_base.specs.Hypothesis.{Hypothesis}
 use Rattle.tfpg_base.specs.TextLine.{text_line}
 use Rattle.tfpg_base.proofs.Appended.{Appends-after}
 use Rattle.tfpg_evidence.specs.declared.step.Step.{Step}
@@ -16,7 +17,8 @@ returns c =
     let old : List ℕ = c.args.into.now.items in
     let result = c.append_steps-in-Unsettled.result in
     let new : List ℕ = c.append_steps-in-Unsettled.new.into.items in
-    let set_is = c.deref-in-Unsettled.ensures.value ∙ c.in_ok-append_set.ensures ∙ ap (λ (t : List ℕ). t ++ set_word graph (hypothesis_of finding)) c.new-set.ensures.items in
+    let set_is = c.deref-in-Unsettled.ensures.value ∙ c.in_ok-append_set.ensures
+    ∙ ap (λ (h : Hypothesis). c.new-set.result.items ++ set_word graph h) c.hypothesis.ensures ∙ ap (λ (t : List ℕ). t ++ set_word graph (hypothesis_of finding)) c.new-set.ensures.items in
     let number_is = c.as_bytes-number.ensures.value ∙ c.format.ensures.text in
     let bound_is = c.as_bytes-bound.ensures.value ∙ c.format-in-Unsettled.ensures.text in
     let line = c.in_ok-append_line-in-Unsettled.ensures
