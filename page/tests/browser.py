@@ -5,12 +5,24 @@ import os
 import time
 
 from selenium import webdriver
+from selenium.common.exceptions import WebDriverException
 from selenium.webdriver.chrome.service import Service
 
 from tools import DRIVER
 
 WORDS = ["--headless=new", "--disable-gpu", "--disable-dev-shm-usage", "--window-size=1500,1000", "--force-color-profile=srgb"]
-PATIENCE = 20  # seconds until a page that is not ready is a failure
+WORDS += ["--no-first-run", "--disable-extensions", "--disable-background-networking", "--disable-component-update", "--disable-sync"]
+PATIENCE = 60  # seconds until a page that is not ready is a failure
+
+
+def started(options):
+    """A driver with its browser. On a busy machine the first start may take longer than the driver waits."""
+    for _ in range(2):
+        try:
+            return webdriver.Chrome(service=Service(DRIVER), options=options)
+        except WebDriverException:
+            time.sleep(2)
+    return webdriver.Chrome(service=Service(DRIVER), options=options)
 
 
 class Browser:
@@ -20,8 +32,8 @@ class Browser:
             options.add_argument(word)
         options.set_capability("goog:loggingPrefs", {"browser": "ALL", "performance": "ALL"})
         options.add_experimental_option("perfLoggingPrefs", {"enableNetwork": True, "enablePage": False})
-        self.driver = webdriver.Chrome(service=Service(DRIVER), options=options)
-        self.driver.set_script_timeout(6 * PATIENCE)
+        self.driver = started(options)
+        self.driver.set_script_timeout(3 * PATIENCE)
         self.saved = saved
         self.driver.execute_cdp_cmd("Browser.setDownloadBehavior", {"behavior": "allow", "downloadPath": str(saved)})
 
