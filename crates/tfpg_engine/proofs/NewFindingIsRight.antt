@@ -1,5 +1,5 @@
 -- What a round finds of one hypothesis.
-use Rattle.std.proofs.Common.{◌≡◌, ℕ, ◌+◌, ◌<◌, ◌≤◌, ◌⊎◌, inl, inr, ◌↔◌, Bool, true, false, cond, List, [], ◌∷◌, ◌++◌, length, get_or, take, Option, None, set as set_at, refl, sym, ap, subst, ◌∙◌, arith}
+use Rattle.std.proofs.Common.{◌≡◌, ℕ, ◌+◌, ◌<◌, ◌≤◌, ◌⊎◌, inl, inr, ◌↔◌, Bool, true, false, cond, List, [], ◌∷◌, ◌++◌, length, get_or, take, set as set_at, refl, sym, ap, subst, ◌∙◌, arith}
 use Rattle.std.proofs.Math.Arith.{lt_of_le-ne}
 use Rattle.std.specs.Prelude.{IsTrue, ◌==◌, ◌||◌, Result, Ok, Some, slice_get}
 use Rattle.std.proofs.lemmas.List.{append-nil, length-append, length-set, take-append-le, take_at}
