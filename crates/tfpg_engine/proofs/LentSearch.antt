@@ -3,7 +3,7 @@ use Rattle.std.proofs.Common.{◌≡◌, ℕ, List, refl, sym, subst}
 use Rattle.std.specs.Prelude.{false, Some, slice_get}
 use Rattle.tfpg_base.specs.Hypothesis.{Hypothesis}
 use Rattle.tfpg_base.proofs.lists.Elements.{slice_get-same_length}
-use Rattle.tfpg_log.specs.Log.{Logbook, GoesOn}
+use Rattle.tfpg_log.specs.Log.{Logbook}
 use Rattle.tfpg_log.proofs.events.PastKept.{first_events_kept}
 use Rattle.tfpg_hyp.specs.Hypotheses.{Row}
 use Rattle.tfpg_hyp.specs.Views.{log_for, case_for}

@@ -1,5 +1,5 @@
 -- Lines whose numbers are within their limits: whatever they name, as long as the graph has it, such lines are within their limits.
-use Rattle.std.proofs.Common.{ℕ, ◌+◌, ◌≤◌, length}
+use Rattle.std.proofs.Common.{◌+◌, ◌≤◌, length}
 use Rattle.tfpg_base.specs.Hypothesis.{Hypothesis}
 use Rattle.tfpg_base.specs.Terms.{AreReportTerms}
 use Rattle.tfpg_base.specs.declared.limits.TheConstants.{MAX_LINE_NUMBER, MAX_MEMBERS, MAX_PANEL_NUMBER, MAX_TIME}
