@@ -9,6 +9,7 @@ It looks at links, and at what stands between backquotes outside blocks of code.
 - A name that looks like an item, by an underline, by `::`, or by a capital letter beside a small one, has to be a word of a source, a
   definition, a proof, an edit, a script, an example or a block of code, comments aside. Of `Type::name` the type has to have that name.
 - Names in a list before "in" and the path of a source or of definitions have to be words of that file.
+- What stands after a `#` in a link, or in quotation marks after a link to a document or its name, has to be a heading of it.
 - Names in a list after "clause" or "clauses", or after a law, have to be clauses of the function that stands before.
 
 It goes by words, so it is a guide and no proof. FOREIGN has what is not of this repository, or an example of a name.
@@ -19,8 +20,9 @@ from collections import defaultdict
 from pathlib import Path
 
 TOP = Path(__file__).resolve().parent.parent
-DOCUMENTS = ["README.md", "CONTRIBUTING.md", "docs/*.md", "bench/README.md", "examples/README.md"]
-TOPS = ("bench/", "crates/", "docs/", "examples/", "include/")
+DOCUMENTS = ["README.md", "CONTRIBUTING.md", "docs/*.md", "bench/README.md", "examples/README.md", "page/README.md",
+             "python/README.md"]
+TOPS = ("bench/", "crates/", "docs/", "examples/", "include/", "python/")
 FOREIGN = {
     "CONTRACTS.md", "Ord::max", "Snapshot::of", "at_exit", "put_at", "out/",
     "Boxed", "Is", "Are", "Tr", "ghosts-HELPER", "NAME-inside", "proofs/lemmas.antt", "lemmas/reading.antt",
@@ -36,6 +38,9 @@ TYPE = re.compile(r"^(?:pub(?:\(\w+\))? )?(?:struct|enum|trait) (\w+)", re.M)
 MEMBER = re.compile(r"^    (?:pub(?:\(\w+\))? )?(?:const )?(?:fn |type )?(\w+)")
 FUNCTION = re.compile(r"^ *(?:pub(?:\(\w+\))? )?(?:const )?(?:extern \S+ )?fn (\w+)")
 CLAUSE = re.compile(r"^ *(?:ensures|requires) (\w+) \{")
+HEADING = re.compile(r"^#+ (.*)", re.M)
+TO_HEADING = re.compile(r"\]\(([^)#:]*\.md)#([^)]+)\)")
+IN_QUOTES = re.compile(r"(?:`([\w./-]+\.md)`\)?|\]\(([^)#:]*\.md)[^)]*\)),\s+\"([^\"]+)\"")
 
 
 class Repository:
@@ -49,6 +54,7 @@ class Repository:
             self.paths[path.name].append(str(path.relative_to(TOP)))
             self.paths[path.stem].append(str(path.relative_to(TOP)))
         self.words, self.types, self.members, self.clauses = {}, set(), defaultdict(set), defaultdict(set)
+        self.headings = defaultdict(set)
         for path in files:
             if path.is_file():
                 self.read(path)
@@ -58,6 +64,7 @@ class Repository:
         """Notes the words of a file; of a document, those in its blocks of code."""
         text = path.read_text(errors="replace")
         if path.suffix == ".md":
+            self.headings[str(path.relative_to(TOP))] = set(HEADING.findall(text))
             text = "\n".join(re.findall(r"^ *```.*?\n(.*?)^ *```", text, re.M | re.S))
         text = re.sub(COMMENTS.get(path.suffix, r"(?!)"), "", text)
         self.words[str(path.relative_to(TOP))] = set(re.findall(r"[A-Za-z_][\w'-]*", text)) | set(re.findall(r"[A-Za-z_]\w*", text))
@@ -88,6 +95,10 @@ class Repository:
         inside = [known for known in found if not known.startswith("crates/") or known.split("/")[1] in crates]
         return inside if crates and not path.startswith(TOPS) else found
 
+    def headed(self, path):
+        """The headings of the documents whose path ends with this one."""
+        return set().union(*(self.headings[found] for found in self.at(path.removeprefix("../"), set())))
+
     def has(self, name):
         """Whether the name is known, and each type in it has what stands after it."""
         parts = name.split("::")
@@ -112,6 +123,11 @@ def sections(text):
 def is_item(name):
     """Whether what stands between backquotes looks like the name of an item."""
     return "_" in name or "::" in name or bool(re.search("[A-Z]", name) and re.search("[a-z]", name))
+
+
+def anchor_of(heading):
+    """What stands after the `#` in a link to a heading."""
+    return re.sub(r"[^\w -]", "", heading.lower()).replace(" ", "-")
 
 
 def listed_before(text, end):
@@ -150,6 +166,12 @@ def faults(text, repository):
     for link in re.finditer(r"\]\(([^)#:]+)(?:#[^)]*)?\)", text):
         if not repository.at(link[1].removeprefix("../"), set()):
             yield link.start(), link[1]
+    for link in TO_HEADING.finditer(text):
+        if link[2] not in map(anchor_of, repository.headed(link[1])):
+            yield link.start(), f"{link[1]}#{link[2]}"
+    for cited in IN_QUOTES.finditer(text):
+        if " ".join(cited[3].split()) not in repository.headed(cited[1] or cited[2]):
+            yield cited.start(), f'"{cited[3]}" in {cited[1] or cited[2]}'
     for call in re.finditer(r"`(?:\w+::)?(\w+)`(?: of `\w+`)?,\s+clauses?\b|\blaw\s+`(\w+)`(?: of `\w+`)?(?=, `[a-z]+`)", text):
         for name in clauses_after(text, call.end()):
             if name not in repository.clauses[call[1] or call[2]]:

@@ -1,9 +1,10 @@
 #!/usr/bin/env bash
 # Builds the diagnoser as a static library, and links the C programs of `examples` with it under the sanitizers. Runs them on each example
 # log, and compares what they write with what the program writes, byte for byte. Compares the numbers of the header with those of the library,
-# and tries the calls where they do not end well. Then prints the size of the library, the time of a line and the memory of a session. Ends
-# with status 1 where something differs. With the word `alone` the program is not built: the one C program is
-# compared with the other.
+# and tries the calls where they do not end well. Finds each cause that the header names in a small text, and compares it and its line with
+# those that the program says. Then prints the size of the library, the time of a line and the memory of a session. Ends with status 1 where
+# something differs. With the word `alone` the program is not built: the one C program is compared with the other, and each cause only with
+# its name in the header.
 set -eu
 
 top=$(dirname "$(dirname "$(readlink -f "${BASH_SOURCE[0]}")")")
@@ -37,6 +38,7 @@ wanted() {
 link_with examples/report.c report -g -fsanitize=address,undefined
 link_with examples/embed.c embed -g -fsanitize=address,undefined
 link_with bench/statuses.c statuses -g -fsanitize=address,undefined
+link_with bench/causes.c causes -g -fsanitize=address,undefined
 link_with examples/report.c plain -O2
 link_with bench/session.c session -O2 -D_GNU_SOURCE
 
@@ -52,12 +54,49 @@ done
 
 "$made/statuses" || differs statuses
 
+# The names of the header for the causes of a graph, or of a report.
+causes_of() {
+    sed -nE "s/^    TFPG_$1_([A-Z_]*) = .*/\1/p" "$top/include/tfpg.h"
+}
+
+# What is said of a line, with the cause as the header writes it.
+as_in_header() {
+    sed -E 's/([a-z])([A-Z])/\1_\2/g; s/(_[A-Z])([A-Z])/\1_\2/g; s/[A-Za-z_]*$/\U&/'
+}
+
+# What the program says of the text of each cause, in the order of the header.
+causes_wanted() {
+    for cause in $(causes_of GRAPH); do
+        "$top/tfpg" diagnose "$made/causes_found/$cause.graph" 2>&1 > "$made/text" < "$made/log_of_none" || true
+    done
+    for cause in $(causes_of REPORT); do
+        "$top/tfpg" check "$made/causes_found/judged.graph" "$made/causes_found/judged.log" 2>&1 > "$made/text" \
+            < "$made/causes_found/$cause.report" || true
+    done
+}
+
+mkdir "$made/causes_found"
+: > "$made/log_of_none"
+"$made/causes" "$made/causes_found" > "$made/causes_said" || differs 'the order of the causes'
+{ causes_of GRAPH; causes_of REPORT; } | diff - <(sed 's/.* //' "$made/causes_said") || differs 'the causes found'
+[ "$alone" ] || causes_wanted | as_in_header | diff "$made/causes_said" - || differs 'what the program says of the causes'
+
 # The statuses of a file, by this pattern of its lines, in order.
 statuses_of() {
     sed -nE "s/$1/\\1 \\2/p" "$2" | sort
 }
 diff <(statuses_of '^pub const ([A-Z_]*): u32 = ([0-9]*);' "$top/crates/tfpg_embed/src/status.rt") \
     <(statuses_of '^    TFPG_([A-Z_]*) = ([0-9]*),?' "$top/include/tfpg.h" | grep -v '^GRAPH_\|^REPORT_') || differs 'the numbers of the header'
+
+# The numbers of the causes of a graph or of a report: in the library, and in the header.
+numbers_of() {
+    sed -nE "s/^ *$1Cause::([A-Za-z]*) => ([0-9]*),$/\2 \1/p" "$top/crates/tfpg_embed/src/answer.rt" | as_in_header
+}
+numbers_in_header() {
+    sed -nE "s/^    TFPG_$1_([A-Z_]*) = ([0-9]*),?$/\2 \1/p" "$top/include/tfpg.h"
+}
+diff <(numbers_of Graph) <(numbers_in_header GRAPH) || differs 'the numbers of the causes of a graph'
+diff <(numbers_of Check | grep -v 'BAD_MAP\|BAD_SCRIPT') <(numbers_in_header REPORT) || differs 'the numbers of the causes of a report'
 
 strip -g -o "$made/small.a" "$library"
 printf 'library: %s bytes\n' "$(stat -c %s "$made/small.a")"

@@ -5,8 +5,8 @@ nothing beside it.
     bench/search.py
 
 - "wide": 512 nodes, 2,048 edges, the log of a script with 300 sweeps and ticks and the alarms that come of them.
-- "spans": the same graph, 1,024 changes of mode and then ticks, without an alarm: each event looks once at up to 1,024 spans of
-  each edge, for the empty set.
+- "spans": the same graph, 1,024 changes of mode and then ticks, without an alarm: no node is overdue, so no event looks at the 1,024
+  spans.
 - "dense": a small graph with AND nodes, whose edges are cut by changes of mode, where many splits are needed.
 
 Seconds are the shortest of three runs of `diagnose --k 1`, with the start of the program.

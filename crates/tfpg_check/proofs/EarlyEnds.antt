@@ -1,5 +1,5 @@
 -- No line of a report is refused because the report ends early.
-use Rattle.std.proofs.Common.{◌≡◌, ℕ, List, [], ◌∷◌, ◌++◌, Option, Some, None, Result, Ok, Err, inl, inr, sym, ◌∙◌, slice_get}
+use Rattle.std.proofs.Common.{◌≡◌, ℕ, List, [], ◌∷◌, ◌++◌, Option, Some, None, Result, Ok, Err, inl, inr, sym, ◌∙◌}
 use Rattle.tfpg_base.specs.declared.terms.Terms.{Terms}
 use Rattle.tfpg_evidence.specs.declared.step.Step.{Step}
 use Rattle.tfpg_kernel.specs.declared.taken.BadStep.{BadStep}
@@ -13,8 +13,8 @@ use Rattle.tfpg_report.specs.declared.report_line.ReportLine.{ReportLine}
 use Rattle.tfpg_report.specs.declared.report_line.ReportLine.TheVariants as line
 use Rattle.tfpg_check.specs.declared.cause.CheckCause.{CheckCause}
 use Rattle.tfpg_check.specs.declared.cause.CheckCause.TheVariants as cause
-use Rattle.tfpg_check.specs.Causes.{Matter, BlockFails, LineFails, RefusedBlockFails, RefusedFails, RoundBlockFails, RoundOfLineFails, next_event}
-use Rattle.tfpg_check.specs.Judging.{Docket, MayHaveSteps, OpenFails, PartFails, RankedFails, RoundFails, StepFails, cause_of_step}
+use Rattle.tfpg_check.specs.Causes.{DiagnosisProblem, BlockFails, LineFails, next_event}
+use Rattle.tfpg_check.specs.Judging.{RoundBasis, MayHaveSteps, OpenFails, PartFails, RankedFails, RoundFails, StepFails, cause_of_step}
 use Rattle.tfpg_check.specs.Tests.{Fails, InTurn, Owes, Then}
 
 -- The test never fails because a report ends early.
@@ -46,59 +46,43 @@ cause_of_bad_step bad.NotOnPath is = cc
 cause_of_bad_step bad.Unchained is = cc
 cause_of_bad_step bad.NotNegative is = cc
 
-module _ (docket : Docket) (number : ℕ) (read : ReadRound) where
-  step_fails : (part : Part) (before : List Step) (step : Step) → IsNeverEarly (StepFails docket part before step)
+module _ (basis : RoundBasis) (number : ℕ) (read : ReadRound) where
+  step_fails : (part : Part) (before : List Step) (step : Step) → IsNeverEarly (StepFails basis part before step)
   step_fails part before step at why fails early = cause_of_bad_step fails.broken (sym fails.cause_is ∙ early)
 
-  part_fails : (before : List Part) (part : Part) → IsNeverEarly (PartFails docket before part)
+  part_fails : (before : List Part) (part : Part) → IsNeverEarly (PartFails basis before part)
   part_fails before part =
-      then (Owes (MayHaveSteps docket before part) part.first_line cause.WrongHypothesis) (InTurn (StepFails docket part) [] part.steps)
-      (owed (MayHaveSteps docket before part) part.first_line cause.WrongHypothesis (λ e. cc)) (in_turn (StepFails docket part) (step_fails part) [] part.steps)
+      then (Owes (MayHaveSteps basis before part) part.first_line cause.WrongHypothesis) (InTurn (StepFails basis part) [] part.steps)
+      (owed (MayHaveSteps basis before part) part.first_line cause.WrongHypothesis (λ e. cc)) (in_turn (StepFails basis part) (step_fails part) [] part.steps)
 
-  ranked_fails : (before : List _) (r : _) → IsNeverEarly (RankedFails docket read before r)
+  ranked_fails : (before : List _) (r : _) → IsNeverEarly (RankedFails basis read before r)
   ranked_fails before r at why (inl fails) early = let e = sym fails.1 ∙ early in cc
   ranked_fails before r at why (inr fails) early = let e = sym fails.1.1 ∙ early in cc
 
-  open_fails : (before : List _) (named : _) → IsNeverEarly (OpenFails docket read before named)
+  open_fails : (before : List _) (named : _) → IsNeverEarly (OpenFails basis read before named)
   open_fails before named at why fails early = let e = sym fails.1 ∙ early in cc
 
-  round_fails : IsNeverEarly (RoundFails docket number read)
+  round_fails : IsNeverEarly (RoundFails basis number read)
   round_fails at why (inl begins) early = let e = sym begins.1 ∙ early in cc
-  round_fails at why (inr (_, inl parts)) early = in_turn (PartFails docket) part_fails [] read.parts at why parts early
-  round_fails at why (inr (_, inr (_, inl ranked))) early = in_turn (RankedFails docket read) ranked_fails [] read.ranked at why ranked early
-  round_fails at why (inr (_, inr (_, inr (_, inl unsettled)))) early = in_turn (OpenFails docket read) open_fails [] read.unsettled at why unsettled early
+  round_fails at why (inr (_, inl parts)) early = in_turn (PartFails basis) part_fails [] read.parts at why parts early
+  round_fails at why (inr (_, inr (_, inl ranked))) early = in_turn (RankedFails basis read) ranked_fails [] read.ranked at why ranked early
+  round_fails at why (inr (_, inr (_, inr (_, inl unsettled)))) early = in_turn (OpenFails basis read) open_fails [] read.unsettled at why unsettled early
   round_fails at why (inr (_, inr (_, inr (_, inr (_, inl rejected))))) early = let e = sym rejected.cause_is ∙ early in cc
   round_fails at why (inr (_, inr (_, inr (_, inr (_, inr (_, inl status)))))) early = let e = sym status.1 ∙ early in cc
   round_fails at why (inr (_, inr (_, inr (_, inr (_, inr (_, inr counts)))))) early = let e = sym counts.1.1 ∙ early in cc
 
 -- ---- lines
 
-refused_fails : (first number next : ℕ) (said : RefusedLine) (found : Result Event RefusedLine) → IsNeverEarly (RefusedFails first number said next found)
-refused_fails first number next said (Err refused) at why fails early = let e = sym fails.1 ∙ early in cc
-refused_fails first number next said (Ok event) at why fails early = let e = sym fails.1 ∙ early in cc
-
-module _ (matter : Matter) (terms : Terms) (blocks : List Block) where
-  refused_block_fails : (before : List ReportLine) (number : ℕ) (said : RefusedLine) (text : Option (List ℕ)) → IsNeverEarly (RefusedBlockFails matter blocks before number said text)
-  refused_block_fails before number said None at why fails early = let e = sym fails.1 ∙ early in cc
-  refused_block_fails before number said (Some text) at why fails early =
-      refused_fails _ number _ said (next_event matter blocks text) at why fails early
-
-  round_of_line_fails : (read : ReadRound) (found : Result Event RefusedLine) → IsNeverEarly (RoundOfLineFails matter terms blocks read found)
-  round_of_line_fails read (Err refused) at why fails early = let e = sym fails.1 ∙ early in cc
-  round_of_line_fails read (Ok event) at why fails early = round_fails fails.0 _ read at why fails.2 early
-
-  round_block_fails : (read : ReadRound) (text : Option (List ℕ)) → IsNeverEarly (RoundBlockFails matter terms blocks read text)
-  round_block_fails read None at why fails early = let e = sym fails.1 ∙ early in cc
-  round_block_fails read (Some text) at why fails early = round_of_line_fails read (next_event matter blocks text) at why fails early
-
-  block_fails : (before : List ReportLine) (completing : ReportLine) → IsNeverEarly (BlockFails matter terms blocks before completing)
-  block_fails before (line.Refused number said) at why fails early =
-      refused_block_fails before number said (slice_get matter.log_lines _) at why fails early
-  block_fails before (line.Counts counts) at why fails early =
-      round_block_fails fails.0 (slice_get matter.log_lines _) at why fails.2 early
-  block_fails before _ at why fails early = absurd fails
+module _ (problem : DiagnosisProblem) (terms : Terms) (blocks : List Block) (before : List ReportLine) where
+  block_fails : (completing : ReportLine) (next : Option (Result Event RefusedLine)) → IsNeverEarly (BlockFails problem terms blocks before completing next)
+  block_fails (line.Refused number said) None at why fails early = let e = sym fails.1 ∙ early in cc
+  block_fails (line.Refused number said) (Some brings) at why fails early = let e = sym fails.1 ∙ early in cc
+  block_fails (line.Counts counts) None at why fails early = let e = sym fails.1 ∙ early in cc
+  block_fails (line.Counts counts) (Some (Err refused)) at why fails early = let e = sym fails.1 ∙ early in cc
+  block_fails (line.Counts counts) (Some (Ok event)) at why fails early = round_fails fails.1 _ fails.0 at why fails.4 early
+  block_fails _ next at why fails early = absurd fails
 
 -- A line that is refused is not refused because the report ends early.
-pub line_never_early : (matter : Matter) (before : List ReportLine) (bytes : List ℕ) (at : ℕ) (why : CheckCause) → LineFails matter before bytes at why → why ≡ cause.EndsEarly → ⊥
-line_never_early matter before bytes at why (inl bad) early = let e = sym bad.0 ∙ early in cc
-line_never_early matter before bytes at why (inr (read, terms, blocks, _, _, fails)) early = block_fails matter terms blocks before read at why fails early
+pub line_never_early : (problem : DiagnosisProblem) (before : List ReportLine) (bytes : List ℕ) (at : ℕ) (why : CheckCause) → LineFails problem before bytes at why → why ≡ cause.EndsEarly → ⊥
+line_never_early problem before bytes at why (inl bad) early = let e = sym bad.0 ∙ early in cc
+line_never_early problem before bytes at why (inr (read, terms, blocks, _, _, fails)) early = block_fails problem terms blocks before read (next_event problem blocks) at why fails early

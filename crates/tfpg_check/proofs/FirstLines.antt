@@ -15,7 +15,7 @@ use Rattle.tfpg_report.specs.ReportLines.{Says, IsLineWithin, written_line}
 use Rattle.tfpg_report.specs.Blocks.{Block}
 use Rattle.tfpg_report.specs.Reading.{IsHead}
 use Rattle.tfpg_check.specs.Report.{report_text}
-use Rattle.tfpg_check.specs.Causes.{AreReportLines, Matter}
+use Rattle.tfpg_check.specs.Causes.{AreReportLines, DiagnosisProblem}
 use Rattle.tfpg_check.proofs.WholeReports.{lines_of_report}
 use Rattle.tfpg_check.proofs.completeness.EqualBlocks.{one_head}
 
@@ -23,15 +23,15 @@ use Rattle.tfpg_check.proofs.completeness.EqualBlocks.{one_head}
 abbrev pub OneLine : Type 0
 OneLine = (graph : Tfpg) (line other : ReportLine) (bytes : List ℕ) → IsValid graph → Says graph line bytes → Says graph other bytes → line ≡ other
 
-module _ (one_line : OneLine) (matter : Matter) (valid : IsValid matter.graph) (terms : Terms) (blocks : List Block) (lines : List (List ℕ)) (report : AreReportLines matter terms blocks lines)
-    (first : List ℕ) (at : slice_get lines 0 ≡ Some first) (head : ReportLine) (says : Says matter.graph head first) where
+module _ (one_line : OneLine) (problem : DiagnosisProblem) (valid : IsValid problem.graph) (terms : Terms) (blocks : List Block) (lines : List (List ℕ)) (report : AreReportLines problem terms blocks lines)
+    (first : List ℕ) (at : slice_get lines 0 ≡ Some first) (head : ReportLine) (says : Says problem.graph head first) where
   -- the first line is that of the terms, if it is written so
-  same_head : (own : ReportLine) → IsLineWithin matter.graph own → Some (written_line matter.graph own) ≡ Some first → own ≡ head
+  same_head : (own : ReportLine) → IsLineWithin problem.graph own → Some (written_line problem.graph own) ≡ Some first → own ≡ head
   same_head own within written =
-      let is : written_line matter.graph own ≡ first = same_Some (written_line matter.graph own) first written in
-      one_line matter.graph own head first valid (record { written = sym is; within = within; short = says.short }) says
+      let is : written_line problem.graph own ≡ first = same_Some (written_line problem.graph own) first written in
+      one_line problem.graph own head first valid (record { written = sym is; within = within; short = says.short }) says
 
-  own_lines : lines_of report.bytes ≡ lines_of (report_text matter.graph terms blocks)
+  own_lines : lines_of report.bytes ≡ lines_of (report_text problem.graph terms blocks)
   own_lines = ap lines_of report.report.text
 
   own_head : (own : ReportLine) × IsHead terms own × (own ≡ head)
@@ -43,7 +43,7 @@ module _ (one_line : OneLine) (matter : Matter) (valid : IsValid matter.graph) (
         Head terms,
         inl refl,
         same_head (Head terms) report.report.has_reports.within
-            (sym (ap (λ (ls : List (List ℕ)). slice_get ls 0) (new ∙ own_lines ∙ lines_of_report matter.graph terms blocks valid)) ∙ at),
+            (sym (ap (λ (ls : List (List ℕ)). slice_get ls 0) (new ∙ own_lines ∙ lines_of_report problem.graph terms blocks valid)) ∙ at),
       )
       by (inr old) = (
         OldHead terms.k terms.budget,
@@ -52,8 +52,8 @@ module _ (one_line : OneLine) (matter : Matter) (valid : IsValid matter.graph) (
       )
 
   -- The first line says no terms on which there are too many hypotheses.
-  pub few_hypotheses : (others : Terms) → IsHead others head → (count : ℕ) → HasHypotheses matter.graph others count → count ≤ MAX_HYPOTHESES
+  pub few_hypotheses : (others : Terms) → IsHead others head → (count : ℕ) → HasHypotheses problem.graph others count → count ≤ MAX_HYPOTHESES
   few_hypotheses others is_head count counted =
       let own = own_head in
       let same : terms ≡ others = one_head terms others head (subst (IsHead terms) own.2 own.1) is_head in
-      report.report.has_reports.few_hypotheses count (subst (λ (t : Terms). HasHypotheses matter.graph t count) (sym same) counted)
+      report.report.has_reports.few_hypotheses count (subst (λ (t : Terms). HasHypotheses problem.graph t count) (sym same) counted)

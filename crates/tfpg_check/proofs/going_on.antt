@@ -8,6 +8,7 @@ pub mod NextLines
 pub mod PartsHaveSteps
 pub mod BlocksGoOn
 pub mod RoundsGoOn
+pub mod RoundsPass
 pub mod LossesGoOn
 pub mod JudgedLines
 pub mod AtTheEnd

@@ -1,19 +1,19 @@
 -- That the code judges a round as the definitions say.
 pub mod NotedParts
 pub mod TestsInTurn
-pub mod HearingSays
+pub mod LookupSays
 pub mod LastKeys
 pub mod PassingTests
 pub mod NewlyClosed
 pub mod RejectedLines
 pub mod RejectedSoFar
 pub mod RightCounts
-pub mod NewDockets
+pub mod NewHypotheses
 pub mod StepsTaken
 pub mod ClosedTrees
 pub mod PartsTaken
 pub mod PartsByNumber
 pub mod PartsSoFar
-pub mod Hearings
+pub mod Lookups
 pub mod RoundJudged
 pub mod NothingAdded

@@ -9,9 +9,9 @@ use Rattle.tfpg_report.specs.Blocks.{Block}
 use Rattle.tfpg_report.specs.Represents.{ReaderState, ReaderRepresents}
 use Rattle.tfpg_check.specs.declared.judge_fault.JudgeFault.{JudgeFault}
 use Rattle.tfpg_check.specs.Report.{rounds_of}
-use Rattle.tfpg_check.specs.Judging.{Docket}
-use Rattle.tfpg_check.specs.DocketState.{DocketState, KeepsDocket}
-use Rattle.tfpg_check.specs.Causes.{Matter, AreRightSoFar, progress_after_blocks}
+use Rattle.tfpg_check.specs.Judging.{RoundBasis}
+use Rattle.tfpg_check.specs.HypothesesState.{HypothesesState, KeepsBasis}
+use Rattle.tfpg_check.specs.Causes.{DiagnosisProblem, AreRightSoFar, progress_after_blocks}
 use Rattle.tfpg_check.specs.Judged.{GoesOnRight}
 
 -- the lines of a log: how many have their block, and those that have none yet
@@ -25,7 +25,7 @@ pub record BlocksState : Type 0 where
   pub graph : Tfpg
   pub log_lines : LogLinesState
   pub log : Logbook
-  pub docket : Option DocketState
+  pub hypotheses : Option HypothesesState
 
 -- A judge: the reader of its lines, what it keeps of the blocks, how many lines it was given, and the fault that ended it.
 pub record JudgeState : Type 0 where
@@ -34,11 +34,11 @@ pub record JudgeState : Type 0 where
   pub lines : ℕ
   pub fault : Option JudgeFault
 
--- the docket after these blocks, with these hypotheses, at a log
-abbrev pub docket_after : Matter → List Block → DocketState → Logbook → Docket
-docket_after matter blocks kept log =
+-- the basis after these blocks, with these hypotheses, at a log
+abbrev pub basis_after : DiagnosisProblem → List Block → HypothesesState → Logbook → RoundBasis
+basis_after problem blocks kept log =
     record {
-      graph = matter.graph;
+      graph = problem.graph;
       terms = kept.terms;
       hypotheses = kept.table.hypotheses;
       steps = λ number. steps_so_far number (flat_map rounds_of blocks);
@@ -46,43 +46,43 @@ docket_after matter blocks kept log =
     }
 
 -- What is kept of the log is what these blocks leave.
-pub record KeepsLog (matter : Matter) (blocks : List Block) (state : BlocksState) : Type 0 where
-  pub graph : state.graph ≡ matter.graph
+pub record KeepsLog (problem : DiagnosisProblem) (blocks : List Block) (state : BlocksState) : Type 0 where
+  pub graph : state.graph ≡ problem.graph
   pub passed : state.log_lines.passed ≡ length blocks
-  pub left : state.log_lines.left ≡ drop (length blocks) matter.log_lines
-  pub log : state.log ≡ (progress_after_blocks matter blocks).log
+  pub left : state.log_lines.left ≡ drop (length blocks) problem.log_lines
+  pub log : state.log ≡ (progress_after_blocks problem blocks).log
 
 -- What is kept of the hypotheses on these terms is what these blocks leave.
-pub record KeepsHypotheses (matter : Matter) (terms : Terms) (blocks : List Block) (state : BlocksState) : Type 0 where
-  pub kept : DocketState
-  pub is_kept : state.docket ≡ Some kept
+pub record KeepsHypotheses (problem : DiagnosisProblem) (terms : Terms) (blocks : List Block) (state : BlocksState) : Type 0 where
+  pub kept : HypothesesState
+  pub is_kept : state.hypotheses ≡ Some kept
   pub on_terms : kept.terms ≡ terms
-  pub keeps : KeepsDocket (docket_after matter blocks kept state.log) state.log kept
+  pub keeps : KeepsBasis (basis_after problem blocks kept state.log) state.log kept
 
 -- The lines are right so far, with these blocks, and what is kept is what these leave.
-pub record KeepsBlocks (matter : Matter) (terms : Terms) (blocks : List Block) (reads : List ReportLine)
+pub record KeepsBlocks (problem : DiagnosisProblem) (terms : Terms) (blocks : List Block) (reads : List ReportLine)
     (state : BlocksState) : Type 0 where
-  pub right : AreRightSoFar matter terms blocks reads
-  pub log : KeepsLog matter blocks state
-  pub hypotheses : KeepsHypotheses matter terms blocks state
+  pub right : AreRightSoFar problem terms blocks reads
+  pub log : KeepsLog problem blocks state
+  pub hypotheses : KeepsHypotheses problem terms blocks state
 
 -- No line came yet.
-pub record KeepsNone (matter : Matter) (reads : List ReportLine) (state : BlocksState) : Type 0 where
+pub record KeepsNone (problem : DiagnosisProblem) (reads : List ReportLine) (state : BlocksState) : Type 0 where
   pub none_read : reads ≡ []
-  pub log : KeepsLog matter [] state
-  pub no_docket : state.docket ≡ None
+  pub log : KeepsLog problem [] state
+  pub no_hypotheses : state.hypotheses ≡ None
 
 -- The judge represents these lines, all that it was given: it accepted each, and keeps what the next one is judged by.
-pub record JudgeRepresents (matter : Matter) (judge : JudgeState) (reads : List ReportLine) : Type 0 where
+pub record JudgeRepresents (problem : DiagnosisProblem) (judge : JudgeState) (reads : List ReportLine) : Type 0 where
   pub running : judge.fault ≡ None
   pub reading : judge.reader.refused ≡ None
   pub reader : ReaderRepresents judge.reader reads
   pub lines : judge.lines ≡ length reads
-  pub blocks : KeepsNone matter reads judge.blocks
-      ⊎ ((terms : Terms) × (blocks : List Block) × KeepsBlocks matter terms blocks reads judge.blocks)
+  pub blocks : KeepsNone problem reads judge.blocks
+      ⊎ ((terms : Terms) × (blocks : List Block) × KeepsBlocks problem terms blocks reads judge.blocks)
 
 -- The line that comes after these is right, and the judge represents it too.
-pub record GoesOnTo (matter : Matter) (before : List ReportLine) (bytes : List ℕ) (judge : JudgeState) : Type 0 where
+pub record GoesOnTo (problem : DiagnosisProblem) (before : List ReportLine) (bytes : List ℕ) (judge : JudgeState) : Type 0 where
   pub read : ReportLine
-  pub goes_on : GoesOnRight matter before bytes read
-  pub represents : JudgeRepresents matter judge (before ++ read ∷ [])
+  pub goes_on : GoesOnRight problem before bytes read
+  pub represents : JudgeRepresents problem judge (before ++ read ∷ [])

@@ -9,42 +9,42 @@ use Rattle.tfpg_report.specs.Reading.{begun_in, IsHead, MayCome}
 use Rattle.tfpg_check.specs.Report.{rounds_of}
 use Rattle.tfpg_check.specs.declared.judge_fault.JudgeFault.{JudgeFault}
 use Rattle.tfpg_check.specs.declared.judge_fault.JudgeFault.TheVariants.{NotAccepted, TooMany, NoMemory}
-use Rattle.tfpg_check.specs.Causes.{Matter, AreRightSoFar, AreRight, LineFails, EndFails}
+use Rattle.tfpg_check.specs.Causes.{DiagnosisProblem, AreRightSoFar, AreRight, LineFails, EndFails}
 
 -- The line that comes after these is right, and goes on from them.
-pub record GoesOnRight (matter : Matter) (before : List ReportLine) (bytes : List ℕ) (read : ReportLine) : Type 0 where
-  pub may_come : MayCome matter.graph before bytes read
-  pub right : AreRight matter (before ++ read ∷ [])
+pub record GoesOnRight (problem : DiagnosisProblem) (before : List ReportLine) (bytes : List ℕ) (read : ReportLine) : Type 0 where
+  pub may_come : MayCome problem.graph before bytes read
+  pub right : AreRight problem (before ++ read ∷ [])
 
 -- The line is the first one of a report, and there are more than 4,096 hypotheses on its terms, exactly this many.
-pub record HasTooMany (matter : Matter) (before : List ReportLine) (bytes : List ℕ) (count : ℕ) : Type 0 where
+pub record HasTooMany (problem : DiagnosisProblem) (before : List ReportLine) (bytes : List ℕ) (count : ℕ) : Type 0 where
   pub first : before ≡ []
   pub read : ReportLine
-  pub may_come : MayCome matter.graph before bytes read
+  pub may_come : MayCome problem.graph before bytes read
   pub terms : Terms
   pub is_head : IsHead terms read
   pub too_many : MAX_HYPOTHESES < count
-  pub counted : HasHypotheses matter.graph terms count
+  pub counted : HasHypotheses problem.graph terms count
 
 -- What is returned for a line that comes after these, which are right. Nothing is said where memory ran out.
-abbrev pub IsJudged : Matter → List ReportLine → List ℕ → Result (Unit {0}) JudgeFault → Type 0
-IsJudged matter before bytes (Ok done) = (read : ReportLine) × GoesOnRight matter before bytes read
-IsJudged matter before bytes (Err (NotAccepted at why)) = AreRight matter before × LineFails matter before bytes at why
-IsJudged matter before bytes (Err (TooMany count)) = HasTooMany matter before bytes count
-IsJudged matter before bytes (Err NoMemory) = Unit {0}
+abbrev pub IsJudged : DiagnosisProblem → List ReportLine → List ℕ → Result (Unit {0}) JudgeFault → Type 0
+IsJudged problem before bytes (Ok done) = (read : ReportLine) × GoesOnRight problem before bytes read
+IsJudged problem before bytes (Err (NotAccepted at why)) = AreRight problem before × LineFails problem before bytes at why
+IsJudged problem before bytes (Err (TooMany count)) = HasTooMany problem before bytes count
+IsJudged problem before bytes (Err NoMemory) = Unit {0}
 
 -- The lines are the whole report: blocks of all lines of the log, with so many rounds.
-pub record IsWhole (matter : Matter) (reads : List ReportLine) (rounds : ℕ) : Type 0 where
+pub record IsWhole (problem : DiagnosisProblem) (reads : List ReportLine) (rounds : ℕ) : Type 0 where
   pub terms : Terms
   pub blocks : List Block
-  pub right : AreRightSoFar matter terms blocks reads
+  pub right : AreRightSoFar problem terms blocks reads
   pub none_begun : begun_in reads ≡ []
-  pub all_lines : length blocks ≡ length matter.log_lines
+  pub all_lines : length blocks ≡ length problem.log_lines
   pub counted : rounds ≡ length (flat_map rounds_of blocks)
 
 -- What is returned at the end of these lines.
-abbrev pub IsJudgedAtEnd : Matter → List ReportLine → Result ℕ JudgeFault → Type 0
-IsJudgedAtEnd matter reads (Ok rounds) = IsWhole matter reads rounds
-IsJudgedAtEnd matter reads (Err (NotAccepted at why)) = AreRight matter reads × EndFails matter reads at why
-IsJudgedAtEnd matter reads (Err (TooMany count)) = ⊥
-IsJudgedAtEnd matter reads (Err NoMemory) = ⊥
+abbrev pub IsJudgedAtEnd : DiagnosisProblem → List ReportLine → Result ℕ JudgeFault → Type 0
+IsJudgedAtEnd problem reads (Ok rounds) = IsWhole problem reads rounds
+IsJudgedAtEnd problem reads (Err (NotAccepted at why)) = AreRight problem reads × EndFails problem reads at why
+IsJudgedAtEnd problem reads (Err (TooMany count)) = ⊥
+IsJudgedAtEnd problem reads (Err NoMemory) = ⊥

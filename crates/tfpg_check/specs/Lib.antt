@@ -6,8 +6,9 @@ pub use Rattle.tfpg_graph.specs.Graph
 pub mod Report
 pub mod Tests
 pub mod Judging
+pub mod Passing
 pub mod Causes
-pub mod DocketState
+pub mod HypothesesState
 pub mod Judged
 pub mod JudgeState
 pub mod EqualReports

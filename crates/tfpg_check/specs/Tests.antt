@@ -1,5 +1,5 @@
 -- Tests in an order, of which the first that fails names a line and a cause.
-use Rattle.std.specs.Prelude.{◌≡◌, ◌⊎◌, ℕ, List, [], ◌∷◌, ◌++◌}
+use Rattle.std.specs.Prelude.{◌≡◌, ◌≢◌, ◌⊎◌, ℕ, List, [], ◌∷◌, ◌++◌, take, Some, slice_get}
 use Rattle.tfpg_check.specs.declared.cause.CheckCause.{CheckCause}
 
 -- A test fails at a line of the report, and for a cause.
@@ -22,3 +22,12 @@ Then first next line cause = first line cause ⊎ (Passes first × next line cau
 abbrev pub InTurn : {X : Type 0} → (List X → X → Fails) → List X → List X → Fails
 InTurn test before [] line cause = ⊥
 InTurn test before (x ∷ xs) line cause = Then (test before x) (InTurn test (before ++ x ∷ []) xs) line cause
+
+-- This holds of each item, with the items before it.
+abbrev pub HoldInTurn : {X : Type 0} → (List X → X → Type 0) → List X → Type 0
+HoldInTurn {X} holds xs = (index : ℕ) (x : X) → slice_get xs index ≡ Some x → holds (take index xs) x
+
+-- Two lists differ first at this index. One of them may end there.
+pub record DifferFirstAt {X : Type 0} (xs ys : List X) (index : ℕ) : Type 0 where
+  pub same_before : take index xs ≡ take index ys
+  pub differ : slice_get xs index ≢ slice_get ys index

@@ -1,12 +1,11 @@
 -- What the code and its proofs need besides. No public clause reaches it.
-pub mod Passing
 pub mod Faults
 pub mod BlockSteps
 pub mod LineSteps
 pub mod LogLines
 pub mod InTurn
 pub mod Parts
-pub mod Hearings
+pub mod Lookups
 pub mod LargestParts
 pub mod KeptFlags
 pub mod RankedKeys

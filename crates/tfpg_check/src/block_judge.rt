@@ -7,11 +7,11 @@ ghost use Rattle.tfpg_log.specs.Log.{IsLogOf};
 ghost use Rattle.tfpg_log.specs.LogOfLines.{new_log, log_after};
 ghost use Rattle.tfpg_check.specs.Report.{event_of_line};
 ghost use Rattle.tfpg_check.specs.inside.ReadRoundOf.{IsReadRoundOf};
-ghost use Rattle.tfpg_check.specs.inside.BlockSteps.{IsFedOf, IsFedJudged, IsHeadJudged, IsNextLine, line_of_event, IsRefusedJudged, IsRoundJudged, IsJudgedByDocket};
+ghost use Rattle.tfpg_check.specs.inside.BlockSteps.{IsFedOf, IsFedJudged, IsHeadJudged, IsNextLine, line_of_event, IsRefusedJudged, IsRoundJudged, IsJudgedByHypotheses};
 
 use crate::cause::CheckCause;
-use crate::docket::KeptDocket;
 use crate::judge_fault::JudgeFault;
+use crate::kept_hypotheses::KeptHypotheses;
 use crate::log_lines::LogLines;
 use crate::log_text::LogText;
 use crate::round_fault::RoundFault;
@@ -32,7 +32,7 @@ pub(crate) struct BlockJudge<T: LogText> {
     /// The log of those that have one.
     log: Log,
     /// The hypotheses, once the first line of the report came.
-    docket: Option<KeptDocket>,
+    hypotheses: Option<KeptHypotheses>,
 }
 
 impl<T: LogText> Model for BlockJudge<T> {
@@ -45,10 +45,10 @@ impl<T: LogText> Model for BlockJudge<T> {
       graph = judge.graph;
       log_lines = judge.log_lines;
       log = judge.log;
-      docket = judge.docket;
+      hypotheses = judge.hypotheses;
     } };
 
-    ghost invariant = { λ judge. AreOfGraph judge.graph judge.log judge.docket };
+    ghost invariant = { λ judge. AreOfGraph judge.graph judge.log judge.hypotheses };
 }
 
 /// What the next line of the log is.
@@ -78,7 +78,7 @@ impl<T: LogText> BlockJudge<T> {
           graph = graph;
           log_lines = record { passed = 0; left = lines_of (T.text log_text) };
           log = new_log;
-          docket = None;
+          hypotheses = None;
         } }
     {
         BlockJudge {
@@ -86,7 +86,7 @@ impl<T: LogText> BlockJudge<T> {
             graph,
             log_lines: LogLines::new(log_text),
             log: Log::new(alloc),
-            docket: None,
+            hypotheses: None,
         }
     }
 
@@ -116,7 +116,7 @@ impl<T: LogText> BlockJudge<T> {
     /// The head looks once at each two hypotheses. A refused line costs a pass over the line of the log, and a round what its steps
     /// and traces cost, and a pass over the hypotheses with a look at the largest proper parts of each.
     pub(crate) fn judge(&mut self, at: u64, fed: &Fed) -> Result<(), JudgeFault>
-        requires { IsFedOf self.old.graph self.old.docket fed.now }
+        requires { IsFedOf self.old.graph self.old.hypotheses fed.now }
         ensures judged { IsFedJudged at fed.entry.now self.old self.new result }
         ensures graph { self.new.graph ≡ self.old.graph }
     {
@@ -133,13 +133,13 @@ impl<T: LogText> BlockJudge<T> {
         }
     }
 
-    /// Makes the docket of all hypotheses on these terms.
+    /// Keeps all hypotheses on these terms.
     fn begin(&mut self, terms: Terms) -> Result<(), JudgeFault>
         requires { terms.doubt ≤ MAX_DOUBT }
         ensures judged { IsHeadJudged terms self.old self.new result }
         ensures graph { self.new.graph ≡ self.old.graph }
     {
-        self.docket = Some(KeptDocket::new(self.alloc, &self.graph, terms)?);
+        self.hypotheses = Some(KeptHypotheses::new(self.alloc, &self.graph, terms)?);
         Ok(())
     }
 
@@ -172,7 +172,7 @@ impl<T: LogText> BlockJudge<T> {
     /// Judges the block of a round.
     fn judge_round(&mut self, read: &ReadRound) -> Result<(), RoundFault>
         requires lines { IsReadRoundOf self.old.graph read.now }
-        requires begun { (self.old.docket ≡ None) → ⊥ }
+        requires begun { (self.old.hypotheses ≡ None) → ⊥ }
         ensures judged { IsRoundJudged read.entry.now self.old self.new result }
         ensures graph { self.new.graph ≡ self.old.graph }
     {
@@ -185,20 +185,20 @@ impl<T: LogText> BlockJudge<T> {
                 line: read.first_line,
                 cause: CheckCause::WrongRound,
             }),
-            NextLine::Accepted => self.judge_by_docket(read),
+            NextLine::Accepted => self.judge_by_hypotheses(read),
         }
     }
 
     /// Judges a round by what was kept of the hypotheses, once its line of the log was passed.
-    fn judge_by_docket(&mut self, read: &ReadRound) -> Result<(), RoundFault>
+    fn judge_by_hypotheses(&mut self, read: &ReadRound) -> Result<(), RoundFault>
         requires lines { IsReadRoundOf self.old.graph read.now }
-        requires begun { (self.old.docket ≡ None) → ⊥ }
-        ensures judged { IsJudgedByDocket read.entry.now self.old self.new result }
+        requires begun { (self.old.hypotheses ≡ None) → ⊥ }
+        ensures judged { IsJudgedByHypotheses read.entry.now self.old self.new result }
         ensures graph { self.new.graph ≡ self.old.graph }
     {
         let line = self.log_lines.passed();
-        match &mut self.docket {
-            Some(docket) => docket.judge_round(&self.graph, &mut self.log, read, line),
+        match &mut self.hypotheses {
+            Some(hypotheses) => hypotheses.judge_round(&self.graph, &mut self.log, read, line),
             None => unreachable!(),
         }
     }
@@ -207,7 +207,7 @@ impl<T: LogText> BlockJudge<T> {
     fn pass_line(&mut self) -> Result<NextLine, NoMemory>
         ensures next { IfOk result (λ next. IsNextLine self.old self.new next) }
         ensures graph { self.new.graph ≡ self.old.graph }
-        ensures docket { self.new.docket ≡ self.old.docket }
+        ensures hypotheses { self.new.hypotheses ≡ self.old.hypotheses }
     {
         let Some(text) = self.log_lines.first() else {
             return Ok(NextLine::Missing);

@@ -6,7 +6,7 @@ ghost use Rattle.tfpg_report.specs.declared.report_line.ReportLine.{ReportLine};
 ghost use Rattle.tfpg_report.specs.Stands.{may_begin_block};
 ghost use Rattle.tfpg_report.specs.Represents.{ReaderRepresents};
 ghost use Rattle.tfpg_check.specs.declared.judge_fault.JudgeFault.{JudgeFault as FaultOf};
-ghost use Rattle.tfpg_check.specs.Causes.{Matter};
+ghost use Rattle.tfpg_check.specs.Causes.{DiagnosisProblem};
 ghost use Rattle.tfpg_check.specs.Judged.{IsJudged, IsJudgedAtEnd};
 ghost use Rattle.tfpg_check.specs.JudgeState.{JudgeRepresents, GoesOnTo};
 ghost use Rattle.tfpg_check.specs.inside.LineSteps.{CanRead, IsLineJudged};
@@ -51,8 +51,8 @@ impl<T: LogText> Model for Judge<T> {
 impl Judge {
     /// The judge of a report of which no line came. It owns the text of the log. Takes no memory.
     pub fn new(alloc: Global, graph: Graph, log_text: Vec<u8>) -> Judge
-        ensures represents { (matter : Matter) → matter.graph ≡ graph →
-            matter.log_lines ≡ lines_of log_text.items → JudgeRepresents matter result [] }
+        ensures represents { (problem : DiagnosisProblem) → problem.graph ≡ graph →
+            problem.log_lines ≡ lines_of log_text.items → JudgeRepresents problem result [] }
         ensures running { result.fault ≡ None }
         ensures no_lines { result.lines ≡ 0 }
     {
@@ -63,8 +63,8 @@ impl Judge {
 impl<T: LogText> Judge<T> {
     /// The judge of a report of which no line came, by the text of a log that it owns or borrows. Takes no memory.
     pub fn by(alloc: Global, graph: Graph, log_text: T) -> Judge<T>
-        ensures represents { (matter : Matter) → matter.graph ≡ graph →
-            matter.log_lines ≡ lines_of (T.text log_text) → JudgeRepresents matter result [] }
+        ensures represents { (problem : DiagnosisProblem) → problem.graph ≡ graph →
+            problem.log_lines ≡ lines_of (T.text log_text) → JudgeRepresents problem result [] }
         ensures running { result.fault ≡ None }
         ensures no_lines { result.lines ≡ 0 }
     {
@@ -87,10 +87,10 @@ impl<T: LogText> Judge<T> {
     pub fn take(&mut self, number: u64, line: &[u8]) -> Result<(), JudgeFault>
         requires few { number < 2 ^ 64 - 1 }
         requires next { self.old.fault ≡ None → number ≡ self.old.lines + 1 }
-        ensures judged { (matter : Matter) (reads : List ReportLine) → JudgeRepresents matter self.old reads →
-            IsJudged matter reads line.now result }
-        ensures goes_on { (matter : Matter) (reads : List ReportLine) → JudgeRepresents matter self.old reads →
-            OnOk result (GoesOnTo matter reads line.now self.new) }
+        ensures judged { (problem : DiagnosisProblem) (reads : List ReportLine) → JudgeRepresents problem self.old reads →
+            IsJudged problem reads line.now result }
+        ensures goes_on { (problem : DiagnosisProblem) (reads : List ReportLine) → JudgeRepresents problem self.old reads →
+            OnOk result (GoesOnTo problem reads line.now self.new) }
         ensures again { (fault : FaultOf) → self.old.fault ≡ Some fault → (result ≡ Err fault) × (self.new ≡ self.old) }
         ensures refuses { IfErr result (λ fault. self.new.fault ≡ Some fault) }
         ensures running { OnOk result (self.new.fault ≡ None) }
@@ -115,8 +115,8 @@ impl<T: LogText> Judge<T> {
     /// Ends the report with the lines that were given: how many rounds it has. Where it is empty, ends in a round, or has no block for
     /// the last line of the log, the fault says so, by the number of the line that is missing. Each later call returns the same fault.
     pub fn end(&mut self) -> Result<u32, JudgeFault>
-        ensures ends { (matter : Matter) (reads : List ReportLine) → JudgeRepresents matter self.old reads →
-            IsJudgedAtEnd matter reads result }
+        ensures ends { (problem : DiagnosisProblem) (reads : List ReportLine) → JudgeRepresents problem self.old reads →
+            IsJudgedAtEnd problem reads result }
         ensures again { (fault : FaultOf) → self.old.fault ≡ Some fault → (result ≡ Err fault) × (self.new ≡ self.old) }
         ensures refuses { IfErr result (λ fault. self.new.fault ≡ Some fault) }
         ensures same { OnOk result (self.new ≡ self.old) }

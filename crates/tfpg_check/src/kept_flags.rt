@@ -3,10 +3,10 @@
 
 ghost use Rattle.std.specs.Prelude.{◌≡◌, ◌↔◌, ◌<◌, ℕ, map, IsTrue, IfOk, IfSome, Some};
 ghost use Rattle.tfpg_report.specs.declared.read_round.RankedLine.{RankedLine as RankedRead};
-ghost use Rattle.tfpg_check.specs.inside.Hearings.{IsFlagged};
+ghost use Rattle.tfpg_check.specs.inside.Lookups.{IsFlagged};
 ghost use Rattle.tfpg_check.specs.inside.KeptFlags.{AddsNothing};
 
-use crate::round::hearing::flag;
+use crate::round::lookup::flag;
 use std::alloc::Global;
 use tfpg_base::NoMemory;
 use tfpg_report::{RankedLine, ReadRound};

@@ -1,11 +1,24 @@
 //! What the definitions of this crate come to, as functions that do nothing: each says its law in its clauses.
 
-ghost use Rattle.std.specs.Prelude.{◌≡◌, ℕ, List, [], ◌∷◌, ◌++◌};
+ghost use Rattle.std.specs.Prelude.{◌≡◌, ◌↔◌, ◌+◌, ℕ, List, [], ◌∷◌, ◌++◌, length, take, Some, Ok};
+ghost use Rattle.tfpg_base.specs.declared.terms.Terms.{Terms};
 ghost use Rattle.tfpg_graph.specs.Graph.{Tfpg};
-ghost use Rattle.tfpg_report.specs.Blocks.{Block};
+ghost use Rattle.tfpg_graph.specs.Valid.{IsValid};
+ghost use Rattle.tfpg_log.specs.declared.event.Event.{Event};
+ghost use Rattle.tfpg_evidence.specs.declared.round.Round.{Round};
+ghost use Rattle.tfpg_hyp.specs.Rounds.{IsRound};
+ghost use Rattle.tfpg_report.specs.declared.read_round.ReadRound.{ReadRound};
+ghost use Rattle.tfpg_report.specs.declared.report_line.ReportLine.{ReportLine};
+ghost use Rattle.tfpg_report.specs.declared.stand.Stand.{Stand};
+ghost use Rattle.tfpg_report.specs.Blocks.{Block, round_lines};
+ghost use Rattle.tfpg_report.specs.Reading.{IsReadFrom, MayCome};
+ghost use Rattle.tfpg_report.specs.Stands.{stand_after_all};
+ghost use Rattle.tfpg_check.specs.Report.{AreBlocks, new_progress, progress_after, progress_of};
+ghost use Rattle.tfpg_check.specs.Judging.{RoundBasis};
+ghost use Rattle.tfpg_check.specs.Passing.{RoundPasses};
+ghost use Rattle.tfpg_check.specs.Causes.{AreRead, DiagnosisProblem, IsRoundBasis, next_event, progress_after_blocks};
 ghost use Rattle.tfpg_check.specs.EqualReports.{EqualReportsSayTheSame};
-ghost use Rattle.tfpg_check.specs.RightReports.{LinesHaveOneCause, LinesOfReportsCanBeRead, LinesOfTooManyHaveNoCause, ReportsHaveNoCause, ShortReportsHaveNoCause};
-ghost use Rattle.tfpg_check.specs.Report.{new_progress, progress_after, progress_of};
+ghost use Rattle.tfpg_check.specs.RightReports.{LinesHaveOneCause, LinesOfReportsCanBeRead, LinesOfTooManyHaveNoCause, ReportsHaveNoCause, ShortReportsHaveNoCause, WholeLinesAreThoseOfReports};
 
 use tfpg_clause::laws::{a_partial_tree_has_one_present_leaf, a_refutation_is_finished};
 use tfpg_hyp::laws::{
@@ -63,3 +76,25 @@ pub fn lines_have_at_most_one_cause()
     a_round_is_of_its_graph();
     a_report_is_read_in_its_order();
 }
+
+/// The lines that a judge accepts up to the end are those of a report of its graph and log, with as many rounds as it returns. Lines that
+/// each can be read where they stand remain such with one more line that may come.
+pub fn accepted_lines_are_those_of_a_report()
+    ensures next { (graph : Tfpg) (lines : List (List ℕ)) (reads : List ReportLine) (bytes : List ℕ)
+        (read : ReportLine) → AreRead graph lines reads → MayCome graph reads bytes read →
+        AreRead graph (lines ++ bytes ∷ []) (reads ++ read ∷ []) }
+    ensures whole { WholeLinesAreThoseOfReports }
+{}
+
+/// A round was read from lines that may come one after the other, and is judged for the event of the next line of the log after right
+/// blocks. It passes each test exactly if its lines are those of a right round.
+pub fn a_round_passes_if_it_is_right()
+    ensures { (problem : DiagnosisProblem) (terms : Terms) (blocks : List Block) (event : Event)
+        (basis : RoundBasis) (before after : Stand) (first : ℕ) (lines : List ReportLine) (read : ReadRound) →
+        IsValid problem.graph → AreBlocks problem.graph terms (take (length blocks) problem.log_lines) blocks →
+        next_event problem blocks ≡ Some (Ok event) → IsRoundBasis problem terms blocks event basis →
+        stand_after_all before lines ≡ Some after → IsReadFrom first lines read →
+        RoundPasses basis (length blocks + 1) read ↔
+        ((round : Round) × (round_lines round ≡ lines) ×
+        IsRound problem.graph terms (progress_after_blocks problem blocks).rounds basis.log (length blocks + 1) round) }
+{}

@@ -5,7 +5,8 @@
 //! - [`JudgeFault`] is why a report is not accepted, and [`CheckCause`] the first test that it fails.
 //!
 //! [`laws`] says how far a report has come after each block, that equal reports say the same, that each line of a report can be read,
-//! that a report whose lines can be read has no cause for which it would not be accepted, and that no lines have more than one.
+//! that a report whose lines can be read has no cause for which it would not be accepted, and that no lines have more than one; also that
+//! lines that are accepted to the end are those of a report, and that a round passes each test exactly if it is right.
 //!
 //! A report of one line, which has none of the shapes of a line of a log:
 //!
@@ -17,10 +18,10 @@
 
 mod block_judge;
 mod cause;
-mod docket;
 mod judge;
 mod judge_fault;
 mod kept_flags;
+mod kept_hypotheses;
 pub mod laws;
 mod log_lines;
 mod log_text;

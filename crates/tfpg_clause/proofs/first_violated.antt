@@ -6,4 +6,6 @@ pub mod MaySpans
 pub mod MustSpans
 pub mod MustsBySpan
 pub mod MustMet
+pub mod Excuses
+pub mod ActiveBefore
 pub mod WindowsKnown

@@ -5,3 +5,4 @@ pub mod UnfinishedSplits
 pub mod FirstSpan
 pub mod KnownWindows
 pub mod Musts
+pub mod Overdue

@@ -19,11 +19,12 @@ use tfpg_log::Log;
 /// times up to now, as a trace, keep the propagation rules. There is one time for each node, in milliseconds, and 10^12 + 1
 /// for a node that is never active. Clauses are in order by their kind, then by their node or edge, and then by their span.
 ///
-/// Takes no memory. For may clauses it looks, for each node, at the span of its time alone. For must clauses it goes once
-/// through the spans for each edge into an OR node, and once for each AND node, where it takes constant time for each edge
-/// into the node and each span: the window that an edge has round one span is known at the later spans of it. So it takes
-/// at most as many constant steps as there are edges times spans, and one search in the logarithm of the mode changes for
-/// each window.
+/// Takes no memory. For may clauses it looks, for each node, at the span of its time alone. For must clauses it looks at each
+/// edge into an OR node, and at each AND node with its edges. It goes through spans only where by now each of these edges has had
+/// an active source for its greatest delay, and the node becomes active later than that: from the window of that instant up to
+/// the span of the node's time. There it takes constant time for each edge into the node and each span: the window that an
+/// edge has round one span is known at the later spans of it. So it takes at most as many constant steps as there are edges
+/// times spans, and one search in the logarithm of the mode changes for each window.
 pub fn violated(graph: &Graph, log: &Log, times: &[u64]) -> Option<ClauseName>
     requires { AreNumbers graph.now times.now }
     ensures first { MatchOption result (MeetAllNow graph.now log.now times.now)

@@ -40,6 +40,7 @@ mod may_violated;
 mod meets;
 mod must;
 mod must_violated;
+mod overdue;
 mod path;
 mod site;
 

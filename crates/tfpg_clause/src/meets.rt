@@ -1,6 +1,6 @@
 //! Whether times meet constraints.
 
-ghost use Rattle.std.specs.Prelude.{◌≡◌, ◌≤◌, ◌↔◌, pos, All, IsTrue};
+ghost use Rattle.std.specs.Prelude.{◌≡◌, ◌≤◌, ◌↔◌, pos, All, IsTrue, slice_index};
 ghost use Rattle.tfpg_base.specs.declared.limits.TheConstants.{NEVER};
 ghost use Rattle.tfpg_base.specs.Constraint.{Meets, value_of};
 ghost use Rattle.tfpg_clause.specs.inside.Alternatives.{constraints_in};
@@ -49,7 +49,16 @@ fn value_of(times: &[u64], number: u32) -> u64
     ensures in_range { result ≤ NEVER }
 {
     match number.checked_sub(1) {
-        Some(node) => times.get(node as usize).copied().unwrap_or(0),
+        Some(node) => time_of(times, node),
         None => 0,
     }
+}
+
+/// The time of the node.
+pub(crate) fn time_of(times: &[u64], node: u32) -> u64
+    requires { All (λ time. time ≤ NEVER) times.now }
+    ensures time { result ≡ slice_index times.now node }
+    ensures in_range { result ≤ NEVER }
+{
+    times.get(node as usize).copied().unwrap_or(0)
 }

@@ -1,6 +1,7 @@
 //! The first span in which times violate a must clause.
 //!
-//! Only the first span of a window has a must clause. So after a window the search continues with the spans after it.
+//! Only the first span of a window has a must clause. So after a window the search continues with the spans after it. It begins
+//! where the node is overdue, and ends with the span of the node's time.
 
 ghost use Rattle.std.specs.Prelude.{◌≡◌, ◌<◌, ◌≤◌, ◌↔◌, ℕ, length, All, Contains, IsTrue, IsSomeAnd, IfSome};
 ghost use Rattle.tfpg_base.specs.declared.limits.TheConstants.{MAX_TIME, NEVER};
@@ -8,18 +9,17 @@ ghost use Rattle.tfpg_log.specs.Log.{now_of};
 ghost use Rattle.tfpg_clause.specs.declared.clause_kind.ClauseKind.TheVariants.{OrMust, AndMust};
 ghost use Rattle.tfpg_clause.specs.Cut.{AreNumbers};
 ghost use Rattle.tfpg_clause.specs.inside.Alternatives.{due_by_number, dues_over};
-ghost use Rattle.tfpg_clause.specs.inside.FirstSpan.{FindsFirst, clauses_of, MeetsUpTo, MeetsIfAny, must_over, IsExcused};
+ghost use Rattle.tfpg_clause.specs.inside.FirstSpan.{FindsFirst, clauses_of, MeetsUpTo, MeetsBefore, MeetsIfAny, must_over, IsExcused};
 ghost use Rattle.tfpg_clause.specs.inside.KnownWindows.{IsWindowOver, AreKnown};
 ghost use Rattle.tfpg_clause.specs.inside.Musts.{IsMustOf, musts_of, window_by};
 ghost use Rattle.tfpg_clause.specs.inside.Ranges.{IsSmallWindow};
 
 use crate::clauses::or_target;
 use crate::facts::now;
-use crate::known_windows::{known_at, take_windows};
+use crate::known_windows::{known_at, take_windows, window_over};
 use crate::meets::meets;
-use crate::must::{
-    due_by_number, find_joint, find_window, follows_in_time, latest_due, starts_late,
-};
+use crate::must::{due_by_number, find_joint, follows_in_time, latest_due, starts_late};
+use crate::overdue::overdue_from;
 use crate::site::Site;
 use tfpg_graph::{Graph, MAX_INCOMING};
 use tfpg_log::{Log, Window};
@@ -77,8 +77,9 @@ fn must_violated(
     requires known { AreKnown graph.now log.now (now_of log.now) must.now.edges.now known.old }
     ensures { FindsFirst times.now (musts_of graph.now log.now must.now.node must.now.edge) result }
 {
-    let last = log.span_of(now(log))?;
-    let mut number = 0;
+    let mut number = first_overdue(graph, log, times, must, known)?;
+    let end = times[must.node as usize].min(now(log));
+    let last = log.span_of(end)?;
     while let Some(until) = must_met_up_to(graph, log, times, must, number, known) {
         if until >= last {
             return None;
@@ -86,6 +87,36 @@ fn must_violated(
         number = until + 1;
     }
     Some(number)
+}
+
+/// The first span whose must clause the times may violate, and none where they meet each. It is that of the instant from which
+/// on the node is overdue, or the first one of the window round that instant.
+fn first_overdue(
+    graph: &Graph,
+    log: &Log,
+    times: &[u64],
+    must: &Must<'_>,
+    known: &mut [Option<Window>],
+) -> Option<u32>
+    requires must { IsMustOf graph.now must.now }
+    requires numbers { AreNumbers graph.now times.now }
+    requires room { length must.now.edges.now ≤ length known.old }
+    requires known { AreKnown graph.now log.now (now_of log.now) must.now.edges.now known.old }
+    ensures met { MeetsBefore times.now (musts_of graph.now log.now must.now.node must.now.edge) result }
+    ensures known { AreKnown graph.now log.now (now_of log.now) must.now.edges.now known.new }
+{
+    let overdue = overdue_from(graph, times, must.edges)?;
+    let number = log.span_of(overdue)?;
+    let site = Site {
+        graph,
+        log,
+        span: number,
+        horizon: now(log),
+    };
+    match take_window(&site, must, known) {
+        Some(window) => Some(window.first),
+        None => Some(number),
+    }
 }
 
 /// A span up to which the times meet the must clauses, from the span of this number on, or none where they violate that of
@@ -140,7 +171,7 @@ fn take_window(site: &Site<'_>, must: &Must<'_>, known: &mut [Option<Window>]) -
 {
     match must.edge {
         Some(edge) => {
-            let window = find_window(site, edge)?;
+            let window = window_over(site, edge, known_at(known, 0))?;
             known[0] = Some(window);
             Some(window)
         }

@@ -67,8 +67,8 @@ module _ (bounds : List VariableBounds) (picks : List Pick) (labels : Labels) (c
       slice_get_read bounds (length bounds) v old refl (let e = ap (λ (d : Demands). length d.bounds) seen in omega arith) read
 
   -- where the lengthened system is the one that there is
-  pub adds_nothing : (lengthened : Demands) → demands ≡ lengthened → (demands ≡ lengthened) × HasSolution lengthened
-  adds_nothing lengthened same = (same, subst HasSolution same HasSolution-ready)
+  pub adds_nothing : (lengthened : Demands) → demands ≡ lengthened → (demands_of bounds picks ≡ lengthened) × HasSolution lengthened
+  adds_nothing lengthened same = (seen ∙ same, subst HasSolution same HasSolution-ready)
 
   -- where the lengthened system has a negative cycle
   pub adds_conflict : (lengthened : Demands) (tags : List Why) → NamesNegativeCycle lengthened tags →
@@ -77,7 +77,7 @@ module _ (bounds : List VariableBounds) (picks : List Pick) (labels : Labels) (c
 
   -- a floor that is not tighter changes nothing
   pub adds_floor_same : (v : ℕ) (old : VariableBounds) (least tag : ℕ) → slice_get bounds v ≡ Some old → least ≤ old.floor →
-      (demands ≡ with_floor demands v least tag) × HasSolution (with_floor demands v least tag)
+      (demands_of bounds picks ≡ with_floor demands v least tag) × HasSolution (with_floor demands v least tag)
   adds_floor_same v old least tag at looser =
       adds_nothing (with_floor demands v least tag)
       (subst (λ (d : Demands). d ≡ with_floor d v least tag) seen (sym (with_floor-looser bounds picks v old at least tag looser)))
@@ -90,7 +90,7 @@ module _ (bounds : List VariableBounds) (picks : List Pick) (labels : Labels) (c
 
   -- a ceiling that is not tighter changes nothing
   pub adds_ceiling_same : (v : ℕ) (old : VariableBounds) (ceiling tag : ℕ) → slice_get bounds v ≡ Some old → old.ceiling ≤ ceiling →
-      (demands ≡ with_ceiling demands v ceiling tag) × HasSolution (with_ceiling demands v ceiling tag)
+      (demands_of bounds picks ≡ with_ceiling demands v ceiling tag) × HasSolution (with_ceiling demands v ceiling tag)
   adds_ceiling_same v old ceiling tag at looser =
       adds_nothing (with_ceiling demands v ceiling tag)
       (subst (λ (d : Demands). d ≡ with_ceiling d v ceiling tag) seen (sym (with_ceiling-looser bounds picks v old at ceiling tag looser)))

@@ -6,7 +6,8 @@
 //!   [`System::solution`] lends the latest solution.
 //! - [`Conflict`] is returned where there would be no solution; [`System::cycle`] then lends the tags, [`Why`], of
 //!   constraints that chain into a cycle whose bounds sum up to less than 0.
-//! - [`Bounds`], [`Pick`] and [`Demand`] are what contracts see of a system; [`laws`] says what its tags name.
+//! - [`Bounds`], [`Pick`] and [`Demand`] are what contracts see of a system; [`laws`] says what its tags name. A system counts the calls
+//!   that add to it, for contracts alone: [`CountedCalls`].
 //!
 //! In [`tfpg_base::Constraint`] number 0 is the constant zero and the variable `v` is number `v + 1`; `raise` and `lower`
 //! take the variable itself. Here variable 0 is at least 5 and variable 1 at least 4 more. So variable 1 is at least 9,
@@ -26,10 +27,11 @@
 //! constraint is broken (Bellman and Ford; Dechter, Meiri and Pearl on simple temporal problems; Cotton and Maler on
 //! adding constraints one by one). `docs/difference-systems.md` says why this is right.
 //!
-//! No call but [`System::new`] and [`System::reserve`] takes memory.
+//! No call but [`System::new`], [`System::copy`] and [`System::reserve`] takes memory.
 #![tactic(auto)]
 
 mod bounds;
+mod counted_calls;
 mod demand;
 mod labels;
 pub mod laws;
@@ -43,6 +45,7 @@ mod walk;
 mod why;
 
 pub use bounds::Bounds;
+pub use counted_calls::CountedCalls;
 pub use demand::Demand;
 pub use pick::Pick;
 pub use system::System;

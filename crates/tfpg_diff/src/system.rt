@@ -1,12 +1,13 @@
 //! A system of difference constraints that always knows its latest solution.
 
-ghost use Rattle.std.specs.Prelude.{◌≡◌, ◌+◌, ◌-◌, ◌^◌, ◌<◌, ◌≤◌, [], ◌∷◌, ◌++◌, length, vec_len, vec_capacity, All, IfOk, OnOk, IsOk};
+ghost use Rattle.std.specs.Prelude.{◌≡◌, ◌+◌, ◌-◌, ◌^◌, ◌<◌, ◌≤◌, [], ◌∷◌, ◌++◌, length, vec_len, vec_capacity, All, IfOk, OnOk, OnErr, IsOk};
 ghost use Rattle.tfpg_diff.specs.Solution.{IsLatest};
 ghost use Rattle.tfpg_diff.specs.Demands.{Bounded};
 ghost use Rattle.tfpg_base.specs.declared.limits.TheConstants.{NEVER};
 ghost use Rattle.tfpg_diff.specs.SystemState.{unbounded_from, with_floor, with_ceiling, with_pick, popped_to, Adds, LeavesRoom};
 
 use crate::bounds::{Bounds, unbounded};
+use crate::counted_calls::CountedCalls;
 use crate::demand::demand_of_pick;
 use crate::labels::Labels;
 use crate::link::Link;
@@ -26,13 +27,15 @@ const MAX_PICKS: usize = 0xffff_ffff;
 /// How many variables a system has at most, so that their numbers take 32 bits.
 const MAX_VARIABLES: u32 = 0x8000_0000;
 
-/// Some variables, their bounds, a stack of picks, and the latest solution of all that.
+/// Some variables, their bounds, a stack of picks, and the latest solution of all that. It counts the calls that add to it, whatever
+/// counter they are given.
 #[derive(Drop)]
 pub struct System {
     bounds: Vec<Bounds>,
     picks: Vec<Pick>,
     labels: Labels,
     cycle: Vec<Why>,
+    calls: CountedCalls,
 }
 
 impl Model for System {
@@ -48,6 +51,7 @@ impl Model for System {
       demands = record { bounds = s.bounds.items; picks = s.picks.items };
       spare = min (vec_capacity s.picks) (2 ^ 32 - 1) - vec_len s.picks;
       cycle = s.cycle.items;
+      calls = s.calls.number;
     } };
 
     ghost invariant = { λ s. IsReady (demands_of s.bounds.items s.picks.items) s.labels (vec_capacity s.cycle) };
@@ -63,6 +67,7 @@ impl System {
         ensures demands { IfOk result
             (λ system. system.demands ≡ record { bounds = unbounded_from 0 count; picks = [] }) }
         ensures count { IfOk result (λ system. length system.demands.bounds ≡ count) }
+        ensures uncounted { IfOk result (λ system. system.calls ≡ 0) }
     {
         if count > MAX_VARIABLES {
             return Err(NoMemory);
@@ -77,13 +82,15 @@ impl System {
             picks: Vec::new(alloc),
             labels,
             cycle,
+            calls: CountedCalls::none(),
         })
     }
 
-    /// A copy, with the allocator that the system keeps. It demands the same and lends no tags. Takes time and memory linear in the
-    /// variables and the picks.
+    /// A copy, with the allocator that the system keeps. It demands the same, has counted as many calls and lends no tags. Takes time
+    /// and memory linear in the variables and the picks.
     pub fn copy(&self) -> Result<System, NoMemory>
-        ensures { IfOk result (λ copy. copy.demands ≡ self.now.demands) }
+        ensures demands { IfOk result (λ copy. copy.demands ≡ self.now.demands) }
+        ensures counted { IfOk result (λ copy. copy.calls ≡ self.now.calls) }
     {
         let bounds = self.bounds.clone()?;
         let picks = self.picks.clone()?;
@@ -94,15 +101,16 @@ impl System {
             picks,
             labels,
             cycle,
+            calls: self.calls.again(),
         })
     }
 
-    /// Makes room for so many more picks. The system is unchanged where memory ran out, or where there would be 2^32 picks
-    /// or more.
+    /// Makes room for so many more picks. Nothing else changes. The system is unchanged, room and all, where memory ran out, or where
+    /// there would be 2^32 picks or more.
     pub fn reserve(&mut self, picks: u32) -> Result<(), NoMemory>
         ensures ok { OnOk result (picks ≤ self.new.spare) }
-        ensures same { self.new.demands ≡ self.old.demands }
-        ensures cycle { self.new.cycle ≡ self.old.cycle }
+        ensures err { OnErr result (self.new ≡ self.old) }
+        ensures same { self.new ≡ record self.old { spare = self.new.spare } }
         ensures spare { self.old.spare ≤ self.new.spare }
         ensures succeeds { picks ≤ self.old.spare → IsOk result }
     {
@@ -111,6 +119,13 @@ impl System {
         }
         self.picks.reserve(picks as usize)?;
         Ok(())
+    }
+
+    /// How many calls of [`System::raise`], [`System::lower`] and [`System::push`] it has counted, for contracts alone. Does nothing.
+    pub fn calls(&self) -> CountedCalls
+        ensures { result.number ≡ self.now.calls }
+    {
+        self.calls.again()
     }
 
     /// How many variables it has.
@@ -155,7 +170,7 @@ impl System {
     /// The variable is at least `least`. A bound that is not tighter than the present one changes nothing. The call
     /// counts as one step.
     ///
-    /// Conflict comes exactly where there would be no solution. The system is then unchanged, and [`System::cycle`]
+    /// Conflict comes exactly where there would be no solution. What the system demands is then unchanged, and [`System::cycle`]
     /// lends the tags of a negative cycle. It costs one comparison, and at a conflict a walk along the links.
     pub fn raise<L: Ledger>(
         &mut self,
@@ -169,6 +184,7 @@ impl System {
         ensures variables { length self.new.demands.bounds ≡ length self.old.demands.bounds }
         ensures spare { self.new.spare ≡ self.old.spare }
         ensures step { work.new ≡ work.old + 1 }
+        ensures counted { self.new.calls ≡ self.old.calls + 1 }
     {
         work.tick();
         self.add_floor(variable, least, tag)
@@ -177,7 +193,7 @@ impl System {
     /// The variable is at most `most`. A bound that is not tighter than the present one changes nothing. The call
     /// counts as one step.
     ///
-    /// Conflict comes exactly where there would be no solution. The system is then unchanged, and [`System::cycle`]
+    /// Conflict comes exactly where there would be no solution. What the system demands is then unchanged, and [`System::cycle`]
     /// lends the tags of a negative cycle. Where the value of the variable is above that it costs at most one pass
     /// over the picks for each number, and at a conflict at most as much again.
     pub fn lower<L: Ledger>(
@@ -192,6 +208,7 @@ impl System {
         ensures variables { length self.new.demands.bounds ≡ length self.old.demands.bounds }
         ensures spare { self.new.spare ≡ self.old.spare }
         ensures step { work.new ≡ work.old + 1 }
+        ensures counted { self.new.calls ≡ self.old.calls + 1 }
     {
         work.tick();
         self.add_ceiling(variable, most, tag)
@@ -199,7 +216,7 @@ impl System {
 
     /// Pushes a constraint on the stack. Its bound may be any number. The call counts as one step.
     ///
-    /// Conflict comes exactly where there would be no solution. The system is then unchanged, and [`System::cycle`]
+    /// Conflict comes exactly where there would be no solution. What the system demands is then unchanged, and [`System::cycle`]
     /// lends the tags of a negative cycle. Where the values break the constraint it costs at most one pass over the
     /// picks for each number, and at a conflict at most as much again.
     pub fn push<L: Ledger>(
@@ -214,6 +231,7 @@ impl System {
         ensures adds { Adds self.old (with_pick self.old.demands constraint tag) result self.new }
         ensures spare { LeavesRoom self.old.spare result self.new.spare }
         ensures step { work.new ≡ work.old + 1 }
+        ensures counted { self.new.calls ≡ self.old.calls + 1 }
     {
         work.tick();
         self.add_pick(Pick { constraint, tag })
@@ -225,6 +243,7 @@ impl System {
         requires { len ≤ length self.old.demands.picks }
         ensures demands { self.new.demands ≡ popped_to self.old.demands len }
         ensures spare { self.new.spare ≡ self.old.spare + (length self.old.demands.picks - len) }
+        ensures counted { self.new.calls ≡ self.old.calls }
     {
         let len = len as usize;
         if len == self.picks.len() {
@@ -234,13 +253,15 @@ impl System {
         take_back(&self.bounds, &self.picks, &mut self.labels, &mut self.cycle);
     }
 
-    /// Raises a lower bound.
+    /// Raises a lower bound, and counts the call.
     fn add_floor(&mut self, variable: u32, least: u64, tag: u64) -> Result<(), Conflict>
         requires { variable < length self.old.demands.bounds }
         ensures adds { Adds self.old (with_floor self.old.demands variable least tag) result self.new }
         ensures variables { length self.new.demands.bounds ≡ length self.old.demands.bounds }
         ensures spare { self.new.spare ≡ self.old.spare }
+        ensures counted { self.new.calls ≡ self.old.calls + 1 }
     {
+        self.calls = self.calls.and_one();
         let index = variable as usize;
         let old = self.bounds[index];
         if least <= old.floor() {
@@ -262,13 +283,15 @@ impl System {
         Ok(())
     }
 
-    /// Lowers an upper bound.
+    /// Lowers an upper bound, and counts the call.
     fn add_ceiling(&mut self, variable: u32, ceiling: u64, tag: u64) -> Result<(), Conflict>
         requires { variable < length self.old.demands.bounds }
         ensures adds { Adds self.old (with_ceiling self.old.demands variable ceiling tag) result self.new }
         ensures variables { length self.new.demands.bounds ≡ length self.old.demands.bounds }
         ensures spare { self.new.spare ≡ self.old.spare }
+        ensures counted { self.new.calls ≡ self.old.calls + 1 }
     {
+        self.calls = self.calls.and_one();
         let index = variable as usize;
         let old = self.bounds[index];
         if old.ceiling() <= ceiling {
@@ -308,14 +331,16 @@ impl System {
         }
     }
 
-    /// Pushes a pick, for which there is room.
+    /// Pushes a pick, for which there is room, and counts the call.
     fn add_pick(&mut self, pick: Pick) -> Result<(), Conflict>
         requires spare { 1 ≤ self.old.spare }
         requires left { pick.constraint.left ≤ length self.old.demands.bounds }
         requires right { pick.constraint.right ≤ length self.old.demands.bounds }
         ensures adds { Adds self.old (with_pick self.old.demands pick.constraint pick.tag) result self.new }
         ensures spare { LeavesRoom self.old.spare result self.new.spare }
+        ensures counted { self.new.calls ≡ self.old.calls + 1 }
     {
+        self.calls = self.calls.and_one();
         let before = self.picks.len() as u32;
         push_in_room(&mut self.picks, pick);
         if !is_broken(&self.labels.values, demand_of_pick(&pick)) {

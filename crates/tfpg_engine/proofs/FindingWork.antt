@@ -23,9 +23,9 @@ use Rattle.tfpg_search.specs.declared.found.Found.{Found}
 use Rattle.tfpg_search.specs.declared.found.Found.TheVariants.{Shown, Closed, Spent}
 use Rattle.tfpg_engine.specs.declared.slot.Slot.{Slot}
 use Rattle.tfpg_engine.specs.EngineState.{is_rejected_slot, seen_by}
-use Rattle.tfpg_engine.specs.Work.{is_worked_on, IsLimitWhere}
+use Rattle.tfpg_engine.specs.Work.{is_worked_on}
 use Rattle.tfpg_engine.specs.inside.NewFindings.{status_by}
-use Rattle.tfpg_engine.specs.inside.SlotWork.{IsWithin, IsSlotLimit, IsSlotWithin, IsLimitBySlots, AreSlotsWithin}
+use Rattle.tfpg_engine.specs.inside.SlotWork.{IsLimitWhere, IsWithin, IsSlotLimit, IsSlotWithin, IsLimitBySlots, AreSlotsWithin}
 use Rattle.tfpg_engine.proofs.Ignoring.{own_log}
 use Rattle.tfpg_engine.proofs.NewFindingIsRight.{same_row}
 

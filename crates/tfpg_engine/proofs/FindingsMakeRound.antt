@@ -1,6 +1,6 @@
 -- The findings of a round, whatever the earlier rounds were, are a round for all rounds that the engine represents.
 use Rattle.std.proofs.Common.{◌≡◌, ℕ, ◌<◌, List, [], ◌∷◌, ◌++◌, length, take, Option, Some, None, refl, sym, ap, subst, ◌∙◌, false}
-use Rattle.std.specs.Prelude.{slice_get, sum_by, option_and_then}
+use Rattle.std.specs.Prelude.{slice_get, sum, option_and_then}
 use Rattle.std.proofs.lemmas.List.Folds.{list_any_none}
 use Rattle.std.proofs.lemmas.Option.{same_Some}
 use Rattle.tfpg_base.specs.declared.terms.Terms.{Terms}
@@ -29,8 +29,8 @@ use Rattle.tfpg_clause.specs.Paths.{with_steps}
 use Rattle.tfpg_engine.specs.declared.slot.Slot.{Slot}
 use Rattle.tfpg_engine.specs.Earned.{IsEarned, AreEarned}
 use Rattle.tfpg_engine.specs.EngineState.{SlotRepresents, IsWorkedOn}
-use Rattle.tfpg_engine.specs.Work.{was_rejected, last_worked_on, is_worked_on, IsLimitWhere, IsFindingLimit, IsRoundWithin}
-use Rattle.tfpg_engine.specs.inside.SlotWork.{IsLimitBySlots, AreSlotsWithin}
+use Rattle.tfpg_engine.specs.Work.{was_rejected, last_worked_on, is_worked_on, IsFindingLimit, IsRoundWithin}
+use Rattle.tfpg_engine.specs.inside.SlotWork.{IsLimitWhere, IsLimitBySlots, AreSlotsWithin}
 use Rattle.tfpg_engine.proofs.RoundWork.{worked_on_still, limit_by_rounds}
 use Rattle.tfpg_engine.proofs.FindingWork.{within_others}
 use Rattle.tfpg_engine.specs.inside.Slots.{AllCanGoOn}
@@ -231,7 +231,7 @@ module _ (laws : TreeLaws) (stand_before : StandBefore) (inquiry : Inquiry) (lin
   pub within : (before after : ℕ) → AreSlotsWithin inquiry table old findings before after → IsRoundWithin inquiry.graph inquiry.log rounds round before after
   within before after is =
       let by_rounds = within_others (IsLimitBySlots inquiry table old) (IsFindingLimit inquiry.graph inquiry.log rounds) findings before after finding_limit is in
-      (sum_by (λ (one : ℕ). one) by_rounds.limits, record { limits = by_rounds.limits; are = by_rounds.are; is = refl }, by_rounds.within)
+      (sum by_rounds.limits, record { limits = by_rounds.limits; one_each = by_rounds.are.one_each; each = by_rounds.are.each; is = refl }, by_rounds.within)
 
 -- The findings as the code has them make a round.
 pub makes : (inquiry : Inquiry) (table : Hypotheses) (old new : List Slot) (line number now : ℕ) (found read listed : List Finding) (order : List ℕ) (counts : Counts)

@@ -43,7 +43,7 @@ module _ (laws : TreeLaws) (case : Case) (later : Logbook) (ordered : IsOrdered 
   slot_stays hypothesis Untouched steps is = is
   slot_stays hypothesis (Searched search) steps is =
       (is.0, is.1, subst (λ (log : Logbook). SearchRepresents case.graph log search steps) (first_events_kept case.log later goes_on search.seen is.2.seen) is.2)
-  slot_stays hypothesis Rejected steps is = (laws.refutation_stays case later steps ordered goes_on is.0, names_of_refutation steps is.0 is.1)
+  slot_stays hypothesis (Rejected calls) steps is = (laws.refutation_stays case later steps ordered goes_on is.0, names_of_refutation steps is.0 is.1)
 
 -- So it does at what a hypothesis sees of the later log.
 pub stays_for : TreeLaws → (graph : Tfpg) (earlier later : Logbook) → IsOrdered later → GoesOn earlier later → (hypothesis : Hypothesis) (reach : List ℕ) (slot : Slot) (steps : List Judged)
@@ -71,7 +71,7 @@ slot_partial laws case ordered hypothesis (Searched search) steps open_yet is =
       names = names_of_partial laws.leaf_there laws.one_leaf laws.leaf_stays seen case.log ordered (laws.first case.log search.seen) steps
           laws.partial_front is.2.leaf.partial is.2.names;
     })
-slot_partial laws case ordered hypothesis Rejected steps open_yet is = cc
+slot_partial laws case ordered hypothesis (Rejected calls) steps open_yet is = cc
 
 -- ---- a hypothesis that was never searched
 

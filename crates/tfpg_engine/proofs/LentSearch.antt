@@ -1,6 +1,6 @@
--- The search that an engine lends is that of the hypothesis.
-use Rattle.std.proofs.Common.{◌≡◌, ℕ, List, refl, sym, subst}
-use Rattle.std.specs.Prelude.{false, Some, slice_get}
+-- The search that an engine lends is that of the hypothesis, and there is one exactly where it keeps one.
+use Rattle.std.proofs.Common.{◌≡◌, ℕ, Bool, false, List, Option, Some, None, refl, sym, ap, ◌∙◌, subst}
+use Rattle.std.specs.Prelude.{if◌then◌else◌, option_and_then, slice_get}
 use Rattle.tfpg_base.specs.Hypothesis.{Hypothesis}
 use Rattle.tfpg_base.proofs.lists.Elements.{slice_get-same_length}
 use Rattle.tfpg_log.specs.Log.{Logbook}
@@ -11,7 +11,7 @@ use Rattle.tfpg_search.specs.SearchState.{SearchState}
 use Rattle.tfpg_search.specs.Represents.{SearchRepresents}
 use Rattle.tfpg_engine.specs.declared.slot.Slot.{Slot}
 use Rattle.tfpg_engine.specs.declared.slot.Slot.TheVariants.{Searched}
-use Rattle.tfpg_engine.specs.EngineState.{EngineState, IsLentSearch}
+use Rattle.tfpg_engine.specs.EngineState.{EngineState, IsLentSearch, lent_search, search_in}
 use Rattle.tfpg_engine.specs.inside.Slots.{IsEngine, CanGoOn}
 
 -- what is kept of a hypothesis can go on, while the engine runs
@@ -36,3 +36,10 @@ is_lent engine is running number hypothesis search at slot_at =
             (first_events_kept (log_for engine.log hypothesis) (log_for later hypothesis) (record { more = goes_on.more; events = goes_on.events; ignored = refl }) search.seen kept.1.2.seen) kept.1.2,
       );
     }
+
+-- What it lends while it runs is the search in what it keeps.
+pub lends : (engine old : EngineState) (number : ℕ) (found : Option Slot) → engine ≡ old → engine.ended ≡ false → slice_get engine.slots number ≡ found
+    → option_and_then search_in found ≡ lent_search old number
+lends engine old number found same running there =
+    sym (ap (λ (b : Bool). if b then None else option_and_then search_in (slice_get engine.slots number)) running ∙ ap (option_and_then search_in) there)
+    ∙ ap (λ (e : EngineState). lent_search e number) same

@@ -7,4 +7,5 @@ pub mod Ignoring
 pub mod EnoughIgnoring
 mod FindingWork
 mod RoundWork
+mod CallsCounted
 mod LentSearch

@@ -97,8 +97,8 @@ module _ (inquiry : Inquiry) (hypothesis : Hypothesis) (reach : List ℕ) (numbe
       → GoesOnFrom inquiry row findings earlier slot (passed status.Rejected)
   rejected_goes Untouched is earlier represents = cc
   rejected_goes (Searched search) is earlier represents = cc
-  rejected_goes Rejected is earlier represents = record {
-    represents = subst (SlotRepresents case hypothesis Rejected) (sym (no_steps earlier)) represents;
+  rejected_goes (Rejected calls) is earlier represents = record {
+    represents = subst (SlotRepresents case hypothesis (Rejected calls)) (sym (no_steps earlier)) represents;
     evidence = subst (IsRefutation case) (sym (no_steps earlier)) represents.0;
     earned = earned_none earlier status.Rejected refl refl represents.1;
   }

@@ -13,7 +13,8 @@ use Rattle.tfpg_search.specs.Work.{IsWorkLimit}
 use Rattle.tfpg_engine.specs.declared.slot.Slot.{Slot}
 use Rattle.tfpg_engine.specs.declared.slot.Slot.TheVariants.{Untouched}
 use Rattle.tfpg_engine.specs.EngineState.{is_rejected_slot, seen_by, IsWorkedOn}
-use Rattle.tfpg_engine.specs.Work.{has_status, is_ranked_or_open, was_rejected, last_worked_on, is_worked_on, IsLimitWhere}
+use Rattle.tfpg_engine.specs.Work.{has_status, is_ranked_or_open, was_rejected, last_worked_on, is_worked_on}
+use Rattle.tfpg_engine.specs.inside.SlotWork.{IsLimitWhere}
 use Rattle.tfpg_engine.specs.inside.NewFindings.{IsSearchedOn, IsKeptAfter}
 
 -- ---- before the first round

@@ -1,5 +1,5 @@
 -- What contracts see of an engine, which rounds it represents, and what an event brings.
-use Rattle.std.specs.Prelude.{◌≡◌, ℕ, List, [], ◌∷◌, ◌++◌, length, Bool, true, false, Some, slice_get, Result, Ok, Err}
+use Rattle.std.specs.Prelude.{◌≡◌, ℕ, List, [], ◌∷◌, ◌++◌, length, sum_by, Bool, true, false, if◌then◌else◌, Option, Some, None, slice_get, option_and_then, Result, Ok, Err}
 use Rattle.tfpg_base.specs.declared.terms.Terms.{Terms}
 use Rattle.tfpg_base.specs.Hypothesis.{Hypothesis}
 use Rattle.tfpg_graph.specs.Graph.{Tfpg}
@@ -16,7 +16,7 @@ use Rattle.tfpg_hyp.specs.Rounds.{IsRound, HasNoneOpen, steps_so_far}
 use Rattle.tfpg_search.specs.Enough.{IsEnough}
 use Rattle.tfpg_search.specs.Live.{HasNoNameTwice}
 use Rattle.tfpg_search.specs.Represents.{SearchRepresents, RepresentsSome}
-use Rattle.tfpg_search.specs.SearchState.{SearchState}
+use Rattle.tfpg_search.specs.SearchState.{SearchState, calls_of_search}
 use Rattle.tfpg_engine.specs.declared.slot.Slot.{Slot}
 use Rattle.tfpg_engine.specs.declared.slot.Slot.TheVariants.{Untouched, Searched, Rejected}
 use Rattle.tfpg_engine.specs.declared.told.Told.{Told}
@@ -42,20 +42,41 @@ SlotRepresents case hypothesis Untouched steps = steps ≡ []
 SlotRepresents case hypothesis (Searched search) steps =
     (search.set ≡ hypothesis.set) × (search.reach ≡ case.reach)
     × SearchRepresents case.graph (first_events case.log search.seen) search steps
-SlotRepresents case hypothesis Rejected steps =
+SlotRepresents case hypothesis (Rejected calls) steps =
     IsRefutation case steps × HasNoNameTwice case steps
 
 -- whether the hypothesis is rejected
 abbrev pub is_rejected_slot : Slot → Bool
 is_rejected_slot Untouched = false
 is_rejected_slot (Searched search) = false
-is_rejected_slot Rejected = true
+is_rejected_slot (Rejected calls) = true
 
 -- how many events its search has seen; 0 where there is no search
 abbrev pub seen_by : Slot → ℕ
 seen_by Untouched = 0
 seen_by (Searched search) = search.seen
-seen_by Rejected = 0
+seen_by (Rejected calls) = 0
+
+-- how many counted calls there were for a hypothesis: those of the system of its search, and where it is rejected, those of the
+-- search that it had
+abbrev pub calls_of_slot : Slot → ℕ
+calls_of_slot Untouched = 0
+calls_of_slot (Searched search) = calls_of_search search
+calls_of_slot (Rejected calls) = calls.number
+
+-- how many there were for all hypotheses
+abbrev pub calls_of_engine : EngineState → ℕ
+calls_of_engine engine = sum_by calls_of_slot engine.slots
+
+-- the search that is kept of a hypothesis, where it was searched and is not rejected
+abbrev pub search_in : Slot → Option SearchState
+search_in Untouched = None
+search_in (Searched search) = Some search
+search_in (Rejected calls) = None
+
+-- the search that an engine lends for the hypothesis of a number: the one that it keeps of it, until it has ended
+abbrev pub lent_search : EngineState → ℕ → Option SearchState
+lent_search engine number = if engine.ended then None else option_and_then search_in (slice_get engine.slots number)
 
 -- The search of a hypothesis that an engine lends: it is of the set of the hypothesis, and represents some steps at what the hypothesis
 -- sees of each log that goes on from that of the engine. So a copy of it can continue there.

@@ -1,5 +1,6 @@
 -- How many counted calls a round makes at most: the sum of the limits for the hypotheses that it works on.
-use Rattle.std.specs.Prelude.{◌≡◌, ℕ, ◌+◌, ◌≤◌, List, length, sum_by, Bool, true, false, not, ◌&&◌, ◌||◌, Some, slice_get, option_map, unwrap_or, if◌then◌else◌}
+use Rattle.std.specs.Prelude.{◌≡◌, ℕ, ◌+◌, ◌≤◌, List, length, sum, Bool, false, not, ◌&&◌, ◌||◌, Some, slice_get, option_map, unwrap_or, if◌then◌else◌}
+use Rattle.std.specs.Bool.{MatchBool}
 use Rattle.std.specs.List.{fold, list_any}
 use Rattle.tfpg_graph.specs.Graph.{Tfpg}
 use Rattle.tfpg_log.specs.Log.{Logbook}
@@ -8,7 +9,6 @@ use Rattle.tfpg_evidence.specs.declared.finding.Status.{Status}
 use Rattle.tfpg_evidence.specs.declared.round.Round.{Round}
 use Rattle.tfpg_evidence.specs.RoundOf.{is_ranked, is_rejected, is_open}
 use Rattle.tfpg_evidence.specs.Findings.{hypothesis_of}
-use Rattle.tfpg_clause.specs.Case.{Case}
 use Rattle.tfpg_hyp.specs.Views.{IsReachOf, case_for}
 use Rattle.tfpg_search.specs.Work.{IsWorkLimit}
 
@@ -35,32 +35,23 @@ last_worked_on number rounds =
 abbrev pub is_worked_on : Bool → Status → Bool
 is_worked_on rejected_before status = is_ranked_or_open status || (is_rejected status && not rejected_before)
 
--- The limit for a hypothesis: that of its search where the round works on it, and else 0. The search saw so many events before, and
--- it appends so many steps.
-abbrev pub IsLimitWhere : Bool → Case → ℕ → ℕ → ℕ → Type 0
-IsLimitWhere true case seen steps limit = IsWorkLimit case seen steps limit
-IsLimitWhere false case seen steps limit = limit ≡ 0
-
--- The limit for the hypothesis of a number, which has this finding in a round after these rounds. Its search saw the log, as the
--- hypothesis sees it, at the last of these rounds in which it was worked on.
+-- The limit for the hypothesis of a number, which has this finding in a round after these rounds. Where the round works on it, it is
+-- that of its search, which saw the log, as the hypothesis sees it, at the last of these rounds in which it was worked on; else it is 0.
 pub record IsFindingLimit (graph : Tfpg) (log : Logbook) (rounds : List Round) (number : ℕ) (finding : Finding)
     (limit : ℕ) : Type 0 where
   pub reach : List ℕ
   pub reach_is : IsReachOf graph (hypothesis_of finding) reach
-  pub is : IsLimitWhere (is_worked_on (was_rejected number rounds) finding.status)
-      (case_for graph log (hypothesis_of finding) reach) (last_worked_on number rounds) (length finding.steps) limit
+  pub is : MatchBool (is_worked_on (was_rejected number rounds) finding.status)
+      (IsWorkLimit (case_for graph log (hypothesis_of finding) reach) (last_worked_on number rounds) (length finding.steps) limit)
+      (limit ≡ 0)
 
--- There is one limit for each of the findings, and each is a limit of this kind, by the number of its finding.
-pub record AreLimits (IsLimit : ℕ → Finding → ℕ → Type 0) (findings : List Finding) (limits : List ℕ) : Type 0 where
-  pub one_each : length limits ≡ length findings
-  pub each : (number : ℕ) (finding : Finding) (limit : ℕ) → slice_get findings number ≡ Some finding
-      → slice_get limits number ≡ Some limit → IsLimit number finding limit
-
--- The limit of a round that comes after these rounds: the sum of the limits for its hypotheses.
+-- The limit of a round that comes after these rounds: the sum of the limits for its hypotheses, of which there is one for each.
 pub record IsRoundLimit (graph : Tfpg) (log : Logbook) (rounds : List Round) (round : Round) (limit : ℕ) : Type 0 where
   pub limits : List ℕ
-  pub are : AreLimits (IsFindingLimit graph log rounds) round.findings limits
-  pub is : limit ≡ sum_by (λ one. one) limits
+  pub one_each : length limits ≡ length round.findings
+  pub each : (number : ℕ) (finding : Finding) (one : ℕ) → slice_get round.findings number ≡ Some finding
+      → slice_get limits number ≡ Some one → IsFindingLimit graph log rounds number finding one
+  pub is : limit ≡ sum limits
 
 -- In the round the count of calls went from one number to the other, by at most its limit.
 abbrev pub IsRoundWithin : Tfpg → Logbook → List Round → Round → ℕ → ℕ → Type 0

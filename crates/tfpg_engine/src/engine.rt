@@ -1,6 +1,6 @@
 //! One event, all hypotheses.
 
-ghost use Rattle.std.specs.Prelude.{◌≡◌, ◌≤◌, ◌<◌, ◌↔◌, ℕ, List, [], true, false, Some, IfOk, IfSome, OnOk, OnErr, Ok, Err, replicate, slice_get};
+ghost use Rattle.std.specs.Prelude.{◌≡◌, ◌+◌, ◌≤◌, ◌<◌, ◌↔◌, ℕ, List, [], true, false, Some, IfOk, IfSome, OnOk, OnErr, Ok, Err, option_map, replicate, slice_get};
 ghost use Rattle.tfpg_base.specs.Hypothesis.{Hypothesis};
 ghost use Rattle.tfpg_evidence.specs.declared.round.Round.{Round};
 ghost use Rattle.tfpg_base.specs.declared.limits.TheConstants.{MAX_DOUBT};
@@ -10,7 +10,7 @@ ghost use Rattle.tfpg_log.specs.Accepted.{reply_to};
 ghost use Rattle.tfpg_log.specs.Log.{IsLogOf};
 ghost use Rattle.tfpg_log.specs.LogOfLines.{new_log};
 ghost use Rattle.tfpg_log.specs.declared.refusal.Refusal.{Refusal};
-ghost use Rattle.tfpg_engine.specs.EngineState.{EngineRepresents, Brings, CountsCalls, IsLentSearch};
+ghost use Rattle.tfpg_engine.specs.EngineState.{EngineRepresents, Brings, CountsCalls, IsLentSearch, calls_of_engine, lent_search};
 
 use crate::inquiry::Inquiry;
 use crate::round;
@@ -67,6 +67,7 @@ impl Engine {
         ensures terms { IfOk result (λ engine. engine.terms ≡ record { k = k; doubt = doubt; budget = budget }) }
         ensures log { IfOk result (λ engine. engine.log ≡ new_log) }
         ensures represents { IfOk result (λ engine. EngineRepresents engine []) }
+        ensures uncounted { IfOk result (λ engine. calls_of_engine engine ≡ 0) }
         ensures too_many { (count : ℕ) → (result ≡ Err (TableFault.TooMany count)) ↔
             ((MAX_HYPOTHESES < count) × HasHypotheses graph (record { k = k; doubt = doubt; budget = budget }) count) }
     {
@@ -84,12 +85,14 @@ impl Engine {
     }
 
     /// Takes a line of the log. A refused one changes nothing. An accepted one gives the round of all events so far, whose
-    /// steps go on from those of the rounds before. Where memory runs out the engine has ended, and each later call says so.
+    /// steps go on from those of the rounds before. Where memory runs out the engine has ended, and each later call says so and changes
+    /// nothing.
     ///
     /// The hypotheses go in the order of their numbers, each by the log that ignores the monitors that it doubts. A rejected one
     /// is passed over; one with a ranked proper part is covered by the one with the least number. Every other one is searched,
     /// with at most as many splits as the budget says. A line is accepted or refused by the log that ignores no monitor. A round
-    /// keeps within the limits of its counted calls, and a refused line costs none.
+    /// keeps within the limits of its counted calls, and a refused line costs none. The counter counts all of them, and nothing else: what
+    /// the systems of all searches have counted rises by as much.
     pub fn event<L: Ledger>(
         &mut self,
         line: u64,
@@ -103,7 +106,9 @@ impl Engine {
             result ≡ Ok (Told.Refused refusal) }
         ensures work { (rounds : List Round) → EngineRepresents self.old rounds →
             CountsCalls self.new rounds result work.old work.new }
+        ensures counted { calls_of_engine self.new + work.old ≡ calls_of_engine self.old + work.new }
         ensures ended { (result ≡ Err EventFault.Ended) ↔ (self.old.ended ≡ true) }
+        ensures stays { result ≡ Err EventFault.Ended → (self.new ≡ self.old) × (work.new ≡ work.old) }
         ensures ends { OnErr result (self.new.ended ≡ true) }
         ensures runs { OnOk result (self.new.ended ≡ false) }
         ensures graph { self.new.graph ≡ self.old.graph }
@@ -184,10 +189,11 @@ impl Engine {
         &self.table
     }
 
-    /// Lends the search of the hypothesis of a number, where it was searched and is not rejected, and the engine has not ended. A copy
-    /// of it continues at the log of the engine, and at each log that goes on from that.
+    /// Lends the search of the hypothesis of a number, where it was searched and is not rejected, and the engine has not ended; and else
+    /// none. A copy of it continues at the log of the engine, and at each log that goes on from that.
     pub fn search(&self, number: u32) -> Option<&Search>
-        ensures { (hypothesis : Hypothesis) → slice_get self.now.table.hypotheses number ≡ Some hypothesis →
+        ensures lent { option_map (λ search. search.now) result ≡ lent_search self.now number }
+        ensures represents { (hypothesis : Hypothesis) → slice_get self.now.table.hypotheses number ≡ Some hypothesis →
             IfSome result (λ search. IsLentSearch self.now hypothesis search.now) }
     {
         if self.ended {
@@ -196,7 +202,7 @@ impl Engine {
         match self.slots.get(number as usize)? {
             Slot::Searched(search) => Some(search),
             Slot::Untouched => None,
-            Slot::Rejected => None,
+            Slot::Rejected(_) => None,
         }
     }
 }

@@ -1,6 +1,6 @@
 //! What a round finds of one hypothesis.
 
-ghost use Rattle.std.specs.Prelude.{◌≡◌, ◌<◌, ◌^◌, List, [], length, false, IfOk};
+ghost use Rattle.std.specs.Prelude.{◌≡◌, ◌+◌, ◌<◌, ◌^◌, List, [], length, false, IfOk};
 ghost use Rattle.tfpg_evidence.specs.declared.finding.Finding.{Finding};
 ghost use Rattle.tfpg_hyp.specs.Ranking.{cost_of, robustness_of};
 ghost use Rattle.tfpg_hyp.specs.Rounds.{HasRankedPart, IsLeastPart};
@@ -8,7 +8,7 @@ ghost use Rattle.tfpg_engine.specs.inside.Inquiries.{IsInquiry, IsRowOfGraph, ca
 ghost use Rattle.tfpg_engine.specs.inside.Slots.{CanGoOn};
 ghost use Rattle.tfpg_engine.specs.inside.NewFindings.{IsNewFinding, status_by};
 ghost use Rattle.tfpg_engine.specs.inside.SlotWork.{IsSlotWithin};
-ghost use Rattle.tfpg_engine.specs.EngineState.{is_rejected_slot};
+ghost use Rattle.tfpg_engine.specs.EngineState.{calls_of_slot, is_rejected_slot};
 
 use crate::covering::covering;
 use crate::inquiry::Inquiry;
@@ -47,6 +47,7 @@ pub(crate) fn new_finding<L: Ledger>(
         findings.now slot.old slot.new) }
     ensures work { IfOk result (IsSlotWithin (case_of_row (inquiry_of inquiry.now log.now) (row_of listed.now))
         slot.old work.old work.new) }
+    ensures counted { calls_of_slot slot.new + work.old ≡ calls_of_slot slot.old + work.new }
 {
     tree_laws();
     // The times of a log never fall.
@@ -93,7 +94,7 @@ fn finding_on(listed: &Listed<'_>, steps: StepList, status: Status) -> Finding
 }
 
 /// The finding on a hypothesis whose search continues. Where it is rejected now, its search gives its memory back.
-/// Where memory runs out, the search is lost with it, and the slot is not searched again.
+/// Where memory runs out, the engine ends, and the slot is not searched again.
 fn search_on<L: Ledger>(
     alloc: Global,
     inquiry: &Inquiry<'_>,
@@ -113,13 +114,20 @@ fn search_on<L: Ledger>(
         IsNewFinding (inquiry_of inquiry.now log.now) (row_of listed.now) findings slot.old slot.new finding) }
     ensures work { IfOk result (IsSlotWithin (case_of_row (inquiry_of inquiry.now log.now) (row_of listed.now))
         slot.old work.old work.new) }
+    ensures counted { calls_of_slot slot.new + work.old ≡ calls_of_slot slot.old + work.new }
 {
     // The times of a log never fall.
     log.is_always_ordered();
     a_round_has_one_work_limit();
-    let mut search = mem::replace(slot, Slot::Rejected).into_search(alloc, inquiry.graph, listed)?;
+    let mut search = mem::replace(slot, Slot::Untouched).into_search(alloc, inquiry.graph, listed)?;
     let mut steps = StepList::new(alloc);
-    let found = search.round(inquiry.graph, log, inquiry.terms.budget, &mut steps, work)?;
+    let found = match search.round(inquiry.graph, log, inquiry.terms.budget, &mut steps, work) {
+        Ok(found) => found,
+        Err(NoMemory) => {
+            *slot = Slot::Searched(search);
+            return Err(NoMemory);
+        }
+    };
     *slot = Slot::of(search, &found);
     Ok(finding_on(listed, steps, status(inquiry.graph, log, listed, found)))
 }

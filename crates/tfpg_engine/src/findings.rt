@@ -1,6 +1,7 @@
 //! What a round finds of all hypotheses.
 
-ghost use Rattle.std.specs.Prelude.{◌≡◌, length, IfOk};
+ghost use Rattle.std.specs.Prelude.{◌≡◌, ◌+◌, length, sum_by, IfOk};
+ghost use Rattle.tfpg_engine.specs.EngineState.{calls_of_slot};
 ghost use Rattle.tfpg_engine.specs.inside.Inquiries.{IsInquiry, inquiry_of};
 ghost use Rattle.tfpg_engine.specs.inside.Slots.{AllCanGoOn};
 ghost use Rattle.tfpg_engine.specs.inside.NewFindings.{AreNewFindings, IsOfGraph};
@@ -35,6 +36,7 @@ pub(crate) fn new_findings<L: Ledger>(
         × AreNewFindings (inquiry_of inquiry.now log.old) table.now slots.old slots.new findings.items) }
     ensures work { IfOk result (λ findings. AreSlotsWithin (inquiry_of inquiry.now log.old) table.now slots.old
         findings.items work.old work.new) }
+    ensures counted { sum_by calls_of_slot slots.new + work.old ≡ sum_by calls_of_slot slots.old + work.new }
     ensures one_each { length slots.new ≡ length slots.old }
     ensures events { log.new.events ≡ log.old.events }
 {

@@ -1,7 +1,8 @@
 //! The round of an accepted line.
 
-ghost use Rattle.std.specs.Prelude.{◌≡◌, [], length, IfOk};
+ghost use Rattle.std.specs.Prelude.{◌≡◌, ◌+◌, [], length, sum_by, IfOk};
 ghost use Rattle.tfpg_log.specs.Log.{ignoring};
+ghost use Rattle.tfpg_engine.specs.EngineState.{calls_of_slot};
 ghost use Rattle.tfpg_engine.specs.inside.Inquiries.{IsInquiry, inquiry_of};
 ghost use Rattle.tfpg_engine.specs.inside.Slots.{AllCanGoOn};
 ghost use Rattle.tfpg_engine.specs.inside.NewFindings.{IsOfGraph, MakesRound};
@@ -20,7 +21,7 @@ use tfpg_hyp::Table;
 use tfpg_log::Log;
 
 /// The round of the log, whose last event is that of this line. The log ignores no monitor afterwards. Where memory runs out,
-/// some slots may have lost their searches, and the engine ends.
+/// some slots may have no search that represents steps, and the engine ends.
 pub(crate) fn make<L: Ledger>(
     alloc: Global,
     inquiry: &Inquiry<'_>,
@@ -37,6 +38,7 @@ pub(crate) fn make<L: Ledger>(
     ensures round { IfOk result (MakesRound (inquiry_of inquiry.now log.old) table.now slots.old slots.new line) }
     ensures work { IfOk result (λ round. AreSlotsWithin (inquiry_of inquiry.now log.old) table.now slots.old
         round.findings work.old work.new) }
+    ensures counted { sum_by calls_of_slot slots.new + work.old ≡ sum_by calls_of_slot slots.old + work.new }
     ensures one_each { length slots.new ≡ length slots.old }
     ensures log { log.new ≡ ignoring log.old [] }
 {
@@ -62,6 +64,7 @@ fn by_each<L: Ledger>(
     ensures round { IfOk result (MakesRound (inquiry_of inquiry.now log.old) table.now slots.old slots.new line) }
     ensures work { IfOk result (λ round. AreSlotsWithin (inquiry_of inquiry.now log.old) table.now slots.old
         round.findings work.old work.new) }
+    ensures counted { sum_by calls_of_slot slots.new + work.old ≡ sum_by calls_of_slot slots.old + work.new }
     ensures one_each { length slots.new ≡ length slots.old }
     ensures events { log.new.events ≡ log.old.events }
 {

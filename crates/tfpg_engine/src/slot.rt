@@ -1,17 +1,18 @@
 //! What the engine keeps of a hypothesis.
 
-ghost use Rattle.std.specs.Prelude.{◌≡◌, List, false, IfOk};
+ghost use Rattle.std.specs.Prelude.{◌≡◌, List, false, IfOk, OnErr};
 ghost use Rattle.tfpg_log.specs.Log.{Logbook, first_events};
 ghost use Rattle.tfpg_clause.specs.Case.{case_of};
 ghost use Rattle.tfpg_clause.specs.Trees.{Judged};
-ghost use Rattle.tfpg_search.specs.Represents.{SearchRepresents};
-ghost use Rattle.tfpg_engine.specs.EngineState.{SlotRepresents, is_rejected_slot, seen_by};
+ghost use Rattle.tfpg_search.specs.SearchState.{calls_of_search};
+ghost use Rattle.tfpg_engine.specs.EngineState.{SlotRepresents, calls_of_slot, is_rejected_slot, seen_by};
 ghost use Rattle.tfpg_engine.specs.inside.Inquiries.{IsRowOfGraph, row_of};
 ghost use Rattle.tfpg_engine.specs.inside.NewFindings.{kept};
 
 use crate::listed::Listed;
 use std::alloc::Global;
 use tfpg_base::NoMemory;
+use tfpg_diff::CountedCalls;
 use tfpg_graph::Graph;
 use tfpg_search::{Found, Search};
 
@@ -22,8 +23,8 @@ pub enum Slot {
     Untouched,
     /// It was searched, and is not rejected.
     Searched(Search),
-    /// It is rejected, and has given its memory back.
-    Rejected,
+    /// It is rejected, and has given its memory back. How many calls its system had counted stays, for contracts alone.
+    Rejected(CountedCalls),
 }
 
 impl Slot {
@@ -34,7 +35,7 @@ impl Slot {
         match self {
             Slot::Untouched => false,
             Slot::Searched(_) => false,
-            Slot::Rejected => true,
+            Slot::Rejected(_) => true,
         }
     }
 
@@ -44,7 +45,7 @@ impl Slot {
     {
         match found {
             Found::Shown(_) => Slot::Searched(search),
-            Found::Closed => Slot::Rejected,
+            Found::Closed => Slot::Rejected(search.calls()),
             Found::Spent => Slot::Searched(search),
         }
     }
@@ -64,11 +65,14 @@ impl Slot {
             SlotRepresents (case_of graph.now log listed.now.reach.now) listed.now.hypothesis
             (Slot.Searched search) steps) }
         ensures seen { IfOk result (λ search. search.seen ≡ seen_by self) }
+        ensures counted { IfOk result (λ search. is_rejected_slot self ≡ false →
+            calls_of_search search ≡ calls_of_slot self) }
+        ensures uncounted { OnErr result (is_rejected_slot self ≡ false → calls_of_slot self ≡ 0) }
     {
         match self {
             Slot::Searched(search) => Ok(search),
             Slot::Untouched => Search::new(alloc, graph, listed.hypothesis.set, *listed.reach),
-            Slot::Rejected => Search::new(alloc, graph, listed.hypothesis.set, *listed.reach),
+            Slot::Rejected(_) => Search::new(alloc, graph, listed.hypothesis.set, *listed.reach),
         }
     }
 }

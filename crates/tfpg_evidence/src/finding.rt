@@ -97,12 +97,13 @@ impl Finding {
     fn copy(&self) -> Result<Finding, NoMemory>
         ensures { IfOk result (λ copy. copy ≡ self.now) }
     {
+        let Hypothesis { set, doubts } = self.hypothesis();
         let steps = copy_steps(&self.steps)?;
         let status = self.status.copy()?;
         Ok(Finding {
             number: self.number,
-            set: self.set,
-            doubts: self.doubts,
+            set,
+            doubts,
             steps,
             status,
         })

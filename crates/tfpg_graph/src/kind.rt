@@ -33,14 +33,14 @@ impl Kind {
     }
 
     /// Whether it is a discrepancy that is activated from any source.
-    pub fn is_or(&self) -> bool
+    pub(crate) fn is_or(&self) -> bool
         ensures { result ≡ is_or self.now }
     {
         matches!(self, Kind::Or { lag: _ })
     }
 
     /// Whether it is a discrepancy that is activated from all its sources at once.
-    pub fn is_and(&self) -> bool
+    pub(crate) fn is_and(&self) -> bool
         ensures { result ≡ is_and self.now }
     {
         matches!(self, Kind::And { lag: _ })

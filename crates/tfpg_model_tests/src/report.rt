@@ -183,7 +183,10 @@ fn end_of_round(alloc: Global, graph: &Graph, report: &[u8]) -> Result<Option<u6
     let mut reader = BlockReader::new(alloc);
     let mut number: u64 = 0;
     for line in report.split(|byte| *byte == b'\n') {
-        number = number.saturating_add(1);
+        let Some(next) = number.checked_add(1) else {
+            return Ok(None);
+        };
+        number = next;
         if let Fed::Round(round) = reader.take(graph, number, line)? {
             if round.parts.as_slice().len() == 3
                 && round.ranked.as_slice().len() == 1

@@ -25,6 +25,7 @@ use Rattle.tfpg_predict.proofs.explained.ProbedTraces.{time_without, without_wit
 use Rattle.tfpg_predict.proofs.explained.KeptFacts.{IsSaidBy}
 use Rattle.tfpg_predict.proofs.explained.Equivalence.{from_probed, to_probed}
 use Rattle.tfpg_predict.proofs.keeping.KeptEventsKeep.{keeps}
+use Rattle.tfpg_predict.proofs.keeping.SameKept.{kept_ignoring}
 
 module _ (asked : Lookahead) (bound : ℕ) (valid : IsValid asked.graph) (able : IsProbeable asked) (ordered : IsOrdered asked.log) (upto : bound ≤ asked.to) where
   abbrev probe : ℕ
@@ -149,5 +150,6 @@ probed_ignoring graph log node to doubts bound next later is = record {
   number = is.number;
   named = record { new = is.named.new; taken = is.named.taken };
   graph_is = is.graph_is;
-  log_is = ap (λ (l : Logbook). ignoring l doubts) is.log_is;
+  log_is = ap (λ (l : Logbook). ignoring l doubts) is.log_is
+      ∙ ap (λ (kept : List Event). record { events = kept ++ Alarm to (length graph.nodes) ∷ []; ignored = doubts }) (sym (kept_ignoring graph log doubts));
 }

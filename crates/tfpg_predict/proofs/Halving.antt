@@ -1,12 +1,12 @@
 -- How a range is halved, and what is known at its end.
-use Rattle.std.proofs.Common.{◌≡◌, ℕ, ◌+◌, ◌-◌, ◌<◌, ◌≤◌, ◌/◌, List, [], Some, ⊎_elim, subst, arith}
+use Rattle.std.proofs.Common.{◌≡◌, ℕ, ◌+◌, ◌-◌, ◌<◌, ◌≤◌, ◌/◌, List, [], Some, inl, inr, ⊎_elim, refl, subst, arith}
 use Rattle.std.proofs.lemmas.Bool.{cases_lt}
 use Rattle.tfpg_base.specs.declared.activation.Activation.{Activation}
 use Rattle.tfpg_base.specs.Trace.{time_of}
 use Rattle.tfpg_base.proofs.lists.Sequences.{middle-between}
 use Rattle.tfpg_evidence.specs.declared.step.Step.{Step}
 use Rattle.tfpg_predict.specs.LeastTime.{Lookahead, ExplainsContinued}
-use Rattle.tfpg_predict.specs.Outlooks.{IsEarliest, IsNever, IsRefutedAt}
+use Rattle.tfpg_predict.specs.Outlooks.{IsEarliest, IsMiddle, IsNever, IsRefutedAt, IsSpentAt, IsUnsettledAt}
 use Rattle.tfpg_predict.specs.inside.Quests.{asked_by}
 use Rattle.tfpg_predict.specs.inside.Tried.{FitsBy, IsOutBy, IsHalved}
 use Rattle.tfpg_predict.specs.declared.quest.Quest.{Quest}
@@ -60,6 +60,28 @@ module _ (quest : Quest) where
       at_zero = λ zero. absurd (omega (arith, zero));
     }
 
+    -- where the budget is spent, the middle is unsettled
+    halved_middle : IsMiddle (asked_by quest) quest.hypothesis.set quest.budget bound
+    halved_middle = record {
+      low = low;
+      high = high;
+      middle = omega (arith, middle, open_yet);
+      apart = open_yet;
+      trace = trace;
+      explains = halved.explains;
+      attained = halved.attained;
+      steps = earlier;
+      refuted = λ some. (halved.none_before some).refuted;
+    }
+
+    pub unsettled_within : (steps : List Step) → IsSpentAt (asked_by quest) quest.hypothesis.set bound quest.budget steps
+        → IsUnsettledAt (asked_by quest) quest.hypothesis.set quest.budget bound steps
+    unsettled_within steps spent = record {
+      within = let within = halved.within in let between = bound_within.1 in omega (arith, within, between);
+      halved = inr halved_middle;
+      spent = spent;
+    }
+
   -- At the end the time is the least.
   pub halved_all : (low high : ℕ) (trace : List Activation) (earlier : List Step) → IsHalved quest low high trace earlier → high ≤ low
       → IsEarliest (asked_by quest) quest.hypothesis.set quest.budget high trace earlier
@@ -84,3 +106,7 @@ never_by_its_end asked set budget steps none = record {
   none = λ trace time explained at. none.none trace time explained at (by_its_end asked set trace asked.node time explained at);
   refuted = none.refuted;
 }
+
+-- Where the first search spends its budget, the end is unsettled.
+pub unsettled_at_end : (asked : Lookahead) (set : List ℕ) (budget : ℕ) (steps : List Step) → IsSpentAt asked set asked.to budget steps → IsUnsettledAt asked set budget asked.to steps
+unsettled_at_end asked set budget steps spent = record { within = omega arith; halved = inl refl; spent = spent }

@@ -18,8 +18,9 @@ use Rattle.tfpg_log.specs.Log.{Logbook, event_at, is_alarm_of}
 use Rattle.tfpg_log.specs.LastAlarm.{IsLastAlarm}
 use Rattle.tfpg_log.proofs.events.AlarmIndexes.{alarm_is}
 use Rattle.tfpg_log.proofs.events.NodesEvents.{event_within}
-use Rattle.tfpg_predict.specs.Kept.{is_at, last_alarm, last_silence, kept_silences, kept_of, kept_after, kept_events}
-use Rattle.tfpg_predict.specs.inside.KeptEvents.{kept_by, kept_at, silences_upto, silences_at}
+use Rattle.tfpg_predict.specs.Kept.{kept_events}
+use Rattle.tfpg_predict.proofs.keeping.SameKept.{same_kept}
+use Rattle.tfpg_predict.specs.inside.KeptEvents.{is_at, is_alarm_at, last_alarm, last_silence, kept_silences, kept_of_number, kept_after_number, kept_by_numbers, kept_by, kept_at, silences_upto, silences_at}
 
 -- ---- the greatest number, from above
 
@@ -42,9 +43,6 @@ module _ (passes : ℕ → Bool) where
 -- ---- the last alarm
 
 module _ (log : Logbook) (node : ℕ) where
-  abbrev is_alarm : ℕ → Bool
-  is_alarm number = option_map_or (is_alarm_of node) (event_at log number) false
-
   alarm_there : (number : ℕ) (event : Option Event) → event_at log number ≡ event → option_map_or (is_alarm_of node) event false ≡ true
       → (time : ℕ) × (event_at log number ≡ Some (Alarm time node))
   alarm_there number None at is = absurd (false≢true is)
@@ -52,18 +50,18 @@ module _ (log : Logbook) (node : ℕ) where
 
   -- The last alarm by its look-up is the last one.
   pub last_alarm_is : (found : Option ℕ) → IsLastAlarm log node found → found ≡ last_alarm log node
-  last_alarm_is None none = by (greatest is_alarm (length log.events)) refl (greatest_found is_alarm (length log.events))
+  last_alarm_is None none = by (greatest (is_alarm_at log node) (length log.events)) refl (greatest_found (is_alarm_at log node) (length log.events))
     where
-      by : (other : Option ℕ) → greatest is_alarm (length log.events) ≡ other → MatchOption other (NonePassesUpTo is_alarm (length log.events)) (IsGreatest is_alarm (length log.events))
+      by : (other : Option ℕ) → greatest (is_alarm_at log node) (length log.events) ≡ other → MatchOption other (NonePassesUpTo (is_alarm_at log node) (length log.events)) (IsGreatest (is_alarm_at log node) (length log.events))
           → None ≡ last_alarm log node
       by None is found = sym is
       by (Some number) is found = let there = alarm_there number (event_at log number) refl found.here in absurd (none number there.0 there.1)
   last_alarm_is (Some number) last =
       let within = event_within log (Alarm last.time node) number last.alarm in
-      let here : is_alarm number ≡ true = ap (λ (e : Option Event). option_map_or (is_alarm_of node) e false) last.alarm ∙ eq-eqb node node refl in
-      let great = greatest_there is_alarm (length log.events) number within here in
+      let here : is_alarm_at log node number ≡ true = ap (λ (e : Option Event). option_map_or (is_alarm_of node) e false) last.alarm ∙ eq-eqb node node refl in
+      let great = greatest_there (is_alarm_at log node) (length log.events) number within here in
       let there = alarm_there great.0 (event_at log great.0) refl great.2.here in
-      let from = greatest_from is_alarm (length log.events) great.0 number great.2 within here in
+      let from = greatest_from (is_alarm_at log node) (length log.events) great.0 number great.2 within here in
       let upto : great.0 ≤ number = ⊎_elim (λ above. absurd (last.last great.0 there.0 above there.1)) (λ upto. upto) (cases_lt number great.0) in
       let same : number ≡ great.0 = omega (arith, from, upto) in
       ap Some same ∙ sym great.1
@@ -132,7 +130,7 @@ module _ (graph : Tfpg) (log : Logbook) (last : List (Option ℕ)) (are : last �
       ap (silences_upto last number time) (ap length are ∙ length-map-range_with_len (last_silence graph log) 0 (length graph.nodes))
       ∙ ap (map (λ node. Silent time node)) (by_table number 0 (length graph.nodes) (omega arith))
 
-  kept_same : (number : ℕ) (event : Event) → kept_by log last number event ≡ kept_of graph log number event
+  kept_same : (number : ℕ) (event : Event) → kept_by log last number event ≡ kept_of_number graph log number event
   kept_same number (Alarm time node) = refl
   kept_same number (Silent time node) = silences_are number time
   kept_same number (Sweep time) = silences_are number time
@@ -141,30 +139,30 @@ module _ (graph : Tfpg) (log : Logbook) (last : List (Option ℕ)) (are : last �
 
   -- What is kept of the next event, and then what is kept of the events that are left.
   pub kept_next : (index : ℕ) → index < length log.events
-      → kept_after graph log index (drop index log.events) ≡ kept_at log last (index + 1) ++ kept_after graph log (index + 1) (drop (index + 1) log.events)
+      → kept_after_number graph log index (drop index log.events) ≡ kept_at log last (index + 1) ++ kept_after_number graph log (index + 1) (drop (index + 1) log.events)
   kept_next index within =
       let there = slice_get-there log.events index within in
       let next : suc index ≡ index + 1 = omega arith in
       let at : event_at log (index + 1) ≡ Some there.0 = ap (event_at log) (sym next) ∙ there.1 in
-      ap (kept_after graph log index) (drop_more log.events index there.0 within
+      ap (kept_after_number graph log index) (drop_more log.events index there.0 within
       ∙ ap (λ (e : Event). e ∷ drop (index + 1) log.events) (get_or_from_slice_get log.events index there.0 there.0 there.1))
-      ∙ ap (λ (n : ℕ). kept_of graph log n there.0 ++ kept_after graph log n (drop (index + 1) log.events)) next
-      ∙ ap (λ (events : List Event). events ++ kept_after graph log (index + 1) (drop (index + 1) log.events))
+      ∙ ap (λ (n : ℕ). kept_of_number graph log n there.0 ++ kept_after_number graph log n (drop (index + 1) log.events)) next
+      ∙ ap (λ (events : List Event). events ++ kept_after_number graph log (index + 1) (drop (index + 1) log.events))
       (sym (ap (λ (e : Option Event). option_map_or (kept_by log last (index + 1)) e []) at ∙ kept_same (index + 1) there.0))
 
   -- So a turn of the loop adds what is kept of its event.
   pub kept_turn : (index : ℕ) (event : Event) (before after : List Event) → event_at log (index + 1) ≡ Some event
-      → kept_events graph log ≡ before ++ kept_after graph log index (drop index log.events) → after ≡ before ++ kept_by log last (index + 1) event
-      → kept_events graph log ≡ after ++ kept_after graph log (index + 1) (drop (index + 1) log.events)
+      → kept_by_numbers graph log ≡ before ++ kept_after_number graph log index (drop index log.events) → after ≡ before ++ kept_by log last (index + 1) event
+      → kept_by_numbers graph log ≡ after ++ kept_after_number graph log (index + 1) (drop (index + 1) log.events)
   kept_turn index event before after at is more =
       let within : index < length log.events = let upto = event_within log event (index + 1) at in omega (arith, upto) in
       let here : kept_at log last (index + 1) ≡ kept_by log last (index + 1) event = ap (λ (e : Option Event). option_map_or (kept_by log last (index + 1)) e []) at in
       is ∙ ap (λ (events : List Event). before ++ events) (kept_next index within)
-      ∙ sym (append_assoc before (kept_at log last (index + 1)) (kept_after graph log (index + 1) (drop (index + 1) log.events)))
-      ∙ ap (λ (events : List Event). events ++ kept_after graph log (index + 1) (drop (index + 1) log.events)) (ap (λ (events : List Event). before ++ events) here ∙ sym more)
+      ∙ sym (append_assoc before (kept_at log last (index + 1)) (kept_after_number graph log (index + 1) (drop (index + 1) log.events)))
+      ∙ ap (λ (events : List Event). events ++ kept_after_number graph log (index + 1) (drop (index + 1) log.events)) (ap (λ (events : List Event). before ++ events) here ∙ sym more)
 
   -- At the end all are there.
-  pub kept_done : (index : ℕ) (events : List Event) → length log.events ≤ index → kept_events graph log ≡ events ++ kept_after graph log index (drop index log.events)
+  pub kept_done : (index : ℕ) (events : List Event) → length log.events ≤ index → kept_by_numbers graph log ≡ events ++ kept_after_number graph log index (drop index log.events)
       → events ≡ kept_events graph log
   kept_done index events past_it is =
-      sym (append-nil events) ∙ ap (λ (rest : List Event). events ++ kept_after graph log index rest) (sym (drop_all index log.events past_it)) ∙ sym is
+      sym (append-nil events) ∙ ap (λ (rest : List Event). events ++ kept_after_number graph log index rest) (sym (drop_all index log.events past_it)) ∙ sym is ∙ sym (same_kept graph log)

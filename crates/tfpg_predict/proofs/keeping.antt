@@ -1,3 +1,4 @@
+pub mod SameKept
 pub mod KeptItems
 pub mod KeptEventsKeep
 pub mod KeptOrder

@@ -1,48 +1,34 @@
 -- Which events of a log a probed log keeps: those from which alone the rest follows.
-use Rattle.std.specs.Prelude.{ℕ, suc, ◌==◌, List, [], ◌∷◌, ◌++◌, length, map, filter, Bool, false, ◌||◌, if◌then◌else◌, Option, is_some}
+use Rattle.std.specs.Prelude.{ℕ, List, [], ◌∷◌, ◌++◌, length, map, filter, Bool, false, ◌&&◌, ◌||◌, not, if◌then◌else◌, is_none}
 use Rattle.std.specs.List.{range_with_len}
-use Rattle.std.specs.Option.{option_map_or}
-use Rattle.tfpg_base.specs.Trials.{greatest}
 use Rattle.tfpg_graph.specs.Graph.{Tfpg}
 use Rattle.tfpg_log.specs.declared.event.Event.{Event}
-use Rattle.tfpg_log.specs.declared.event.Event.TheVariants.{Alarm, Silent, Sweep, Tick, Mode}
-use Rattle.tfpg_log.specs.Log.{Logbook, event_at, is_alarm_of, alarm_event, silence_at}
+use Rattle.tfpg_log.specs.declared.event.Event.TheVariants.{Alarm, Silent, Mode}
+use Rattle.tfpg_log.specs.Log.{Logbook, alarm_among, alarm_of, first_events, is_silence_of, time_of_event, with_event}
 
--- there is a number, and it is this one
-abbrev pub is_at : Option ℕ → ℕ → Bool
-is_at found number = option_map_or (λ other. other == number) found false
+-- whether one of these events, which follow this log, is a silence of the node
+abbrev pub is_silenced : Tfpg → Logbook → List Event → ℕ → Bool
+is_silenced graph before [] node = false
+is_silenced graph before (event ∷ later) node =
+    is_silence_of graph before node event || is_silenced graph (with_event before event) later node
 
--- the number of the last alarm of a node
-abbrev pub last_alarm : Logbook → ℕ → Option ℕ
-last_alarm log node = greatest (λ number. option_map_or (is_alarm_of node) (event_at log number) false) (length log.events)
+-- What is kept of an event between this log and these later events. A change of mode is kept. An alarm is kept if no earlier
+-- or no later event is an alarm of its node. A silence or a sweep becomes, in the order of the nodes, a silence of each node
+-- that it silences and no later event does. Of a tick, which silences no node, nothing is kept.
+abbrev pub kept_of : Tfpg → Logbook → Event → List Event → List Event
+kept_of graph before (Mode time mode) later = Mode time mode ∷ []
+kept_of graph before (Alarm time node) later =
+    if is_none (alarm_of before node) || is_none (alarm_among later node) then Alarm time node ∷ [] else []
+kept_of graph before event later =
+    map (λ node. Silent (time_of_event event) node)
+    (filter (λ node. is_silence_of graph before node event && not (is_silenced graph (with_event before event) later node))
+    (range_with_len 0 (length graph.nodes)))
 
--- the number of the last event that is a silence of a node: its own silence, or a sweep
-abbrev pub last_silence : Tfpg → Logbook → ℕ → Option ℕ
-last_silence graph log node = greatest (λ number. is_some (silence_at graph log number node)) (length log.events)
+-- what is kept of these events, which follow this log
+abbrev pub kept_after : Tfpg → Logbook → List Event → List Event
+kept_after graph before [] = []
+kept_after graph before (event ∷ later) = kept_of graph before event later ++ kept_after graph (with_event before event) later
 
--- an alarm is kept where it is the first or the last one of its node
-abbrev pub is_kept_alarm : Logbook → ℕ → ℕ → Bool
-is_kept_alarm log node number = is_at (alarm_event log node) number || is_at (last_alarm log node) number
-
--- A silence is kept as one of each node of which it is the last silence. So a sweep is kept as silences.
-abbrev pub kept_silences : Tfpg → Logbook → ℕ → ℕ → List Event
-kept_silences graph log number time =
-    map (λ node. Silent time node)
-    (filter (λ node. is_at (last_silence graph log node) number) (range_with_len 0 (length graph.nodes)))
-
--- what is kept of the event of a number
-abbrev pub kept_of : Tfpg → Logbook → ℕ → Event → List Event
-kept_of graph log number (Alarm time node) = if is_kept_alarm log node number then Alarm time node ∷ [] else []
-kept_of graph log number (Silent time node) = kept_silences graph log number time
-kept_of graph log number (Sweep time) = kept_silences graph log number time
-kept_of graph log number (Tick time) = []
-kept_of graph log number (Mode time mode) = Mode time mode ∷ []
-
--- what is kept of these events of the log, where the first of them has the number after this one
-abbrev pub kept_after : Tfpg → Logbook → ℕ → List Event → List Event
-kept_after graph log number [] = []
-kept_after graph log number (event ∷ events) = kept_of graph log (suc number) event ++ kept_after graph log (suc number) events
-
--- The events that are kept: all changes of mode, the first and the last alarm of each node, and the last silence of each node.
+-- the events of the log that are kept, in their order
 abbrev pub kept_events : Tfpg → Logbook → List Event
-kept_events graph log = kept_after graph log 0 log.events
+kept_events graph log = kept_after graph (first_events log 0) log.events

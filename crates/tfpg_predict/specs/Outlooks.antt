@@ -1,6 +1,7 @@
 -- What is owed with each answer to when a node becomes active.
-use Rattle.std.specs.Prelude.{◌≡◌, ℕ, ◌-◌, ◌<◌, ◌≤◌, List, []}
+use Rattle.std.specs.Prelude.{◌≡◌, ◌⊎◌, ℕ, ◌+◌, ◌-◌, ◌/◌, ◌<◌, ◌≤◌, List, [], Some}
 use Rattle.tfpg_base.specs.declared.activation.Activation.{Activation}
+use Rattle.tfpg_base.specs.Trace.{time_of}
 use Rattle.tfpg_graph.specs.Reach.{IsReach}
 use Rattle.tfpg_evidence.specs.declared.step.Step.{Step}
 use Rattle.tfpg_clause.specs.Case.{Case}
@@ -9,7 +10,7 @@ use Rattle.tfpg_clause.specs.Paths.{with_steps}
 use Rattle.tfpg_search.specs.Live.{AllowsReuse, IsUnsettled}
 use Rattle.tfpg_search.specs.Searched.{AreSearchSteps}
 use Rattle.tfpg_search.specs.Enough.{IsEnough}
-use Rattle.tfpg_predict.specs.LeastTime.{Lookahead, IsLeastTime, HasNoTime}
+use Rattle.tfpg_predict.specs.LeastTime.{Lookahead, ExplainsContinued, IsLeastTime, HasNoTime}
 use Rattle.tfpg_predict.specs.Probed.{IsProbed}
 use Rattle.tfpg_predict.specs.declared.outlook.Outlook.{Outlook}
 use Rattle.tfpg_predict.specs.declared.outlook.Outlook.TheVariants.{Earliest, Never, Unsettled}
@@ -49,9 +50,24 @@ pub record IsNever (asked : Lookahead) (set : List ℕ) (budget : ℕ) (steps : 
   pub none : HasNoTime asked set
   pub refuted : IsRefutedAt asked set asked.to budget steps
 
--- The search for the probe with this bound, which is not after the time up to which is looked, spent its budget.
+-- The bound is the middle, rounded down, of the range in which the least time lies by what is known. A trace gives the node the
+-- time `high`. Before `low`, which is less, it has no time: the steps are a refutation for the probe with the bound before
+-- `low`, or `low` is 0.
+pub record IsMiddle (asked : Lookahead) (set : List ℕ) (budget bound : ℕ) : Type 0 where
+  pub low : ℕ
+  pub high : ℕ
+  pub middle : bound ≡ (low + high) / 2
+  pub apart : low < high
+  pub trace : List Activation
+  pub explains : ExplainsContinued asked set trace
+  pub attained : time_of trace asked.node ≡ Some high
+  pub steps : List Step
+  pub refuted : 0 < low → IsRefutedAt asked set (low - 1) budget steps
+
+-- The search for the probe with this bound spent its budget. The bound is the time up to which is looked, or a middle before it.
 pub record IsUnsettledAt (asked : Lookahead) (set : List ℕ) (budget bound : ℕ) (steps : List Step) : Type 0 where
   pub within : bound ≤ asked.to
+  pub halved : (bound ≡ asked.to) ⊎ IsMiddle asked set budget bound
   pub spent : IsSpentAt asked set bound budget steps
 
 -- The outlook is right for a set, where each search has this budget.

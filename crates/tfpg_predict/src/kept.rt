@@ -3,8 +3,8 @@
 ghost use Rattle.std.specs.Prelude.{◌≡◌, ◌≤◌, ◌++◌, [], ◌∷◌, length, if◌then◌else◌, IfOk, OnOk};
 ghost use Rattle.tfpg_graph.specs.declared.limits.TheConstants.{MAX_NODES};
 ghost use Rattle.tfpg_log.specs.declared.event.Event.TheVariants as kinds;
-ghost use Rattle.tfpg_predict.specs.Kept.{is_at, last_alarm, is_kept_alarm, kept_events};
-ghost use Rattle.tfpg_predict.specs.inside.KeptEvents.{kept_by, silences_at};
+ghost use Rattle.tfpg_predict.specs.Kept.{kept_events};
+ghost use Rattle.tfpg_predict.specs.inside.KeptEvents.{is_at, last_alarm, is_kept_alarm, kept_by, silences_at};
 
 use crate::last_silences::last_silences;
 use std::alloc::Global;

@@ -2,7 +2,7 @@
 
 ghost use Rattle.std.specs.Prelude.{◌≡◌, length, map, IfOk};
 ghost use Rattle.std.specs.List.{range_with_len};
-ghost use Rattle.tfpg_predict.specs.Kept.{last_silence};
+ghost use Rattle.tfpg_predict.specs.inside.KeptEvents.{last_silence};
 
 use std::alloc::Global;
 use tfpg_base::NoMemory;

@@ -18,7 +18,8 @@ pub enum Outlook {
     Never {
         steps: StepList,
     },
-    /// The budget was spent in the search for the probe with this bound. These are its steps.
+    /// The budget was spent in the search for the probe with this bound. These are its steps. The bound is the time to which was
+    /// asked, or the middle of a time that a trace gives the node and of a lesser one, before which it has none.
     Unsettled {
         bound: u64,
         steps: StepList,

@@ -11,5 +11,6 @@ pub mod InOrder
 pub mod Reading
 pub mod Represents
 pub mod ReadBack
+pub mod RenderedRounds
 -- What the code and its proofs need besides. No public clause reaches it.
 pub mod inside

@@ -9,15 +9,18 @@ use Rattle.tfpg_report.specs.Stands.{stand_of}
 use Rattle.tfpg_report.specs.ReadRounds.{NumberedLine, numbered_from}
 use Rattle.tfpg_report.specs.Reading.{begun_in, Completes, MayCome}
 
--- What a reader keeps: why it refused a line, if it did; what may come next; the lines of the round that has not ended.
+-- What contracts see of a reader: why it refused a line, if it did; how many lines it took; what may come next; the lines of
+-- the round that has not ended.
 pub record ReaderState : Type 0 where
   pub refused : Option ReadRefusal
+  pub taken : ℕ
   pub stand : Stand
   pub begun : List NumberedLine
 
 -- The reader represents these lines, all that it has taken: they may come in this order, and it keeps those of the round that
 -- has not ended.
 pub record ReaderRepresents (reader : ReaderState) (lines : List ReportLine) : Type 0 where
+  pub taken : reader.taken ≡ length lines
   pub stands : stand_of lines ≡ Some reader.stand
   pub begun : reader.begun ≡ numbered_from (length lines - length (begun_in lines) + 1) (begun_in lines)
 

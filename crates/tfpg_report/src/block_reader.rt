@@ -1,6 +1,6 @@
 //! The reader of reports.
 
-ghost use Rattle.std.specs.Prelude.{◌≡◌, ◌+◌, ℕ, List, [], length, Some, None, Err, IfOk, IfErr, OnOk};
+ghost use Rattle.std.specs.Prelude.{◌≡◌, ◌+◌, ℕ, List, [], false, Some, None, Err, IfOk, IfErr, OnOk};
 ghost use Rattle.tfpg_report.specs.declared.fed.ReadRefusal.{ReadRefusal};
 ghost use Rattle.tfpg_report.specs.declared.fed.ReadRefusal.TheVariants.{BadReport};
 ghost use Rattle.tfpg_report.specs.declared.report_line.ReportLine.{ReportLine};
@@ -17,6 +17,7 @@ use crate::{Fed, ReadRefusal, ReportLine, Stand};
 use draft::Draft;
 use std::alloc::Global;
 use std::marker::Model;
+use std::snapshot::Snapshot;
 use stepping::step_after;
 use tfpg_base::NoMemory;
 use tfpg_graph::Graph;
@@ -30,18 +31,25 @@ pub struct BlockReader {
     refused: Option<ReadRefusal>,
     stand: Stand,
     draft: Draft,
+    /// How many lines it took, for contracts alone.
+    taken: Snapshot<u64>,
 }
 
 impl Model for BlockReader {
     ghost use Rattle.tfpg_report.specs.Represents.{ReaderState};
-    ghost use Rattle.tfpg_report.specs.inside.Fitting.{Fits, begun_lines};
+    ghost use Rattle.tfpg_report.specs.inside.Fitting.{begun_lines};
+    ghost use Rattle.tfpg_report.specs.inside.Readers.{IsReader};
 
     ghost Value = { ReaderState };
 
-    ghost view = { λ reader.
-        record { refused = reader.refused; stand = reader.stand; begun = begun_lines reader.stand reader.draft } };
+    ghost view = { λ reader. record {
+      refused = reader.refused;
+      taken = reader.taken.value;
+      stand = reader.stand;
+      begun = begun_lines reader.stand reader.draft;
+    } };
 
-    ghost invariant = { λ reader. Fits reader.stand reader.draft };
+    ghost invariant = { λ reader. IsReader reader.refused reader.stand reader.draft };
 }
 
 /// A line that may come, and the stand after it.
@@ -62,24 +70,25 @@ impl BlockReader {
             refused: None,
             stand: Stand::Nothing,
             draft: Draft::empty(alloc),
+            taken: Snapshot::of(&0),
         }
     }
 
-    /// Takes the next line, without its line end, and says what it completes. The first line has the number 1. If no report
-    /// begins with the lines up to this one, or memory runs out, each later call returns the same refusal. Costs a pass over the
-    /// line, and amortized constant time beside it.
+    /// Takes the next line, without its line end, and says what it completes. The first line has the number 1, and each later
+    /// one the next number. If no report begins with the lines up to this one, or memory runs out, each later call returns the
+    /// same refusal, whatever its number. Costs a pass over the line, and amortized constant time beside it.
     pub fn take(&mut self, graph: &Graph, number: u64, line: &[u8]) -> Result<Fed, ReadRefusal>
-        ensures fed { (lines : List ReportLine) → ReaderRepresents self.old lines →
-            number ≡ length lines + 1 → self.old.refused ≡ None →
+        requires { self.old.refused ≡ None → number ≡ self.old.taken + 1 }
+        ensures fed { (lines : List ReportLine) → ReaderRepresents self.old lines → self.old.refused ≡ None →
             IfOk result (Takes graph.now lines line.now self.new) }
-        ensures bad { (lines : List ReportLine) → ReaderRepresents self.old lines →
-            number ≡ length lines + 1 → self.old.refused ≡ None →
+        ensures bad { (lines : List ReportLine) → ReaderRepresents self.old lines → self.old.refused ≡ None →
             (at : ℕ) → result ≡ Err (BadReport at) →
             (at ≡ number) × NoneMayCome graph.now lines line.now }
         ensures again { (refusal : ReadRefusal) → self.old.refused ≡ Some refusal →
             (result ≡ Err refusal) × (self.new ≡ self.old) }
         ensures refuses { IfErr result (λ refusal. self.new.refused ≡ Some refusal) }
         ensures goes_on { OnOk result (self.new.refused ≡ None) }
+        ensures taken { OnOk result (self.new.taken ≡ number) }
     {
         if let Some(refusal) = self.refused {
             return Err(refusal);
@@ -88,28 +97,38 @@ impl BlockReader {
             Ok(next) => match self.draft.add(self.alloc, number, next.stand, &next.line) {
                 Ok(()) => {
                     self.stand = next.stand;
+                    self.taken = Snapshot::of(&number);
                     Ok(self.draft.complete(self.alloc, number, &next.line))
                 }
                 Err(NoMemory) => {
-                    self.stand = Stand::Nothing;
-                    self.refused = Some(ReadRefusal::NoMemory);
+                    refuse(&mut self.refused, &mut self.stand, ReadRefusal::NoMemory);
                     Err(ReadRefusal::NoMemory)
                 }
             },
             Err(refusal) => {
-                self.stand = Stand::Nothing;
-                self.refused = Some(*refusal);
+                refuse(&mut self.refused, &mut self.stand, *refusal);
                 Err(*refusal)
             }
         }
     }
 
-    /// Whether a report may end with the lines that were taken: after its first line, or after a whole block.
+    /// Whether a report may end with the lines that were taken: after its first line, or after a whole block. Never so once a
+    /// line was refused.
     pub fn is_between_blocks(&self) -> bool
-        ensures { result ≡ may_begin_block self.now.stand }
+        ensures stand { result ≡ may_begin_block self.now.stand }
+        ensures refused { (refusal : ReadRefusal) → self.now.refused ≡ Some refusal → result ≡ false }
     {
         self.stand.may_begin_block()
     }
+}
+
+/// Keeps why a line was refused. No report may end there.
+fn refuse(refused: &mut Option<ReadRefusal>, stand: &mut Stand, refusal: ReadRefusal)
+    ensures refused { refused.new ≡ Some refusal }
+    ensures stand { stand.new ≡ Stand.Nothing }
+{
+    *refused = Some(refusal);
+    *stand = Stand::Nothing;
 }
 
 /// Reads the line with this number, if it may come at this stand.

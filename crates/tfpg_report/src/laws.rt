@@ -13,7 +13,7 @@ pub use order::{
     a_block_is_read_in_its_order, a_report_is_read_in_its_order, a_round_is_begun_by_its_lines,
     a_round_is_read_in_its_order,
 };
-pub use read_back::{a_round_is_read_back, lines_say_one_round};
+pub use read_back::{a_rendered_round_is_read_back, a_round_is_read_back, lines_say_one_round};
 
 /// Bytes say at most one line of a report of a valid graph.
 pub fn a_report_line_says_one_thing()

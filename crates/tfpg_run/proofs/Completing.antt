@@ -20,7 +20,7 @@ use Rattle.tfpg_json.specs.GraphText.{IsJsonFault, SpellsAsJson}
 use Rattle.tfpg_log.specs.Log.{Logbook}
 use Rattle.tfpg_report.specs.Blocks.{Block}
 use Rattle.tfpg_check.specs.declared.cause.CheckCause.{CheckCause}
-use Rattle.tfpg_check.specs.Causes.{AreReportLines, IsCause, Matter}
+use Rattle.tfpg_check.specs.Causes.{AreReportLines, IsCause, DiagnosisProblem}
 use Rattle.tfpg_check.specs.RightReports.{LinesHaveOneCause, LinesOfTooManyHaveNoCause, ShortReportsHaveNoCause}
 use Rattle.tfpg_check.proofs.FirstLines.{OneLine, few_hypotheses}
 use Rattle.tfpg_sim.specs.Script.{IsScriptFault}
@@ -48,13 +48,13 @@ use Rattle.tfpg_run.specs.Fetch.{HasFile, IsTooLong, GivesGraph, GivesGraphBy, G
 use Rattle.tfpg_run.specs.generate.Generating.{HasSummary}
 use Rattle.tfpg_run.specs.ask.Asking.{AskEnds, QuestionsEnd}
 use Rattle.tfpg_run.specs.convert.Converting.{ConvertEnds, IsFaultFrom, SpellsFrom, converted_text}
-use Rattle.tfpg_run.specs.check.Checking.{CheckEnds, CheckingEnds, HasTooManyInHead, IsAccepted, matter_of}
+use Rattle.tfpg_run.specs.check.Checking.{CheckEnds, CheckingEnds, HasTooManyInHead, IsAccepted, problem_of}
 use Rattle.tfpg_run.specs.explain.Explaining.{ExplainEnds, ExplainingEnds}
 use Rattle.tfpg_run.specs.map.Spelling.{HasMap, BeginsMap, IsMapFault}
 use Rattle.tfpg_run.specs.Outputs.{IsStreamFault, LineByLineEnds, TextEnds}
 use Rattle.tfpg_run.specs.Run.{CommandEnds, RunEnds}
 use Rattle.tfpg_run.specs.fleet.FleetEnds.{AnsweringEnds, FleetEnds, FleetWords, fleet_words}
-use Rattle.tfpg_run.specs.fleet.FleetOutput.{fleet_matter}
+use Rattle.tfpg_run.specs.fleet.FleetOutput.{fleet_problem}
 use Rattle.tfpg_run.specs.diagnose.Diagnosing.{DiagnoseEnds}
 use Rattle.tfpg_run.specs.diagnose.RightReport.{IsRightReport, BeginsRightReport}
 use Rattle.tfpg_run.specs.diagnose.TellsPanels.{desks}
@@ -214,7 +214,7 @@ module _ (graphs : GraphLaws) (laws : CheckLaws) (before now : World) (calm : No
   fleet_diagnosed short end said can (inr (inr done)) = go done.ends.result done.ends.works.ends done.ends.end_is
     where
       go : (result : Result (Unit {0}) StreamFault)
-          → AnsweringEnds (fleet_matter done.graph said.terms said.names) (streams_of before) (streams_of now) (done.ends.works.taken, done.ends.works.written) result
+          → AnsweringEnds (fleet_problem done.graph said.terms said.names) (streams_of before) (streams_of now) (done.ends.works.taken, done.ends.works.written) result
           → end ≡ end_of_result end_of_stream_fault result → IsCompleted end
       go (Ok all) is e = inl e
       go (Err fault) is e = inr (e ∙ ap end_of_stream_fault (no_stream_fault short done.ends.works.taken done.ends.works.takes fault is.0))
@@ -244,51 +244,51 @@ module _ (graphs : GraphLaws) (laws : CheckLaws) (before now : World) (calm : No
       (explained_map can.short explains.graph explains.other explains.works.works.taken map explains.works.works.takes explains.works.result explains.works.works.ends)
 
   -- a report that is judged
-  judged_report : (short : IsShort before.input) (matter : Matter) (taken : List ℕ) → IsValid matter.graph → (terms : Terms) (blocks : List Block) → AreReportLines matter terms blocks (lines_of short.known)
+  judged_report : (short : IsShort before.input) (problem : DiagnosisProblem) (taken : List ℕ) → IsValid problem.graph → (terms : Terms) (blocks : List Block) → AreReportLines problem terms blocks (lines_of short.known)
       → Takes before.input now.input taken → (result : Result (Unit {0}) CheckFault)
-      → CheckingEnds matter (streams_of before) (streams_of now) taken result → IsCompleted (end_of_result end_of_check_fault result)
-  judged_report short matter taken valid terms blocks report takes (Ok done) is = inl refl
-  judged_report short matter taken valid terms blocks report takes (Err (check.NotAccepted line cause)) is =
+      → CheckingEnds problem (streams_of before) (streams_of now) taken result → IsCompleted (end_of_result end_of_check_fault result)
+  judged_report short problem taken valid terms blocks report takes (Ok done) is = inl refl
+  judged_report short problem taken valid terms blocks report takes (Err (check.NotAccepted line cause)) is =
       let all : short.known ≡ taken ++ is.0.rest = all_of_input before.input now.input short.known taken is.0.rest short.left takes is.0.left in
-      absurd (laws.no_cause matter terms blocks short.known line cause valid report short.few
-      (subst (λ (bytes : List ℕ). IsCause matter (lines_of bytes) line cause) (sym all) is.0.is_cause))
-  judged_report short matter taken valid terms blocks report takes (Err (check.TooMany count)) is =
-      let many : HasTooManyInHead matter now.input taken count = is.0 in
+      absurd (laws.no_cause problem terms blocks short.known line cause valid report short.few
+      (subst (λ (bytes : List ℕ). IsCause problem (lines_of bytes) line cause) (sym all) is.0.is_cause))
+  judged_report short problem taken valid terms blocks report takes (Err (check.TooMany count)) is =
+      let many : HasTooManyInHead problem now.input taken count = is.0 in
       let all : short.known ≡ taken ++ many.rest = all_of_input before.input now.input short.known taken many.rest short.left takes many.left in
-      let few = few_hypotheses laws.one_line matter valid terms blocks (lines_of (taken ++ many.rest))
-      (subst (λ (bytes : List ℕ). AreReportLines matter terms blocks (lines_of bytes)) all report) many.first many.at many.head many.says many.terms many.is_head count many.counted in
+      let few = few_hypotheses laws.one_line problem valid terms blocks (lines_of (taken ++ many.rest))
+      (subst (λ (bytes : List ℕ). AreReportLines problem terms blocks (lines_of bytes)) all report) many.first many.at many.head many.says many.terms many.is_head count many.counted in
       let too_many = many.too_many in
       absurd (omega (arith, few, too_many))
-  judged_report short matter taken valid terms blocks report takes (Err (check.Stream streams.ReadFault)) is = absurd (calm.input is.0)
-  judged_report short matter taken valid terms blocks report takes (Err (check.Stream streams.WriteFault)) is = absurd (calm.output is.0.rose)
-  judged_report short matter taken valid terms blocks report takes (Err (check.Stream streams.TooMuchInput)) is =
+  judged_report short problem taken valid terms blocks report takes (Err (check.Stream streams.ReadFault)) is = absurd (calm.input is.0)
+  judged_report short problem taken valid terms blocks report takes (Err (check.Stream streams.WriteFault)) is = absurd (calm.output is.0.rose)
+  judged_report short problem taken valid terms blocks report takes (Err (check.Stream streams.TooMuchInput)) is =
       let more : length taken ≡ MAX_BYTES + 1 = is.0 in
       absurd (omega (arith, few_taken before.input now.input taken short takes, more))
-  judged_report short matter taken valid terms blocks report takes (Err (check.Stream streams.NoMemory)) is = inr refl
+  judged_report short problem taken valid terms blocks report takes (Err (check.Stream streams.NoMemory)) is = inr refl
 
   -- lines that have a cause
-  refused_report : (short : IsShort before.input) (matter : Matter) (taken : List ℕ) → IsValid matter.graph → (line : ℕ) (cause : CheckCause) → IsCause matter (lines_of short.known) line cause
+  refused_report : (short : IsShort before.input) (problem : DiagnosisProblem) (taken : List ℕ) → IsValid problem.graph → (line : ℕ) (cause : CheckCause) → IsCause problem (lines_of short.known) line cause
       → Takes before.input now.input taken → (result : Result (Unit {0}) CheckFault)
-      → CheckingEnds matter (streams_of before) (streams_of now) taken result → IsRefusedFor line cause (end_of_result end_of_check_fault result)
-  refused_report short matter taken valid line cause has takes (Ok done) is =
-      let accepted : IsAccepted matter now.input taken is.0.text = is.0.right in
+      → CheckingEnds problem (streams_of before) (streams_of now) taken result → IsRefusedFor line cause (end_of_result end_of_check_fault result)
+  refused_report short problem taken valid line cause has takes (Ok done) is =
+      let accepted : IsAccepted problem now.input taken is.0.text = is.0.right in
       let all : short.known ≡ taken = all_taken before.input now.input short.known taken short.left takes accepted.at_end in
-      absurd (laws.no_cause matter accepted.terms accepted.blocks taken line cause valid accepted.report accepted.few (subst (λ (bytes : List ℕ). IsCause matter (lines_of bytes) line cause) all has))
-  refused_report short matter taken valid line cause has takes (Err (check.NotAccepted at why)) is =
+      absurd (laws.no_cause problem accepted.terms accepted.blocks taken line cause valid accepted.report accepted.few (subst (λ (bytes : List ℕ). IsCause problem (lines_of bytes) line cause) all has))
+  refused_report short problem taken valid line cause has takes (Err (check.NotAccepted at why)) is =
       let all : short.known ≡ taken ++ is.0.rest = all_of_input before.input now.input short.known taken is.0.rest short.left takes is.0.left in
-      let one = laws.one_cause matter (lines_of (taken ++ is.0.rest)) at line why cause valid is.0.is_cause (subst (λ (bytes : List ℕ). IsCause matter (lines_of bytes) line cause) all has) in
+      let one = laws.one_cause problem (lines_of (taken ++ is.0.rest)) at line why cause valid is.0.is_cause (subst (λ (bytes : List ℕ). IsCause problem (lines_of bytes) line cause) all has) in
       inl (λ i. ends.NotAccepted (one.0 i) (one.1 i))
-  refused_report short matter taken valid line cause has takes (Err (check.TooMany count)) is =
-      let many : HasTooManyInHead matter now.input taken count = is.0 in
+  refused_report short problem taken valid line cause has takes (Err (check.TooMany count)) is =
+      let many : HasTooManyInHead problem now.input taken count = is.0 in
       let all : short.known ≡ taken ++ many.rest = all_of_input before.input now.input short.known taken many.rest short.left takes many.left in
-      absurd (laws.too_many matter (lines_of (taken ++ many.rest)) many.first many.head many.terms count line cause valid many.at many.says many.is_head many.counted many.too_many
-      (subst (λ (bytes : List ℕ). IsCause matter (lines_of bytes) line cause) all has))
-  refused_report short matter taken valid line cause has takes (Err (check.Stream streams.ReadFault)) is = absurd (calm.input is.0)
-  refused_report short matter taken valid line cause has takes (Err (check.Stream streams.WriteFault)) is = absurd (calm.output is.0.rose)
-  refused_report short matter taken valid line cause has takes (Err (check.Stream streams.TooMuchInput)) is =
+      absurd (laws.too_many problem (lines_of (taken ++ many.rest)) many.first many.head many.terms count line cause valid many.at many.says many.is_head many.counted many.too_many
+      (subst (λ (bytes : List ℕ). IsCause problem (lines_of bytes) line cause) all has))
+  refused_report short problem taken valid line cause has takes (Err (check.Stream streams.ReadFault)) is = absurd (calm.input is.0)
+  refused_report short problem taken valid line cause has takes (Err (check.Stream streams.WriteFault)) is = absurd (calm.output is.0.rose)
+  refused_report short problem taken valid line cause has takes (Err (check.Stream streams.TooMuchInput)) is =
       let more : length taken ≡ MAX_BYTES + 1 = is.0 in
       absurd (omega (arith, few_taken before.input now.input taken short takes, more))
-  refused_report short matter taken valid line cause has takes (Err (check.Stream streams.NoMemory)) is = inr refl
+  refused_report short problem taken valid line cause has takes (Err (check.Stream streams.NoMemory)) is = inr refl
 
   module _ (end : End) (graph_name log_name : List ℕ) (can : CanJudge before.shelf before.input graph_name log_name) where
     -- where the files are there and are not fetched, memory ran out
@@ -298,31 +298,31 @@ module _ (graphs : GraphLaws) (laws : CheckLaws) (before now : World) (calm : No
         (both_fetched before.shelf can.files can.known graphs graph_name can.graph can.gives.of_graph now.shelf log_name can.log_text can.gives.file lacks.fault calm.shelf lacks.is_fault) lacks.end_is
 
     -- what is fetched is what they give
-    same_matter : (graph : Tfpg) (text : List ℕ) → GivesGraphAndText before.shelf graph_name log_name graph text → matter_of can.graph can.log_text ≡ matter_of graph text
-    same_matter graph text gives =
+    same_problem : (graph : Tfpg) (text : List ℕ) → GivesGraphAndText before.shelf graph_name log_name graph text → problem_of can.graph can.log_text ≡ problem_of graph text
+    same_problem graph text gives =
         let one_graph : can.graph ≡ graph = only_graph before.shelf can.files can.known graph_name can.graph graph can.gives.of_graph gives.of_graph in
         let one_text : can.log_text ≡ text = only_text before.shelf can.files can.known log_name can.log_text text can.gives.file.gives gives.file.gives in
-        λ i. matter_of (one_graph i) (one_text i)
+        λ i. problem_of (one_graph i) (one_text i)
 
   checked : (end : End) (graph_name log_name : List ℕ) → CanCheck before.shelf before.input graph_name log_name → CheckEnds graph_name log_name before now end → IsCompleted end
   checked end graph_name log_name can (inl lacks) = inr (not_fetched end graph_name log_name can.judges lacks)
   checked end graph_name log_name can (inr checks) =
-      let matter = matter_of checks.graph checks.other in
-      let same = same_matter end graph_name log_name can.judges checks.graph checks.other checks.gives in
+      let problem = problem_of checks.graph checks.other in
+      let same = same_problem end graph_name log_name can.judges checks.graph checks.other checks.gives in
       subst IsCompleted (sym checks.works.end_is)
-      (judged_report can.judges.short matter checks.works.works.taken checks.gives.of_graph.valid can.terms can.blocks
-      (subst (λ (m : Matter). AreReportLines m can.terms can.blocks (lines_of can.judges.short.known)) same can.report)
+      (judged_report can.judges.short problem checks.works.works.taken checks.gives.of_graph.valid can.terms can.blocks
+      (subst (λ (m : DiagnosisProblem). AreReportLines m can.terms can.blocks (lines_of can.judges.short.known)) same can.report)
       checks.works.works.takes checks.works.result checks.works.works.ends)
 
   refused : (end : End) (graph_name log_name : List ℕ) (line : ℕ) (cause : CheckCause) → CanRefuse before.shelf before.input graph_name log_name line cause → CheckEnds graph_name log_name before now end
       → IsRefusedFor line cause end
   refused end graph_name log_name line cause can (inl lacks) = inr (not_fetched end graph_name log_name can.judges lacks)
   refused end graph_name log_name line cause can (inr checks) =
-      let matter = matter_of checks.graph checks.other in
-      let same = same_matter end graph_name log_name can.judges checks.graph checks.other checks.gives in
+      let problem = problem_of checks.graph checks.other in
+      let same = same_problem end graph_name log_name can.judges checks.graph checks.other checks.gives in
       subst (IsRefusedFor line cause) (sym checks.works.end_is)
-      (refused_report can.judges.short matter checks.works.works.taken checks.gives.of_graph.valid line cause
-      (subst (λ (m : Matter). IsCause m (lines_of can.judges.short.known) line cause) same can.is_cause)
+      (refused_report can.judges.short problem checks.works.works.taken checks.gives.of_graph.valid line cause
+      (subst (λ (m : DiagnosisProblem). IsCause m (lines_of can.judges.short.known) line cause) same can.is_cause)
       checks.works.works.takes checks.works.result checks.works.works.ends)
 
   -- a script that is simulated

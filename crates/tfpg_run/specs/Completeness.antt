@@ -16,7 +16,7 @@ use Rattle.tfpg_base.specs.declared.terms.Terms.{Terms}
 use Rattle.tfpg_run.specs.declared.end.End.{End}
 use Rattle.tfpg_run.specs.declared.end.End.TheVariants.{Done, NoMemory, NotAccepted}
 use Rattle.tfpg_run.specs.Fetch.{GivesGraph, GivesGraphBy, GivesGraphAndLog, GivesGraphAndText}
-use Rattle.tfpg_run.specs.check.Checking.{matter_of}
+use Rattle.tfpg_run.specs.check.Checking.{problem_of}
 use Rattle.tfpg_run.specs.convert.Converting.{SpellsFrom}
 use Rattle.tfpg_run.specs.map.Spelling.{HasMap}
 use Rattle.tfpg_fleet.specs.TooMany.{IsTooMany}
@@ -67,12 +67,12 @@ pub record CanCheck (shelf : ShelfState) (input : SourceState) (graph_name log_n
   pub judges : CanJudge shelf input graph_name log_name
   pub terms : Terms
   pub blocks : List Block
-  pub report : AreReportLines (matter_of judges.graph judges.log_text) terms blocks (lines_of judges.short.known)
+  pub report : AreReportLines (problem_of judges.graph judges.log_text) terms blocks (lines_of judges.short.known)
 
 -- So a report can be judged, and the lines of the input are not accepted, for this cause at this line.
 pub record CanRefuse (shelf : ShelfState) (input : SourceState) (graph_name log_name : List ℕ) (line : ℕ) (cause : CheckCause) : Type 0 where
   pub judges : CanJudge shelf input graph_name log_name
-  pub is_cause : IsCause (matter_of judges.graph judges.log_text) (lines_of judges.short.known) line cause
+  pub is_cause : IsCause (problem_of judges.graph judges.log_text) (lines_of judges.short.known) line cause
 
 -- The contents of the shelf are known, and the files of these names give a graph and a text, which is a right script.
 pub record CanSimulate (shelf : ShelfState) (graph_name script_name : List ℕ) : Type 0 where

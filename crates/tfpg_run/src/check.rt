@@ -7,7 +7,7 @@ ghost use Rattle.tfpg_run.specs.Fetch.{AsksInOrder};
 ghost use Rattle.tfpg_run.specs.Streams.{streams};
 ghost use Rattle.tfpg_panel.specs.Desk.{DeskState};
 ghost use Rattle.tfpg_run.specs.World.{world};
-ghost use Rattle.tfpg_run.specs.check.Checking.{CheckEnds, ChecksReport, matter_of};
+ghost use Rattle.tfpg_run.specs.check.Checking.{CheckEnds, ChecksReport, problem_of};
 ghost use Rattle.tfpg_run.specs.inside.check.UnderWay.{AcceptsReport, LacksReport};
 
 mod report_lines;
@@ -58,10 +58,10 @@ fn check_report<S: Source, K: Sink>(
     out: &mut K,
 ) -> Result<(), CheckFault>
     requires { length log_text.items ≤ LONGEST_FILE }
-    ensures done { OnOk result (ChecksReport (matter_of graph log_text.items)
+    ensures done { OnOk result (ChecksReport (problem_of graph log_text.items)
         (streams (S.state input.old) (K.state out.old))
         (streams (S.state input.new) (K.state out.new)) (Ok tt)) }
-    ensures stopped { IfErr result (λ fault. ChecksReport (matter_of graph log_text.items)
+    ensures stopped { IfErr result (λ fault. ChecksReport (problem_of graph log_text.items)
         (streams (S.state input.old) (K.state out.old))
         (streams (S.state input.new) (K.state out.new)) (Err fault)) }
 {
@@ -79,9 +79,9 @@ pub(crate) fn judge_report<T: LogText, S: Source>(
     input: &mut S,
 ) -> Result<u32, CheckFault>
     requires { length (T.text log_text) ≤ LONGEST_FILE }
-    ensures accepted { IfOk result (AcceptsReport (matter_of graph (T.text log_text)) (S.state input.old)
+    ensures accepted { IfOk result (AcceptsReport (problem_of graph (T.text log_text)) (S.state input.old)
         (S.state input.new)) }
-    ensures stopped { IfErr result (LacksReport (matter_of graph (T.text log_text)) (S.state input.old)
+    ensures stopped { IfErr result (LacksReport (problem_of graph (T.text log_text)) (S.state input.old)
         (S.state input.new)) }
 {
     graph.is_always_valid();

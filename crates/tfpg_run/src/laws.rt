@@ -29,7 +29,7 @@ ghost use Rattle.tfpg_fleet.specs.Alone.{RoundsFindTheSame};
 ghost use Rattle.tfpg_fleet.specs.Belonging.{lines_for};
 ghost use Rattle.tfpg_run.specs.diagnose.BlockFindings.{HasFindingInBlock, HasSettledRoundInBlock};
 ghost use Rattle.tfpg_run.specs.fleet.Answers.{Answer, blocks_for};
-ghost use Rattle.tfpg_run.specs.fleet.FleetOutput.{AreAnswers, FleetMatter};
+ghost use Rattle.tfpg_run.specs.fleet.FleetOutput.{AreAnswers, FleetProblem};
 ghost use Rattle.tfpg_report.specs.SetText.{IsHypothesisOf};
 ghost use Rattle.tfpg_run.specs.map.Spelling.{IsActivationOf, SpellsMap, set_line};
 ghost use Rattle.tfpg_run.specs.map.MapText.{map_text};
@@ -108,7 +108,7 @@ pub fn a_rejected_set_stays_rejected()
 /// of its vehicles alone, with the same `k` and `doubt`. Where the blocks of the same own line are rounds, and no hypothesis is open in either,
 /// each hypothesis has the same status in both.
 pub fn a_vehicle_is_diagnosed_as_if_alone()
-    ensures { (fleet : FleetMatter) (alone : Terms) (stream : List (List ℕ)) (answers : List Answer) (number : ℕ)
+    ensures { (fleet : FleetProblem) (alone : Terms) (stream : List (List ℕ)) (answers : List Answer) (number : ℕ)
         (blocks : List Block) →
         IsValid fleet.graph → fleet.terms.k ≡ alone.k → fleet.terms.doubt ≡ alone.doubt →
         AreAnswers fleet stream answers → AreBlocks fleet.graph alone (lines_for fleet.names number stream) blocks →

@@ -1,5 +1,5 @@
 -- What a call of a search adds and finds.
-use Rattle.std.specs.Prelude.{◌≡◌, ℕ, ◌≤◌, List, ◌∷◌, ◌++◌, Result, Ok, Err}
+use Rattle.std.specs.Prelude.{◌≡◌, ◌⊎◌, ℕ, ◌≤◌, List, ◌∷◌, ◌++◌, Result, Ok, Err}
 use Rattle.tfpg_base.specs.declared.no_memory.NoMemory.{NoMemory}
 use Rattle.tfpg_graph.specs.Graph.{Tfpg}
 use Rattle.tfpg_log.specs.Log.{Logbook, first_events}
@@ -7,7 +7,7 @@ use Rattle.tfpg_log.specs.Explains.{Explains}
 use Rattle.tfpg_evidence.specs.declared.step.Step.{Step}
 use Rattle.tfpg_evidence.specs.declared.step.Step.TheVariants.{Split, Cycle, Again}
 use Rattle.tfpg_clause.specs.Case.{Case}
-use Rattle.tfpg_clause.specs.Trees.{Judged, IsRefutation, split_count}
+use Rattle.tfpg_clause.specs.Trees.{Judged, IsPartial, IsRefutation, split_count}
 use Rattle.tfpg_clause.specs.Paths.{with_steps}
 use Rattle.tfpg_search.specs.declared.found.Found.{Found}
 use Rattle.tfpg_search.specs.declared.found.Found.TheVariants.{Shown, Closed, Spent}
@@ -40,10 +40,10 @@ Finds case budget added steps search Spent =
     (split_count added ≡ budget) × IsUnsettled case steps × SearchRepresents case.graph case.log search steps
     × (AllowsReuse case steps → ⊥)
 
--- the same, unless memory ran out
+-- The same; and where memory ran out, the steps are right: a tree begins with them, or they are a refutation.
 abbrev pub FindsOrNot : Case → ℕ → List Step → List Judged → SearchState → Result Found NoMemory → Type 0
 FindsOrNot case budget added steps search (Ok found) = Finds case budget added steps search found
-FindsOrNot case budget added steps search (Err no_memory) = Unit {0}
+FindsOrNot case budget added steps search (Err no_memory) = IsPartial case steps ⊎ IsRefutation case steps
 
 -- what a call of a search changes: the search, and the list of steps that it is given
 pub record SearchCall : Type 0 where

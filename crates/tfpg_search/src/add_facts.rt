@@ -11,7 +11,7 @@ ghost use Rattle.tfpg_clause.specs.Facts.{fact};
 ghost use Rattle.tfpg_diff.specs.Solution.{IsSolution};
 ghost use Rattle.tfpg_diff.specs.SystemState.{with_floor, with_ceiling};
 ghost use Rattle.tfpg_search.specs.Work.{NodeBounds, AreFactBounds};
-ghost use Rattle.tfpg_search.specs.inside.Counted.{CountsFacts};
+ghost use Rattle.tfpg_search.specs.inside.Counted.{CountsAlike, CountsFacts};
 ghost use Rattle.tfpg_search.specs.inside.Facts.{AreFactsIn};
 ghost use Rattle.tfpg_search.specs.inside.KeptReasons.{low_reason, high_reason};
 ghost use Rattle.tfpg_search.specs.inside.LeafCalls.{AddsFact, AddsFacts};
@@ -43,6 +43,7 @@ impl LeafSystem {
             AreFactsIn (fact (case_of graph.now log.now reach.now)) self.new.demands node) }
         ensures counts { (bounds : NodeBounds) → AreFactBounds (case_of graph.now log.now reach.now) bounds →
             CountsFacts bounds self.old self.new work.old work.new result }
+        ensures counted { CountsAlike self.old self.new work.old work.new }
     {
         clause_laws();
         for node in 0..graph.node_count() {
@@ -64,6 +65,7 @@ impl LeafSystem {
         ensures adds { AddsFact (low_reason node low.time low.reason) (at_least node low.time) self.old self.new result }
         ensures counts { (bounds : NodeBounds) → slice_get bounds.lows node ≡ Some low.time →
             CountsFacts bounds self.old self.new work.old work.new result }
+        ensures counted { CountsAlike self.old self.new work.old work.new }
     {
         if low.time <= self.bounds(node).floor() {
             return Ok(());
@@ -84,6 +86,7 @@ impl LeafSystem {
         ensures adds { AddsFact (high_reason node high.reason) (at_most node (pos high.time)) self.old self.new result }
         ensures counts { (bounds : NodeBounds) → slice_get bounds.highs node ≡ Some high.time →
             CountsFacts bounds self.old self.new work.old work.new result }
+        ensures counted { CountsAlike self.old self.new work.old work.new }
     {
         if self.bounds(node).ceiling() <= high.time {
             return Ok(());

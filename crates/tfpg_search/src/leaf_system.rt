@@ -13,6 +13,7 @@ ghost use Rattle.tfpg_diff.specs.Solution.{IsLatest};
 ghost use Rattle.tfpg_diff.specs.SystemState.{with_floor, with_ceiling, with_pick};
 ghost use Rattle.tfpg_search.specs.Work.{widest_bounds};
 ghost use Rattle.tfpg_search.specs.inside.Leaf.{bounds_in, pick_reasons, IsStated};
+ghost use Rattle.tfpg_search.specs.inside.Counted.{CountsAlike};
 ghost use Rattle.tfpg_search.specs.inside.LeafCalls.{AddsFact, AddsPick};
 ghost use Rattle.tfpg_search.specs.inside.Leaving.{Leaves};
 ghost use Rattle.tfpg_search.specs.inside.EnteredPicks.{IsNext};
@@ -27,7 +28,7 @@ use std::alloc::Global;
 use std::marker::Model;
 use std::sync::ledger::Ledger;
 use tfpg_base::{Constraint, NoMemory, Steps};
-use tfpg_diff::{Bounds, Conflict, System};
+use tfpg_diff::{Bounds, Conflict, CountedCalls, System};
 use tfpg_evidence::Reason;
 
 /// A difference system over the times of the nodes, with the reason of each of its tags.
@@ -54,6 +55,7 @@ impl Model for LeafSystem {
       demands = leaf.system.demands;
       reasons = kept_reasons leaf.system.demands leaf.lows.items leaf.highs.items leaf.entered.items;
       entered = leaf.entered.items;
+      calls = leaf.system.calls;
     } };
 
     ghost invariant = { λ leaf. AreKept leaf.system.demands leaf.lows.items leaf.highs.items leaf.entered.items };
@@ -67,6 +69,7 @@ impl LeafSystem {
         ensures no_picks { IfOk result (λ leaf. leaf.demands.picks ≡ []) }
         ensures not_entered { IfOk result (λ leaf. leaf.entered ≡ []) }
         ensures no_reasons { IfOk result (λ leaf. pick_reasons leaf ≡ []) }
+        ensures uncounted { IfOk result (λ leaf. leaf.calls ≡ 0) }
         ensures stated { (fact : Reason → Option Constraint) →
             ((node : ℕ) → node < nodes → fact (Zero node) ≡ Some (at_least node 0)) →
             ((node : ℕ) → node < nodes → fact (Top node) ≡ Some (at_most node (pos NEVER))) →
@@ -99,6 +102,13 @@ impl LeafSystem {
             highs,
             entered,
         })
+    }
+
+    /// How many calls it has counted, for contracts alone.
+    pub(crate) fn calls(&self) -> CountedCalls
+        ensures { result.number ≡ self.now.calls }
+    {
+        self.system.calls()
     }
 
     /// The present bounds of a node.
@@ -145,6 +155,7 @@ impl LeafSystem {
         ensures adds { AddsFact (low_reason node low.time low.reason) (at_least node low.time)
             self.old self.new result }
         ensures step { work.new ≡ work.old + 1 }
+        ensures counted { CountsAlike self.old self.new work.old work.new }
     {
         let tag = u64::from(node);
         match self.system.raise(node, low.time, tag, work) {
@@ -176,6 +187,7 @@ impl LeafSystem {
         ensures adds { AddsFact (high_reason node high.reason) (at_most node (pos high.time))
             self.old self.new result }
         ensures step { work.new ≡ work.old + 1 }
+        ensures counted { CountsAlike self.old self.new work.old work.new }
     {
         let tag = u64::from(self.system.variable_count()) + u64::from(node);
         match self.system.lower(node, high.time, tag, work) {
@@ -222,6 +234,7 @@ impl LeafSystem {
             (2 * length self.old.demands.bounds + length self.old.demands.picks)) }
         ensures adds { AddsPick (Pick split number) constraint self.old self.new result }
         ensures step { work.new ≤ work.old + 1 }
+        ensures counted { CountsAlike self.old self.new work.old work.new }
     {
         let tag = self.next_tag();
         self.system.reserve(1)?;
@@ -251,6 +264,7 @@ impl LeafSystem {
         ensures leaves { Leaves (slice_get self.old.entered kept) self.old self.new }
         ensures bounds { self.new.demands.bounds ≡ self.old.demands.bounds }
         ensures entered { self.new.entered ≡ take kept self.old.entered }
+        ensures counted { self.new.calls ≡ self.old.calls }
     {
         let before = self.entered[kept];
         self.system.pop_to(before as u64);

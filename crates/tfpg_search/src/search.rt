@@ -8,9 +8,9 @@ ghost use Rattle.tfpg_search.specs.Represents.{SearchRepresents, RepresentsSome}
 ghost use Rattle.tfpg_search.specs.inside.AtItsLeaf.{IsAtItsLeaf};
 ghost use Rattle.tfpg_search.specs.Enough.{IsEnough};
 ghost use Rattle.tfpg_search.specs.Searched.{IsSearched, call_of};
-ghost use Rattle.tfpg_search.specs.SearchState.{case_of_search};
+ghost use Rattle.tfpg_search.specs.SearchState.{calls_of_search, case_of_search};
 ghost use Rattle.tfpg_search.specs.Work.{NodeBounds, AreFactBounds, IsWorkLimit};
-ghost use Rattle.tfpg_search.specs.inside.Counted.{IsPaid};
+ghost use Rattle.tfpg_search.specs.inside.Counted.{CountsAlike, IsPaid};
 ghost use Rattle.tfpg_search.specs.inside.Moves.{KeepsSet, SearchesOn};
 
 mod entering;
@@ -24,6 +24,7 @@ use std::marker::Model;
 use std::sync::ledger::Ledger;
 use tfpg_base::{NoMemory, Set, Steps, Trace};
 use tfpg_clause::PathSplit;
+use tfpg_diff::CountedCalls;
 use tfpg_evidence::{ClauseName, StepList};
 use tfpg_graph::{Graph, NodeSet};
 use tfpg_log::Log;
@@ -72,6 +73,7 @@ impl Search {
         ensures set { IfOk result (λ search. search.set ≡ set) }
         ensures reach { IfOk result (λ search. search.reach ≡ reach) }
         ensures seen { IfOk result (λ search. search.seen ≡ 0) }
+        ensures uncounted { IfOk result (λ search. calls_of_search search ≡ 0) }
         ensures represents { (log : Logbook) →
             IfOk result (λ search. SearchRepresents graph.now (first_events log 0) search []) }
     {
@@ -87,8 +89,8 @@ impl Search {
         })
     }
 
-    /// A copy of the search, with the allocator that the search keeps. It continues by itself, and the search stays as it is. Takes
-    /// time and memory linear in what the search keeps.
+    /// A copy of the search, with the allocator that the search keeps. It continues by itself, and the search stays as it is. Its system
+    /// has counted as many calls. Takes time and memory linear in what the search keeps.
     pub fn copy(&self) -> Result<Search, NoMemory>
         ensures { IfOk result (λ copy. copy ≡ self.now) }
     {
@@ -104,6 +106,13 @@ impl Search {
         })
     }
 
+    /// How many calls its system has counted in all rounds so far, for contracts alone. Does nothing.
+    pub fn calls(&self) -> CountedCalls
+        ensures { result.number ≡ calls_of_search self.now }
+    {
+        self.leaf.calls()
+    }
+
     /// How many events the log had at the last round, and 0 before the first.
     pub fn seen(&self) -> u32
         ensures { result ≡ self.now.seen }
@@ -114,8 +123,8 @@ impl Search {
     /// Continues the search, for a log that goes on from that of the last round. Appends the steps of this round, with
     /// at most as many splits as the budget says.
     ///
-    /// The counter counts the calls that add to the system: at most one for each bound of a node that the log changed since the
-    /// last round, and four for each step and once more.
+    /// The counter counts the calls that add to the system, and no others: what the system itself counted rose by as much. They are at
+    /// most one for each bound of a node that the log changed since the last round, and four for each step and once more.
     pub fn round<L: Ledger>(
         &mut self,
         graph: &Graph,
@@ -132,6 +141,7 @@ impl Search {
             (call_of self.old self.new steps.old steps.new) result }
         ensures work { (limit : ℕ) → IsWorkLimit (case_of_search graph.now log.now self.old) self.old.seen
             (length steps.new - length steps.old) limit → work.new ≤ work.old + limit }
+        ensures counted { calls_of_search self.new + work.old ≡ calls_of_search self.old + work.new }
         ensures enough { IsEnough graph.now log.now budget → result ≡ Ok Found.Spent → ⊥ }
         ensures set { self.new.set ≡ self.old.set }
         ensures reach { self.new.reach ≡ self.old.reach }
@@ -158,6 +168,7 @@ impl Search {
             (call_of self.old self.new steps.old steps.new) result }
         ensures counts { (bounds : NodeBounds) → AreFactBounds (case_of_search graph.now log.now self.old) bounds →
             IsPaid bounds (call_of self.old self.new steps.old steps.new) work.old work.new }
+        ensures counted { CountsAlike self.old.leaf self.new.leaf work.old work.new }
     {
         let mut spent = 0;
         loop {

@@ -30,6 +30,8 @@ enum Expected {
     Closed(usize),
     /// That the budget is spent, after so many splits in all.
     Spent(usize),
+    /// This trace, after so many steps in all.
+    After(usize, &'static [Activation]),
 }
 
 /// What a search finds, where the set has the failure mode of this position alone, or none.
@@ -181,6 +183,38 @@ const SPENT: [Row; 2] = [
     },
 ];
 
+/// An alarm, and a tick after it. At the alarm the search splits on the rule that A has a cause, and in the first alternative F1 is at 20
+/// at the latest, 10 before A. At the tick no rule is violated, so that the second call adds no step: all that the facts change is that F2
+/// is not active up to 31.
+const TICKED: [Row; 2] = [
+    Row {
+        name: "an alarm is split on",
+        graph: TWO,
+        member: Some(0),
+        lines: &[b"30 alarm A"],
+        result: Expected::After(
+            1,
+            &[
+                Activation { node: 0, time: 20 },
+                Activation { node: 2, time: 30 },
+            ],
+        ),
+    },
+    Row {
+        name: "a tick after it adds no step",
+        graph: TWO,
+        member: Some(0),
+        lines: &[b"30 alarm A", b"31 tick"],
+        result: Expected::After(
+            1,
+            &[
+                Activation { node: 0, time: 20 },
+                Activation { node: 2, time: 30 },
+            ],
+        ),
+    },
+];
+
 /// A new search for the set of one failure mode, or of none.
 fn search_of(alloc: Global, graph: &Graph, member: Option<u32>) -> Result<Search, Fail>
     ensures { (log : Logbook) →
@@ -286,6 +320,9 @@ fn is_as_expected(expected: &Expected, found: &Found, steps: &StepList) -> bool 
         (Expected::Only(times), Found::Shown(trace)) => trace.as_slice() == *times,
         (Expected::Closed(limit), Found::Closed) => steps.as_slice().len() <= *limit,
         (Expected::Spent(splits), Found::Spent) => split_count(steps) == *splits,
+        (Expected::After(count, times), Found::Shown(trace)) => {
+            steps.as_slice().len() == *count && trace.as_slice() == *times
+        }
         _ => false,
     }
 }
@@ -348,6 +385,19 @@ fn copies_that_are_asked_at_each_event_find_the_same(rt: HostRuntime) -> Result<
 #[test]
 fn a_budget_that_is_spent_comes_anew_with_the_next_event(rt: HostRuntime) -> Result<(), Fail> {
     let wrong = first_wrong::<Brand>(rt.alloc(), Blank::new(1), AskedAt::EachEvent, 1, &SPENT)?;
+    assert_eq!(rt; wrong, None);
+    Ok(())
+}
+
+#[test]
+fn a_tick_after_an_alarm_adds_no_step(rt: HostRuntime) -> Result<(), Fail> {
+    let wrong = first_wrong::<Brand>(
+        rt.alloc(),
+        Blank::new(1),
+        AskedAt::EachEvent,
+        1_000,
+        &TICKED,
+    )?;
     assert_eq!(rt; wrong, None);
     Ok(())
 }

@@ -17,7 +17,7 @@ use Rattle.tfpg_report.specs.declared.report_line.ReportLine.TheVariants.{Head, 
 use Rattle.tfpg_report.specs.Blocks.{Block, RoundBlock, Loss, block_lines, loss_line, round_lines}
 use Rattle.tfpg_report.specs.Reading.{IsHead, begun_in}
 use Rattle.tfpg_check.specs.Report.{AreBlocks, IsBlock, IsBlockOf, Progress, event_of_line, progress_of}
-use Rattle.tfpg_check.specs.Causes.{AreRightSoFar, Matter}
+use Rattle.tfpg_check.specs.Causes.{AreRightSoFar, DiagnosisProblem}
 use Rattle.tfpg_check.proofs.passing.ByNumber.{map-same}
 use Rattle.tfpg_check.proofs.completeness.EqualRounds.{same_round}
 use Rattle.tfpg_check.proofs.completeness.LinesOfBlocks.{begins_block, block_grouped, first_begins_block, first_of_block, is_panel, others_begin_none, others_of_block, round_no_panels}
@@ -109,9 +109,9 @@ module _ (graph : Tfpg) (terms : Terms) (lines : List (List ℕ)) (blocks more :
       sym (take_all (length blocks) blocks (omega arith)) ∙ blocks_upto (length blocks) (omega arith) ∙ take_all (length blocks) more (omega (arith, one_each, each_too))
 
 -- Lines that are right so far are so on the same terms, and with the same blocks.
-pub one_report : (matter : Matter) (terms others : Terms) (blocks more : List Block) (reads : List ReportLine) → AreRightSoFar matter terms blocks reads
-    → AreRightSoFar matter others more reads → (terms ≡ others) × (blocks ≡ more)
-one_report matter terms others blocks more reads right also =
+pub one_report : (problem : DiagnosisProblem) (terms others : Terms) (blocks more : List Block) (reads : List ReportLine) → AreRightSoFar problem terms blocks reads
+    → AreRightSoFar problem others more reads → (terms ≡ others) × (blocks ≡ more)
+one_report problem terms others blocks more reads right also =
     let whole : right.head ∷ flat_map block_lines blocks ++ begun_in reads ≡ also.head ∷ flat_map block_lines more ++ begun_in reads = sym right.lines_are ∙ also.lines_are in
     let heads : right.head ≡ also.head = cc in
     let later : flat_map block_lines blocks ++ begun_in reads ≡ flat_map block_lines more ++ begun_in reads = cc in
@@ -121,8 +121,8 @@ one_report matter terms others blocks more reads right also =
     let each = same_one_by_one blocks more lines in
     let many : length blocks ≡ length more = sym (length-map blocks block_lines) ∙ ap length each ∙ length-map more block_lines in (
       one,
-      blocks_alike matter.graph terms (take (length blocks) matter.log_lines) blocks more right.are_blocks
-          (subst (λ (t : Terms). AreBlocks matter.graph t (take (length blocks) matter.log_lines) more) (sym one)
-          (subst (λ (n : ℕ). AreBlocks matter.graph others (take n matter.log_lines) more) (sym many) also.are_blocks))
+      blocks_alike problem.graph terms (take (length blocks) problem.log_lines) blocks more right.are_blocks
+          (subst (λ (t : Terms). AreBlocks problem.graph t (take (length blocks) problem.log_lines) more) (sym one)
+          (subst (λ (n : ℕ). AreBlocks problem.graph others (take n problem.log_lines) more) (sym many) also.are_blocks))
           each,
     )

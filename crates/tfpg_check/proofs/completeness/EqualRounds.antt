@@ -21,7 +21,7 @@ use Rattle.tfpg_report.specs.declared.read_round.Part.{Part}
 use Rattle.tfpg_report.specs.declared.read_round.RankedLine.{RankedLine}
 use Rattle.tfpg_report.specs.declared.read_round.ReadRound.{ReadRound}
 use Rattle.tfpg_report.specs.Blocks.{round_lines}
-use Rattle.tfpg_check.specs.Judging.{Docket, NumberedHypothesis, named_by}
+use Rattle.tfpg_check.specs.Judging.{RoundBasis, NumberedHypothesis, named_by}
 use Rattle.tfpg_check.proofs.SameStatuses.{same_test}
 use Rattle.tfpg_check.proofs.passing.ByNumber.{map-same}
 use Rattle.tfpg_check.proofs.passing.NamedFindings.{NumberedSteps, steps_in_part}
@@ -83,23 +83,23 @@ says_so said = λ i. record {
 
 -- ---- two rounds that say the same
 
-module _ (docket : Docket) (line : ℕ) (read : ReadRound) where
+module _ (basis : RoundBasis) (line : ℕ) (read : ReadRound) where
   -- The round is right, and says what was read.
   record IsReadAs (round : Round) : Type 0 where
-    right : IsRightBy docket line round
+    right : IsRightBy basis line round
     as_said : saying_read read ≡ saying_of round
 
   -- what is ranked, open or rejected in the one is so in the other
   module _ (one other : Round) (is_one : IsReadAs one) (is_other : IsReadAs other) (number : ℕ) (finding found : Finding) (at : HasFindingAt one number finding) (also : HasFindingAt other number found) where
     same_hypothesis : hypothesis_of finding ≡ hypothesis_of found
     same_hypothesis =
-        same_Some (hypothesis_of finding) (hypothesis_of found) (sym (listed_of docket line one is_one.right number finding at) ∙ listed_of docket line other is_other.right number found also)
+        same_Some (hypothesis_of finding) (hypothesis_of found) (sym (listed_of basis line one is_one.right number finding at) ∙ listed_of basis line other is_other.right number found also)
 
     rankings_alike : is_ranked finding.status ≡ true → (is_ranked found.status ≡ true) × (ranking_of finding ≡ ranking_of found)
     rankings_alike ranked =
-        let r = ranked_of_finding docket line one is_one.right read is_one.as_said number finding at ranked in
-        let first = finding_of_ranked docket line one is_one.right read is_one.as_said r.0 r.1 in
-        let second = finding_of_ranked docket line other is_other.right read is_other.as_said r.0 r.1 in
+        let r = ranked_of_finding basis line one is_one.right read is_one.as_said number finding at ranked in
+        let first = finding_of_ranked basis line one is_one.right read is_one.as_said r.0 r.1 in
+        let second = finding_of_ranked basis line other is_other.right read is_other.as_said r.0 r.1 in
         let is_finding : first.0 ≡ finding = same_Some first.0 finding (sym first.1.at ∙ ap (slice_get one.findings) r.2 ∙ at) in
         let is_found : second.0 ≡ found = same_Some second.0 found (sym second.1.at ∙ ap (slice_get other.findings) r.2 ∙ also) in (
           sym (ap (λ (f : Finding). is_ranked f.status) is_found) ∙ second.1.ranked,
@@ -108,14 +108,14 @@ module _ (docket : Docket) (line : ℕ) (read : ReadRound) where
 
     open_too : is_open finding.status ≡ true → is_open found.status ≡ true
     open_too opened =
-        let named = open_of_finding docket line one is_one.right read is_one.as_said number finding at opened in
-        let second = finding_of_open docket line other is_other.right read is_other.as_said named.0 named.1 in
+        let named = open_of_finding basis line one is_one.right read is_one.as_said number finding at opened in
+        let second = finding_of_open basis line other is_other.right read is_other.as_said named.0 named.1 in
         let is_found : second.0 ≡ found = same_Some second.0 found (sym second.1.at ∙ ap (slice_get other.findings) named.2 ∙ also) in
         sym (ap (λ (f : Finding). is_open f.status) is_found) ∙ second.1.passes
 
     rejected_too : is_rejected finding.status ≡ true → is_rejected found.status ≡ true
     rejected_too rejected =
-        rejected_read docket line other is_other.right read is_other.as_said number found also (closed_read docket line one is_one.right read is_one.as_said number finding at rejected)
+        rejected_read basis line other is_other.right read is_other.as_said number found also (closed_read basis line one is_one.right read is_one.as_said number finding at rejected)
 
     -- a ranked part in the one is one in the other
     part_too : (hypothesis : Hypothesis) → is_ranked finding.status ≡ true → IsProperPart (hypothesis_of finding) hypothesis → IsRankedPart other.findings hypothesis number
@@ -128,7 +128,7 @@ module _ (docket : Docket) (line : ℕ) (read : ReadRound) where
 
   finding_too : (one other : Round) → IsReadAs one → IsReadAs other → (number : ℕ) (finding : Finding) → HasFindingAt one number finding → (found : Finding) × HasFindingAt other number found
   finding_too one other is_one is_other number finding at =
-      slice_get-same_length other.findings one.findings number finding (as_many docket line one is_one.right ∙ sym (as_many docket line other is_other.right)) at
+      slice_get-same_length other.findings one.findings number finding (as_many basis line one is_one.right ∙ sym (as_many basis line other is_other.right)) at
 
   part_moved : (one other : Round) → IsReadAs one → IsReadAs other → (hypothesis : Hypothesis) (number : ℕ) → IsRankedPart one.findings hypothesis number → IsRankedPart other.findings hypothesis number
   part_moved one other is_one is_other hypothesis number part =
@@ -150,7 +150,7 @@ module _ (docket : Docket) (line : ℕ) (read : ReadRound) where
       no_earlier by least is too =
           too.least by (part_moved one other is_one is_other (hypothesis_of found) by (subst (λ (h : Hypothesis). IsRankedPart one.findings h by) Hypotheses is.part))
 
-      status_alike : (s t : Status) → OwnEvidence docket line one is_one.right number finding at s → OwnEvidence docket line other is_other.right number found also t
+      status_alike : (s t : Status) → OwnEvidence basis line one is_one.right number finding at s → OwnEvidence basis line other is_other.right number found also t
           → is_ranked s ≡ is_ranked t → is_rejected s ≡ is_rejected t → is_open s ≡ is_open t → (is_ranked s ≡ true → ranking_as finding s ≡ ranking_as found t) → s ≡ t
       status_alike (Ranked trace cost alarmed monitored) (Ranked others c a m) is too ranked rejected opened rankings =
           let same = rankings refl in
@@ -166,7 +166,7 @@ module _ (docket : Docket) (line : ℕ) (read : ReadRound) where
 
       statuses_alike : finding.status ≡ found.status
       statuses_alike =
-          status_alike finding.status found.status (evidence_of docket line one is_one.right number finding at) (evidence_of docket line other is_other.right number found also)
+          status_alike finding.status found.status (evidence_of basis line one is_one.right number finding at) (evidence_of basis line other is_other.right number found also)
           (same_test (is_ranked finding.status) (is_ranked found.status)
           (λ ranked. (rankings_alike one other is_one is_other number finding found at also ranked).0)
           (λ ranked. (rankings_alike other one is_other is_one number found finding also at ranked).0))
@@ -178,14 +178,14 @@ module _ (docket : Docket) (line : ℕ) (read : ReadRound) where
 
       finding_alike : finding ≡ found
       finding_alike =
-          let numbers : finding.number ≡ found.number = number_of docket line one is_one.right number finding at ∙ sym (number_of docket line other is_other.right number found also) in
+          let numbers : finding.number ≡ found.number = number_of basis line one is_one.right number finding at ∙ sym (number_of basis line other is_other.right number found also) in
           let steps : finding.steps ≡ found.steps =
-          sym (steps_are_read docket line one is_one.right read is_one.as_said number finding at) ∙ steps_are_read docket line other is_other.right read is_other.as_said number found also in
+          sym (steps_are_read basis line one is_one.right read is_one.as_said number finding at) ∙ steps_are_read basis line other is_other.right read is_other.as_said number found also in
           λ i. record { number = numbers i; set = (Hypotheses i).set; doubts = (Hypotheses i).doubts; steps = steps i; status = statuses_alike i }
 
     findings_alike : one.findings ≡ other.findings
     findings_alike =
-        let many : length one.findings ≡ length other.findings = as_many docket line one is_one.right ∙ sym (as_many docket line other is_other.right) in
+        let many : length one.findings ≡ length other.findings = as_many basis line one is_one.right ∙ sym (as_many basis line other is_other.right) in
         same_lists one.findings other.findings many
         (λ number d within. finding_alike number (get_or one.findings number d) (get_or other.findings number d) (slice_get-get_or one.findings number d within)
         (slice_get-get_or other.findings number d (omega (arith, many, within))))
@@ -196,7 +196,7 @@ module _ (docket : Docket) (line : ℕ) (read : ReadRound) where
         ∙ map-map (λ (s : RankingSaying). s.key.number) ranking_of (ranked_in_order round)
         ∙ map-same (λ (f : Finding). (ranking_of f).key.number) (λ (f : Finding). f.number) (ranked_in_order round)
         (λ k d within. ranking_number (get_or (ranked_in_order round) k d) (get_or (ranked_in_order round) k d).status)
-        ∙ order_is docket line round is.right
+        ∙ order_is basis line round is.right
 
     -- They are equal.
     rounds_alike : one ≡ other
@@ -212,21 +212,21 @@ module _ (docket : Docket) (line : ℕ) (read : ReadRound) where
           counts = (said i).counts;
         }
 
--- Two rounds that are right by one docket, with equal lines, are equal.
-pub one_round : (docket : Docket) (line : ℕ) (one other : Round) → IsRightBy docket line one → IsRightBy docket line other → round_lines one ≡ round_lines other → one ≡ other
-one_round docket line one other right also same =
+-- Two rounds that are right by one basis, with equal lines, are equal.
+pub one_round : (basis : RoundBasis) (line : ℕ) (one other : Round) → IsRightBy basis line one → IsRightBy basis line other → round_lines one ≡ round_lines other → one ≡ other
+one_round basis line one other right also same =
     let said = says_so (saying_of one) in
-    rounds_alike docket line (read_that_says (saying_of one)) one other (record { right = right; as_said = said })
-    (record { right = also; as_said = said ∙ said_alike one other (orders_ranked docket line one right) (orders_ranked docket line other also) same })
+    rounds_alike basis line (read_that_says (saying_of one)) one other (record { right = right; as_said = said })
+    (record { right = also; as_said = said ∙ said_alike one other (orders_ranked basis line one right) (orders_ranked basis line other also) same })
 
 -- Two rounds of one log, after the same rounds, with equal lines are equal.
 pub same_round : (graph : Tfpg) (terms : Terms) (rounds : List Round) (log : Logbook) (line : ℕ) (one other : Round) → IsRound graph terms rounds log line one
     → IsRound graph terms rounds log line other → round_lines one ≡ round_lines other → one ≡ other
 same_round graph terms rounds log line one other is_one is_other same =
-    one_round docket line one other (right one is_one) (right other is_other) same
+    one_round basis line one other (right one is_one) (right other is_other) same
   where
-    docket : Docket
-    docket = record { graph = graph; terms = terms; hypotheses = is_one.hypotheses; steps = λ number. steps_so_far number rounds; log = log }
+    basis : RoundBasis
+    basis = record { graph = graph; terms = terms; hypotheses = is_one.hypotheses; steps = λ number. steps_so_far number rounds; log = log }
 
     right : (round : Round) → IsRound graph terms rounds log line round
         → IsRightBy (record { graph = graph; terms = terms; hypotheses = is_one.hypotheses; steps = λ number. steps_so_far number rounds; log = log }) line round

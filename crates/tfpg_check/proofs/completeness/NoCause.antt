@@ -20,7 +20,7 @@ use Rattle.tfpg_report.specs.Blocks.{Block, block_lines}
 use Rattle.tfpg_report.specs.Reading.{IsHead, begun_in, begun_with, is_last}
 use Rattle.tfpg_check.specs.declared.cause.CheckCause.{CheckCause}
 use Rattle.tfpg_check.specs.Report.{AreBlocks, HasReports}
-use Rattle.tfpg_check.specs.Causes.{AreRead, AreRightSoFar, BlockFails, EndFails, IsCause, LineFails, Matter}
+use Rattle.tfpg_check.specs.Causes.{AreRead, AreRightSoFar, BlockFails, EndFails, IsCause, LineFails, DiagnosisProblem, next_event}
 use Rattle.tfpg_check.proofs.completeness.EqualBlocks.{one_report}
 use Rattle.tfpg_check.proofs.completeness.LinesOfBlocks.{begun_after_last, blocks_end, completes_block, last_completes}
 use Rattle.tfpg_check.proofs.completeness.RightBlocksPass.{others_pass}
@@ -103,17 +103,17 @@ module _ (graph : Tfpg) (one_thing : SayOneThing graph) (lines : List (List ℕ)
 -- ---- lines that are right
 
 -- Right for the first lines of a log is right for all of them.
-right_for_all : (matter : Matter) (count : ℕ) (terms : Terms) (blocks : List Block) (reads : List ReportLine)
-    → AreRightSoFar (record { graph = matter.graph; log_lines = take count matter.log_lines }) terms blocks reads → AreRightSoFar matter terms blocks reads
-right_for_all matter count terms blocks reads right =
+right_for_all : (problem : DiagnosisProblem) (count : ℕ) (terms : Terms) (blocks : List Block) (reads : List ReportLine)
+    → AreRightSoFar (record { graph = problem.graph; log_lines = take count problem.log_lines }) terms blocks reads → AreRightSoFar problem terms blocks reads
+right_for_all problem count terms blocks reads right =
     let few = right.few in
-    let counted = length-take count matter.log_lines in
+    let counted = length-take count problem.log_lines in
     record {
       has_reports = right.has_reports;
       head = right.head;
       is_head = right.is_head;
       few = omega (arith, few, counted);
-      are_blocks = subst (λ (ls : List (List ℕ)). AreBlocks matter.graph terms ls blocks) (take-take (length blocks) count matter.log_lines (omega (arith, few, counted))) right.are_blocks;
+      are_blocks = subst (λ (ls : List (List ℕ)). AreBlocks problem.graph terms ls blocks) (take-take (length blocks) count problem.log_lines (omega (arith, few, counted))) right.are_blocks;
       lines_are = right.lines_are;
     }
 
@@ -126,11 +126,11 @@ begun_not_last begun (line ∷ lines) not_last = begun_not_last (begun_with begu
     by true is = All-nil (λ other. is_last other ≡ false)
     by false is = All-push (λ other. is_last other ≡ false) begun line not_last is
 
-module _ (matter : Matter) (one_thing : SayOneThing matter.graph) (terms : Terms) (blocks : List Block) (lines : List (List ℕ)) (own : List ReportLine) (whole : AreRightSoFar matter terms blocks own)
-    (are_own : AreRead matter.graph lines own) where
+module _ (problem : DiagnosisProblem) (one_thing : SayOneThing problem.graph) (terms : Terms) (blocks : List Block) (lines : List (List ℕ)) (own : List ReportLine) (whole : AreRightSoFar problem terms blocks own)
+    (are_own : AreRead problem.graph lines own) where
   -- The front before one of their lines is right, and so it is with this line and its block, where it completes one.
   front_before : (first : ReportLine) (reads : List ReportLine) (here : ReportLine) (rest : List ReportLine) → own ≡ first ∷ (reads ++ here ∷ rest) → completes_block here ≡ true
-      → IsRightFront matter terms (first ∷ reads) here
+      → IsRightFront problem terms (first ∷ reads) here
   front_before first reads here rest same completes =
       let all : whole.head ∷ (flat_map block_lines blocks ++ begun_in own) ≡ first ∷ (reads ++ here ∷ rest) = sym whole.lines_are ∙ same in
       let heads : whole.head ≡ first = cc in
@@ -143,16 +143,16 @@ module _ (matter : Matter) (one_thing : SayOneThing matter.graph) (terms : Terms
             )
         | inr within ↦ (
             let same_here : within.here ≡ here = (let back = within.back_is in cc) in
-            let front = right_front (record { graph = matter.graph; log_lines = take (length blocks) matter.log_lines }) terms whole.has_reports whole.head whole.is_head blocks whole.are_blocks
+            let front = right_front (record { graph = problem.graph; log_lines = take (length blocks) problem.log_lines }) terms whole.has_reports whole.head whole.is_head blocks whole.are_blocks
             reads here within.mid (within.xs_is ∙ ap (λ (line : ReportLine). reads ++ line ∷ within.mid) same_here) in
-            subst (λ (line : ReportLine). IsRightFront matter terms (line ∷ reads) here) heads
+            subst (λ (line : ReportLine). IsRightFront problem terms (line ∷ reads) here) heads
             (record {
               blocks = front.blocks;
-              right = right_for_all matter (length blocks) terms front.blocks (whole.head ∷ reads) front.right;
+              right = right_for_all problem (length blocks) terms front.blocks (whole.head ∷ reads) front.right;
               next = λ completes. (
                   let next = front.next completes in (
                     next.0,
-                    right_for_all matter (length blocks) terms (front.blocks ++ next.0 ∷ []) (whole.head ∷ (reads ++ here ∷ [])) next.1,
+                    right_for_all problem (length blocks) terms (front.blocks ++ next.0 ∷ []) (whole.head ∷ (reads ++ here ∷ [])) next.1,
                   )
                   );
             })
@@ -160,67 +160,67 @@ module _ (matter : Matter) (one_thing : SayOneThing matter.graph) (terms : Terms
       ]
 
   -- after what they begin with no block fails
-  no_block_fails : (reads : List ReportLine) (here : ReportLine) (rest : List ReportLine) → own ≡ reads ++ here ∷ rest → (others : Terms) (more : List Block) → AreRightSoFar matter others more reads
-      → (at : ℕ) (why : CheckCause) → BlockFails matter others more reads here at why → ⊥
+  no_block_fails : (reads : List ReportLine) (here : ReportLine) (rest : List ReportLine) → own ≡ reads ++ here ∷ rest → (others : Terms) (more : List Block) → AreRightSoFar problem others more reads
+      → (at : ℕ) (why : CheckCause) → BlockFails problem others more reads here (next_event problem more) at why → ⊥
   no_block_fails [] here rest same others more right at why fails = let none : [] ≡ right.head ∷ flat_map block_lines more ++ begun_in [] = right.lines_are in absurd cc
   no_block_fails (first ∷ reads) here rest same others more right at why fails = elim (cases_Bool (completes_block here)) [
     | inl completes ↦ (
         let front = front_before first reads here rest same completes in
-        let one = one_report matter others terms more front.blocks (first ∷ reads) right front.right in
+        let one = one_report problem others terms more front.blocks (first ∷ reads) right front.right in
         let next = front.next completes in
-        right_block_passes matter terms front.blocks next.0 (first ∷ reads) here completes next.1 at why
-        (subst₂ (λ (t : Terms) (bs : List Block). BlockFails matter t bs (first ∷ reads) here at why) one.0 one.1 fails)
+        right_block_passes problem terms front.blocks next.0 (first ∷ reads) here completes next.1 at why
+        (subst₂ (λ (t : Terms) (bs : List Block). BlockFails problem t bs (first ∷ reads) here (next_event problem bs) at why) one.0 one.1 fails)
         )
-    | inr completes_none ↦ others_pass matter others more (first ∷ reads) here completes_none at why fails
+    | inr completes_none ↦ others_pass problem others more (first ∷ reads) here (next_event problem more) completes_none at why fails
   ]
 
   -- After what right lines begin with no line of theirs fails.
-  pub no_line_fails : (before : List (List ℕ)) (bytes : List ℕ) (more : List (List ℕ)) (reads : List ReportLine) → AreRead matter.graph before reads → lines ≡ before ++ bytes ∷ more
-      → (at : ℕ) (why : CheckCause) → LineFails matter reads bytes at why → ⊥
+  pub no_line_fails : (before : List (List ℕ)) (bytes : List ℕ) (more : List (List ℕ)) (reads : List ReportLine) → AreRead problem.graph before reads → lines ≡ before ++ bytes ∷ more
+      → (at : ℕ) (why : CheckCause) → LineFails problem reads bytes at why → ⊥
   no_line_fails before bytes more reads are_read lines_are at why (inl bad) =
-      let next = next_read matter.graph one_thing lines own are_own before bytes more reads are_read lines_are in
+      let next = next_read problem.graph one_thing lines own are_own before bytes more reads are_read lines_are in
       let stand = front_may_come (reads ++ next.0 ∷ []) next.1 are_own.stand (ap stand_of (append_assoc reads (next.0 ∷ []) next.1 ∙ sym next.3) ∙ are_own.stands) in
       bad.2 next.0 (record { says = next.2; stand = stand.0; stands = stand.1 })
   no_line_fails before bytes more reads are_read lines_are at why (inr fails) =
-      let next = next_read matter.graph one_thing lines own are_own before bytes more reads are_read lines_are in
+      let next = next_read problem.graph one_thing lines own are_own before bytes more reads are_read lines_are in
       let same : fails.0 ≡ next.0 = one_thing fails.0 next.0 bytes fails.3.says next.2 in
-      no_block_fails reads next.0 next.1 next.3 fails.1 fails.2 fails.4 at why (subst (λ (line : ReportLine). BlockFails matter fails.1 fails.2 reads line at why) same fails.5)
+      no_block_fails reads next.0 next.1 next.3 fails.1 fails.2 fails.4 at why (subst (λ (line : ReportLine). BlockFails problem fails.1 fails.2 reads line (next_event problem fails.2) at why) same fails.5)
 
 -- ---- a report
 
-module _ (matter : Matter) (one_thing : SayOneThing matter.graph) (terms : Terms) (blocks : List Block) (lines : List (List ℕ)) (has_reports : HasReports matter.graph terms) (head : ReportLine)
-    (is_head : IsHead terms head) (are : AreBlocks matter.graph terms matter.log_lines blocks) (are_own : AreRead matter.graph lines (head ∷ flat_map block_lines blocks)) where
+module _ (problem : DiagnosisProblem) (one_thing : SayOneThing problem.graph) (terms : Terms) (blocks : List Block) (lines : List (List ℕ)) (has_reports : HasReports problem.graph terms) (head : ReportLine)
+    (is_head : IsHead terms head) (are : AreBlocks problem.graph terms problem.log_lines blocks) (are_own : AreRead problem.graph lines (head ∷ flat_map block_lines blocks)) where
   abbrev Own : List ReportLine
   Own = head ∷ flat_map block_lines blocks
 
   -- the whole report is right
-  whole_is_right : AreRightSoFar matter terms blocks Own
+  whole_is_right : AreRightSoFar problem terms blocks Own
   whole_is_right =
       let one_each = are.one_each in
-      right_so_far matter terms has_reports head is_head blocks [] Own (omega (arith, one_each))
-      (subst (λ (ls : List (List ℕ)). AreBlocks matter.graph terms ls blocks) (sym (take_all (length blocks) matter.log_lines (omega (arith, one_each)))) are)
+      right_so_far problem terms has_reports head is_head blocks [] Own (omega (arith, one_each))
+      (subst (λ (ls : List (List ℕ)). AreBlocks problem.graph terms ls blocks) (sym (take_all (length blocks) problem.log_lines (omega (arith, one_each)))) are)
       (All-nil (λ line. is_last line ≡ false)) (ap (λ (ls : List ReportLine). head ∷ ls) (sym (append-nil (flat_map block_lines blocks))))
 
   -- no round has begun at its end
   none_begun : begun_in Own ≡ []
   none_begun = ap (λ (begun : List ReportLine). fold begun_with begun (flat_map block_lines blocks)) (begun_after_last [] head (head_is_last terms head is_head)) ∙ blocks_end blocks
 
-  no_end_fails : (reads : List ReportLine) → Own ≡ reads → (at : ℕ) (why : CheckCause) → EndFails matter reads at why → ⊥
+  no_end_fails : (reads : List ReportLine) → Own ≡ reads → (at : ℕ) (why : CheckCause) → EndFails problem reads at why → ⊥
   no_end_fails reads same at why (_, _, inl none) = let empty : head ∷ flat_map block_lines blocks ≡ [] = same ∙ none in absurd cc
   no_end_fails reads same at why (_, _, inr (others, more, right, inl begun)) = begun (sym (ap begun_in same) ∙ none_begun)
   no_end_fails reads same at why (_, _, inr (others, more, right, inr few)) =
-      let one = one_report matter others terms more blocks Own (subst (AreRightSoFar matter others more) (sym same) right) whole_is_right in
+      let one = one_report problem others terms more blocks Own (subst (AreRightSoFar problem others more) (sym same) right) whole_is_right in
       let one_each = are.one_each in
       let many : length more ≡ length blocks = ap length one.1 in
       omega (arith, few, one_each, many)
 
   -- A report whose lines can be read has no cause.
-  pub no_cause : (at : ℕ) (why : CheckCause) → IsCause matter lines at why → ⊥
+  pub no_cause : (at : ℕ) (why : CheckCause) → IsCause problem lines at why → ⊥
   no_cause at why cause = by cause.fails
     where
-      by : ((bytes : List ℕ) × (more : List (List ℕ)) × (lines ≡ cause.before ++ bytes ∷ more) × LineFails matter cause.reads bytes at why)
-          ⊎ ((lines ≡ cause.before) × EndFails matter cause.reads at why) → ⊥
-      by (inl fails) = no_line_fails matter one_thing terms blocks lines Own whole_is_right are_own cause.before fails.0 fails.1 cause.reads cause.are_read fails.2 at why fails.3
+      by : ((bytes : List ℕ) × (more : List (List ℕ)) × (lines ≡ cause.before ++ bytes ∷ more) × LineFails problem cause.reads bytes at why)
+          ⊎ ((lines ≡ cause.before) × EndFails problem cause.reads at why) → ⊥
+      by (inl fails) = no_line_fails problem one_thing terms blocks lines Own whole_is_right are_own cause.before fails.0 fails.1 cause.reads cause.are_read fails.2 at why fails.3
       by (inr fails) =
           let whole : lines ≡ cause.before ++ [] = fails.0 ∙ sym (append-nil cause.before) in
           let each = cause.are_read.one_each in
@@ -228,5 +228,5 @@ module _ (matter : Matter) (one_thing : SayOneThing matter.graph) (terms : Terms
           let long : length lines ≡ length cause.before = ap length fails.0 in
           no_end_fails cause.reads
           (sym (take_all (length cause.reads) Own (omega (arith, each, each_own, long)))
-          ∙ reads_are matter.graph one_thing lines Own are_own cause.before [] cause.reads cause.are_read whole)
+          ∙ reads_are problem.graph one_thing lines Own are_own cause.before [] cause.reads cause.are_read whole)
           at why fails.1

@@ -19,8 +19,8 @@ use Rattle.tfpg_report.specs.declared.read_round.Part.{Part}
 use Rattle.tfpg_report.specs.declared.read_round.RankedLine.{RankedLine}
 use Rattle.tfpg_report.specs.declared.read_round.ReadRound.{ReadRound}
 use Rattle.tfpg_check.specs.Tests.{Fails, InTurn, Passes}
-use Rattle.tfpg_check.specs.Judging.{Docket, NumberedHypothesis, OpenFails, PartFails, RankedFails, RejectedFails, RoundFails, StepFails, named_by}
-use Rattle.tfpg_check.specs.inside.Passing.{PartPasses, RoundPasses}
+use Rattle.tfpg_check.specs.Judging.{RoundBasis, NumberedHypothesis, OpenFails, PartFails, RankedFails, RejectedFails, RoundFails, StepFails, named_by}
+use Rattle.tfpg_check.specs.Passing.{PartPasses, RoundPasses}
 use Rattle.tfpg_check.proofs.completeness.RightRoundFacts.{case_by, one_case}
 
 -- Where the test of each item passes, they pass in turn.
@@ -64,45 +64,45 @@ module _ (case : Case) where
       (subst (λ (all : List Judged). IsPartial case all ⊎ IsRefutation case all) whole are)
 
 -- No step of a part that passes fails.
-step_passes : (docket : Docket) (earlier : List Part) (part : Part) → PartPasses docket earlier part → (index : ℕ) (step : Step) → slice_get part.steps index ≡ Some step
-    → Passes (StepFails docket part (take index part.steps) step)
-step_passes docket earlier part passes index step at line why fails =
-    let same : case_by docket passes.may.hypothesis passes.reach ≡ case_by docket fails.hypothesis fails.reach =
-    one_case docket part.number passes.may.hypothesis fails.hypothesis passes.reach fails.reach passes.may.listed fails.listed passes.reach_is fails.reach_is in
-    let own : Case = case_by docket passes.may.hypothesis passes.reach in
-    let steps : List Judged = with_steps (docket.steps part.number) docket.log (take index part.steps) in
-    breaks_none own steps (judged_by docket.log step) fails.broken
-    (subst (λ (c : Case). IsFirstBroken c steps (judged_by docket.log step) fails.broken) (sym same) fails.first)
-    (right_at own docket.log (docket.steps part.number) part.steps index step at passes.steps)
+step_passes : (basis : RoundBasis) (earlier : List Part) (part : Part) → PartPasses basis earlier part → (index : ℕ) (step : Step) → slice_get part.steps index ≡ Some step
+    → Passes (StepFails basis part (take index part.steps) step)
+step_passes basis earlier part passes index step at line why fails =
+    let same : case_by basis passes.may.hypothesis passes.reach ≡ case_by basis fails.hypothesis fails.reach =
+    one_case basis part.number passes.may.hypothesis fails.hypothesis passes.reach fails.reach passes.may.listed fails.listed passes.reach_is fails.reach_is in
+    let own : Case = case_by basis passes.may.hypothesis passes.reach in
+    let steps : List Judged = with_steps (basis.steps part.number) basis.log (take index part.steps) in
+    breaks_none own steps (judged_by basis.log step) fails.broken
+    (subst (λ (c : Case). IsFirstBroken c steps (judged_by basis.log step) fails.broken) (sym same) fails.first)
+    (right_at own basis.log (basis.steps part.number) part.steps index step at passes.steps)
 
-module _ (docket : Docket) (number : ℕ) (read : ReadRound) (passes : RoundPasses docket number read) where
-  part_does_not_fail : (index : ℕ) (part : Part) → slice_get read.parts index ≡ Some part → Passes (PartFails docket (take index read.parts) part)
+module _ (basis : RoundBasis) (number : ℕ) (read : ReadRound) (passes : RoundPasses basis number read) where
+  part_does_not_fail : (index : ℕ) (part : Part) → slice_get read.parts index ≡ Some part → Passes (PartFails basis (take index read.parts) part)
   part_does_not_fail index part at line why (inl fails) = fails.2 (passes.parts index part at).may
   part_does_not_fail index part at line why (inr fails) =
-      in_turn_passes (StepFails docket part) [] part.steps (λ k step there. step_passes docket (take index read.parts) part (passes.parts index part at) k step there) line why fails.1
+      in_turn_passes (StepFails basis part) [] part.steps (λ k step there. step_passes basis (take index read.parts) part (passes.parts index part at) k step there) line why fails.1
 
-  ranked_does_not_fail : (index : ℕ) (r : RankedLine) → slice_get read.ranked index ≡ Some r → Passes (RankedFails docket read (take index read.ranked) r)
+  ranked_does_not_fail : (index : ℕ) (r : RankedLine) → slice_get read.ranked index ≡ Some r → Passes (RankedFails basis read (take index read.ranked) r)
   ranked_does_not_fail index r at line why (inl fails) = fails.2 (passes.ranked index r at).may
   ranked_does_not_fail index r at line why (inr fails) = fails.1.2 (passes.ranked index r at).explains
 
-  open_does_not_fail : (index : ℕ) (named : NamedSet) → slice_get read.unsettled index ≡ Some named → Passes (OpenFails docket read (take index read.unsettled) named)
+  open_does_not_fail : (index : ℕ) (named : NamedSet) → slice_get read.unsettled index ≡ Some named → Passes (OpenFails basis read (take index read.unsettled) named)
   open_does_not_fail index named at line why fails = fails.2 (passes.unsettled index named at)
 
   -- there is one list of those that were closed now
-  rejected_does_not_fail : Passes (RejectedFails docket read)
+  rejected_does_not_fail : Passes (RejectedFails basis read)
   rejected_does_not_fail line why fails =
-      fails.differ (ap (λ (named : List NumberedHypothesis). slice_get named fails.index)
+      fails.differ.differ (ap (λ (named : List NumberedHypothesis). slice_get named fails.index)
       (same_in_order (λ (a b : NumberedHypothesis). a.number < b.number) (λ a b less more. omega (arith, less, more)) (map named_by read.rejected) fails.closed
       passes.rejected.rising fails.are.rising
       (λ x member. (fails.are.exact x.number x.hypothesis).1 ((passes.rejected.exact x.number x.hypothesis).0 member))
       (λ x member. (passes.rejected.exact x.number x.hypothesis).1 ((fails.are.exact x.number x.hypothesis).0 member))))
 
   -- What passes does not fail.
-  pub does_not_fail : Passes (RoundFails docket number read)
+  pub does_not_fail : Passes (RoundFails basis number read)
   does_not_fail line why (inl fails) = fails.2 passes.begins
-  does_not_fail line why (inr (_, inl fails)) = in_turn_passes (PartFails docket) [] read.parts part_does_not_fail line why fails
-  does_not_fail line why (inr (_, inr (_, inl fails))) = in_turn_passes (RankedFails docket read) [] read.ranked ranked_does_not_fail line why fails
-  does_not_fail line why (inr (_, inr (_, inr (_, inl fails)))) = in_turn_passes (OpenFails docket read) [] read.unsettled open_does_not_fail line why fails
+  does_not_fail line why (inr (_, inl fails)) = in_turn_passes (PartFails basis) [] read.parts part_does_not_fail line why fails
+  does_not_fail line why (inr (_, inr (_, inl fails))) = in_turn_passes (RankedFails basis read) [] read.ranked ranked_does_not_fail line why fails
+  does_not_fail line why (inr (_, inr (_, inr (_, inl fails)))) = in_turn_passes (OpenFails basis read) [] read.unsettled open_does_not_fail line why fails
   does_not_fail line why (inr (_, inr (_, inr (_, inr (_, inl fails))))) = rejected_does_not_fail line why fails
   does_not_fail line why (inr (_, inr (_, inr (_, inr (_, inr (_, inl fails)))))) = fails.2 passes.statuses
   does_not_fail line why (inr (_, inr (_, inr (_, inr (_, inr (_, inr fails)))))) = fails.1.2 passes.counts

@@ -18,8 +18,8 @@ use Rattle.tfpg_report.specs.declared.read_round.RankedLine.{RankedLine}
 use Rattle.tfpg_report.specs.declared.read_round.ReadRound.{ReadRound}
 use Rattle.tfpg_check.specs.declared.cause.CheckCause.{CheckCause}
 use Rattle.tfpg_check.specs.declared.cause.CheckCause.TheVariants as cause
-use Rattle.tfpg_check.specs.Tests.{Fails, InTurn, Owes, Then}
-use Rattle.tfpg_check.specs.Judging.{AreNewlyClosed, Docket, MayBeOpen, MayHaveSteps, NumberedHypothesis, OpenFails, PartFails, RankedFails, RejectedFails, RoundFails, StepFails, cause_of_step, named_by}
+use Rattle.tfpg_check.specs.Tests.{DifferFirstAt, Fails, InTurn, Owes, Then}
+use Rattle.tfpg_check.specs.Judging.{AreNewlyClosed, RoundBasis, MayBeOpen, MayHaveSteps, NumberedHypothesis, OpenFails, PartFails, RankedFails, RejectedFails, RoundFails, StepFails, cause_of_step, named_by}
 use Rattle.tfpg_check.proofs.passing.ByNumber.{same_by_number}
 
 -- ---- tests
@@ -45,16 +45,11 @@ in_turn_once test one before (x ∷ xs) line other why also a b =
 -- ---- the first place where two lists differ
 
 module _ {X : Type 0} (xs ys : List X) where
-  -- They differ at this index, and not before.
-  record DifferFirstAt (index : ℕ) : Type 0 where
-    same_before : take index xs ≡ take index ys
-    differ : (slice_get xs index ≡ slice_get ys index) → ⊥
-
-  none_earlier : (one other : ℕ) → DifferFirstAt one → DifferFirstAt other → one < other → ⊥
+  none_earlier : (one other : ℕ) → DifferFirstAt xs ys one → DifferFirstAt xs ys other → one < other → ⊥
   none_earlier one other first second less =
       first.differ (sym (slice_get-take other xs one less) ∙ ap (λ (front : List X). slice_get front one) second.same_before ∙ slice_get-take other ys one less)
 
-  one_first_place : (one other : ℕ) → DifferFirstAt one → DifferFirstAt other → one ≡ other
+  one_first_place : (one other : ℕ) → DifferFirstAt xs ys one → DifferFirstAt xs ys other → one ≡ other
   one_first_place one other first second = elim (cases_order one other) [
     | inl same ↦ same
     | inr (inl less) ↦ absurd (none_earlier one other first second less)
@@ -63,58 +58,57 @@ module _ {X : Type 0} (xs ys : List X) where
 
 -- ---- rounds
 
-module _ (only_one : PresentLeavesAreAlone) (finished : RefutationsAreNotPartial) (docket : Docket) where
-  step_once : (part : Part) (before : List Step) (step : Step) → FailsOnce (StepFails docket part before step)
+module _ (only_one : PresentLeavesAreAlone) (finished : RefutationsAreNotPartial) (basis : RoundBasis) where
+  step_once : (part : Part) (before : List Step) (step : Step) → FailsOnce (StepFails basis part before step)
   step_once part before step line other why also a b =
       let same : a.hypothesis ≡ b.hypothesis = same_Some a.hypothesis b.hypothesis (sym a.listed ∙ b.listed) in
       let reach : a.reach ≡ b.reach =
-      reach_is_one docket.graph b.hypothesis.set a.reach (subst (λ (h : Hypothesis). IsReachOf docket.graph h a.reach) same a.reach_is) b.reach b.reach_is in
+      reach_is_one basis.graph b.hypothesis.set a.reach (subst (λ (h : Hypothesis). IsReachOf basis.graph h a.reach) same a.reach_is) b.reach b.reach_is in
       let broken : a.broken ≡ b.broken =
-      first_broken_unique only_one finished (case_for docket.graph docket.log b.hypothesis b.reach) (with_steps (docket.steps part.number) docket.log before) (judged_by docket.log step)
+      first_broken_unique only_one finished (case_for basis.graph basis.log b.hypothesis b.reach) (with_steps (basis.steps part.number) basis.log before) (judged_by basis.log step)
       a.broken b.broken
-      (subst₂ (λ (h : Hypothesis) (nodes : List ℕ). IsFirstBroken (case_for docket.graph docket.log h nodes) (with_steps (docket.steps part.number) docket.log before) (judged_by docket.log step) a.broken)
+      (subst₂ (λ (h : Hypothesis) (nodes : List ℕ). IsFirstBroken (case_for basis.graph basis.log h nodes) (with_steps (basis.steps part.number) basis.log before) (judged_by basis.log step) a.broken)
       same reach a.first)
       b.first in (
         same_Some line other (sym a.at ∙ b.at),
         a.cause_is ∙ ap cause_of_step broken ∙ sym b.cause_is,
       )
 
-  part_once : (before : List Part) (part : Part) → FailsOnce (PartFails docket before part)
+  part_once : (before : List Part) (part : Part) → FailsOnce (PartFails basis before part)
   part_once before part =
-      then_once (Owes (MayHaveSteps docket before part) part.first_line cause.WrongHypothesis) (InTurn (StepFails docket part) [] part.steps)
-      (owes_once (MayHaveSteps docket before part) part.first_line cause.WrongHypothesis) (in_turn_once (StepFails docket part) (step_once part) [] part.steps)
+      then_once (Owes (MayHaveSteps basis before part) part.first_line cause.WrongHypothesis) (InTurn (StepFails basis part) [] part.steps)
+      (owes_once (MayHaveSteps basis before part) part.first_line cause.WrongHypothesis) (in_turn_once (StepFails basis part) (step_once part) [] part.steps)
 
   module _ (read : ReadRound) where
-    ranked_once : (before : List RankedLine) (r : RankedLine) → FailsOnce (RankedFails docket read before r)
+    ranked_once : (before : List RankedLine) (r : RankedLine) → FailsOnce (RankedFails basis read before r)
     ranked_once before r = then_once _ _ (owes_once _ _ _) (owes_once _ _ _)
 
-    open_once : (before : List NamedSet) (named : NamedSet) → FailsOnce (OpenFails docket read before named)
-    open_once before named = owes_once (MayBeOpen docket read before named) named.first_line cause.WrongOpen
+    open_once : (before : List NamedSet) (named : NamedSet) → FailsOnce (OpenFails basis read before named)
+    open_once before named = owes_once (MayBeOpen basis read before named) named.first_line cause.WrongOpen
 
     -- the trees that were closed are the same ones
-    one_closed : (one other : List NumberedHypothesis) → AreNewlyClosed docket read one → AreNewlyClosed docket read other → one ≡ other
+    one_closed : (one other : List NumberedHypothesis) → AreNewlyClosed basis read one → AreNewlyClosed basis read other → one ≡ other
     one_closed one other are also =
         same_by_number (λ (c : NumberedHypothesis). c.number) one other are.rising also.rising
         (λ c here. (also.exact c.number c.hypothesis).1 ((are.exact c.number c.hypothesis).0 here))
         (λ c here. (are.exact c.number c.hypothesis).1 ((also.exact c.number c.hypothesis).0 here))
 
-    rejected_once : FailsOnce (RejectedFails docket read)
+    rejected_once : FailsOnce (RejectedFails basis read)
     rejected_once line other why also a b =
         let names : List NumberedHypothesis = map named_by read.rejected in
         let same : a.closed ≡ b.closed = one_closed a.closed b.closed a.are b.are in
-        let first : DifferFirstAt names b.closed a.index =
-        subst (λ (closed : List NumberedHypothesis). DifferFirstAt names closed a.index) same (record { same_before = a.same_before; differ = a.differ }) in
-        let index : a.index ≡ b.index = one_first_place names b.closed a.index b.index first (record { same_before = b.same_before; differ = b.differ }) in (
+        let first : DifferFirstAt names b.closed a.index = subst (λ (closed : List NumberedHypothesis). DifferFirstAt names closed a.index) same a.differ in
+        let index : a.index ≡ b.index = one_first_place names b.closed a.index b.index first b.differ in (
           sym a.at ∙ ap (λ (n : ℕ). unwrap_or (option_map (λ (named : NamedSet). named.first_line) (slice_get read.rejected n)) read.counts_line) index ∙ b.at,
           a.cause_is ∙ sym b.cause_is,
         )
 
     -- A round fails at no more than one line, and for no more than one cause.
-    pub round_once : (number : ℕ) → FailsOnce (RoundFails docket number read)
+    pub round_once : (number : ℕ) → FailsOnce (RoundFails basis number read)
     round_once number =
         then_once _ _ (owes_once _ _ _)
-        (then_once _ _ (in_turn_once (PartFails docket) part_once [] read.parts)
-        (then_once _ _ (in_turn_once (RankedFails docket read) ranked_once [] read.ranked)
-        (then_once _ _ (in_turn_once (OpenFails docket read) open_once [] read.unsettled)
+        (then_once _ _ (in_turn_once (PartFails basis) part_once [] read.parts)
+        (then_once _ _ (in_turn_once (RankedFails basis read) ranked_once [] read.ranked)
+        (then_once _ _ (in_turn_once (OpenFails basis read) open_once [] read.unsettled)
         (then_once _ _ rejected_once
         (then_once _ _ (owes_once _ _ _) (owes_once _ _ _))))))

@@ -25,7 +25,7 @@ use Rattle.tfpg_hyp.specs.Ranking.{IsRankedBefore}
 use Rattle.tfpg_hyp.specs.Rounds.{key_at, key_of_status}
 use Rattle.tfpg_hyp.specs.declared.place.Place.{Place}
 use Rattle.tfpg_hyp.proofs.FindingsOfRound.{HasFindingAt}
-use Rattle.tfpg_check.specs.Judging.{Docket}
+use Rattle.tfpg_check.specs.Judging.{RoundBasis}
 use Rattle.tfpg_check.proofs.passing.ByNumber.{AllPairs-from_indexes}
 use Rattle.tfpg_check.proofs.completeness.WhatIsSaid.{OrdersRanked, ranking_as, ranking_of}
 use Rattle.tfpg_check.proofs.completeness.RightRoundFacts.{IsRightBy, number_of, found_by_number, finding_at_number, numbers_rise}
@@ -52,7 +52,7 @@ key_where_ranked number (Covered by) ranked = absurd cc
 key_where_ranked number Rejected ranked = absurd cc
 key_where_ranked number Open ranked = absurd cc
 
-module _ (docket : Docket) (line : ℕ) (round : Round) (right : IsRightBy docket line round) where
+module _ (basis : RoundBasis) (line : ℕ) (round : Round) (right : IsRightBy basis line round) where
   -- a number of the order is that of a ranked finding with this key
   record IsKeyed (number : ℕ) (key : Place) (finding : Finding) : Type 0 where
     at : HasFindingAt round number finding
@@ -62,7 +62,7 @@ module _ (docket : Docket) (line : ℕ) (round : Round) (right : IsRightBy docke
   keyed : (number : ℕ) (key : Place) → key_at round.findings number ≡ Some key → (finding : Finding) × IsKeyed number key finding
   keyed number key is =
       let found = option_and_then-some (λ (f : Finding). key_of_status number f.status) (slice_get round.findings number) key is in
-      let has = key_there number found.0 found.0.status key (number_of docket line round right number found.0 found.1) found.2 in
+      let has = key_there number found.0 found.0.status key (number_of basis line round right number found.0 found.1) found.2 in
       (found.0, record { at = found.1; ranked = has.0; key_is = has.1 })
 
   -- What the findings of these numbers, whose keys are these, come to.
@@ -81,11 +81,11 @@ module _ (docket : Docket) (line : ℕ) (round : Round) (right : IsRightBy docke
       let own = keyed number key head in
       let rest = are_keyed numbers keys tail in
       subst (AreKeyed (number ∷ numbers) (key ∷ keys))
-      (sym (filter_map-found (finding_numbered round.findings) number own.0 numbers (found_by_number docket line round right number own.0 own.1.at)))
+      (sym (filter_map-found (finding_numbered round.findings) number own.0 numbers (found_by_number basis line round right number own.0 own.1.at)))
       (record {
         ranked = All-cons (λ (finding : Finding). is_ranked finding.status ≡ true) own.0 (findings_at round.findings numbers) own.1.ranked rest.ranked;
         keys_are = λ i. own.1.key_is i ∷ rest.keys_are i;
-        numbers_are = λ i. number_of docket line round right number own.0 own.1.at i ∷ rest.numbers_are i;
+        numbers_are = λ i. number_of basis line round right number own.0 own.1.at i ∷ rest.numbers_are i;
       })
 
   all_keyed : AreKeyed round.order right.is_round.order.keys (ranked_in_order round)
@@ -108,7 +108,7 @@ module _ (docket : Docket) (line : ℕ) (round : Round) (right : IsRightBy docke
   ordered_only finding member =
       let from = Contains-filter_map_only (finding_numbered round.findings) round.order finding member in (
         from.0,
-        finding_at_number docket line round right from.0 finding from.2,
+        finding_at_number basis line round right from.0 finding from.2,
         All-contains (λ (f : Finding). is_ranked f.status ≡ true) (ranked_in_order round) finding orders_ranked member,
       )
 
@@ -121,7 +121,7 @@ module _ (docket : Docket) (line : ℕ) (round : Round) (right : IsRightBy docke
   -- each ranked finding stands in the order
   pub ordered_there : (number : ℕ) (finding : Finding) → HasFindingAt round number finding → is_ranked finding.status ≡ true → Contains (ranked_in_order round) finding
   ordered_there number finding at ranked =
-      Contains-filter_map (finding_numbered round.findings) round.order number finding (in_the_order number finding at ranked) (found_by_number docket line round right number finding at)
+      Contains-filter_map (finding_numbered round.findings) round.order number finding (in_the_order number finding at ranked) (found_by_number basis line round right number finding at)
 
   -- ---- how many there are
 
@@ -151,15 +151,15 @@ module _ (docket : Docket) (line : ℕ) (round : Round) (right : IsRightBy docke
   count_ordered =
       let numbers : List ℕ = map (λ (f : Finding). f.number) (filter (λ (f : Finding). is_ranked f.status) round.findings) in
       let rise : Rises numbers = AllPairs-map ◌<◌ (λ (f : Finding). f.number) (filter (λ (f : Finding). is_ranked f.status) round.findings)
-      (AllPairs-filter (λ (a b : Finding). a.number < b.number) (λ (f : Finding). is_ranked f.status) round.findings (numbers_rise docket line round right)) in
+      (AllPairs-filter (λ (a b : Finding). a.number < b.number) (λ (f : Finding). is_ranked f.status) round.findings (numbers_rise basis line round right)) in
       let to : (number : ℕ) → Contains numbers number → Contains round.order number = λ number member.
       (let from = Contains-map_only (λ (f : Finding). f.number) (filter (λ (f : Finding). is_ranked f.status) round.findings) number member in
       let at = Contains-filter_only (λ (f : Finding). is_ranked f.status) round.findings from.0 from.1 in
-      subst (Contains round.order) (sym (number_of docket line round right at.0 from.0 at.1) ∙ from.2) (in_the_order at.0 from.0 at.1 at.2)) in
+      subst (Contains round.order) (sym (number_of basis line round right at.0 from.0 at.1) ∙ from.2) (in_the_order at.0 from.0 at.1 at.2)) in
       let back : (number : ℕ) → Contains round.order number → Contains numbers number = λ number member.
       (let key = key_at_index member.0 number (slice_get-contains round.order number member) in
       let own = keyed number key.0 key.2 in
-      subst (Contains numbers) (number_of docket line round right number own.0 own.1.at)
+      subst (Contains numbers) (number_of basis line round right number own.0 own.1.at)
       (Contains-map (λ (f : Finding). f.number) (filter (λ (f : Finding). is_ranked f.status) round.findings) own.0
       (Contains-filter (λ (f : Finding). is_ranked f.status) round.findings number own.0 own.1.at own.1.ranked))) in
       let many = length-le_contained numbers round.order (Rises-differ numbers rise) (All-from_members (Contains round.order) numbers to) in

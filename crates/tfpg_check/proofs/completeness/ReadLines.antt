@@ -23,7 +23,7 @@ use Rattle.tfpg_report.specs.declared.read_round.NamedSet.{NamedSet}
 use Rattle.tfpg_report.specs.declared.read_round.Part.{Part}
 use Rattle.tfpg_report.specs.declared.read_round.RankedLine.{RankedLine}
 use Rattle.tfpg_report.specs.declared.read_round.ReadRound.{ReadRound}
-use Rattle.tfpg_check.specs.Judging.{Docket, NumberedHypothesis, AreClosed, IsClosed, IsOpenLine, IsRankedLine, HasRankedPartIn, named_by, steps_read}
+use Rattle.tfpg_check.specs.Judging.{RoundBasis, NumberedHypothesis, AreClosed, IsClosed, IsOpenLine, IsRankedLine, HasRankedPartIn, named_by, steps_read}
 use Rattle.tfpg_check.proofs.passing.NamedFindings.{NumberedSteps, named_in, steps_in_finding, steps_in_part, has_steps}
 use Rattle.tfpg_check.proofs.passing.PartSteps.{part_or_none}
 use Rattle.tfpg_check.proofs.completeness.RoundSayings.{RankingSaying, RoundSaying}
@@ -50,10 +50,10 @@ ranking_hypothesis finding (Covered by) = refl
 ranking_hypothesis finding Rejected = refl
 ranking_hypothesis finding Open = refl
 
-module _ (docket : Docket) (line : ℕ) (round : Round) (right : IsRightBy docket line round) (read : ReadRound) (as_said : saying_read read ≡ saying_of round) where
+module _ (basis : RoundBasis) (line : ℕ) (round : Round) (right : IsRightBy basis line round) (read : ReadRound) (as_said : saying_read read ≡ saying_of round) where
   -- a finding at an index stands at a number that is its own
   at_number : (index number : ℕ) (finding : Finding) → HasFindingAt round index finding → finding.number ≡ number → HasFindingAt round number finding
-  at_number index number finding at same = subst (λ (n : ℕ). HasFindingAt round n finding) (sym (number_of docket line round right index finding at) ∙ same) at
+  at_number index number finding at same = subst (λ (n : ℕ). HasFindingAt round n finding) (sym (number_of basis line round right index finding at) ∙ same) at
 
   -- ---- steps
 
@@ -99,7 +99,7 @@ module _ (docket : Docket) (line : ℕ) (round : Round) (right : IsRightBy docke
       by : (some : Bool) → has_steps finding ≡ some → steps_read read number ≡ finding.steps
       by true some =
           let part = part_of_finding number finding at some in
-          let numbered : eqb part.0.number number ≡ true = eq-eqb part.0.number number (ap (λ (n : NumberedSteps). n.number) part.2 ∙ number_of docket line round right number finding at) in
+          let numbered : eqb part.0.number number ≡ true = eq-eqb part.0.number number (ap (λ (n : NumberedSteps). n.number) part.2 ∙ number_of basis line round right number finding at) in
           let found = is_some-there (find (λ (p : Part). eqb p.number number) read.parts) (find-Contains (λ (p : Part). eqb p.number number) read.parts part.0 part.1 numbered) in
           let passes = find-passes (λ (p : Part). eqb p.number number) read.parts found.0 found.1 in
           ap (λ (o : Option Part). unwrap_or (option_map (λ (p : Part). p.steps) o) []) found.1
@@ -112,16 +112,16 @@ module _ (docket : Docket) (line : ℕ) (round : Round) (right : IsRightBy docke
   -- ---- closed trees
 
   module _ (number : ℕ) (finding : Finding) (at : HasFindingAt round number finding) where
-    same_steps_now : with_steps (docket.steps number) docket.log (steps_read read number) ≡ with_steps (docket.steps number) docket.log finding.steps
-    same_steps_now = ap (with_steps (docket.steps number) docket.log) (steps_are_read number finding at)
+    same_steps_now : with_steps (basis.steps number) basis.log (steps_read read number) ≡ with_steps (basis.steps number) basis.log finding.steps
+    same_steps_now = ap (with_steps (basis.steps number) basis.log) (steps_are_read number finding at)
 
     -- a tree is closed where its finding is rejected,
-    pub closed_read : is_rejected finding.status ≡ true → IsClosed docket read number
-    closed_read rejected = subst (AreClosed docket number) (sym same_steps_now) (closed_where_rejected docket line round right number finding at rejected)
+    pub closed_read : is_rejected finding.status ≡ true → IsClosed basis read number
+    closed_read rejected = subst (AreClosed basis number) (sym same_steps_now) (closed_where_rejected basis line round right number finding at rejected)
 
     -- and there alone
-    pub rejected_read : IsClosed docket read number → is_rejected finding.status ≡ true
-    rejected_read closed = rejected_where_closed docket line round right number finding at (subst (AreClosed docket number) same_steps_now closed)
+    pub rejected_read : IsClosed basis read number → is_rejected finding.status ≡ true
+    rejected_read closed = rejected_where_closed basis line round right number finding at (subst (AreClosed basis number) same_steps_now closed)
 
   -- ---- ranked lines
 
@@ -139,7 +139,7 @@ module _ (docket : Docket) (line : ℕ) (round : Round) (right : IsRightBy docke
   finding_of_ranked r member =
       let from = Contains-map_only ranking_of (ranked_in_order round) (ranking_read r)
       (subst (λ (xs : List RankingSaying). Contains xs (ranking_read r)) ranked_are (Contains-map ranking_read read.ranked r member)) in
-      let at = ordered_only docket line round right from.0 from.1 in (
+      let at = ordered_only basis line round right from.0 from.1 in (
         from.0,
         record {
           at = at_number at.0 r.number from.0 at.1 (sym (ranking_number from.0 from.0.status) ∙ ap (λ (s : RankingSaying). s.key.number) from.2);
@@ -153,17 +153,17 @@ module _ (docket : Docket) (line : ℕ) (round : Round) (right : IsRightBy docke
   ranked_of_finding number finding at ranked =
       let from = Contains-map_only ranking_read read.ranked (ranking_of finding)
       (subst (λ (xs : List RankingSaying). Contains xs (ranking_of finding)) (sym ranked_are)
-      (Contains-map ranking_of (ranked_in_order round) finding (ordered_there docket line round right number finding at ranked))) in (
+      (Contains-map ranking_of (ranked_in_order round) finding (ordered_there basis line round right number finding at ranked))) in (
         from.0,
         from.1,
-        ap (λ (s : RankingSaying). s.key.number) from.2 ∙ ranking_number finding finding.status ∙ number_of docket line round right number finding at,
+        ap (λ (s : RankingSaying). s.key.number) from.2 ∙ ranking_number finding finding.status ∙ number_of basis line round right number finding at,
       )
 
   -- a proper part that has a ranked line is ranked,
-  pub part_ranked : (hypothesis : Hypothesis) → HasRankedPartIn docket read hypothesis → HasRankedPart round.findings hypothesis
+  pub part_ranked : (hypothesis : Hypothesis) → HasRankedPartIn basis read hypothesis → HasRankedPart round.findings hypothesis
   part_ranked hypothesis has =
       let own = finding_of_ranked has.other has.ranked in
-      let same : has.part ≡ hypothesis_of own.0 = same_Some has.part (hypothesis_of own.0) (sym has.listed ∙ listed_of docket line round right has.other.number own.0 own.1.at) in (
+      let same : has.part ≡ hypothesis_of own.0 = same_Some has.part (hypothesis_of own.0) (sym has.listed ∙ listed_of basis line round right has.other.number own.0 own.1.at) in (
         has.other.number,
         record {
           finding = own.0;
@@ -174,14 +174,14 @@ module _ (docket : Docket) (line : ℕ) (round : Round) (right : IsRightBy docke
       )
 
   -- and one that is ranked has a line
-  pub part_read : (hypothesis : Hypothesis) → HasRankedPart round.findings hypothesis → HasRankedPartIn docket read hypothesis
+  pub part_read : (hypothesis : Hypothesis) → HasRankedPart round.findings hypothesis → HasRankedPartIn basis read hypothesis
   part_read hypothesis has =
       let r = ranked_of_finding has.0 has.1.finding has.1.numbered has.1.ranked in
       record {
         other = r.0;
         ranked = r.1;
         part = hypothesis_of has.1.finding;
-        listed = ap (slice_get docket.hypotheses) r.2 ∙ listed_of docket line round right has.0 has.1.finding has.1.numbered;
+        listed = ap (slice_get basis.hypotheses) r.2 ∙ listed_of basis line round right has.0 has.1.finding has.1.numbered;
         proper = has.1.part;
       }
 
@@ -209,7 +209,7 @@ module _ (docket : Docket) (line : ℕ) (round : Round) (right : IsRightBy docke
   finding_named : (test : Finding → Bool) (number : ℕ) (finding : Finding) → HasFindingAt round number finding → test finding ≡ true
       → Contains (map named_in (filter test round.findings)) (record { number = number; hypothesis = hypothesis_of finding })
   finding_named test number finding at passes =
-      subst (λ (n : ℕ). Contains (map named_in (filter test round.findings)) (record { number = n; hypothesis = hypothesis_of finding })) (number_of docket line round right number finding at)
+      subst (λ (n : ℕ). Contains (map named_in (filter test round.findings)) (record { number = n; hypothesis = hypothesis_of finding })) (number_of basis line round right number finding at)
       (Contains-map named_in (filter test round.findings) finding (Contains-filter test round.findings number finding at passes))
 
   -- the finding of an open line

@@ -12,7 +12,7 @@ use Rattle.tfpg_report.specs.LineWords.{old_head_words}
 use Rattle.tfpg_report.specs.ReportLines.{written_line}
 use Rattle.tfpg_report.specs.Blocks.{Block, block_lines}
 use Rattle.tfpg_report.specs.Reading.{IsHead}
-use Rattle.tfpg_check.specs.Causes.{AreReportLines, Matter}
+use Rattle.tfpg_check.specs.Causes.{AreReportLines, DiagnosisProblem}
 use Rattle.tfpg_check.specs.RightReports.{ReportsHaveNoCause}
 use Rattle.tfpg_check.proofs.FirstLines.{OneLine}
 use Rattle.tfpg_check.proofs.WholeReports.{lines_of_report}
@@ -29,14 +29,14 @@ pub record HasLines (graph : Tfpg) (terms : Terms) (blocks : List Block) (lines 
   pub lines_are : lines ≡ map (written_line graph) (head ∷ flat_map block_lines blocks)
 
 -- The lines of a report are its first line and those of its blocks, as they are written.
-pub has_lines : (matter : Matter) (terms : Terms) (blocks : List Block) (lines : List (List ℕ)) → IsValid matter.graph → AreReportLines matter terms blocks lines → HasLines matter.graph terms blocks lines
-has_lines matter terms blocks lines valid are =
-    let whole : lines_of are.bytes ≡ map (written_line matter.graph) (Head terms ∷ flat_map block_lines blocks) =
-    ap lines_of are.report.text ∙ lines_of_report matter.graph terms blocks valid in
+pub has_lines : (problem : DiagnosisProblem) (terms : Terms) (blocks : List Block) (lines : List (List ℕ)) → IsValid problem.graph → AreReportLines problem terms blocks lines → HasLines problem.graph terms blocks lines
+has_lines problem terms blocks lines valid are =
+    let whole : lines_of are.bytes ≡ map (written_line problem.graph) (Head terms ∷ flat_map block_lines blocks) =
+    ap lines_of are.report.text ∙ lines_of_report problem.graph terms blocks valid in
     by are.lines_are whole
   where
     by : (lines ≡ lines_of are.bytes) ⊎ ((terms.doubt ≡ 0) × (lines ≡ line_of (old_head_words terms.k terms.budget) ∷ drop 1 (lines_of are.bytes)))
-        → lines_of are.bytes ≡ map (written_line matter.graph) (Head terms ∷ flat_map block_lines blocks) → HasLines matter.graph terms blocks lines
+        → lines_of are.bytes ≡ map (written_line problem.graph) (Head terms ∷ flat_map block_lines blocks) → HasLines problem.graph terms blocks lines
     by (inl new) whole = record { head = Head terms; is_head = inl refl; named = tt; lines_are = new ∙ whole }
     by (inr old) whole = record {
       head = OldHead terms.k terms.budget;
@@ -49,5 +49,5 @@ has_lines matter terms blocks lines valid are =
 
 -- A report each of whose lines can be read has no cause.
 pub reports_have_no_cause : OneLine → ReportsHaveNoCause
-reports_have_no_cause one_line matter terms blocks lines head at why valid are is_head read =
-    no_cause matter (λ line other bytes says also. one_line matter.graph line other bytes valid says also) terms blocks lines are.report.has_reports head is_head are.report.are_blocks read at why
+reports_have_no_cause one_line problem terms blocks lines head at why valid are is_head read =
+    no_cause problem (λ line other bytes says also. one_line problem.graph line other bytes valid says also) terms blocks lines are.report.has_reports head is_head are.report.are_blocks read at why

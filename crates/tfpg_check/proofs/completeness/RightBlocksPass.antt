@@ -1,6 +1,6 @@
 -- A block with which lines are right so far does not fail.
 use Rattle.std.proofs.Common.{◌≡◌, ℕ, ◌+◌, ◌-◌, Bool, true, false, List, [], ◌∷◌, ◌++◌, length, map, take, All, Option, Some, Result, Ok, Err, slice_get, inl, inr, refl, sym, ap, subst, ◌∙◌, arith, append-nil, append_assoc, length-append}
-use Rattle.std.specs.Prelude.{flat_map}
+use Rattle.std.specs.Prelude.{flat_map, option_map}
 use Rattle.std.proofs.Math.Seq.{take-append_seam}
 use Rattle.std.proofs.lemmas.List.{append_cancel_left, same_from_push, take-take}
 use Rattle.std.proofs.lemmas.List.Concat.{flat_map-append}
@@ -10,22 +10,20 @@ use Rattle.tfpg_base.specs.declared.terms.Terms.{Terms}
 use Rattle.tfpg_base.proofs.lists.Cuts.{cut_twice, slice_get-take}
 use Rattle.tfpg_base.proofs.lists.Elements.{All-middle, slice_get-there}
 use Rattle.tfpg_base.proofs.lists.Written.{slice_get-push_last}
-use Rattle.tfpg_graph.specs.Graph.{Tfpg}
 use Rattle.tfpg_log.specs.declared.event.Event.{Event}
 use Rattle.tfpg_log.specs.Log.{Logbook, with_event}
 use Rattle.tfpg_evidence.specs.declared.round.Round.{Round as RoundOf}
 use Rattle.tfpg_evidence.specs.declared.round.Counts.{Counts as CountsOf}
 use Rattle.tfpg_hyp.specs.Rounds.{IsRound}
 use Rattle.tfpg_log.specs.declared.refused_line.RefusedLine.{RefusedLine}
-use Rattle.tfpg_report.specs.declared.read_round.ReadRound.{ReadRound}
 use Rattle.tfpg_report.specs.declared.report_line.ReportLine.{ReportLine}
 use Rattle.tfpg_report.specs.declared.report_line.ReportLine.TheVariants.{Refused, Counts}
 use Rattle.tfpg_report.specs.Blocks.{Block, RoundBlock, Loss, block_lines, loss_line, round_lines}
 use Rattle.tfpg_report.specs.Reading.{IsReadFrom, begun_in, begun_with, is_last}
 use Rattle.tfpg_check.specs.Tests.{Passes}
-use Rattle.tfpg_check.specs.Report.{IsBlock, IsBlockOf, Progress, progress_of}
-use Rattle.tfpg_check.specs.Causes.{AreRightSoFar, BlockFails, IsDocketOf, Matter, RefusedBlockFails, RefusedFails, RoundBlockFails, RoundOfLineFails, next_event, progress_after_blocks}
-use Rattle.tfpg_check.specs.Judging.{Docket}
+use Rattle.tfpg_check.specs.Report.{IsBlock, IsBlockOf, Progress, event_of_line, progress_of}
+use Rattle.tfpg_check.specs.Causes.{AreRightSoFar, BlockFails, IsRoundBasis, DiagnosisProblem, block_begins, next_event, progress_after_blocks}
+use Rattle.tfpg_check.specs.Judging.{RoundBasis}
 use Rattle.tfpg_check.proofs.completeness.RightRoundFacts.{IsRightBy, right_by}
 use Rattle.tfpg_check.proofs.completeness.RightRoundPasses.{right_round_passes}
 use Rattle.tfpg_check.proofs.completeness.NothingFails.{does_not_fail}
@@ -34,34 +32,34 @@ use Rattle.tfpg_check.proofs.completeness.LinesOfBlocks.{begun_after_last, compl
 -- ---- the next block
 
 -- The block is one that the next line of the log may have after these.
-pub record IsNextBlock (matter : Matter) (terms : Terms) (blocks : List Block) (block : Block) : Type 0 where
+pub record IsNextBlock (problem : DiagnosisProblem) (terms : Terms) (blocks : List Block) (block : Block) : Type 0 where
   pub text : List ℕ
-  pub at : slice_get matter.log_lines (length blocks) ≡ Some text
-  pub is_block : IsBlock matter.graph terms (progress_after_blocks matter blocks) (length blocks + 1) text block
+  pub at : slice_get problem.log_lines (length blocks) ≡ Some text
+  pub is_block : IsBlock problem.graph terms (progress_after_blocks problem blocks) (length blocks + 1) text block
 
 -- The last of some blocks is the next one after those before it.
-pub next_block : (matter : Matter) (terms : Terms) (blocks : List Block) (block : Block) (reads : List ReportLine) → AreRightSoFar matter terms (blocks ++ block ∷ []) reads
-    → IsNextBlock matter terms blocks block
-next_block matter terms blocks block reads right =
+pub next_block : (problem : DiagnosisProblem) (terms : Terms) (blocks : List Block) (block : Block) (reads : List ReportLine) → AreRightSoFar problem terms (blocks ++ block ∷ []) reads
+    → IsNextBlock problem terms blocks block
+next_block problem terms blocks block reads right =
     let few = right.few in
     let long : length (blocks ++ block ∷ []) ≡ length blocks + 1 = length-append blocks (block ∷ []) in
-    let lines : List (List ℕ) = take (length (blocks ++ block ∷ [])) matter.log_lines in
-    let text = slice_get-there matter.log_lines (length blocks) (omega (arith, few, long)) in
-    let line : slice_get lines (length blocks) ≡ Some text.0 = slice_get-take (length (blocks ++ block ∷ [])) matter.log_lines (length blocks) (omega (arith, long)) ∙ text.1 in
+    let lines : List (List ℕ) = take (length (blocks ++ block ∷ [])) problem.log_lines in
+    let text = slice_get-there problem.log_lines (length blocks) (omega (arith, few, long)) in
+    let line : slice_get lines (length blocks) ≡ Some text.0 = slice_get-take (length (blocks ++ block ∷ [])) problem.log_lines (length blocks) (omega (arith, long)) ∙ text.1 in
     let front : take (length blocks) (blocks ++ block ∷ []) ≡ blocks = take-append_seam blocks (block ∷ []) in
-    let lines_front : take (length blocks) lines ≡ take (length blocks) matter.log_lines =
-    take-take (length blocks) (length (blocks ++ block ∷ [])) matter.log_lines (omega (arith, long)) in
+    let lines_front : take (length blocks) lines ≡ take (length blocks) problem.log_lines =
+    take-take (length blocks) (length (blocks ++ block ∷ [])) problem.log_lines (omega (arith, long)) in
     record {
       text = text.0;
       at = text.1;
-      is_block = subst (λ (progress : Progress). IsBlock matter.graph terms progress (length blocks + 1) text.0 block) (λ i. progress_of matter.graph (lines_front i) (front i))
+      is_block = subst (λ (progress : Progress). IsBlock problem.graph terms progress (length blocks + 1) text.0 block) (λ i. progress_of problem.graph (lines_front i) (front i))
           (right.are_blocks.each (length blocks) text.0 block line (slice_get-push_last blocks block));
     }
 
 -- its lines are those that have begun, and the line that ends it
-lines_of_next : (matter : Matter) (terms : Terms) (blocks : List Block) (block : Block) (reads : List ReportLine) (line : ReportLine) → AreRightSoFar matter terms blocks reads
-    → AreRightSoFar matter terms (blocks ++ block ∷ []) (reads ++ line ∷ []) → is_last line ≡ true → block_lines block ≡ begun_in reads ++ line ∷ []
-lines_of_next matter terms blocks block reads line right also last =
+lines_of_next : (problem : DiagnosisProblem) (terms : Terms) (blocks : List Block) (block : Block) (reads : List ReportLine) (line : ReportLine) → AreRightSoFar problem terms blocks reads
+    → AreRightSoFar problem terms (blocks ++ block ∷ []) (reads ++ line ∷ []) → is_last line ≡ true → block_lines block ≡ begun_in reads ++ line ∷ []
+lines_of_next problem terms blocks block reads line right also last =
     let ended : begun_in (reads ++ line ∷ []) ≡ [] = fold-append begun_with [] reads (line ∷ []) ∙ begun_after_last (begun_in reads) line last in
     let one : reads ++ line ∷ [] ≡ right.head ∷ (flat_map block_lines blocks ++ begun_in reads) ++ line ∷ [] = ap (λ (ls : List ReportLine). ls ++ line ∷ []) right.lines_are in
     let two : reads ++ line ∷ [] ≡ also.head ∷ flat_map block_lines (blocks ++ block ∷ []) ++ [] =
@@ -93,15 +91,16 @@ round_not_refused round losses =
     (All-cons (λ line. is_refused line ≡ false) (Counts round.counts) [] refl (All-nil (λ line. is_refused line ≡ false)))))
     (All-map (λ line. is_refused line ≡ false) loss_line losses (λ k d within. refl))
 
-refused_passes : (graph : Tfpg) (terms : Terms) (before : Progress) (next : ℕ) (block : Block) (found : Result Event RefusedLine) → IsBlockOf graph terms before next block found
-    → (begun : List ReportLine) (number : ℕ) (said : RefusedLine) → block_lines block ≡ begun ++ Refused number said ∷ [] → (first : ℕ) → Passes (RefusedFails first number said next found)
-refused_passes graph terms before next block (Err cause) is begun number said lines first line why fails =
-    let both = same_from_push [] begun (Refused next cause) (Refused number said) (sym (ap block_lines is) ∙ lines) in
-    let same : Refused next cause ≡ Refused number said = both.1 in
-    let causes : said ≡ cause = cc in
-    let numbers : number ≡ next = cc in
-    fails.2 (causes, numbers)
-refused_passes graph terms before next block (Ok event) is begun number said lines first line why fails =
+refused_passes : (problem : DiagnosisProblem) (terms : Terms) (blocks : List Block) (block : Block) (found : Result Event RefusedLine)
+    → IsBlockOf problem.graph terms (progress_after_blocks problem blocks) (length blocks + 1) block found → (begun : List ReportLine) (number : ℕ) (said : RefusedLine)
+    → block_lines block ≡ begun ++ Refused number said ∷ [] → (reads : List ReportLine) → Passes (BlockFails problem terms blocks reads (Refused number said) (Some found))
+refused_passes problem terms blocks block (Err cause) is begun number said lines reads at why fails =
+    let both = same_from_push [] begun (Refused (length blocks + 1) cause) (Refused number said) (sym (ap block_lines is) ∙ lines) in
+    let same : Refused (length blocks + 1) cause ≡ Refused number said = both.1 in
+    let causes : cause ≡ said = cc in
+    let numbers : number ≡ length blocks + 1 = cc in
+    fails.2 (ap Err causes, numbers)
+refused_passes problem terms blocks block (Ok event) is begun number said lines reads at why fails =
     let none : true ≡ false =
     All-middle (λ l. is_refused l ≡ false) begun (Refused number said) []
     (subst (All (λ l. is_refused l ≡ false)) (sym (ap block_lines is.2) ∙ lines) (round_not_refused is.0 is.1)) in
@@ -127,48 +126,48 @@ ends_with_counts round losses begun counts lines = elim (cut_twice (round_lines 
     first_empty [] ys same = refl
     first_empty (x ∷ xs) ys same = absurd cc
 
--- A round of the next line is right by the docket of that line.
-pub right_by_docket : (matter : Matter) (terms : Terms) (blocks : List Block) (event : Event) (docket : Docket) (line : ℕ) (round : RoundOf) → IsDocketOf matter terms blocks event docket
-    → IsRound matter.graph terms (progress_after_blocks matter blocks).rounds (with_event (progress_after_blocks matter blocks).log event) line round → IsRightBy docket line round
-right_by_docket matter terms blocks event docket line round is is_round =
-    right_by matter.graph terms (progress_after_blocks matter blocks).rounds docket line round is.graph is.terms_are is.hypotheses is.steps
-    (subst (λ (log : Logbook). IsRound matter.graph terms (progress_after_blocks matter blocks).rounds log line round) (sym is.log) is_round)
+-- A round of the next line is right by the basis of that line.
+pub right_by_basis : (problem : DiagnosisProblem) (terms : Terms) (blocks : List Block) (event : Event) (basis : RoundBasis) (line : ℕ) (round : RoundOf) → IsRoundBasis problem terms blocks event basis
+    → IsRound problem.graph terms (progress_after_blocks problem blocks).rounds (with_event (progress_after_blocks problem blocks).log event) line round → IsRightBy basis line round
+right_by_basis problem terms blocks event basis line round is is_round =
+    right_by problem.graph terms (progress_after_blocks problem blocks).rounds basis line round is.graph is.terms_are is.hypotheses is.steps
+    (subst (λ (log : Logbook). IsRound problem.graph terms (progress_after_blocks problem blocks).rounds log line round) (sym is.log) is_round)
 
-round_passes : (matter : Matter) (terms : Terms) (blocks : List Block) (block : Block) (read : ReadRound) (found : Result Event RefusedLine)
-    → IsBlockOf matter.graph terms (progress_after_blocks matter blocks) (length blocks + 1) block found → (first : ℕ) (begun : List ReportLine) (counts : CountsOf)
-    → IsReadFrom first (begun ++ Counts counts ∷ []) read → block_lines block ≡ begun ++ Counts counts ∷ [] → Passes (RoundOfLineFails matter terms blocks read found)
-round_passes matter terms blocks block read (Err cause) is first begun counts from lines line why fails =
-    let both = same_from_push [] begun (Refused (length blocks + 1) cause) (Counts counts) (sym (ap block_lines is) ∙ lines) in
+round_passes : (problem : DiagnosisProblem) (terms : Terms) (blocks : List Block) (block : Block) (reads : List ReportLine) (found : Result Event RefusedLine)
+    → IsBlockOf problem.graph terms (progress_after_blocks problem blocks) (length blocks + 1) block found → (counts : CountsOf) → block_lines block ≡ begun_in reads ++ Counts counts ∷ []
+    → Passes (BlockFails problem terms blocks reads (Counts counts) (Some found))
+round_passes problem terms blocks block reads (Err cause) is counts lines at why fails =
+    let both = same_from_push [] (begun_in reads) (Refused (length blocks + 1) cause) (Counts counts) (sym (ap block_lines is) ∙ lines) in
     let same : Refused (length blocks + 1) cause ≡ Counts counts = both.1 in
     absurd cc
-round_passes matter terms blocks block read (Ok event) is first begun counts from lines line why fails =
-    let own : round_lines is.0 ≡ begun ++ Counts counts ∷ [] = ends_with_counts is.0 is.1 begun counts (sym (ap block_lines is.2) ∙ lines) in
-    let right : IsRightBy fails.0 (length blocks + 1) is.0 = right_by_docket matter terms blocks event fails.0 (length blocks + 1) is.0 fails.1 is.3 in
-    does_not_fail fails.0 (length blocks + 1) read
-    (right_round_passes fails.0 (length blocks + 1) is.0 first read right (subst (λ (ls : List ReportLine). IsReadFrom first ls read) (sym own) from)) line why fails.2
+round_passes problem terms blocks block reads (Ok event) is counts lines at why fails =
+    let own : round_lines is.0 ≡ begun_in reads ++ Counts counts ∷ [] = ends_with_counts is.0 is.1 (begun_in reads) counts (sym (ap block_lines is.2) ∙ lines) in
+    let right : IsRightBy fails.1 (length blocks + 1) is.0 = right_by_basis problem terms blocks event fails.1 (length blocks + 1) is.0 fails.3 is.3 in
+    does_not_fail fails.1 (length blocks + 1) fails.0
+    (right_round_passes fails.1 (length blocks + 1) is.0 (block_begins reads) fails.0 right (subst (λ (ls : List ReportLine). IsReadFrom (block_begins reads) ls fails.0) (sym own) fails.2))
+    at why fails.4
 
 -- ---- the line that completes a block
 
-module _ (matter : Matter) (terms : Terms) (blocks : List Block) (block : Block) (reads : List ReportLine) where
-  completed : (line : ReportLine) → completes_block line ≡ true → IsNextBlock matter terms blocks block → block_lines block ≡ begun_in reads ++ line ∷ []
-      → Passes (BlockFails matter terms blocks reads line)
-  completed (Refused number said) completes next lines at why fails =
-      refused_passes matter.graph terms (progress_after_blocks matter blocks) (length blocks + 1) block (next_event matter blocks next.text) next.is_block (begun_in reads) number said lines
-      (length reads + 1) at why (subst (λ (o : Option (List ℕ)). RefusedBlockFails matter blocks reads number said o at why) next.at fails)
-  completed (Counts counts) completes next lines at why fails =
-      round_passes matter terms blocks block fails.0 (next_event matter blocks next.text) next.is_block (length reads - length (begun_in reads) + 1) (begun_in reads) counts fails.1 lines
-      at why (subst (λ (o : Option (List ℕ)). RoundBlockFails matter terms blocks fails.0 o at why) next.at fails.2)
-  completed _ completes next lines at why fails = absurd cc
+module _ (problem : DiagnosisProblem) (terms : Terms) (blocks : List Block) (block : Block) (reads : List ReportLine) where
+  completed : (line : ReportLine) (found : Result Event RefusedLine) → IsBlockOf problem.graph terms (progress_after_blocks problem blocks) (length blocks + 1) block found
+      → block_lines block ≡ begun_in reads ++ line ∷ [] → Passes (BlockFails problem terms blocks reads line (Some found))
+  completed (Refused number said) found is lines at why fails = refused_passes problem terms blocks block found is (begun_in reads) number said lines reads at why fails
+  completed (Counts counts) found is lines at why fails = round_passes problem terms blocks block reads found is counts lines at why fails
+  completed _ found is lines at why fails = absurd fails
 
   -- Where lines are right so far, a line with which one more block is right completes a block that does not fail.
-  pub completed_passes : (line : ReportLine) → completes_block line ≡ true → AreRightSoFar matter terms blocks reads → AreRightSoFar matter terms (blocks ++ block ∷ []) (reads ++ line ∷ [])
-      → Passes (BlockFails matter terms blocks reads line)
-  completed_passes line completes right also =
-      completed line completes (next_block matter terms blocks block (reads ++ line ∷ []) also)
-      (lines_of_next matter terms blocks block reads line right also (last_completes line completes))
+  pub completed_passes : (line : ReportLine) → completes_block line ≡ true → AreRightSoFar problem terms blocks reads → AreRightSoFar problem terms (blocks ++ block ∷ []) (reads ++ line ∷ [])
+      → Passes (BlockFails problem terms blocks reads line (next_event problem blocks))
+  completed_passes line completes right also at why fails =
+      let next = next_block problem terms blocks block (reads ++ line ∷ []) also in
+      completed line (event_of_line problem.graph (progress_after_blocks problem blocks).log next.text) next.is_block (lines_of_next problem terms blocks block reads line right also (last_completes line completes)) at why
+      (subst (λ (found : Option (Result Event RefusedLine)). BlockFails problem terms blocks reads line found at why)
+      (ap (option_map (event_of_line problem.graph (progress_after_blocks problem blocks).log)) next.at) fails)
 
 -- a line that completes no block makes none fail
-pub others_pass : (matter : Matter) (terms : Terms) (blocks : List Block) (reads : List ReportLine) (line : ReportLine) → completes_block line ≡ false → Passes (BlockFails matter terms blocks reads line)
-others_pass matter terms blocks reads (Refused number said) completes at why fails = absurd cc
-others_pass matter terms blocks reads (Counts counts) completes at why fails = absurd cc
-others_pass matter terms blocks reads _ completes at why fails = fails
+pub others_pass : (problem : DiagnosisProblem) (terms : Terms) (blocks : List Block) (reads : List ReportLine) (line : ReportLine) (next : Option (Result Event RefusedLine))
+    → completes_block line ≡ false → Passes (BlockFails problem terms blocks reads line next)
+others_pass problem terms blocks reads (Refused number said) next completes at why fails = absurd cc
+others_pass problem terms blocks reads (Counts counts) next completes at why fails = absurd cc
+others_pass problem terms blocks reads _ next completes at why fails = fails

@@ -22,7 +22,7 @@ use Rattle.tfpg_report.specs.declared.report_line.ReportLine.TheVariants.{Refuse
 use Rattle.tfpg_report.specs.Blocks.{Block, RefusedBlock, RoundBlock, Loss, block_lines, loss_line, round_lines}
 use Rattle.tfpg_report.specs.Reading.{IsHead, begun_in, begun_with, is_last}
 use Rattle.tfpg_check.specs.Report.{AreBlocks, AreLosses, HasReports, IsBlock, IsBlockOf, Progress, event_of_line, progress_of}
-use Rattle.tfpg_check.specs.Causes.{AreRightSoFar, BlockFails, Matter, progress_after_blocks}
+use Rattle.tfpg_check.specs.Causes.{AreRightSoFar, BlockFails, DiagnosisProblem, next_event, progress_after_blocks}
 use Rattle.tfpg_check.specs.Tests.{Passes}
 use Rattle.tfpg_check.proofs.completeness.LinesOfBlocks.{begun_after_last, begun_more, blocks_end, completes_block, is_panel, is_within, last_completes, losses_are_panels, middle, middle_within, panel_completes_none, round_line, within_not_last}
 use Rattle.tfpg_check.proofs.completeness.RightBlocksPass.{IsNextBlock, completed_passes}
@@ -151,21 +151,21 @@ stands_in (block ∷ blocks) front here rest same = elim (cut_twice (block_lines
 -- ---- fronts of a report
 
 -- Lines are right so far, and so they are with this line and one more block, where it completes one.
-pub record IsRightFront (matter : Matter) (terms : Terms) (reads : List ReportLine) (here : ReportLine) : Type 0 where
+pub record IsRightFront (problem : DiagnosisProblem) (terms : Terms) (reads : List ReportLine) (here : ReportLine) : Type 0 where
   pub blocks : List Block
-  pub right : AreRightSoFar matter terms blocks reads
-  pub next : completes_block here ≡ true → (block : Block) × AreRightSoFar matter terms (blocks ++ block ∷ []) (reads ++ here ∷ [])
+  pub right : AreRightSoFar problem terms blocks reads
+  pub next : completes_block here ≡ true → (block : Block) × AreRightSoFar problem terms (blocks ++ block ∷ []) (reads ++ here ∷ [])
 
 -- the first line is a last one
 pub head_is_last : (terms : Terms) (head : ReportLine) → IsHead terms head → is_last head ≡ true
 head_is_last terms head (inl new) = ap is_last new
 head_is_last terms head (inr old) = ap is_last old.1
 
-module _ (matter : Matter) (terms : Terms) (has_reports : HasReports matter.graph terms) (head : ReportLine) (is_head : IsHead terms head) where
+module _ (problem : DiagnosisProblem) (terms : Terms) (has_reports : HasReports problem.graph terms) (head : ReportLine) (is_head : IsHead terms head) where
   -- Right blocks and the lines of a round that has not ended are right so far.
-  pub right_so_far : (blocks : List Block) (begun : List ReportLine) (reads : List ReportLine) → length blocks ≤ length matter.log_lines
-      → AreBlocks matter.graph terms (take (length blocks) matter.log_lines) blocks → All (λ line. is_last line ≡ false) begun → reads ≡ head ∷ (flat_map block_lines blocks ++ begun)
-      → AreRightSoFar matter terms blocks reads
+  pub right_so_far : (blocks : List Block) (begun : List ReportLine) (reads : List ReportLine) → length blocks ≤ length problem.log_lines
+      → AreBlocks problem.graph terms (take (length blocks) problem.log_lines) blocks → All (λ line. is_last line ≡ false) begun → reads ≡ head ∷ (flat_map block_lines blocks ++ begun)
+      → AreRightSoFar problem terms blocks reads
   right_so_far blocks begun reads few are not_last same =
       let counted : begun_in reads ≡ begun =
       ap begun_in same
@@ -183,19 +183,19 @@ module _ (matter : Matter) (terms : Terms) (has_reports : HasReports matter.grap
       }
 
   -- So are right blocks with the lines of the next one.
-  pub right_with_block : (earlier : List Block) (block : Block) (reads : List ReportLine) → AreBlocks matter.graph terms (take (length earlier) matter.log_lines) earlier
-      → IsNextBlock matter terms earlier block → reads ≡ head ∷ (flat_map block_lines earlier ++ block_lines block) → AreRightSoFar matter terms (earlier ++ block ∷ []) reads
+  pub right_with_block : (earlier : List Block) (block : Block) (reads : List ReportLine) → AreBlocks problem.graph terms (take (length earlier) problem.log_lines) earlier
+      → IsNextBlock problem terms earlier block → reads ≡ head ∷ (flat_map block_lines earlier ++ block_lines block) → AreRightSoFar problem terms (earlier ++ block ∷ []) reads
   right_with_block earlier block reads are next same =
-      let inside : length earlier < length matter.log_lines = slice_get_within matter.log_lines (length earlier) next.text next.at in
+      let inside : length earlier < length problem.log_lines = slice_get_within problem.log_lines (length earlier) next.text next.at in
       let long : length (earlier ++ block ∷ []) ≡ length earlier + 1 = length-append earlier (block ∷ []) in
       right_so_far (earlier ++ block ∷ []) [] reads (omega (arith, inside, long))
-      (blocks_with matter.graph terms matter.log_lines earlier block next.text are next.at next.is_block)
+      (blocks_with problem.graph terms problem.log_lines earlier block next.text are next.at next.is_block)
       (All-nil (λ line. is_last line ≡ false))
       (same ∙ ap (λ (ls : List ReportLine). head ∷ ls)
       (sym (append-nil (flat_map block_lines (earlier ++ block ∷ [])) ∙ flat_map-append block_lines earlier (block ∷ [])
       ∙ ap (λ (ls : List ReportLine). flat_map block_lines earlier ++ ls) (append-nil (block_lines block)))))
 
-  module _ (earlier : List Block) (few : length earlier ≤ length matter.log_lines) (are : AreBlocks matter.graph terms (take (length earlier) matter.log_lines) earlier)
+  module _ (earlier : List Block) (few : length earlier ≤ length problem.log_lines) (are : AreBlocks problem.graph terms (take (length earlier) problem.log_lines) earlier)
       (part : List ReportLine) (here : ReportLine) (more : List ReportLine) where
     abbrev Reads : List ReportLine
     Reads = head ∷ (flat_map block_lines earlier ++ part)
@@ -206,8 +206,8 @@ module _ (matter : Matter) (terms : Terms) (has_reports : HasReports matter.grap
         ap (λ (ls : List ReportLine). head ∷ ls) (append_assoc (flat_map block_lines earlier) part (here ∷ []) ∙ ap (λ (ls : List ReportLine). flat_map block_lines earlier ++ ls) (sym same))
 
     -- the line is that of a refused line
-    front_at_refused : (number : ℕ) (cause : RefusedLine) → IsNextBlock matter terms earlier (RefusedBlock number cause) → (others : List ReportLine) → part ≡ others
-        → Refused number cause ∷ [] ≡ others ++ here ∷ more → IsRightFront matter terms Reads here
+    front_at_refused : (number : ℕ) (cause : RefusedLine) → IsNextBlock problem terms earlier (RefusedBlock number cause) → (others : List ReportLine) → part ≡ others
+        → Refused number cause ∷ [] ≡ others ++ here ∷ more → IsRightFront problem terms Reads here
     front_at_refused number cause next [] none lines =
         let own : here ≡ Refused number cause = cc in
         record {
@@ -223,14 +223,14 @@ module _ (matter : Matter) (terms : Terms) (has_reports : HasReports matter.grap
         let rest : [] ≡ others ++ here ∷ more = cc in
         absurd (append_cons-not_nil others here more rest)
 
-    module _ (round : RoundOf) (losses : List Loss) (next : IsNextBlock matter terms earlier (RoundBlock round losses)) where
+    module _ (round : RoundOf) (losses : List Loss) (next : IsNextBlock problem terms earlier (RoundBlock round losses)) where
       -- the round with fewer losses may come as well
-      next_with : (count : ℕ) → IsNextBlock matter terms earlier (RoundBlock round (take count losses))
+      next_with : (count : ℕ) → IsNextBlock problem terms earlier (RoundBlock round (take count losses))
       next_with count = record {
         text = next.text;
         at = next.at;
-        is_block = fewer_losses matter.graph terms (progress_after_blocks matter earlier) (length earlier + 1) round losses
-            (event_of_line matter.graph (progress_after_blocks matter earlier).log next.text) count next.is_block;
+        is_block = fewer_losses problem.graph terms (progress_after_blocks problem earlier) (length earlier + 1) round losses
+            (event_of_line problem.graph (progress_after_blocks problem earlier).log next.text) count next.is_block;
       }
 
       begun_not_last : All (λ line. is_last line ≡ false) (round_line round ∷ middle round)
@@ -239,7 +239,7 @@ module _ (matter : Matter) (terms : Terms) (has_reports : HasReports matter.grap
           (All-weaker (λ line. is_within line ≡ true) (λ line. is_last line ≡ false) within_not_last (middle round) (middle_within round))
 
       -- the line stands before the counts of a round
-      front_before_counts : (mid : List ReportLine) → round_line round ∷ middle round ≡ part ++ here ∷ mid → IsRightFront matter terms Reads here
+      front_before_counts : (mid : List ReportLine) → round_line round ∷ middle round ≡ part ++ here ∷ mid → IsRightFront problem terms Reads here
       front_before_counts mid same =
           let all : All (λ line. is_last line ≡ false) (part ++ here ∷ mid) = subst (All (λ line. is_last line ≡ false)) same begun_not_last in
           record {
@@ -249,7 +249,7 @@ module _ (matter : Matter) (terms : Terms) (has_reports : HasReports matter.grap
           }
 
       -- it is the counts
-      front_at_counts : (others mid : List ReportLine) → part ≡ (round_line round ∷ middle round) ++ others → Counts round.counts ∷ [] ≡ others ++ here ∷ mid → IsRightFront matter terms Reads here
+      front_at_counts : (others mid : List ReportLine) → part ≡ (round_line round ∷ middle round) ++ others → Counts round.counts ∷ [] ≡ others ++ here ∷ mid → IsRightFront problem terms Reads here
       front_at_counts [] mid before counts =
           let own : here ≡ Counts round.counts = cc in
           let begun : part ≡ round_line round ∷ middle round = before ∙ append-nil (round_line round ∷ middle round) in
@@ -267,7 +267,7 @@ module _ (matter : Matter) (terms : Terms) (has_reports : HasReports matter.grap
           absurd (append_cons-not_nil others here mid rest)
 
       -- it is that of a lost panel
-      front_at_panel : (mid : List ReportLine) → part ≡ round_lines round ++ mid → map loss_line losses ≡ mid ++ here ∷ more → IsRightFront matter terms Reads here
+      front_at_panel : (mid : List ReportLine) → part ≡ round_lines round ++ mid → map loss_line losses ≡ mid ++ here ∷ more → IsRightFront problem terms Reads here
       front_at_panel mid before panels =
           let count : ℕ = length mid in
           let lost : map loss_line (take count losses) ≡ mid = sym (take-map loss_line count losses) ∙ ap (take count) panels ∙ take-append_seam mid (here ∷ more) in
@@ -279,7 +279,7 @@ module _ (matter : Matter) (terms : Terms) (has_reports : HasReports matter.grap
                 (sym (panel_completes_none here (All-middle (λ line. is_panel line ≡ true) mid here more (subst (All (λ line. is_panel line ≡ true)) panels (losses_are_panels losses)))) ∙ completes));
           }
 
-      front_in_round : block_lines (RoundBlock round losses) ≡ part ++ here ∷ more → IsRightFront matter terms Reads here
+      front_in_round : block_lines (RoundBlock round losses) ≡ part ++ here ∷ more → IsRightFront problem terms Reads here
       front_in_round lines = elim (cut_twice (round_lines round) (map loss_line losses) part (here ∷ more) lines) [
         | inl past ↦ front_at_panel past.mid past.front_is past.rest_is
         | inr within ↦ (
@@ -295,29 +295,29 @@ module _ (matter : Matter) (terms : Terms) (has_reports : HasReports matter.grap
             )
       ]
 
-    front_in : (block : Block) → IsNextBlock matter terms earlier block → block_lines block ≡ part ++ here ∷ more → IsRightFront matter terms Reads here
+    front_in : (block : Block) → IsNextBlock problem terms earlier block → block_lines block ≡ part ++ here ∷ more → IsRightFront problem terms Reads here
     front_in (RefusedBlock number cause) next lines = front_at_refused number cause next part refl lines
     front_in (RoundBlock round losses) next lines = front_in_round round losses next lines
 
   -- What the lines of a report begin with is right so far.
-  pub right_front : (all : List Block) → AreBlocks matter.graph terms matter.log_lines all → (front : List ReportLine) (here : ReportLine) (rest : List ReportLine)
-      → flat_map block_lines all ≡ front ++ here ∷ rest → IsRightFront matter terms (head ∷ front) here
+  pub right_front : (all : List Block) → AreBlocks problem.graph terms problem.log_lines all → (front : List ReportLine) (here : ReportLine) (rest : List ReportLine)
+      → flat_map block_lines all ≡ front ++ here ∷ rest → IsRightFront problem terms (head ∷ front) here
   right_front all are front here rest same =
       let at = stands_in all front here rest same in
-      let own : AreBlocks matter.graph terms matter.log_lines (at.earlier ++ at.block ∷ at.later) = subst (AreBlocks matter.graph terms matter.log_lines) at.blocks_are are in
+      let own : AreBlocks problem.graph terms problem.log_lines (at.earlier ++ at.block ∷ at.later) = subst (AreBlocks problem.graph terms problem.log_lines) at.blocks_are are in
       let one_each = own.one_each in
       let long : length (at.earlier ++ at.block ∷ at.later) ≡ length at.earlier + length (at.block ∷ at.later) = length-append at.earlier (at.block ∷ at.later) in
-      let text = slice_get-there matter.log_lines (length at.earlier) (omega (arith, one_each, long)) in
-      let next : IsNextBlock matter terms at.earlier at.block =
+      let text = slice_get-there problem.log_lines (length at.earlier) (omega (arith, one_each, long)) in
+      let next : IsNextBlock problem terms at.earlier at.block =
       record {
         text = text.0;
         at = text.1;
-        is_block = subst (λ (bs : List Block). IsBlock matter.graph terms (progress_of matter.graph (take (length at.earlier) matter.log_lines) bs) (length at.earlier + 1) text.0 at.block)
+        is_block = subst (λ (bs : List Block). IsBlock problem.graph terms (progress_of problem.graph (take (length at.earlier) problem.log_lines) bs) (length at.earlier + 1) text.0 at.block)
             (take-append_seam at.earlier (at.block ∷ at.later))
             (own.each (length at.earlier) text.0 at.block text.1 (slice_get-after at.earlier at.block at.later));
       } in
-      subst (λ (ls : List ReportLine). IsRightFront matter terms (head ∷ ls) here) (sym at.front_is)
-      (front_in at.earlier (omega (arith, one_each, long)) (blocks_front matter.graph terms matter.log_lines at.earlier (at.block ∷ at.later) own) at.part here at.more at.block next at.lines_are)
+      subst (λ (ls : List ReportLine). IsRightFront problem terms (head ∷ ls) here) (sym at.front_is)
+      (front_in at.earlier (omega (arith, one_each, long)) (blocks_front problem.graph terms problem.log_lines at.earlier (at.block ∷ at.later) own) at.part here at.more at.block next at.lines_are)
 
 -- ---- before a block that is complete
 
@@ -354,10 +354,10 @@ completed_by front reads line (RoundBlock round (loss ∷ losses)) completes sam
           )
     ]
 
-module _ (matter : Matter) (terms : Terms) (blocks : List Block) (block : Block) (reads : List ReportLine) (line : ReportLine) (completes : completes_block line ≡ true)
-    (right : AreRightSoFar matter terms (blocks ++ block ∷ []) (reads ++ line ∷ [])) where
+module _ (problem : DiagnosisProblem) (terms : Terms) (blocks : List Block) (block : Block) (reads : List ReportLine) (line : ReportLine) (completes : completes_block line ≡ true)
+    (right : AreRightSoFar problem terms (blocks ++ block ∷ []) (reads ++ line ∷ [])) where
   -- without the line and the block that it completes lines are right so far
-  right_before : AreRightSoFar matter terms blocks reads
+  right_before : AreRightSoFar problem terms blocks reads
   right_before =
       let head : ReportLine = right.head in
       let few = right.few in
@@ -372,11 +372,11 @@ module _ (matter : Matter) (terms : Terms) (blocks : List Block) (block : Block)
       let before = same_from_push reads ((head ∷ flat_map block_lines blocks) ++ own.begun) line line
       (lines ∙ ap (λ (ls : List ReportLine). (head ∷ flat_map block_lines blocks) ++ ls) own.lines_are
       ∙ sym (append_assoc (head ∷ flat_map block_lines blocks) own.begun (line ∷ []))) in
-      right_so_far matter terms right.has_reports head right.is_head blocks own.begun reads (omega (arith, few, long))
-      (subst (λ (ls : List (List ℕ)). AreBlocks matter.graph terms ls blocks) (take-take (length blocks) (length (blocks ++ block ∷ [])) matter.log_lines (omega (arith, long)))
-      (blocks_front matter.graph terms (take (length (blocks ++ block ∷ [])) matter.log_lines) blocks (block ∷ []) right.are_blocks))
+      right_so_far problem terms right.has_reports head right.is_head blocks own.begun reads (omega (arith, few, long))
+      (subst (λ (ls : List (List ℕ)). AreBlocks problem.graph terms ls blocks) (take-take (length blocks) (length (blocks ++ block ∷ [])) problem.log_lines (omega (arith, long)))
+      (blocks_front problem.graph terms (take (length (blocks ++ block ∷ [])) problem.log_lines) blocks (block ∷ []) right.are_blocks))
       own.not_last before.0
 
   -- A block with which lines are right so far does not fail at the line that completes it.
-  pub right_block_passes : Passes (BlockFails matter terms blocks reads line)
-  right_block_passes = completed_passes matter terms blocks block reads line completes right_before right
+  pub right_block_passes : Passes (BlockFails problem terms blocks reads line (next_event problem blocks))
+  right_block_passes = completed_passes problem terms blocks block reads line completes right_before right

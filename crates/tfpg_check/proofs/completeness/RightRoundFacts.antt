@@ -1,4 +1,4 @@
--- What a right round has on the hypotheses of a docket.
+-- What a right round has on the hypotheses of a basis.
 use Rattle.std.proofs.Common.{◌≡◌, ℕ, ◌<◌, Bool, true, false, List, [], ◌∷◌, ◌++◌, length, map, Some, slice_get, eqb, refl, sym, ap, subst, subst₂, ◌∙◌, arith}
 use Rattle.std.specs.List.{AllPairs}
 use Rattle.std.proofs.lemmas.Bool.{eqb-true}
@@ -26,46 +26,46 @@ use Rattle.tfpg_hyp.specs.Views.{IsReachOf, case_for}
 use Rattle.tfpg_hyp.specs.Rounds.{IsRound, HasEvidence, steps_so_far}
 use Rattle.tfpg_hyp.proofs.FindingsOfRound.{HasFindingAt, evidence, steps_so_far-push}
 use Rattle.tfpg_hyp.proofs.Tables.{one_table}
-use Rattle.tfpg_check.specs.Judging.{Docket, IsNumberOf, AreClosed, WasClosed}
+use Rattle.tfpg_check.specs.Judging.{RoundBasis, IsNumberOf, AreClosed, WasClosed}
 use Rattle.tfpg_check.proofs.passing.ByNumber.{AllPairs-from_indexes}
 
--- The round is right by the docket, after some rounds: it is one of the docket's log, and the docket has the steps of the rounds
+-- The round is right by the basis, after some rounds: it is one of the basis's log, and the basis has the steps of the rounds
 -- before.
-pub record IsRightBy (docket : Docket) (line : ℕ) (round : Round) : Type 0 where
+pub record IsRightBy (basis : RoundBasis) (line : ℕ) (round : Round) : Type 0 where
   pub rounds : List Round
-  pub steps : (number : ℕ) → docket.steps number ≡ steps_so_far number rounds
-  pub table : IsTable docket.graph docket.terms docket.hypotheses
-  pub is_round : IsRound docket.graph docket.terms rounds docket.log line round
+  pub steps : (number : ℕ) → basis.steps number ≡ steps_so_far number rounds
+  pub table : IsTable basis.graph basis.terms basis.hypotheses
+  pub is_round : IsRound basis.graph basis.terms rounds basis.log line round
 
--- A right round of a graph, on terms and after rounds that a docket has, is right by it.
-pub right_by : (graph : Tfpg) (terms : Terms) (rounds : List Round) (docket : Docket) (line : ℕ) (round : Round) → docket.graph ≡ graph → docket.terms ≡ terms
-    → IsTable graph terms docket.hypotheses → ((number : ℕ) → docket.steps number ≡ steps_so_far number rounds) → IsRound graph terms rounds docket.log line round → IsRightBy docket line round
-right_by graph terms rounds docket line round of_graph on_terms table steps is_round = record {
+-- A right round of a graph, on terms and after rounds that a basis has, is right by it.
+pub right_by : (graph : Tfpg) (terms : Terms) (rounds : List Round) (basis : RoundBasis) (line : ℕ) (round : Round) → basis.graph ≡ graph → basis.terms ≡ terms
+    → IsTable graph terms basis.hypotheses → ((number : ℕ) → basis.steps number ≡ steps_so_far number rounds) → IsRound graph terms rounds basis.log line round → IsRightBy basis line round
+right_by graph terms rounds basis line round of_graph on_terms table steps is_round = record {
   rounds = rounds;
   steps = steps;
-  table = subst₂ (λ (g : Tfpg) (t : Terms). IsTable g t docket.hypotheses) (sym of_graph) (sym on_terms) table;
-  is_round = subst₂ (λ (g : Tfpg) (t : Terms). IsRound g t rounds docket.log line round) (sym of_graph) (sym on_terms) is_round;
+  table = subst₂ (λ (g : Tfpg) (t : Terms). IsTable g t basis.hypotheses) (sym of_graph) (sym on_terms) table;
+  is_round = subst₂ (λ (g : Tfpg) (t : Terms). IsRound g t rounds basis.log line round) (sym of_graph) (sym on_terms) is_round;
 }
 
 -- ---- cases
 
 -- what the evidence on a hypothesis with this reach is about
-abbrev pub case_by : Docket → Hypothesis → List ℕ → Case
-case_by docket hypothesis reach = case_for docket.graph docket.log hypothesis reach
+abbrev pub case_by : RoundBasis → Hypothesis → List ℕ → Case
+case_by basis hypothesis reach = case_for basis.graph basis.log hypothesis reach
 
 -- it is one for a number
-pub one_case : (docket : Docket) (number : ℕ) (one other : Hypothesis) (reach reached : List ℕ) → IsNumberOf docket number one → IsNumberOf docket number other
-    → IsReachOf docket.graph one reach → IsReachOf docket.graph other reached → case_by docket one reach ≡ case_by docket other reached
-one_case docket number one other reach reached at also is too =
+pub one_case : (basis : RoundBasis) (number : ℕ) (one other : Hypothesis) (reach reached : List ℕ) → IsNumberOf basis number one → IsNumberOf basis number other
+    → IsReachOf basis.graph one reach → IsReachOf basis.graph other reached → case_by basis one reach ≡ case_by basis other reached
+one_case basis number one other reach reached at also is too =
     let same : one ≡ other = same_Some one other (sym at ∙ also) in
-    let same_reach : reach ≡ reached = reach_is_one docket.graph other.set reach (subst (λ (h : Hypothesis). IsReachOf docket.graph h reach) same is) reached too in
-    λ i. case_by docket (same i) (same_reach i)
+    let same_reach : reach ≡ reached = reach_is_one basis.graph other.set reach (subst (λ (h : Hypothesis). IsReachOf basis.graph h reach) same is) reached too in
+    λ i. case_by basis (same i) (same_reach i)
 
 -- closed steps are a refutation, whatever hypothesis and reach one names
-pub refutation_of : (docket : Docket) (number : ℕ) (steps : List Judged) → AreClosed docket number steps → (hypothesis : Hypothesis) → IsNumberOf docket number hypothesis
-    → (reach : List ℕ) → IsReachOf docket.graph hypothesis reach → IsRefutation (case_by docket hypothesis reach) steps
-refutation_of docket number steps closed hypothesis at reach is =
-    subst (λ (c : Case). IsRefutation c steps) (one_case docket number closed.hypothesis hypothesis closed.reach reach closed.listed at closed.reach_is is) closed.refutation
+pub refutation_of : (basis : RoundBasis) (number : ℕ) (steps : List Judged) → AreClosed basis number steps → (hypothesis : Hypothesis) → IsNumberOf basis number hypothesis
+    → (reach : List ℕ) → IsReachOf basis.graph hypothesis reach → IsRefutation (case_by basis hypothesis reach) steps
+refutation_of basis number steps closed hypothesis at reach is =
+    subst (λ (c : Case). IsRefutation c steps) (one_case basis number closed.hypothesis hypothesis closed.reach reach closed.listed at closed.reach_is is) closed.refutation
 
 -- ---- what a status says of the steps
 
@@ -90,18 +90,18 @@ no_items : {X Y : Type 0} (f : X → Y) (xs : List X) → map f xs ≡ [] → xs
 no_items f [] none = refl
 no_items f (x ∷ xs) none = absurd cc
 
-module _ (docket : Docket) (line : ℕ) (round : Round) (right : IsRightBy docket line round) where
-  same_table : right.is_round.hypotheses ≡ docket.hypotheses
-  same_table = one_table docket.graph docket.terms right.is_round.hypotheses docket.hypotheses right.is_round.table right.table
+module _ (basis : RoundBasis) (line : ℕ) (round : Round) (right : IsRightBy basis line round) where
+  same_table : right.is_round.hypotheses ≡ basis.hypotheses
+  same_table = one_table basis.graph basis.terms right.is_round.hypotheses basis.hypotheses right.is_round.table right.table
 
   -- there are as many findings as hypotheses
-  pub as_many : length round.findings ≡ length docket.hypotheses
+  pub as_many : length round.findings ≡ length basis.hypotheses
   as_many = right.is_round.complete ∙ ap length same_table
 
   -- a hypothesis has a finding
-  pub finding_for : (number : ℕ) (hypothesis : Hypothesis) → IsNumberOf docket number hypothesis → (finding : Finding) × HasFindingAt round number finding × (hypothesis_of finding ≡ hypothesis)
+  pub finding_for : (number : ℕ) (hypothesis : Hypothesis) → IsNumberOf basis number hypothesis → (finding : Finding) × HasFindingAt round number finding × (hypothesis_of finding ≡ hypothesis)
   finding_for number hypothesis at =
-      let found = slice_get-same_length round.findings docket.hypotheses number hypothesis (sym as_many) at in
+      let found = slice_get-same_length round.findings basis.hypotheses number hypothesis (sym as_many) at in
       let own = evidence right.is_round number found.0 found.1 in (
         found.0,
         found.1,
@@ -114,7 +114,7 @@ module _ (docket : Docket) (line : ℕ) (round : Round) (right : IsRightBy docke
     number_of = (evidence right.is_round number finding at).2.number_is
 
     -- its hypothesis is that of the number
-    pub listed_of : IsNumberOf docket number (hypothesis_of finding)
+    pub listed_of : IsNumberOf basis number (hypothesis_of finding)
     listed_of =
         let own = evidence right.is_round number finding at in
         sym (ap (λ (hs : List Hypothesis). slice_get hs number) same_table) ∙ own.1 ∙ ap Some (sym own.2.hypothesis_is)
@@ -124,56 +124,56 @@ module _ (docket : Docket) (line : ℕ) (round : Round) (right : IsRightBy docke
     Reach = (evidence right.is_round number finding at).2.reach
 
     -- and it reaches that
-    pub reach_of : IsReachOf docket.graph (hypothesis_of finding) Reach
+    pub reach_of : IsReachOf basis.graph (hypothesis_of finding) Reach
     reach_of =
         let own = (evidence right.is_round number finding at).2 in
-        subst (λ (h : Hypothesis). IsReachOf docket.graph h own.reach) (sym own.hypothesis_is) own.reach_is
+        subst (λ (h : Hypothesis). IsReachOf basis.graph h own.reach) (sym own.hypothesis_is) own.reach_is
 
     -- its steps of all rounds
     abbrev pub AllSteps : List Judged
-    AllSteps = with_steps (docket.steps number) docket.log finding.steps
+    AllSteps = with_steps (basis.steps number) basis.log finding.steps
 
     -- its evidence, if this is its status
     abbrev pub OwnEvidence : Status → Type 0
-    OwnEvidence status = HasEvidence (case_by docket (hypothesis_of finding) Reach) docket.terms.budget round.findings AllSteps finding status
+    OwnEvidence status = HasEvidence (case_by basis (hypothesis_of finding) Reach) basis.terms.budget round.findings AllSteps finding status
 
     -- it has its evidence
     pub evidence_of : OwnEvidence finding.status
     evidence_of =
         let own = (evidence right.is_round number finding at).2 in
         let steps : steps_so_far number (right.rounds ++ round ∷ []) ≡ AllSteps =
-        steps_so_far-push number right.rounds round (length docket.log.events) finding right.is_round.number at
-        ∙ ap (λ (before : List Judged). with_steps before docket.log finding.steps) (sym (right.steps number)) in
-        subst (λ (all : List Judged). HasEvidence (case_by docket (hypothesis_of finding) Reach) docket.terms.budget round.findings all finding finding.status) steps
-        (subst (λ (h : Hypothesis). HasEvidence (case_by docket h Reach) docket.terms.budget round.findings (steps_so_far number (right.rounds ++ round ∷ [])) finding finding.status)
+        steps_so_far-push number right.rounds round (length basis.log.events) finding right.is_round.number at
+        ∙ ap (λ (before : List Judged). with_steps before basis.log finding.steps) (sym (right.steps number)) in
+        subst (λ (all : List Judged). HasEvidence (case_by basis (hypothesis_of finding) Reach) basis.terms.budget round.findings all finding finding.status) steps
+        (subst (λ (h : Hypothesis). HasEvidence (case_by basis h Reach) basis.terms.budget round.findings (steps_so_far number (right.rounds ++ round ∷ [])) finding finding.status)
         (sym own.hypothesis_is) own.evidence)
 
     -- its steps are right
-    pub steps_of_finding : AreStepsOf (case_by docket (hypothesis_of finding) Reach) AllSteps (is_rejected finding.status)
+    pub steps_of_finding : AreStepsOf (case_by basis (hypothesis_of finding) Reach) AllSteps (is_rejected finding.status)
     steps_of_finding =
-        steps_by_status (case_by docket (hypothesis_of finding) Reach) docket.terms.budget round.findings AllSteps finding finding.status evidence_of
+        steps_by_status (case_by basis (hypothesis_of finding) Reach) basis.terms.budget round.findings AllSteps finding finding.status evidence_of
 
     -- its tree is closed where it is rejected,
-    pub closed_where_rejected : is_rejected finding.status ≡ true → AreClosed docket number AllSteps
+    pub closed_where_rejected : is_rejected finding.status ≡ true → AreClosed basis number AllSteps
     closed_where_rejected rejected =
         record { hypothesis = hypothesis_of finding; listed = listed_of; reach = Reach; reach_is = reach_of; refutation = steps_of_finding.0 rejected }
 
     -- and there alone.
-    pub rejected_where_closed : AreClosed docket number AllSteps → is_rejected finding.status ≡ true
+    pub rejected_where_closed : AreClosed basis number AllSteps → is_rejected finding.status ≡ true
     rejected_where_closed closed = by (is_rejected finding.status) refl
       where
         by : (rejected : Bool) → is_rejected finding.status ≡ rejected → rejected ≡ true
         by true is = refl
         by false is =
-            absurd (no_partial (case_by docket (hypothesis_of finding) Reach) AllSteps
-            (refutation_of docket number AllSteps closed (hypothesis_of finding) listed_of Reach reach_of) (steps_of_finding.1 is))
+            absurd (no_partial (case_by basis (hypothesis_of finding) Reach) AllSteps
+            (refutation_of basis number AllSteps closed (hypothesis_of finding) listed_of Reach reach_of) (steps_of_finding.1 is))
 
     -- Where it was closed before, it has no steps in this round.
-    pub no_steps_after : WasClosed docket number → finding.steps ≡ []
+    pub no_steps_after : WasClosed basis number → finding.steps ≡ []
     no_steps_after closed =
-        no_items (judged_by docket.log) finding.steps
-        (none_after (case_by docket (hypothesis_of finding) Reach) (docket.steps number) (is_rejected finding.status) (map (judged_by docket.log) finding.steps) steps_of_finding
-        (refutation_of docket number (docket.steps number) closed (hypothesis_of finding) listed_of Reach reach_of))
+        no_items (judged_by basis.log) finding.steps
+        (none_after (case_by basis (hypothesis_of finding) Reach) (basis.steps number) (is_rejected finding.status) (map (judged_by basis.log) finding.steps) steps_of_finding
+        (refutation_of basis number (basis.steps number) closed (hypothesis_of finding) listed_of Reach reach_of))
 
     -- it is found by its number
     pub found_by_number : finding_numbered round.findings number ≡ Some finding

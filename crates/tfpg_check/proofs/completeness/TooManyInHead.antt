@@ -12,7 +12,7 @@ use Rattle.tfpg_report.specs.ReportLines.{Says}
 use Rattle.tfpg_report.specs.Reading.{IsHead}
 use Rattle.tfpg_report.specs.Stands.{stand_of}
 use Rattle.tfpg_check.specs.declared.cause.CheckCause.{CheckCause}
-use Rattle.tfpg_check.specs.Causes.{AreRight, EndFails, IsCause, LineFails, Matter}
+use Rattle.tfpg_check.specs.Causes.{AreRight, EndFails, IsCause, LineFails, DiagnosisProblem}
 use Rattle.tfpg_check.specs.RightReports.{LinesOfTooManyHaveNoCause}
 use Rattle.tfpg_check.proofs.FirstLines.{OneLine}
 use Rattle.tfpg_check.proofs.completeness.EqualBlocks.{one_head}
@@ -26,14 +26,14 @@ no_item : (reads : List ReportLine) → length reads ≡ 0 → reads ≡ []
 no_item [] none = refl
 no_item (read ∷ reads) none = absurd (omega (arith, none))
 
-module _ (one_line : OneLine) (matter : Matter) (lines : List (List ℕ)) (first : List ℕ) (head : ReportLine) (terms : Terms) (count at : ℕ) (why : CheckCause) (valid : IsValid matter.graph)
-    (first_is : slice_get lines 0 ≡ Some first) (says : Says matter.graph head first) (is_head : IsHead terms head) (counted : HasHypotheses matter.graph terms count) (too_many : MAX_HYPOTHESES < count)
-    (cause : IsCause matter lines at why) where
+module _ (one_line : OneLine) (problem : DiagnosisProblem) (lines : List (List ℕ)) (first : List ℕ) (head : ReportLine) (terms : Terms) (count at : ℕ) (why : CheckCause) (valid : IsValid problem.graph)
+    (first_is : slice_get lines 0 ≡ Some first) (says : Says problem.graph head first) (is_head : IsHead terms head) (counted : HasHypotheses problem.graph terms count) (too_many : MAX_HYPOTHESES < count)
+    (cause : IsCause problem lines at why) where
   -- no line is right where it is the first
   none_right : (bytes : List ℕ) (before : List (List ℕ)) → cause.before ≡ bytes ∷ before → first ≡ bytes → ⊥
   none_right bytes before is same = by cause.right
     where
-      by : AreRight matter cause.reads → ⊥
+      by : AreRight problem cause.reads → ⊥
       by (inl none) =
           let each = cause.are_read.one_each in
           let long : length cause.before ≡ length (bytes ∷ before) = ap length is in
@@ -41,19 +41,19 @@ module _ (one_line : OneLine) (matter : Matter) (lines : List (List ℕ)) (first
           omega (arith, each, long, empty)
       by (inr right) =
           let own = right.2 in
-          let read : Says matter.graph own.head bytes =
+          let read : Says problem.graph own.head bytes =
           cause.are_read.each 0 bytes own.head (ap (λ (ls : List (List ℕ)). slice_get ls 0) is) (ap (λ (rs : List ReportLine). slice_get rs 0) own.lines_are) in
-          let heads : own.head ≡ head = one_line matter.graph own.head head bytes valid read (subst (Says matter.graph head) same says) in
+          let heads : own.head ≡ head = one_line problem.graph own.head head bytes valid read (subst (Says problem.graph head) same says) in
           let same_terms : right.0 ≡ terms = one_head right.0 terms head (subst (IsHead right.0) heads own.is_head) is_head in
-          let few : count ≤ MAX_HYPOTHESES = own.has_reports.few_hypotheses count (subst (λ (t : Terms). HasHypotheses matter.graph t count) (sym same_terms) counted) in
+          let few : count ≤ MAX_HYPOTHESES = own.has_reports.few_hypotheses count (subst (λ (t : Terms). HasHypotheses problem.graph t count) (sym same_terms) counted) in
           omega (arith, few, too_many)
 
   -- nor is a line wrong there
-  none_wrong : (bytes : List ℕ) → first ≡ bytes → cause.reads ≡ [] → LineFails matter cause.reads bytes at why → ⊥
+  none_wrong : (bytes : List ℕ) → first ≡ bytes → cause.reads ≡ [] → LineFails problem cause.reads bytes at why → ⊥
   none_wrong bytes same none (inl bad) =
       let comes = head_comes terms head is_head in
       bad.2 head (record {
-        says = subst (Says matter.graph head) same says;
+        says = subst (Says problem.graph head) same says;
         stand = comes.0;
         stands = ap (λ (rs : List ReportLine). stand_of (rs ++ head ∷ [])) none ∙ comes.1;
       })
@@ -65,8 +65,8 @@ module _ (one_line : OneLine) (matter : Matter) (lines : List (List ℕ)) (first
   no_cause_of_too_many = by cause.before refl cause.fails
     where
       by : (before : List (List ℕ)) → cause.before ≡ before
-          → ((bytes : List ℕ) × (more : List (List ℕ)) × (lines ≡ cause.before ++ bytes ∷ more) × LineFails matter cause.reads bytes at why)
-          ⊎ ((lines ≡ cause.before) × EndFails matter cause.reads at why) → ⊥
+          → ((bytes : List ℕ) × (more : List (List ℕ)) × (lines ≡ cause.before ++ bytes ∷ more) × LineFails problem cause.reads bytes at why)
+          ⊎ ((lines ≡ cause.before) × EndFails problem cause.reads at why) → ⊥
       by [] is (inl fails) =
           let each = cause.are_read.one_each in
           let long : length cause.before ≡ 0 = ap length is in
@@ -83,5 +83,5 @@ module _ (one_line : OneLine) (matter : Matter) (lines : List (List ℕ)) (first
 
 -- Lines have no cause where the first of them gives too many hypotheses.
 pub lines_of_too_many_have_no_cause : OneLine → LinesOfTooManyHaveNoCause
-lines_of_too_many_have_no_cause one_line matter lines first head terms count at why valid first_is says is_head counted too_many cause =
-    no_cause_of_too_many one_line matter lines first head terms count at why valid first_is says is_head counted too_many cause
+lines_of_too_many_have_no_cause one_line problem lines first head terms count at why valid first_is says is_head counted too_many cause =
+    no_cause_of_too_many one_line problem lines first head terms count at why valid first_is says is_head counted too_many cause

@@ -21,7 +21,7 @@ use Rattle.tfpg_report.specs.Stands.{may_begin_block, stand_of}
 use Rattle.tfpg_report.proofs.lemmas.block_reader.BegunLines.{begun_in_on}
 use Rattle.tfpg_check.specs.declared.cause.CheckCause.TheVariants as cause
 use Rattle.tfpg_check.specs.Report.{AreBlocks, IsBlockOf, Progress, event_of_line, progress_of, rounds_of}
-use Rattle.tfpg_check.specs.Causes.{AreRight, EndFails, Matter}
+use Rattle.tfpg_check.specs.Causes.{AreRight, EndFails, DiagnosisProblem}
 use Rattle.tfpg_check.specs.Judged.{IsWhole}
 use Rattle.tfpg_check.specs.JudgeState.{JudgeRepresents, JudgeState, KeepsBlocks, KeepsNone}
 use Rattle.tfpg_check.proofs.RoundsOfReports.{log_by_event}
@@ -90,19 +90,19 @@ some_begun (read ∷ reads) at some stands may =
 
 -- ---- the end
 
-module _ (matter : Matter) (reads : List ReportLine) (judge : JudgeState) (represents : JudgeRepresents matter judge reads) where
+module _ (problem : DiagnosisProblem) (reads : List ReportLine) (judge : JudgeState) (represents : JudgeRepresents problem judge reads) where
   -- Where a block may begin and no line of the log is left, the lines are a whole report.
-  pub whole_at_end : (rounds : ℕ) → rounds ≡ length judge.blocks.log.events → may_begin_block judge.reader.stand ≡ true → judge.blocks.log_lines.left ≡ [] → IsWhole matter reads rounds
+  pub whole_at_end : (rounds : ℕ) → rounds ≡ length judge.blocks.log.events → may_begin_block judge.reader.stand ≡ true → judge.blocks.log_lines.left ≡ [] → IsWhole problem reads rounds
   whole_at_end rounds counted may none = by represents.blocks
     where
-      by : KeepsNone matter reads judge.blocks ⊎ ((terms : Terms) × (blocks : List Block) × KeepsBlocks matter terms blocks reads judge.blocks) → IsWhole matter reads rounds
+      by : KeepsNone problem reads judge.blocks ⊎ ((terms : Terms) × (blocks : List Block) × KeepsBlocks problem terms blocks reads judge.blocks) → IsWhole problem reads rounds
       by (inl unbegun) =
           let first : Some stand.Nothing ≡ Some judge.reader.stand = ap stand_of (sym unbegun.none_read) ∙ represents.reader.stands in
           let same : stand.Nothing ≡ judge.reader.stand = cc in
           absurd (false≢true (ap may_begin_block same ∙ may))
       by (inr (terms, blocks, keeps)) =
           let few = keeps.right.few in
-          let rest : length judge.blocks.log_lines.left ≡ length matter.log_lines - length blocks = ap length keeps.log.left ∙ length-drop (length blocks) matter.log_lines in
+          let rest : length judge.blocks.log_lines.left ≡ length problem.log_lines - length blocks = ap length keeps.log.left ∙ length-drop (length blocks) problem.log_lines in
           let empty : length judge.blocks.log_lines.left ≡ 0 = ap length none in
           record {
             terms = terms;
@@ -111,26 +111,26 @@ module _ (matter : Matter) (reads : List ReportLine) (judge : JudgeState) (repre
             none_begun = none_begun reads judge.reader.stand represents.reader.stands may;
             all_lines = omega (arith, few, rest, empty);
             counted = counted ∙ ap (λ (log : Logbook). length log.events) keeps.log.log
-                ∙ as_many_rounds matter.graph terms (take (length blocks) matter.log_lines) blocks keeps.right.are_blocks;
+                ∙ as_many_rounds problem.graph terms (take (length blocks) problem.log_lines) blocks keeps.right.are_blocks;
           }
 
   -- Else the report ends too early.
-  pub early_at_end : (may_begin_block judge.reader.stand ≡ true → judge.blocks.log_lines.left ≡ [] → ⊥) → AreRight matter reads × EndFails matter reads (judge.lines + 1) cause.EndsEarly
+  pub early_at_end : (may_begin_block judge.reader.stand ≡ true → judge.blocks.log_lines.left ≡ [] → ⊥) → AreRight problem reads × EndFails problem reads (judge.lines + 1) cause.EndsEarly
   early_at_end more = by represents.blocks
     where
-      some_left : (blocks : List Block) (left : List (List ℕ)) → left ≡ drop (length blocks) matter.log_lines → (left ≡ [] → ⊥) → length blocks < length matter.log_lines
+      some_left : (blocks : List Block) (left : List (List ℕ)) → left ≡ drop (length blocks) problem.log_lines → (left ≡ [] → ⊥) → length blocks < length problem.log_lines
       some_left blocks [] is some = absurd (some refl)
       some_left blocks (text ∷ rest) is some =
-          let long : length (text ∷ rest) ≡ length matter.log_lines - length blocks = ap length is ∙ length-drop (length blocks) matter.log_lines in
+          let long : length (text ∷ rest) ≡ length problem.log_lines - length blocks = ap length is ∙ length-drop (length blocks) problem.log_lines in
           omega (arith, long)
 
-      by_stand : (terms : Terms) (blocks : List Block) → KeepsBlocks matter terms blocks reads judge.blocks → (may : Bool) → may_begin_block judge.reader.stand ≡ may
-          → (begun_in reads ≢ []) ⊎ (length blocks < length matter.log_lines)
+      by_stand : (terms : Terms) (blocks : List Block) → KeepsBlocks problem terms blocks reads judge.blocks → (may : Bool) → may_begin_block judge.reader.stand ≡ may
+          → (begun_in reads ≢ []) ⊎ (length blocks < length problem.log_lines)
       by_stand terms blocks keeps true may = inr (some_left blocks judge.blocks.log_lines.left keeps.log.left (more may))
-      by_stand terms blocks keeps false may = inl (some_begun reads judge.reader.stand (λ none. not_none matter terms blocks reads keeps.right none) represents.reader.stands may)
+      by_stand terms blocks keeps false may = inl (some_begun reads judge.reader.stand (λ none. not_none problem terms blocks reads keeps.right none) represents.reader.stands may)
 
-      by : KeepsNone matter reads judge.blocks ⊎ ((terms : Terms) × (blocks : List Block) × KeepsBlocks matter terms blocks reads judge.blocks)
-          → AreRight matter reads × EndFails matter reads (judge.lines + 1) cause.EndsEarly
+      by : KeepsNone problem reads judge.blocks ⊎ ((terms : Terms) × (blocks : List Block) × KeepsBlocks problem terms blocks reads judge.blocks)
+          → AreRight problem reads × EndFails problem reads (judge.lines + 1) cause.EndsEarly
       by (inl none) = (inl none.none_read, (refl, ap (λ (n : ℕ). n + 1) represents.lines, inl none.none_read))
       by (inr (terms, blocks, keeps)) = (
         inr (terms, blocks, keeps.right),

@@ -20,10 +20,10 @@ use Rattle.tfpg_report.specs.Blocks.{Block, Loss, RefusedBlock, RoundBlock, bloc
 use Rattle.tfpg_report.specs.Reading.{begun_in, is_last}
 use Rattle.tfpg_report.proofs.lemmas.block_reader.BegunLines.{begun_in_on}
 use Rattle.tfpg_check.specs.Report.{AreLosses, IsBlockOf, rounds_of}
-use Rattle.tfpg_check.specs.Judging.{Docket}
-use Rattle.tfpg_check.specs.Causes.{AreRightSoFar, Matter, progress_after_blocks}
-use Rattle.tfpg_check.specs.DocketState.{DocketState, HasChecker, KeepsDocket}
-use Rattle.tfpg_check.specs.JudgeState.{BlocksState, KeepsHypotheses, KeepsLog, docket_after}
+use Rattle.tfpg_check.specs.Judging.{RoundBasis}
+use Rattle.tfpg_check.specs.Causes.{AreRightSoFar, DiagnosisProblem, progress_after_blocks}
+use Rattle.tfpg_check.specs.HypothesesState.{HypothesesState, HasChecker, KeepsBasis}
+use Rattle.tfpg_check.specs.JudgeState.{BlocksState, KeepsHypotheses, KeepsLog, basis_after}
 use Rattle.tfpg_check.specs.inside.BlockSteps.{NextBrings}
 use Rattle.tfpg_check.proofs.completeness.RightBlocksPass.{IsNextBlock}
 use Rattle.tfpg_check.proofs.completeness.RightFronts.{right_with_block}
@@ -31,14 +31,14 @@ use Rattle.tfpg_check.proofs.going_on.NextLines.{event_at, text_at}
 
 -- ---- lines
 
-module _ (matter : Matter) (terms : Terms) (blocks : List Block) (reads : List ReportLine) (right : AreRightSoFar matter terms blocks reads) where
+module _ (problem : DiagnosisProblem) (terms : Terms) (blocks : List Block) (reads : List ReportLine) (right : AreRightSoFar problem terms blocks reads) where
   lines_with : (read : ReportLine) → reads ++ read ∷ [] ≡ right.head ∷ (flat_map block_lines blocks ++ (begun_in reads ++ read ∷ []))
   lines_with read =
       ap (λ (lines : List ReportLine). lines ++ read ∷ []) right.lines_are
       ∙ ap (λ (lines : List ReportLine). right.head ∷ lines) (append_assoc (flat_map block_lines blocks) (begun_in reads) (read ∷ []))
 
   -- A line within a round goes on right.
-  pub right_within : (read : ReportLine) → is_last read ≡ false → AreRightSoFar matter terms blocks (reads ++ read ∷ [])
+  pub right_within : (read : ReportLine) → is_last read ≡ false → AreRightSoFar problem terms blocks (reads ++ read ∷ [])
   right_within read within = record {
     has_reports = right.has_reports;
     head = right.head;
@@ -49,10 +49,10 @@ module _ (matter : Matter) (terms : Terms) (blocks : List Block) (reads : List R
   }
 
   -- So does one that completes the next block.
-  pub right_with : (block : Block) (read : ReportLine) → IsNextBlock matter terms blocks block → block_lines block ≡ begun_in reads ++ read ∷ []
-      → AreRightSoFar matter terms (blocks ++ block ∷ []) (reads ++ read ∷ [])
+  pub right_with : (block : Block) (read : ReportLine) → IsNextBlock problem terms blocks block → block_lines block ≡ begun_in reads ++ read ∷ []
+      → AreRightSoFar problem terms (blocks ++ block ∷ []) (reads ++ read ∷ [])
   right_with block read next lines =
-      right_with_block matter terms right.has_reports right.head right.is_head blocks block (reads ++ read ∷ []) right.are_blocks next
+      right_with_block problem terms right.has_reports right.head right.is_head blocks block (reads ++ read ∷ []) right.are_blocks next
       (lines_with read ∙ ap (λ (ls : List ReportLine). right.head ∷ (flat_map block_lines blocks ++ ls)) (sym lines))
 
 -- ---- the next block
@@ -64,32 +64,32 @@ no_losses = record {
   rising = λ i j d before within. absurd (omega arith);
 }
 
-module _ (matter : Matter) (terms : Terms) (blocks : List Block) (state : BlocksState) (keeps : KeepsLog matter blocks state) where
+module _ (problem : DiagnosisProblem) (terms : Terms) (blocks : List Block) (state : BlocksState) (keeps : KeepsLog problem blocks state) where
   next_by : (block : Block) (brings : Result Event RefusedLine) → NextBrings state brings
-      → IsBlockOf matter.graph terms (progress_after_blocks matter blocks) (length blocks + 1) block brings → IsNextBlock matter terms blocks block
+      → IsBlockOf problem.graph terms (progress_after_blocks problem blocks) (length blocks + 1) block brings → IsNextBlock problem terms blocks block
   next_by block brings next is = record {
     text = next.text;
-    at = text_at matter blocks state keeps brings next;
-    is_block = subst (IsBlockOf matter.graph terms (progress_after_blocks matter blocks) (length blocks + 1) block) (sym (event_at matter blocks state keeps brings next)) is;
+    at = text_at problem blocks state keeps brings next;
+    is_block = subst (IsBlockOf problem.graph terms (progress_after_blocks problem blocks) (length blocks + 1) block) (sym (event_at problem blocks state keeps brings next)) is;
   }
 
   -- The block of a refused line is the next one.
-  pub next_refused : (refused : RefusedLine) → NextBrings state (Err refused) → IsNextBlock matter terms blocks (RefusedBlock (length blocks + 1) refused)
+  pub next_refused : (refused : RefusedLine) → NextBrings state (Err refused) → IsNextBlock problem terms blocks (RefusedBlock (length blocks + 1) refused)
   next_refused refused next = next_by (RefusedBlock (length blocks + 1) refused) (Err refused) next refl
 
   -- So is that of a round of an accepted one.
   pub next_round : (event : Event) (round : RoundOf) → NextBrings state (Ok event)
-      → IsRound matter.graph terms (progress_after_blocks matter blocks).rounds (with_event (progress_after_blocks matter blocks).log event) (length blocks + 1) round
-      → IsNextBlock matter terms blocks (RoundBlock round [])
+      → IsRound problem.graph terms (progress_after_blocks problem blocks).rounds (with_event (progress_after_blocks problem blocks).log event) (length blocks + 1) round
+      → IsNextBlock problem terms blocks (RoundBlock round [])
   next_round event round next is = next_by (RoundBlock round []) (Ok event) next (round, [], refl, is, no_losses)
 
 -- ---- what is kept of the hypotheses
 
--- What is kept of a docket is kept of one with the same steps.
-pub keeps_same : (docket other : Docket) (log : Logbook) (kept : DocketState) → docket.graph ≡ other.graph → docket.terms ≡ other.terms → docket.hypotheses ≡ other.hypotheses
-    → ((number : ℕ) (hypothesis : Hypothesis) → slice_get other.hypotheses number ≡ Some hypothesis → docket.steps number ≡ other.steps number)
-    → KeepsDocket docket log kept → KeepsDocket other log kept
-keeps_same docket other log kept graph terms hypotheses steps keeps = record {
+-- What is kept of a basis is kept of one with the same steps.
+pub keeps_same : (basis other : RoundBasis) (log : Logbook) (kept : HypothesesState) → basis.graph ≡ other.graph → basis.terms ≡ other.terms → basis.hypotheses ≡ other.hypotheses
+    → ((number : ℕ) (hypothesis : Hypothesis) → slice_get other.hypotheses number ≡ Some hypothesis → basis.steps number ≡ other.steps number)
+    → KeepsBasis basis log kept → KeepsBasis other log kept
+keeps_same basis other log kept graph terms hypotheses steps keeps = record {
   terms = keeps.terms ∙ terms;
   table = subst₂ (λ (g : Tfpg) (t : Terms). IsTableOf g t kept.table) graph terms keeps.table;
   hypotheses = keeps.hypotheses ∙ hypotheses;
@@ -108,14 +108,14 @@ keeps_same docket other log kept graph terms hypotheses steps keeps = record {
         }
 
 -- Blocks with the same rounds, after which the log is the same, leave the same of the hypotheses.
-pub keeps_hypotheses_same : (matter : Matter) (terms : Terms) (blocks more : List Block) (old new : BlocksState) → flat_map rounds_of blocks ≡ flat_map rounds_of more → new.docket ≡ old.docket
-    → new.log ≡ old.log → KeepsHypotheses matter terms blocks old → KeepsHypotheses matter terms more new
-keeps_hypotheses_same matter terms blocks more old new rounds docket log keeps = record {
+pub keeps_hypotheses_same : (problem : DiagnosisProblem) (terms : Terms) (blocks more : List Block) (old new : BlocksState) → flat_map rounds_of blocks ≡ flat_map rounds_of more → new.hypotheses ≡ old.hypotheses
+    → new.log ≡ old.log → KeepsHypotheses problem terms blocks old → KeepsHypotheses problem terms more new
+keeps_hypotheses_same problem terms blocks more old new rounds basis log keeps = record {
   kept = keeps.kept;
-  is_kept = docket ∙ keeps.is_kept;
+  is_kept = basis ∙ keeps.is_kept;
   on_terms = keeps.on_terms;
   keeps =
-      subst (λ (l : Logbook). KeepsDocket (docket_after matter more keeps.kept l) l keeps.kept) (sym log)
-      (keeps_same (docket_after matter blocks keeps.kept old.log) (docket_after matter more keeps.kept old.log) old.log keeps.kept refl refl refl
+      subst (λ (l : Logbook). KeepsBasis (basis_after problem more keeps.kept l) l keeps.kept) (sym log)
+      (keeps_same (basis_after problem blocks keeps.kept old.log) (basis_after problem more keeps.kept old.log) old.log keeps.kept refl refl refl
       (λ number hypothesis at. ap (steps_so_far number) rounds) keeps.keeps);
 }

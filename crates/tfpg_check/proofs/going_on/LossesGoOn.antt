@@ -21,7 +21,7 @@ use Rattle.tfpg_report.specs.Blocks.{Block, Loss, RefusedBlock, RoundBlock, bloc
 use Rattle.tfpg_report.specs.Reading.{IsHead}
 use Rattle.tfpg_report.specs.Stands.{after_loss, is_later, may_begin_block, may_reject, stand_after_all, stand_of}
 use Rattle.tfpg_check.specs.Report.{AreBlocks, AreLosses, IsBlockOf, Progress, event_of_line, rounds_of}
-use Rattle.tfpg_check.specs.Causes.{AreRightSoFar, Matter, progress_after_blocks}
+use Rattle.tfpg_check.specs.Causes.{AreRightSoFar, DiagnosisProblem, progress_after_blocks}
 use Rattle.tfpg_check.proofs.completeness.RightBlocksPass.{IsNextBlock, next_block}
 use Rattle.tfpg_check.proofs.completeness.RightFronts.{blocks_front, right_with_block}
 use Rattle.tfpg_check.proofs.going_on.StandsOfLines.{ComesBy, comes_by, ends_with, none_begun}
@@ -74,38 +74,38 @@ more_losses graph terms before number round losses loss (Ok event) few below is 
 -- ---- the last block
 
 -- Lines with a lost panel are right so far, with as many blocks and the same rounds as before.
-pub record GoesOnWithLoss (matter : Matter) (terms : Terms) (blocks : List Block) (lines : List ReportLine) : Type 0 where
+pub record GoesOnWithLoss (problem : DiagnosisProblem) (terms : Terms) (blocks : List Block) (lines : List ReportLine) : Type 0 where
   pub more : List Block
   pub as_many : length more ≡ length blocks
   pub same_rounds : flat_map rounds_of blocks ≡ flat_map rounds_of more
-  pub right : AreRightSoFar matter terms more lines
+  pub right : AreRightSoFar problem terms more lines
 
 -- the lines of a last block
 lines_of_last : (front : List Block) (block : Block) → flat_map block_lines (front ++ block ∷ []) ≡ flat_map block_lines front ++ block_lines block
 lines_of_last front block =
     flat_map-append block_lines front (block ∷ []) ∙ ap (λ (ls : List ReportLine). flat_map block_lines front ++ ls) (append-nil (block_lines block))
 
-module _ (matter : Matter) (terms : Terms) (reads : List ReportLine) (panel : ℕ) (memory : Bool) (few : panel ≤ MAX_PANEL_NUMBER) (last : Option ℕ)
+module _ (problem : DiagnosisProblem) (terms : Terms) (reads : List ReportLine) (panel : ℕ) (memory : Bool) (few : panel ≤ MAX_PANEL_NUMBER) (last : Option ℕ)
     (stands : stand_of reads ≡ Some (stand.Counts last)) (later : is_later last panel ≡ true) where
   abbrev Lost : Loss
   Lost = record { panel = panel; memory = memory }
 
   -- where the lines end with those of a last block
-  module _ (front : List Block) (block : Block) (right : AreRightSoFar matter terms (front ++ block ∷ []) reads) where
+  module _ (front : List Block) (block : Block) (right : AreRightSoFar problem terms (front ++ block ∷ []) reads) where
     reads_are : reads ≡ right.head ∷ (flat_map block_lines front ++ block_lines block)
     reads_are =
         right.lines_are ∙ ap (λ (begun : List ReportLine). right.head ∷ (flat_map block_lines (front ++ block ∷ []) ++ begun)) (none_begun reads (stand.Counts last) stands refl)
         ∙ ap (λ (ls : List ReportLine). right.head ∷ ls) (append-nil (flat_map block_lines (front ++ block ∷ [])) ∙ lines_of_last front block)
 
-    front_is : AreBlocks matter.graph terms (take (length front) matter.log_lines) front
+    front_is : AreBlocks problem.graph terms (take (length front) problem.log_lines) front
     front_is =
         let long : length (front ++ block ∷ []) ≡ length front + 1 = length-append front (block ∷ []) in
-        subst (λ (ls : List (List ℕ)). AreBlocks matter.graph terms ls front) (take-take (length front) (length (front ++ block ∷ [])) matter.log_lines (omega (arith, long)))
-        (blocks_front matter.graph terms (take (length (front ++ block ∷ [])) matter.log_lines) front (block ∷ []) right.are_blocks)
+        subst (λ (ls : List (List ℕ)). AreBlocks problem.graph terms ls front) (take-take (length front) (length (front ++ block ∷ [])) problem.log_lines (omega (arith, long)))
+        (blocks_front problem.graph terms (take (length (front ++ block ∷ [])) problem.log_lines) front (block ∷ []) right.are_blocks)
 
   -- a round
-  with_loss : (front : List Block) (round : RoundOf) (losses : List Loss) → AreRightSoFar matter terms (front ++ RoundBlock round losses ∷ []) reads
-      → GoesOnWithLoss matter terms (front ++ RoundBlock round losses ∷ []) (reads ++ Panel panel memory ∷ [])
+  with_loss : (front : List Block) (round : RoundOf) (losses : List Loss) → AreRightSoFar problem terms (front ++ RoundBlock round losses ∷ []) reads
+      → GoesOnWithLoss problem terms (front ++ RoundBlock round losses ∷ []) (reads ++ Panel panel memory ∷ [])
   with_loss front round losses right =
       let block : Block = RoundBlock round losses in
       let next_is : Block = RoundBlock round (losses ++ Lost ∷ []) in
@@ -119,18 +119,18 @@ module _ (matter : Matter) (terms : Terms) (reads : List ReportLine) (panel : �
       let two = comes_by one.between (Counts round.counts ∷ []) lost (stand.Counts last) one.back_leads in
       let counted : stand.Counts None ≡ two.between = (then_some-true (may_reject one.between) (stand.Counts None) two.between two.front_leads).1 in
       let below = below_later losses None last panel (ap (λ (at : Stand). stand_after_all at lost) counted ∙ two.back_leads) later in
-      let own = next_block matter terms front block reads right in
-      let next : IsNextBlock matter terms front next_is = record {
+      let own = next_block problem terms front block reads right in
+      let next : IsNextBlock problem terms front next_is = record {
         text = own.text;
         at = own.at;
-        is_block = more_losses matter.graph terms (progress_after_blocks matter front) (length front + 1) round losses Lost
-            (event_of_line matter.graph (progress_after_blocks matter front).log own.text) few below.0 own.is_block;
+        is_block = more_losses problem.graph terms (progress_after_blocks problem front) (length front + 1) round losses Lost
+            (event_of_line problem.graph (progress_after_blocks problem front).log own.text) few below.0 own.is_block;
       } in
       record {
         more = front ++ next_is ∷ [];
         as_many = length-append front (next_is ∷ []) ∙ sym (length-append front (block ∷ []));
         same_rounds = rounds_with front block ∙ sym (rounds_with front next_is);
-        right = right_with_block matter terms right.has_reports right.head right.is_head front next_is (reads ++ Panel panel memory ∷ []) (front_is front block right) next
+        right = right_with_block problem terms right.has_reports right.head right.is_head front next_is (reads ++ Panel panel memory ∷ []) (front_is front block right) next
             (ap (λ (ls : List ReportLine). ls ++ Panel panel memory ∷ []) same
             ∙ ap (λ (ls : List ReportLine). right.head ∷ ls)
             (append_assoc before (block_lines block) (Panel panel memory ∷ [])
@@ -139,7 +139,7 @@ module _ (matter : Matter) (terms : Terms) (reads : List ReportLine) (panel : �
       }
 
   -- no refused line
-  not_refused : (front : List Block) (number : ℕ) (cause : RefusedLine) → AreRightSoFar matter terms (front ++ RefusedBlock number cause ∷ []) reads → ⊥
+  not_refused : (front : List Block) (number : ℕ) (cause : RefusedLine) → AreRightSoFar problem terms (front ++ RefusedBlock number cause ∷ []) reads → ⊥
   not_refused front number cause right =
       let same : reads ≡ (right.head ∷ flat_map block_lines front) ++ (Refused number cause ∷ []) = reads_are front (RefusedBlock number cause) right in
       let comes = comes_by stand.Nothing (right.head ∷ flat_map block_lines front) (Refused number cause ∷ []) (stand.Counts last) (ap stand_of (sym same) ∙ stands) in
@@ -151,29 +151,29 @@ module _ (matter : Matter) (terms : Terms) (reads : List ReportLine) (panel : �
   not_first head (inl new) at = let none : Some stand.Block ≡ Some (stand.Counts last) = ap (λ (l : ReportLine). stand_of (l ∷ [])) (sym new) ∙ at in cc
   not_first head (inr old) at = let none : Some stand.Block ≡ Some (stand.Counts last) = ap (λ (l : ReportLine). stand_of (l ∷ [])) (sym old.1) ∙ at in cc
 
-  by_last : (front : List Block) (block : Block) → AreRightSoFar matter terms (front ++ block ∷ []) reads
-      → GoesOnWithLoss matter terms (front ++ block ∷ []) (reads ++ Panel panel memory ∷ [])
+  by_last : (front : List Block) (block : Block) → AreRightSoFar problem terms (front ++ block ∷ []) reads
+      → GoesOnWithLoss problem terms (front ++ block ∷ []) (reads ++ Panel panel memory ∷ [])
   by_last front (RefusedBlock number cause) right = absurd (not_refused front number cause right)
   by_last front (RoundBlock round losses) right = with_loss front round losses right
 
-  by_blocks : (blocks : List Block) → AreRightSoFar matter terms blocks reads → GoesOnWithLoss matter terms blocks (reads ++ Panel panel memory ∷ [])
+  by_blocks : (blocks : List Block) → AreRightSoFar problem terms blocks reads → GoesOnWithLoss problem terms blocks (reads ++ Panel panel memory ∷ [])
   by_blocks [] right =
       let same : reads ≡ right.head ∷ [] = right.lines_are ∙ ap (λ (begun : List ReportLine). right.head ∷ begun) (none_begun reads (stand.Counts last) stands refl) in
       absurd (not_first right.head right.is_head (ap stand_of (sym same) ∙ stands))
   by_blocks (block ∷ blocks) right =
       let whole = ends_with block blocks in
-      subst (λ (bs : List Block). GoesOnWithLoss matter terms bs (reads ++ Panel panel memory ∷ [])) (sym whole.is)
-      (by_last whole.front whole.last (subst (λ (bs : List Block). AreRightSoFar matter terms bs reads) whole.is right))
+      subst (λ (bs : List Block). GoesOnWithLoss problem terms bs (reads ++ Panel panel memory ∷ [])) (sym whole.is)
+      (by_last whole.front whole.last (subst (λ (bs : List Block). AreRightSoFar problem terms bs reads) whole.is right))
 
 -- A lost panel goes on right.
-pub loss_goes_on : (matter : Matter) (terms : Terms) (blocks : List Block) (reads : List ReportLine) (panel : ℕ) (memory : Bool) (at : Stand) → AreRightSoFar matter terms blocks reads
-    → panel ≤ MAX_PANEL_NUMBER → stand_of (reads ++ Panel panel memory ∷ []) ≡ Some at → GoesOnWithLoss matter terms blocks (reads ++ Panel panel memory ∷ [])
-loss_goes_on matter terms blocks reads panel memory at right few stands = by comes.between comes.front_leads comes.back_leads
+pub loss_goes_on : (problem : DiagnosisProblem) (terms : Terms) (blocks : List Block) (reads : List ReportLine) (panel : ℕ) (memory : Bool) (at : Stand) → AreRightSoFar problem terms blocks reads
+    → panel ≤ MAX_PANEL_NUMBER → stand_of (reads ++ Panel panel memory ∷ []) ≡ Some at → GoesOnWithLoss problem terms blocks (reads ++ Panel panel memory ∷ [])
+loss_goes_on problem terms blocks reads panel memory at right few stands = by comes.between comes.front_leads comes.back_leads
   where
     comes : ComesBy stand.Nothing reads (Panel panel memory ∷ []) at
     comes = comes_by stand.Nothing reads (Panel panel memory ∷ []) at stands
 
-    by : (between : Stand) → stand_of reads ≡ Some between → after_loss between panel ≡ Some at → GoesOnWithLoss matter terms blocks (reads ++ Panel panel memory ∷ [])
+    by : (between : Stand) → stand_of reads ≡ Some between → after_loss between panel ≡ Some at → GoesOnWithLoss problem terms blocks (reads ++ Panel panel memory ∷ [])
     by (stand.Counts last) front leads =
-        by_blocks matter terms reads panel memory few last front (then_some-true (is_later last panel) (stand.Counts (Some panel)) at leads).0 blocks right
+        by_blocks problem terms reads panel memory few last front (then_some-true (is_later last panel) (stand.Counts (Some panel)) at leads).0 blocks right
     by _ front leads = absurd cc

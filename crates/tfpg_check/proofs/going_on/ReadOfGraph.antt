@@ -20,7 +20,7 @@ use Rattle.tfpg_report.specs.Represents.{ReaderState, Takes}
 use Rattle.tfpg_report.specs.Stands.{stand_of}
 use Rattle.tfpg_report.specs.declared.stand.Stand.{Stand}
 use Rattle.tfpg_evidence.specs.declared.round.Counts.{Counts as CountsOf}
-use Rattle.tfpg_check.specs.DocketState.{DocketState}
+use Rattle.tfpg_check.specs.HypothesesState.{HypothesesState}
 use Rattle.tfpg_check.specs.inside.ReadRoundOf.{IsRankedLineOf, IsReadRoundOf}
 use Rattle.tfpg_check.specs.inside.BlockSteps.{IsFedOf}
 
@@ -86,13 +86,13 @@ counts_come_later : (counts : CountsOf) (stand : Stand) → stand_of (Counts cou
 counts_come_later counts stand is = cc
 
 -- What a line completes after lines within their limits is of the graph, and a round comes only after a first line.
-pub fed_of_graph : (graph : Tfpg) (reads : List ReportLine) (bytes : List ℕ) (reader : ReaderState) (docket : Option DocketState) (fed : Fed) → Takes graph reads bytes reader fed
-    → All (IsLineWithin graph) (begun_in reads) → (docket ≡ None → reads ≡ []) → IsFedOf graph docket fed
-fed_of_graph graph reads bytes reader docket fed.More takes within begun = tt
-fed_of_graph graph reads bytes reader docket (fed.Head k doubt budget) takes within begun =
+pub fed_of_graph : (graph : Tfpg) (reads : List ReportLine) (bytes : List ℕ) (reader : ReaderState) (hypotheses : Option HypothesesState) (fed : Fed) → Takes graph reads bytes reader fed
+    → All (IsLineWithin graph) (begun_in reads) → (hypotheses ≡ None → reads ≡ []) → IsFedOf graph hypotheses fed
+fed_of_graph graph reads bytes reader hypotheses fed.More takes within begun = tt
+fed_of_graph graph reads bytes reader hypotheses (fed.Head k doubt budget) takes within begun =
     few_doubts graph (record { k = k; doubt = doubt; budget = budget }) takes.read takes.completes takes.may_come.says.within
-fed_of_graph graph reads bytes reader docket (fed.Refused number cause) takes within begun = tt
-fed_of_graph graph reads bytes reader docket (fed.Round read) takes within begun = (
+fed_of_graph graph reads bytes reader hypotheses (fed.Refused number cause) takes within begun = tt
+fed_of_graph graph reads bytes reader hypotheses (fed.Round read) takes within begun = (
   round_of_graph graph _ (begun_in reads ++ takes.read ∷ []) read
       (All-append (IsLineWithin graph) (begun_in reads) (takes.read ∷ []) within (All-cons (IsLineWithin graph) takes.read [] takes.may_come.says.within (All-nil (IsLineWithin graph))))
       takes.completes.1,
@@ -100,4 +100,4 @@ fed_of_graph graph reads bytes reader docket (fed.Round read) takes within begun
       (ap (λ (line : ReportLine). stand_of (line ∷ [])) (sym takes.completes.0.1)
       ∙ ap (λ (front : List ReportLine). stand_of (front ++ takes.read ∷ [])) (sym (begun none)) ∙ takes.may_come.stands),
 )
-fed_of_graph graph reads bytes reader docket (fed.Lost panel memory) takes within begun = tt
+fed_of_graph graph reads bytes reader hypotheses (fed.Lost panel memory) takes within begun = tt

@@ -5,7 +5,7 @@ use Rattle.tfpg_base.proofs.lists.Cuts.{take-next}
 use Rattle.tfpg_base.proofs.lists.FirstFound.{position-append}
 use Rattle.tfpg_base.proofs.lists.Positions.{position-push_no, position-push_yes}
 use Rattle.tfpg_report.specs.declared.read_round.Part.{Part}
-use Rattle.tfpg_check.specs.inside.Hearings.{noted, part_index}
+use Rattle.tfpg_check.specs.inside.Lookups.{noted, part_index}
 
 -- with one part more the index noted for a number is that of the first part that has it
 pub noted_more : (parts : List Part) (i : ℕ) (part : Part) → i < length parts → slice_get parts i ≡ Some part → (number : ℕ) (before : Option ℕ) → before ≡ part_index (take i parts) number

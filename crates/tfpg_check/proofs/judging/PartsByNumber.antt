@@ -9,7 +9,7 @@ use Rattle.tfpg_base.specs.Hypothesis.{Hypothesis, IsProperPart}
 use Rattle.tfpg_base.specs.Set.{IsSubset}
 use Rattle.tfpg_base.proofs.lists.Elements.{Contains-at, Contains-head, list_any-found, list_any-passes}
 use Rattle.tfpg_base.proofs.lists.Written.{each_get_or-push, slice_get-append_some, slice_get-push_cases}
-use Rattle.tfpg_check.specs.inside.Hearings.{flag_at}
+use Rattle.tfpg_check.specs.inside.Lookups.{flag_at}
 use Rattle.tfpg_check.specs.inside.LargestParts.{IsPartAmong, IsPartOfOne, AreLargestFrom, AreLargestBelow, ListsLargestParts, ArePartsBefore, HasFlaggedPart, SayFlaggedParts}
 
 -- ---- the largest ones

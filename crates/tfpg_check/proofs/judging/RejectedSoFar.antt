@@ -8,9 +8,9 @@ use Rattle.tfpg_base.proofs.lists.Cuts.{take-next}
 use Rattle.tfpg_base.proofs.lists.Elements.{slice_get-there}
 use Rattle.tfpg_report.specs.declared.read_round.NamedSet.{NamedSet}
 use Rattle.tfpg_report.specs.ReadRounds.{hypothesis_named}
-use Rattle.tfpg_check.specs.declared.round.hearing.Hearing.{Hearing}
+use Rattle.tfpg_check.specs.declared.round.lookup.RoundLookup.{RoundLookup}
 use Rattle.tfpg_check.specs.Judging.{NumberedHypothesis, named_by}
-use Rattle.tfpg_check.specs.inside.Hearings.{is_newly_closed}
+use Rattle.tfpg_check.specs.inside.Lookups.{is_newly_closed}
 use Rattle.tfpg_check.specs.inside.Named.{Names}
 use Rattle.tfpg_check.proofs.judging.NewlyClosed.{passing_at, passing_below, passing_more, at_there}
 
@@ -21,21 +21,21 @@ named_is hypotheses number hypothesis named at names =
     let same : hypothesis_named named ≡ hypothesis = same_Some _ _ (sym names.1 ∙ at) in
     λ i. record { number = names.0 i; hypothesis = same i }
 
-module _ (hearing : Hearing) where
+module _ (lookup : RoundLookup) where
   abbrev hypotheses : List Hypothesis
-  hypotheses = hearing.table.now.hypotheses
+  hypotheses = lookup.table.now.hypotheses
 
   abbrev rejected : List NamedSet
-  rejected = hearing.read.now.rejected
+  rejected = lookup.read.now.rejected
 
   abbrev lines : List NumberedHypothesis
-  lines = map named_by hearing.read.now.rejected
+  lines = map named_by lookup.read.now.rejected
 
   abbrev closed_below : ℕ → List NumberedHypothesis
-  closed_below end = passing_below (is_newly_closed hearing) hearing.table.now.hypotheses end
+  closed_below end = passing_below (is_newly_closed lookup) lookup.table.now.hypotheses end
 
   -- one line more, of the hypothesis whose turn it is
-  pub rejected_more : (index number : ℕ) → number < length hypotheses → is_newly_closed hearing number ≡ true → take index lines ≡ closed_below number → length (closed_below number) ≡ index
+  pub rejected_more : (index number : ℕ) → number < length hypotheses → is_newly_closed lookup number ≡ true → take index lines ≡ closed_below number → length (closed_below number) ≡ index
       → Names hypotheses number (slice_get rejected index) → (take (index + 1) lines ≡ closed_below (number + 1)) × (length (closed_below (number + 1)) ≡ index + 1)
   rejected_more index number within newly same as_many names =
       let there = slice_get-there hypotheses number within in
@@ -45,8 +45,8 @@ module _ (hearing : Hearing) where
       slice_get-map named_by rejected index ∙ ap (option_map named_by) line.1 ∙ ap (λ (n : NumberedHypothesis). Some n)
       (named_is hypotheses number there.0 line.0 there.1 (subst (Names hypotheses number) line.1 names)) in
       let here : closed_below (number + 1) ≡ closed_below number ++ named ∷ [] =
-      passing_more (is_newly_closed hearing) hypotheses number ∙ ap (λ (more : List NumberedHypothesis). closed_below number ++ more)
-      (at_there (is_newly_closed hearing) hypotheses number there.0 newly there.1) in (
+      passing_more (is_newly_closed lookup) hypotheses number ∙ ap (λ (more : List NumberedHypothesis). closed_below number ++ more)
+      (at_there (is_newly_closed lookup) hypotheses number there.0 newly there.1) in (
         take-next lines index named at ∙ ap (λ (front : List NumberedHypothesis). front ++ named ∷ []) same ∙ sym here,
         ap length here ∙ length-append (closed_below number) (named ∷ []) ∙ ap (λ (n : ℕ). n + 1) as_many,
       )
@@ -56,10 +56,10 @@ module _ (hearing : Hearing) where
       named_there (Some line) is names = (line, is)
 
   -- none more, where its tree was not closed in this round
-  pub rejected_same : (index number : ℕ) → is_newly_closed hearing number ≡ false → take index lines ≡ closed_below number → length (closed_below number) ≡ index
+  pub rejected_same : (index number : ℕ) → is_newly_closed lookup number ≡ false → take index lines ≡ closed_below number → length (closed_below number) ≡ index
       → (take index lines ≡ closed_below (number + 1)) × (length (closed_below (number + 1)) ≡ index)
   rejected_same index number newly same as_many =
       let here : closed_below (number + 1) ≡ closed_below number =
-      passing_more (is_newly_closed hearing) hypotheses number ∙ ap (λ (passes : Bool). closed_below number ++ passing_at passes (slice_get hypotheses number) number) newly
+      passing_more (is_newly_closed lookup) hypotheses number ∙ ap (λ (passes : Bool). closed_below number ++ passing_at passes (slice_get hypotheses number) number) newly
       ∙ append-nil (closed_below number) in
       (same ∙ sym here, ap length here ∙ as_many)

@@ -9,10 +9,10 @@ use Rattle.tfpg_base.specs.Choice.{numbers_from}
 use Rattle.tfpg_base.proofs.lists.Elements.{All-from_members, AllPairs-cons, Contains-at, slice_get-contains}
 use Rattle.tfpg_base.proofs.lists.Numbered.{item_of, number_of, length-numbers_from}
 use Rattle.tfpg_base.proofs.lists.Ordered.{Rises, AllPairs-nil, same_from_members}
-use Rattle.tfpg_check.specs.declared.round.hearing.Hearing.{Hearing}
-use Rattle.tfpg_check.specs.Judging.{Docket, IsClosed, AreRightCounts}
-use Rattle.tfpg_check.specs.inside.Hearings.{IsHearing, flag_at}
-use Rattle.tfpg_check.specs.inside.Named.{AreCountsHeard}
+use Rattle.tfpg_check.specs.declared.round.lookup.RoundLookup.{RoundLookup}
+use Rattle.tfpg_check.specs.Judging.{RoundBasis, IsClosed, AreRightCounts}
+use Rattle.tfpg_check.specs.inside.Lookups.{IsLookupOf, flag_at}
+use Rattle.tfpg_check.specs.inside.Named.{AreCountsFound}
 
 -- the numbers of the items that pass rise
 numbers_rise : {X : Type 0} (p : X → Bool) (n : ℕ) (xs : List X) → Rises (numbers_from n p xs)
@@ -43,33 +43,33 @@ raised_exactly flags number = (
   ],
 )
 
-module _ (docket : Docket) (hearing : Hearing) (is : IsHearing docket hearing) where
+module _ (basis : RoundBasis) (lookup : RoundLookup) (is : IsLookupOf basis lookup) where
   abbrev closed : List ℕ
-  closed = raised hearing.closed.now
+  closed = raised lookup.closed.now
 
-  closed_exactly : (number : ℕ) → Contains closed number ↔ IsClosed docket hearing.read.now number
+  closed_exactly : (number : ℕ) → Contains closed number ↔ IsClosed basis lookup.read.now number
   closed_exactly number = (
-    λ member. (is.closed number).0 ((raised_exactly hearing.closed.now number).0 member),
-    λ shut. (raised_exactly hearing.closed.now number).1 ((is.closed number).1 shut),
+    λ member. (is.closed number).0 ((raised_exactly lookup.closed.now number).0 member),
+    λ shut. (raised_exactly lookup.closed.now number).1 ((is.closed number).1 shut),
   )
 
-  counted : length closed ≡ count_by (λ (flag : Bool). flag) hearing.closed.now
-  counted = length-numbers_from (λ (flag : Bool). flag) 0 hearing.closed.now
+  counted : length closed ≡ count_by (λ (flag : Bool). flag) lookup.closed.now
+  counted = length-numbers_from (λ (flag : Bool). flag) 0 lookup.closed.now
 
   -- The counts are right exactly where they are found so.
-  pub counts_exactly : AreCountsHeard hearing ↔ AreRightCounts docket hearing.read.now
+  pub counts_exactly : AreCountsFound lookup ↔ AreRightCounts basis lookup.read.now
   counts_exactly = (
-    λ heard. record {
-      ranked = heard.ranked;
-      unsettled = heard.unsettled;
+    λ found. record {
+      ranked = found.ranked;
+      unsettled = found.unsettled;
       closed = closed;
-      rising = numbers_rise (λ (flag : Bool). flag) 0 hearing.closed.now;
+      rising = numbers_rise (λ (flag : Bool). flag) 0 lookup.closed.now;
       exact = closed_exactly;
-      rejected = heard.rejected ∙ is.counted ∙ sym counted;
-      all = heard.all ∙ ap length (sym is.hypotheses);
+      rejected = found.rejected ∙ is.counted ∙ sym counted;
+      all = found.all ∙ ap length (sym is.hypotheses);
     },
     λ right. (let same : right.closed ≡ closed =
-        same_from_members right.closed closed right.rising (numbers_rise (λ (flag : Bool). flag) 0 hearing.closed.now)
+        same_from_members right.closed closed right.rising (numbers_rise (λ (flag : Bool). flag) 0 lookup.closed.now)
         (λ number member. (closed_exactly number).1 ((right.exact number).0 member)) (λ number member. (right.exact number).1 ((closed_exactly number).0 member)) in
         record {
           ranked = right.ranked;

@@ -12,10 +12,10 @@ use Rattle.tfpg_check.specs.declared.cause.CheckCause.{CheckCause}
 use Rattle.tfpg_check.specs.declared.round_fault.RoundFault.{RoundFault}
 use Rattle.tfpg_check.specs.declared.round_fault.RoundFault.TheVariants.{NotAccepted, NoMemory}
 use Rattle.tfpg_check.specs.Tests.{Fails, InTurn}
-use Rattle.tfpg_check.specs.Judging.{Docket, BeginsWell, PartFails, RoundFails}
-use Rattle.tfpg_check.specs.DocketState.{DocketState, KeepsDocket}
+use Rattle.tfpg_check.specs.Judging.{RoundBasis, BeginsWell, PartFails, RoundFails}
+use Rattle.tfpg_check.specs.HypothesesState.{HypothesesState, KeepsBasis}
 use Rattle.tfpg_check.specs.inside.AfterRound.{after_round}
-use Rattle.tfpg_check.specs.inside.Passing.{RoundPasses}
+use Rattle.tfpg_check.specs.Passing.{RoundPasses}
 use Rattle.tfpg_check.specs.inside.InTurn.{IsFaultOf}
 use Rattle.tfpg_check.specs.inside.Kept.{PassesRest, RestFails}
 use Rattle.tfpg_check.specs.inside.Parts.{ArePartsTaken, kept_of}
@@ -28,19 +28,19 @@ pub fault_at : (fails : Fails) (result : Result (Unit {0}) RoundFault) (fault : 
     → result ≡ Err (NotAccepted at why) → fails at why
 fault_at fails result fault failed is at why said = subst (IsFaultOf fails) (same_Err fault (NotAccepted at why) (sym failed ∙ said)) is
 
-module _ (docket : Docket) (line : ℕ) (read : ReadRound) (first : BeginsWell docket line read) where
+module _ (basis : RoundBasis) (line : ℕ) (read : ReadRound) (first : BeginsWell basis line read) where
   -- where a part fails, the round does
-  pub part_fails : (fault : RoundFault) → IsFaultOf (InTurn (PartFails docket) [] read.parts) fault → IsFaultOf (RoundFails docket line read) fault
+  pub part_fails : (fault : RoundFault) → IsFaultOf (InTurn (PartFails basis) [] read.parts) fault → IsFaultOf (RoundFails basis line read) fault
   part_fails (NotAccepted at why) is = inr (owes_passes _ _ _ first, inl is)
   part_fails NoMemory is = tt
 
-  module _ (state : DocketState) (taken : ArePartsTaken docket read.parts state) where
-    rest_fails : (fault : RoundFault) → IsFaultOf (RestFails docket read) fault → IsFaultOf (RoundFails docket line read) fault
-    rest_fails (NotAccepted at why) is = inr (owes_passes _ _ _ first, inr (in_turn_passes (PartFails docket) read.parts taken.not_fails, is))
+  module _ (state : HypothesesState) (taken : ArePartsTaken basis read.parts state) where
+    rest_fails : (fault : RoundFault) → IsFaultOf (RestFails basis read) fault → IsFaultOf (RoundFails basis line read) fault
+    rest_fails (NotAccepted at why) is = inr (owes_passes _ _ _ first, inr (in_turn_passes (PartFails basis) read.parts taken.not_fails, is))
     rest_fails NoMemory is = tt
 
     -- Where no test after those of the steps fails, the round passes;
-    pub round_passes : (result : Result (Unit {0}) RoundFault) → MatchResult result (λ _. PassesRest docket read) (IsFaultOf (RestFails docket read)) → OnOk result (RoundPasses docket line read)
+    pub round_passes : (result : Result (Unit {0}) RoundFault) → MatchResult result (λ _. PassesRest basis read) (IsFaultOf (RestFails basis read)) → OnOk result (RoundPasses basis line read)
     round_passes (Ok done) rest = record {
       begins = first;
       parts = taken.passes;
@@ -53,35 +53,35 @@ module _ (docket : Docket) (line : ℕ) (read : ReadRound) (first : BeginsWell d
     round_passes (Err fault) rest = tt
 
     -- and else it fails as they do.
-    pub round_fails : (result : Result (Unit {0}) RoundFault) → MatchResult result (λ _. PassesRest docket read) (IsFaultOf (RestFails docket read)) → (at : ℕ) (why : CheckCause)
-        → result ≡ Err (NotAccepted at why) → RoundFails docket line read at why
+    pub round_fails : (result : Result (Unit {0}) RoundFault) → MatchResult result (λ _. PassesRest basis read) (IsFaultOf (RestFails basis read)) → (at : ℕ) (why : CheckCause)
+        → result ≡ Err (NotAccepted at why) → RoundFails basis line read at why
     round_fails (Ok done) rest at why said = absurd (ok-err _ _ said)
-    round_fails (Err fault) rest at why said = fault_at (RoundFails docket line read) (Err fault) fault refl (rest_fails fault rest) at why said
+    round_fails (Err fault) rest at why said = fault_at (RoundFails basis line read) (Err fault) fault refl (rest_fails fault rest) at why said
 
--- what is kept, as the docket says it
-pub kept_as : (docket : Docket) (state : DocketState) (terms : Terms) (table : Hypotheses) (checkers lent : List CheckerState) → kept_of terms table checkers ≡ state → state.terms ≡ docket.terms
-    → lent ≡ checkers → state ≡ kept_of docket.terms table lent
-kept_as docket state terms table checkers lent is same value = sym is ∙ (λ i. kept_of (own i) table (sym value i))
+-- what is kept, as the basis says it
+pub kept_as : (basis : RoundBasis) (state : HypothesesState) (terms : Terms) (table : Hypotheses) (checkers lent : List CheckerState) → kept_of terms table checkers ≡ state → state.terms ≡ basis.terms
+    → lent ≡ checkers → state ≡ kept_of basis.terms table lent
+kept_as basis state terms table checkers lent is same value = sym is ∙ (λ i. kept_of (own i) table (sym value i))
   where
-    own : terms ≡ docket.terms
-    own = ap (λ (s : DocketState). s.terms) is ∙ same
+    own : terms ≡ basis.terms
+    own = ap (λ (s : HypothesesState). s.terms) is ∙ same
 
 -- and after the round, with the checkers as they are written back
-pub kept_after : (docket : Docket) (read : ReadRound) (terms : Terms) (table : Hypotheses) (checkers written : List CheckerState) → terms ≡ docket.terms → written ≡ checkers
-    → ArePartsTaken docket read.parts (kept_of docket.terms table checkers) → KeepsDocket (after_round docket read) docket.log (kept_of terms table written)
-kept_after docket read terms table checkers written same back taken =
-    subst (λ (t : Terms). KeepsDocket (after_round docket read) docket.log (kept_of t table written)) (sym same)
-    (subst (λ (cs : List CheckerState). KeepsDocket (after_round docket read) docket.log (kept_of docket.terms table cs)) (sym back) taken.keeps)
+pub kept_after : (basis : RoundBasis) (read : ReadRound) (terms : Terms) (table : Hypotheses) (checkers written : List CheckerState) → terms ≡ basis.terms → written ≡ checkers
+    → ArePartsTaken basis read.parts (kept_of basis.terms table checkers) → KeepsBasis (after_round basis read) basis.log (kept_of terms table written)
+kept_after basis read terms table checkers written same back taken =
+    subst (λ (t : Terms). KeepsBasis (after_round basis read) basis.log (kept_of t table written)) (sym same)
+    (subst (λ (cs : List CheckerState). KeepsBasis (after_round basis read) basis.log (kept_of basis.terms table cs)) (sym back) taken.keeps)
 
 -- parts that are lent
-pub taken_of : (docket : Docket) (parts lent : List Part) (state : DocketState) → lent ≡ parts → ArePartsTaken docket lent state → ArePartsTaken docket parts state
-taken_of docket parts lent state same = subst (λ (ps : List Part). ArePartsTaken docket ps state) same
+pub taken_of : (basis : RoundBasis) (parts lent : List Part) (state : HypothesesState) → lent ≡ parts → ArePartsTaken basis lent state → ArePartsTaken basis parts state
+taken_of basis parts lent state same = subst (λ (ps : List Part). ArePartsTaken basis ps state) same
 
 -- what is kept at the log of the round
-pub keeps_here : (docket : Docket) (earlier log : Logbook) (state : DocketState) → IsOrdered log → docket.log ≡ log → GoesOn earlier log → KeepsDocket docket earlier state
-    → KeepsDocket docket docket.log state
-keeps_here docket earlier log state ordered same goes_on keeps =
-    keeps_on docket earlier state (subst IsOrdered (sym same) ordered) (subst (GoesOn earlier) (sym same) goes_on) keeps
+pub keeps_here : (basis : RoundBasis) (earlier log : Logbook) (state : HypothesesState) → IsOrdered log → basis.log ≡ log → GoesOn earlier log → KeepsBasis basis earlier state
+    → KeepsBasis basis basis.log state
+keeps_here basis earlier log state ordered same goes_on keeps =
+    keeps_on basis earlier state (subst IsOrdered (sym same) ordered) (subst (GoesOn earlier) (sym same) goes_on) keeps
 
 -- what holds anyway holds at Ok
 pub on_ok : {P : Type 0} (result : Result (Unit {0}) RoundFault) → P → OnOk result P

@@ -8,8 +8,8 @@ use Rattle.tfpg_base.proofs.lists.Cuts.{take-next}
 use Rattle.tfpg_base.proofs.lists.Elements.{All-middle}
 use Rattle.tfpg_base.proofs.lists.Sequences.{below_or_last}
 use Rattle.tfpg_check.specs.declared.cause.CheckCause.{CheckCause}
-use Rattle.tfpg_check.specs.Tests.{Fails, Owes, Passes, Then, InTurn}
-use Rattle.tfpg_check.specs.inside.InTurn.{HoldBefore, HoldInTurn, PassesWith}
+use Rattle.tfpg_check.specs.Tests.{Fails, Owes, Passes, Then, InTurn, HoldInTurn}
+use Rattle.tfpg_check.specs.inside.InTurn.{HoldBefore, PassesWith}
 use Rattle.tfpg_check.specs.inside.Parts.{IsNextAfter}
 
 -- where a test fails, what it tests does not hold

@@ -19,8 +19,8 @@ use Rattle.tfpg_report.specs.declared.read_round.NamedSet.{NamedSet}
 use Rattle.tfpg_report.specs.declared.read_round.RankedLine.{RankedLine}
 use Rattle.tfpg_report.specs.declared.read_round.ReadRound.{ReadRound}
 use Rattle.tfpg_report.specs.ReadRounds.{hypothesis_ranked, hypothesis_named}
-use Rattle.tfpg_check.specs.Judging.{Docket, IsNumberOf, IsClosed, IsRankedLine, IsOpenLine, HasRankedPartIn, MayBeOpen, key_read}
-use Rattle.tfpg_check.specs.inside.Passing.{RankedPasses, RoundPasses}
+use Rattle.tfpg_check.specs.Judging.{RoundBasis, IsNumberOf, IsClosed, IsRankedLine, IsOpenLine, HasRankedPartIn, MayBeOpen, key_read}
+use Rattle.tfpg_check.specs.Passing.{RankedPasses, RoundPasses}
 use Rattle.tfpg_check.proofs.passing.ReadFindings.{Reached, HasRead, HasRankedPartIn-from, IsReadFinding, AreReadFindings, closed_not_partial, status_read}
 
 -- no key is ranked before itself
@@ -28,82 +28,82 @@ not_before_itself : (key : Place) → IsRankedBefore key key → ⊥
 not_before_itself key before =
     ⊎_elim (λ less. omega (arith, less)) (λ same. ⊎_elim (λ more. omega (arith, more)) (λ as_robust. (let less = as_robust.1 in omega (arith, less))) same.1) before
 
-module _ (docket : Docket) (line : ℕ) (read : ReadRound) (passes : RoundPasses docket line read) where
+module _ (basis : RoundBasis) (line : ℕ) (read : ReadRound) (passes : RoundPasses basis line read) where
   -- what passes of a ranked line
-  pub ranked_passes : (r : RankedLine) (stands : Contains read.ranked r) → RankedPasses docket read (take stands.0 read.ranked) r
+  pub ranked_passes : (r : RankedLine) (stands : Contains read.ranked r) → RankedPasses basis read (take stands.0 read.ranked) r
   ranked_passes r stands = passes.ranked stands.0 r (slice_get-contains read.ranked r stands)
 
   -- and of an open one
-  pub open_passes : (named : NamedSet) (stands : Contains read.unsettled named) → MayBeOpen docket read (take stands.0 read.unsettled) named
+  pub open_passes : (named : NamedSet) (stands : Contains read.unsettled named) → MayBeOpen basis read (take stands.0 read.unsettled) named
   open_passes named stands = passes.unsettled stands.0 named (slice_get-contains read.unsettled named stands)
 
   -- ---- the hypothesis of a number, by its lines
 
-  module _ (number : ℕ) (hypothesis : Hypothesis) (at : IsNumberOf docket number hypothesis) where
+  module _ (number : ℕ) (hypothesis : Hypothesis) (at : IsNumberOf basis number hypothesis) where
     -- the ranked line of the number names it
     pub ranked_names : (r : RankedLine) → Contains read.ranked r → r.number ≡ number → hypothesis_ranked r ≡ hypothesis
     ranked_names r stands numbered =
-        same_Some (hypothesis_ranked r) hypothesis (sym (ranked_passes r stands).may.listed ∙ ap (slice_get docket.hypotheses) numbered ∙ at)
+        same_Some (hypothesis_ranked r) hypothesis (sym (ranked_passes r stands).may.listed ∙ ap (slice_get basis.hypotheses) numbered ∙ at)
 
     -- so does the open one
     pub open_names : (named : NamedSet) → Contains read.unsettled named → named.number ≡ number → hypothesis_named named ≡ hypothesis
     open_names named stands numbered =
-        same_Some (hypothesis_named named) hypothesis (sym (open_passes named stands).listed ∙ ap (slice_get docket.hypotheses) numbered ∙ at)
+        same_Some (hypothesis_named named) hypothesis (sym (open_passes named stands).listed ∙ ap (slice_get basis.hypotheses) numbered ∙ at)
 
     -- a ranked one is not closed,
-    ranked_not_closed : IsRankedLine read number → IsClosed docket read number → ⊥
-    ranked_not_closed ranked closed = (ranked_passes ranked.0 ranked.1).may.not_closed (subst (IsClosed docket read) (sym ranked.2) closed)
+    ranked_not_closed : IsRankedLine read number → IsClosed basis read number → ⊥
+    ranked_not_closed ranked closed = (ranked_passes ranked.0 ranked.1).may.not_closed (subst (IsClosed basis read) (sym ranked.2) closed)
 
     -- and has no ranked proper part
-    pub ranked_alone : IsRankedLine read number → HasRankedPartIn docket read hypothesis → ⊥
+    pub ranked_alone : IsRankedLine read number → HasRankedPartIn basis read hypothesis → ⊥
     ranked_alone ranked part =
-        (ranked_passes ranked.0 ranked.1).may.no_part (subst (HasRankedPartIn docket read) (sym (ranked_names ranked.0 ranked.1 ranked.2)) part)
+        (ranked_passes ranked.0 ranked.1).may.no_part (subst (HasRankedPartIn basis read) (sym (ranked_names ranked.0 ranked.1 ranked.2)) part)
 
     -- nor is an open one closed,
-    open_not_closed : IsOpenLine read number → IsClosed docket read number → ⊥
-    open_not_closed unsettled closed = (open_passes unsettled.0 unsettled.1).not_closed (subst (IsClosed docket read) (sym unsettled.2) closed)
+    open_not_closed : IsOpenLine read number → IsClosed basis read number → ⊥
+    open_not_closed unsettled closed = (open_passes unsettled.0 unsettled.1).not_closed (subst (IsClosed basis read) (sym unsettled.2) closed)
 
     -- ranked,
     open_not_ranked : IsOpenLine read number → IsRankedLine read number → ⊥
     open_not_ranked unsettled ranked = (open_passes unsettled.0 unsettled.1).not_ranked (subst (IsRankedLine read) (sym unsettled.2) ranked)
 
     -- or has a ranked proper part
-    pub open_alone : IsOpenLine read number → HasRankedPartIn docket read hypothesis → ⊥
+    pub open_alone : IsOpenLine read number → HasRankedPartIn basis read hypothesis → ⊥
     open_alone unsettled part =
-        (open_passes unsettled.0 unsettled.1).no_part (subst (HasRankedPartIn docket read) (sym (open_names unsettled.0 unsettled.1 unsettled.2)) part)
+        (open_passes unsettled.0 unsettled.1).no_part (subst (HasRankedPartIn basis read) (sym (open_names unsettled.0 unsettled.1 unsettled.2)) part)
 
     -- ---- its finding
 
-    module _ (finding : Finding) (is : IsReadFinding docket read number hypothesis finding) where
+    module _ (finding : Finding) (is : IsReadFinding basis read number hypothesis finding) where
       abbrev Own : Reached
       Own = record { number = number; hypothesis = hypothesis; reach = is.reach }
 
       -- a refutation closes its tree
-      closed_by : (status : Status) → HasRead docket read Own status → is_rejected status ≡ true → IsClosed docket read number
+      closed_by : (status : Status) → HasRead basis read Own status → is_rejected status ≡ true → IsClosed basis read number
       closed_by Rejected has rejected = record { hypothesis = hypothesis; listed = at; reach = is.reach; reach_is = is.reach_is; refutation = has }
       closed_by (Ranked trace cost alarmed monitored) has rejected = cc
       closed_by (Covered by) has rejected = cc
       closed_by Open has rejected = cc
 
-      rejected_by : (status : Status) → HasRead docket read Own status → IsClosed docket read number → is_rejected status ≡ true
+      rejected_by : (status : Status) → HasRead basis read Own status → IsClosed basis read number → is_rejected status ≡ true
       rejected_by Rejected has closed = refl
-      rejected_by (Ranked trace cost alarmed monitored) has closed = absurd (closed_not_partial docket read Own at is.reach_is closed has.0)
-      rejected_by (Covered by) has closed = absurd (closed_not_partial docket read Own at is.reach_is closed has.0)
-      rejected_by Open has closed = absurd (closed_not_partial docket read Own at is.reach_is closed has.0)
+      rejected_by (Ranked trace cost alarmed monitored) has closed = absurd (closed_not_partial basis read Own at is.reach_is closed has.0)
+      rejected_by (Covered by) has closed = absurd (closed_not_partial basis read Own at is.reach_is closed has.0)
+      rejected_by Open has closed = absurd (closed_not_partial basis read Own at is.reach_is closed has.0)
 
       -- It rejects exactly where the tree is closed.
-      pub rejected_exactly : (is_rejected finding.status ≡ true → IsClosed docket read number) × (IsClosed docket read number → is_rejected finding.status ≡ true)
+      pub rejected_exactly : (is_rejected finding.status ≡ true → IsClosed basis read number) × (IsClosed basis read number → is_rejected finding.status ≡ true)
       rejected_exactly = (closed_by finding.status is.has, rejected_by finding.status is.has)
 
-      line_by : (status : Status) → HasRead docket read Own status → is_ranked status ≡ true → IsRankedLine read number
+      line_by : (status : Status) → HasRead basis read Own status → is_ranked status ≡ true → IsRankedLine read number
       line_by (Ranked trace cost alarmed monitored) has ranked = (has.1.0, has.1.1, has.1.2)
       line_by (Covered by) has ranked = cc
       line_by Rejected has ranked = cc
       line_by Open has ranked = cc
 
-      ranked_by : (status : Status) → HasRead docket read Own status → IsRankedLine read number → is_ranked status ≡ true
+      ranked_by : (status : Status) → HasRead basis read Own status → IsRankedLine read number → is_ranked status ≡ true
       ranked_by (Ranked trace cost alarmed monitored) has ranked = refl
-      ranked_by (Covered by) has ranked = absurd (ranked_alone ranked (HasRankedPartIn-from docket read hypothesis by has.2.part))
+      ranked_by (Covered by) has ranked = absurd (ranked_alone ranked (HasRankedPartIn-from basis read hypothesis by has.2.part))
       ranked_by Rejected has ranked = absurd (ranked_not_closed ranked (closed_by Rejected has refl))
       ranked_by Open has ranked = absurd (open_not_ranked has.1 ranked)
 
@@ -111,16 +111,16 @@ module _ (docket : Docket) (line : ℕ) (read : ReadRound) (passes : RoundPasses
       pub ranked_exactly : (is_ranked finding.status ≡ true → IsRankedLine read number) × (IsRankedLine read number → is_ranked finding.status ≡ true)
       ranked_exactly = (line_by finding.status is.has, ranked_by finding.status is.has)
 
-      open_line_by : (status : Status) → HasRead docket read Own status → is_open status ≡ true → IsOpenLine read number
+      open_line_by : (status : Status) → HasRead basis read Own status → is_open status ≡ true → IsOpenLine read number
       open_line_by Open has opened = has.1
       open_line_by (Ranked trace cost alarmed monitored) has opened = cc
       open_line_by (Covered by) has opened = cc
       open_line_by Rejected has opened = cc
 
-      open_by : (status : Status) → HasRead docket read Own status → IsOpenLine read number → is_open status ≡ true
+      open_by : (status : Status) → HasRead basis read Own status → IsOpenLine read number → is_open status ≡ true
       open_by Open has unsettled = refl
       open_by (Ranked trace cost alarmed monitored) has unsettled = absurd (open_not_ranked unsettled (has.1.0, has.1.1, has.1.2))
-      open_by (Covered by) has unsettled = absurd (open_alone unsettled (HasRankedPartIn-from docket read hypothesis by has.2.part))
+      open_by (Covered by) has unsettled = absurd (open_alone unsettled (HasRankedPartIn-from basis read hypothesis by has.2.part))
       open_by Rejected has unsettled = absurd (open_not_closed unsettled (closed_by Rejected has refl))
 
       -- It is open exactly where there is an open line.
@@ -130,17 +130,17 @@ module _ (docket : Docket) (line : ℕ) (read : ReadRound) (passes : RoundPasses
   -- ---- one line of a number
 
   -- the key of a ranked line is that of the hypothesis of its number
-  key_of_line : (r : RankedLine) (stands : Contains read.ranked r) (number : ℕ) (hypothesis : Hypothesis) (reach : List ℕ) → IsNumberOf docket number hypothesis → r.number ≡ number
-      → IsReachOf docket.graph hypothesis reach
-      → key_read r ≡ record { cost = cost_of docket.graph hypothesis; robust = robustness_of docket.graph docket.log reach hypothesis.doubts; number = number }
+  key_of_line : (r : RankedLine) (stands : Contains read.ranked r) (number : ℕ) (hypothesis : Hypothesis) (reach : List ℕ) → IsNumberOf basis number hypothesis → r.number ≡ number
+      → IsReachOf basis.graph hypothesis reach
+      → key_read r ≡ record { cost = cost_of basis.graph hypothesis; robust = robustness_of basis.graph basis.log reach hypothesis.doubts; number = number }
   key_of_line r stands number hypothesis reach at numbered is =
       let may = (ranked_passes r stands).may in
       let names : hypothesis_ranked r ≡ hypothesis = ranked_names number hypothesis at r stands numbered in
       let same_reach : may.reach ≡ reach =
-      reach_is_one docket.graph hypothesis.set may.reach (subst (λ (h : Hypothesis). IsReachOf docket.graph h may.reach) names may.reach_is) reach is in
+      reach_is_one basis.graph hypothesis.set may.reach (subst (λ (h : Hypothesis). IsReachOf basis.graph h may.reach) names may.reach_is) reach is in
       λ i. record {
-        cost = (may.cost ∙ ap (cost_of docket.graph) names) i;
-        robust = (sym may.robust ∙ (λ j. robustness_of docket.graph docket.log (same_reach j) (names j).doubts)) i;
+        cost = (may.cost ∙ ap (cost_of basis.graph) names) i;
+        robust = (sym may.robust ∙ (λ j. robustness_of basis.graph basis.log (same_reach j) (names j).doubts)) i;
         number = numbered i;
       }
 
@@ -170,22 +170,22 @@ module _ (docket : Docket) (line : ℕ) (read : ReadRound) (passes : RoundPasses
 
   -- ---- the findings
 
-  module _ (findings : List Finding) (are : AreReadFindings docket read findings) where
+  module _ (findings : List Finding) (are : AreReadFindings basis read findings) where
     -- the finding of a hypothesis of the table
-    pub finding_there : (number : ℕ) (hypothesis : Hypothesis) → IsNumberOf docket number hypothesis
-        → (finding : Finding) × (slice_get findings number ≡ Some finding) × IsReadFinding docket read number hypothesis finding
+    pub finding_there : (number : ℕ) (hypothesis : Hypothesis) → IsNumberOf basis number hypothesis
+        → (finding : Finding) × (slice_get findings number ≡ Some finding) × IsReadFinding basis read number hypothesis finding
     finding_there number hypothesis at =
-        let found = slice_get-same_length findings docket.hypotheses number hypothesis (sym are.as_many) at in
+        let found = slice_get-same_length findings basis.hypotheses number hypothesis (sym are.as_many) at in
         (found.0, found.1, are.each number hypothesis found.0 at found.1)
 
     -- the hypothesis of a finding
     pub hypothesis_there : (number : ℕ) (finding : Finding) → slice_get findings number ≡ Some finding
-        → (hypothesis : Hypothesis) × IsNumberOf docket number hypothesis × IsReadFinding docket read number hypothesis finding
+        → (hypothesis : Hypothesis) × IsNumberOf basis number hypothesis × IsReadFinding basis read number hypothesis finding
     hypothesis_there number finding at =
-        let listed = slice_get-same_length docket.hypotheses findings number finding are.as_many at in
+        let listed = slice_get-same_length basis.hypotheses findings number finding are.as_many at in
         (listed.0, listed.1, are.each number listed.0 finding listed.1 at)
 
-    status_by : (r : RankedLine) (stands : Contains read.ranked r) (own : Reached) (status : Status) → own.number ≡ r.number → HasRead docket read own status → is_ranked status ≡ true → status ≡ status_read r
+    status_by : (r : RankedLine) (stands : Contains read.ranked r) (own : Reached) (status : Status) → own.number ≡ r.number → HasRead basis read own status → is_ranked status ≡ true → status ≡ status_read r
     status_by r stands own (Ranked trace cost alarmed monitored) numbered has ranked =
         has.1.3 ∙ ap status_read (one_line has.1.0 r has.1.1 stands (has.1.2 ∙ numbered))
     status_by r stands own (Covered by) numbered has ranked = cc
@@ -194,7 +194,7 @@ module _ (docket : Docket) (line : ℕ) (read : ReadRound) (passes : RoundPasses
 
     -- The finding of the number of a ranked line is on its hypothesis, and has its status.
     pub ranked_finding : (r : RankedLine) (stands : Contains read.ranked r)
-        → (finding : Finding) × (slice_get findings r.number ≡ Some finding) × IsReadFinding docket read r.number (hypothesis_ranked r) finding × (finding.status ≡ status_read r)
+        → (finding : Finding) × (slice_get findings r.number ≡ Some finding) × IsReadFinding basis read r.number (hypothesis_ranked r) finding × (finding.status ≡ status_read r)
     ranked_finding r stands =
         let found = finding_there r.number (hypothesis_ranked r) (ranked_passes r stands).may.listed in
         let ranked = (ranked_exactly r.number (hypothesis_ranked r) (ranked_passes r stands).may.listed found.0 found.2).1 (r, stands, refl) in

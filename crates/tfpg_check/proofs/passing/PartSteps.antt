@@ -13,14 +13,14 @@ use Rattle.tfpg_clause.specs.Paths.{with_steps}
 use Rattle.tfpg_hyp.specs.Views.{IsReachOf, case_for}
 use Rattle.tfpg_report.specs.declared.read_round.Part.{Part}
 use Rattle.tfpg_report.specs.declared.read_round.ReadRound.{ReadRound}
-use Rattle.tfpg_check.specs.Judging.{Docket, steps_read}
-use Rattle.tfpg_check.specs.inside.Passing.{PartPasses, RoundPasses}
+use Rattle.tfpg_check.specs.Judging.{RoundBasis, steps_read}
+use Rattle.tfpg_check.specs.Passing.{PartPasses, RoundPasses}
 use Rattle.tfpg_check.proofs.passing.ByNumber.{AllPairs-from_before}
 use Rattle.tfpg_check.proofs.passing.StepsSoFar.{AreRightSteps, EachHasRightSteps}
 
 -- all steps of the hypothesis of a number, with those of the round
-abbrev pub steps_now : Docket → ReadRound → ℕ → List Judged
-steps_now docket read number = with_steps (docket.steps number) docket.log (steps_read read number)
+abbrev pub steps_now : RoundBasis → ReadRound → ℕ → List Judged
+steps_now basis read number = with_steps (basis.steps number) basis.log (steps_read read number)
 
 -- The part has the steps of the hypothesis of the number.
 pub record IsPartOf (read : ReadRound) (number : ℕ) (part : Part) : Type 0 where
@@ -46,7 +46,7 @@ part_or_none read number = by (find (λ (part : Part). eqb part.number number) r
           },
         )
 
-module _ (docket : Docket) (line : ℕ) (read : ReadRound) (passes : RoundPasses docket line read) where
+module _ (basis : RoundBasis) (line : ℕ) (read : ReadRound) (passes : RoundPasses basis line read) where
   -- the numbers of the parts rise
   pub parts_rise : AllPairs (λ (earlier later : Part). earlier.number < later.number) read.parts
   parts_rise = AllPairs-from_before (λ (earlier later : Part). earlier.number < later.number) read.parts (λ index part at. (passes.parts index part at).may.rising)
@@ -61,21 +61,21 @@ module _ (docket : Docket) (line : ℕ) (read : ReadRound) (passes : RoundPasses
       omega (arith, same, less)))))
 
   -- With those of the round the steps of each hypothesis are right.
-  pub right_now : EachHasRightSteps docket.graph docket.log docket.hypotheses docket.steps → EachHasRightSteps docket.graph docket.log docket.hypotheses (steps_now docket read)
+  pub right_now : EachHasRightSteps basis.graph basis.log basis.hypotheses basis.steps → EachHasRightSteps basis.graph basis.log basis.hypotheses (steps_now basis read)
   right_now before number hypothesis at reach is = elim (part_or_none read number) [
     | inl found ↦ by found.0 (take found.1.stands.0 read.parts) found.1 (passes.parts found.1.stands.0 found.0 (slice_get-contains read.parts found.0 found.1.stands))
-    | inr none ↦ subst (AreRightSteps (case_for docket.graph docket.log hypothesis reach)) (sym (ap (with_steps (docket.steps number) docket.log) none ∙ append-nil (docket.steps number)))
+    | inr none ↦ subst (AreRightSteps (case_for basis.graph basis.log hypothesis reach)) (sym (ap (with_steps (basis.steps number) basis.log) none ∙ append-nil (basis.steps number)))
         (before number hypothesis at reach is)
   ]
     where
-      by : (part : Part) (others : List Part) → IsPartOf read number part → PartPasses docket others part → AreRightSteps (case_for docket.graph docket.log hypothesis reach) (steps_now docket read number)
+      by : (part : Part) (others : List Part) → IsPartOf read number part → PartPasses basis others part → AreRightSteps (case_for basis.graph basis.log hypothesis reach) (steps_now basis read number)
       by part others own one =
           let same : one.may.hypothesis ≡ hypothesis =
-          same_Some one.may.hypothesis hypothesis (sym one.may.listed ∙ ap (slice_get docket.hypotheses) own.numbered ∙ at) in
+          same_Some one.may.hypothesis hypothesis (sym one.may.listed ∙ ap (slice_get basis.hypotheses) own.numbered ∙ at) in
           let same_reach : one.reach ≡ reach =
-          reach_is_one docket.graph hypothesis.set one.reach (subst (λ (h : Hypothesis). IsReachOf docket.graph h one.reach) same one.reach_is) reach is in
-          let same_steps : with_steps (docket.steps part.number) docket.log part.steps ≡ steps_now docket read number =
-          λ i. with_steps (docket.steps (own.numbered i)) docket.log (sym own.steps_are i) in
-          subst (λ (nodes : List ℕ). AreRightSteps (case_for docket.graph docket.log hypothesis nodes) (steps_now docket read number)) same_reach
-          (subst (λ (h : Hypothesis). AreRightSteps (case_for docket.graph docket.log h one.reach) (steps_now docket read number)) same
-          (subst (AreRightSteps (case_for docket.graph docket.log one.may.hypothesis one.reach)) same_steps one.steps))
+          reach_is_one basis.graph hypothesis.set one.reach (subst (λ (h : Hypothesis). IsReachOf basis.graph h one.reach) same one.reach_is) reach is in
+          let same_steps : with_steps (basis.steps part.number) basis.log part.steps ≡ steps_now basis read number =
+          λ i. with_steps (basis.steps (own.numbered i)) basis.log (sym own.steps_are i) in
+          subst (λ (nodes : List ℕ). AreRightSteps (case_for basis.graph basis.log hypothesis nodes) (steps_now basis read number)) same_reach
+          (subst (λ (h : Hypothesis). AreRightSteps (case_for basis.graph basis.log h one.reach) (steps_now basis read number)) same
+          (subst (AreRightSteps (case_for basis.graph basis.log one.may.hypothesis one.reach)) same_steps one.steps))

@@ -17,8 +17,8 @@ use Rattle.tfpg_clause.proofs.trees.TreeSteps.{no_partial}
 use Rattle.tfpg_hyp.specs.Views.{IsReachOf, case_for}
 use Rattle.tfpg_report.specs.declared.read_round.RankedLine.{RankedLine}
 use Rattle.tfpg_report.specs.declared.read_round.ReadRound.{ReadRound}
-use Rattle.tfpg_check.specs.Judging.{Docket, IsNumberOf, IsClosed, IsRankedLine, IsOpenLine, HasRankedPartIn, HasStatus, steps_read}
-use Rattle.tfpg_check.specs.inside.Passing.{RoundPasses}
+use Rattle.tfpg_check.specs.Judging.{RoundBasis, IsNumberOf, IsClosed, IsRankedLine, IsOpenLine, HasRankedPartIn, HasStatus, steps_read}
+use Rattle.tfpg_check.specs.Passing.{RoundPasses}
 use Rattle.tfpg_check.proofs.passing.DecidedParts.{part_decided}
 use Rattle.tfpg_check.proofs.passing.EachReach.{reach_there}
 use Rattle.tfpg_check.proofs.passing.OneForEach.{AreOneForEach, one_for_each}
@@ -28,29 +28,29 @@ use Rattle.tfpg_check.proofs.passing.PartSteps.{steps_now, right_now}
 -- ---- the covering hypothesis
 
 -- The hypothesis of the number is a proper part.
-abbrev pub IsPartAt : Docket → Hypothesis → ℕ → Type 0
-IsPartAt docket hypothesis number = (part : Hypothesis) × IsNumberOf docket number part × IsProperPart part hypothesis
+abbrev pub IsPartAt : RoundBasis → Hypothesis → ℕ → Type 0
+IsPartAt basis hypothesis number = (part : Hypothesis) × IsNumberOf basis number part × IsProperPart part hypothesis
 
 -- It also has a ranked line.
-abbrev pub IsRankedPartIn : Docket → ReadRound → Hypothesis → ℕ → Type 0
-IsRankedPartIn docket read hypothesis number = IsRankedLine read number × IsPartAt docket hypothesis number
+abbrev pub IsRankedPartIn : RoundBasis → ReadRound → Hypothesis → ℕ → Type 0
+IsRankedPartIn basis read hypothesis number = IsRankedLine read number × IsPartAt basis hypothesis number
 
 -- The number is the least of those of ranked lines on proper parts.
-pub record IsLeastPartIn (docket : Docket) (read : ReadRound) (hypothesis : Hypothesis) (by : ℕ) : Type 0 where
-  pub part : IsRankedPartIn docket read hypothesis by
-  pub least : (other : ℕ) → IsRankedPartIn docket read hypothesis other → by ≤ other
+pub record IsLeastPartIn (basis : RoundBasis) (read : ReadRound) (hypothesis : Hypothesis) (by : ℕ) : Type 0 where
+  pub part : IsRankedPartIn basis read hypothesis by
+  pub least : (other : ℕ) → IsRankedPartIn basis read hypothesis other → by ≤ other
 
 -- a ranked line on a proper part is a ranked part, by its number
-pub HasRankedPartIn-from : (docket : Docket) (read : ReadRound) (hypothesis : Hypothesis) (number : ℕ) → IsRankedPartIn docket read hypothesis number → HasRankedPartIn docket read hypothesis
-HasRankedPartIn-from docket read hypothesis number is = record {
+pub HasRankedPartIn-from : (basis : RoundBasis) (read : ReadRound) (hypothesis : Hypothesis) (number : ℕ) → IsRankedPartIn basis read hypothesis number → HasRankedPartIn basis read hypothesis
+HasRankedPartIn-from basis read hypothesis number is = record {
   other = is.0.0;
   ranked = is.0.1;
   part = is.1.0;
-  listed = ap (slice_get docket.hypotheses) is.0.2 ∙ is.1.1;
+  listed = ap (slice_get basis.hypotheses) is.0.2 ∙ is.1.1;
   proper = is.1.2;
 }
 
-module _ (docket : Docket) (read : ReadRound) (hypothesis : Hypothesis) where
+module _ (basis : RoundBasis) (read : ReadRound) (hypothesis : Hypothesis) where
   ranked_line_decided : (number : ℕ) → IsDecided (IsRankedLine read number)
   ranked_line_decided number =
       some_member_decided (λ (r : RankedLine). r.number ≡ number)
@@ -59,10 +59,10 @@ module _ (docket : Docket) (read : ReadRound) (hypothesis : Hypothesis) where
         | inr apart ↦ inr apart.1
       ]) read.ranked
 
-  part_at_decided : (number : ℕ) → IsDecided (IsPartAt docket hypothesis number)
-  part_at_decided number = by (slice_get docket.hypotheses number) refl
+  part_at_decided : (number : ℕ) → IsDecided (IsPartAt basis hypothesis number)
+  part_at_decided number = by (slice_get basis.hypotheses number) refl
     where
-      by : (found : Option Hypothesis) → slice_get docket.hypotheses number ≡ found → IsDecided (IsPartAt docket hypothesis number)
+      by : (found : Option Hypothesis) → slice_get basis.hypotheses number ≡ found → IsDecided (IsPartAt basis hypothesis number)
       by None none = inr (λ is. (let at = is.1 in absurd cc))
       by (Some part) there = elim (part_decided part hypothesis) [
         | inl proper ↦ inl (part, there, proper)
@@ -70,10 +70,10 @@ module _ (docket : Docket) (read : ReadRound) (hypothesis : Hypothesis) where
       ]
 
   -- where some proper part is ranked, one has the least number
-  pub least_part : HasRankedPartIn docket read hypothesis → (by : ℕ) × IsLeastPartIn docket read hypothesis by
+  pub least_part : HasRankedPartIn basis read hypothesis → (by : ℕ) × IsLeastPartIn basis read hypothesis by
   least_part has = elim
-      (first_below (IsRankedPartIn docket read hypothesis) (λ number. IsRankedPartIn docket read hypothesis number → ⊥)
-      (λ number. both_decided (IsRankedLine read number) (IsPartAt docket hypothesis number) (ranked_line_decided number) (part_at_decided number)) (has.other.number + 1)) [
+      (first_below (IsRankedPartIn basis read hypothesis) (λ number. IsRankedPartIn basis read hypothesis number → ⊥)
+      (λ number. both_decided (IsRankedLine read number) (IsPartAt basis hypothesis number) (ranked_line_decided number) (part_at_decided number)) (has.other.number + 1)) [
         | inl found ↦ (
           found.0,
           record {
@@ -104,53 +104,53 @@ pub record Reached : Type 0 where
   pub reach : List ℕ
 
 -- its steps are a partial tree
-abbrev pub IsPartialNow : Docket → ReadRound → Reached → Type 0
-IsPartialNow docket read own = IsPartial (case_for docket.graph docket.log own.hypothesis own.reach) (steps_now docket read own.number)
+abbrev pub IsPartialNow : RoundBasis → ReadRound → Reached → Type 0
+IsPartialNow basis read own = IsPartial (case_for basis.graph basis.log own.hypothesis own.reach) (steps_now basis read own.number)
 
 -- its steps are a refutation
-abbrev pub IsRefutedNow : Docket → ReadRound → Reached → Type 0
-IsRefutedNow docket read own = IsRefutation (case_for docket.graph docket.log own.hypothesis own.reach) (steps_now docket read own.number)
+abbrev pub IsRefutedNow : RoundBasis → ReadRound → Reached → Type 0
+IsRefutedNow basis read own = IsRefutation (case_for basis.graph basis.log own.hypothesis own.reach) (steps_now basis read own.number)
 
 -- What the round says of a hypothesis for each status.
-abbrev pub HasRead : Docket → ReadRound → Reached → Status → Type 0
-HasRead docket read own Rejected = IsRefutedNow docket read own
-HasRead docket read own (Covered by) = IsPartialNow docket read own × (steps_read read own.number ≡ []) × IsLeastPartIn docket read own.hypothesis by
-HasRead docket read own (Ranked trace cost alarmed monitored) = IsPartialNow docket read own × IsRankedAs read own.number (Ranked trace cost alarmed monitored)
-HasRead docket read own Open = IsPartialNow docket read own × IsOpenLine read own.number
+abbrev pub HasRead : RoundBasis → ReadRound → Reached → Status → Type 0
+HasRead basis read own Rejected = IsRefutedNow basis read own
+HasRead basis read own (Covered by) = IsPartialNow basis read own × (steps_read read own.number ≡ []) × IsLeastPartIn basis read own.hypothesis by
+HasRead basis read own (Ranked trace cost alarmed monitored) = IsPartialNow basis read own × IsRankedAs read own.number (Ranked trace cost alarmed monitored)
+HasRead basis read own Open = IsPartialNow basis read own × IsOpenLine read own.number
 
 -- The finding says of the hypothesis of the number what the round says.
-pub record IsReadFinding (docket : Docket) (read : ReadRound) (number : ℕ) (hypothesis : Hypothesis) (finding : Finding) : Type 0 where
+pub record IsReadFinding (basis : RoundBasis) (read : ReadRound) (number : ℕ) (hypothesis : Hypothesis) (finding : Finding) : Type 0 where
   pub number_is : finding.number ≡ number
   pub hypothesis_is : hypothesis_of finding ≡ hypothesis
   pub steps_are : finding.steps ≡ steps_read read number
   pub reach : List ℕ
-  pub reach_is : IsReachOf docket.graph hypothesis reach
-  pub has : HasRead docket read (record { number = number; hypothesis = hypothesis; reach = reach }) finding.status
+  pub reach_is : IsReachOf basis.graph hypothesis reach
+  pub has : HasRead basis read (record { number = number; hypothesis = hypothesis; reach = reach }) finding.status
 
 -- The findings are one for each hypothesis of the table.
-abbrev pub AreReadFindings : Docket → ReadRound → List Finding → Type 0
-AreReadFindings docket read findings = AreOneForEach (IsReadFinding docket read) docket.hypotheses findings
+abbrev pub AreReadFindings : RoundBasis → ReadRound → List Finding → Type 0
+AreReadFindings basis read findings = AreOneForEach (IsReadFinding basis read) basis.hypotheses findings
 
 -- a closed tree is no partial one
-pub closed_not_partial : (docket : Docket) (read : ReadRound) (own : Reached) → IsNumberOf docket own.number own.hypothesis → IsReachOf docket.graph own.hypothesis own.reach
-    → IsClosed docket read own.number → IsPartialNow docket read own → ⊥
-closed_not_partial docket read own at reach_is closed partial =
+pub closed_not_partial : (basis : RoundBasis) (read : ReadRound) (own : Reached) → IsNumberOf basis own.number own.hypothesis → IsReachOf basis.graph own.hypothesis own.reach
+    → IsClosed basis read own.number → IsPartialNow basis read own → ⊥
+closed_not_partial basis read own at reach_is closed partial =
     let same : closed.hypothesis ≡ own.hypothesis = same_Some closed.hypothesis own.hypothesis (sym closed.listed ∙ at) in
     let same_reach : closed.reach ≡ own.reach =
-    reach_is_one docket.graph own.hypothesis.set closed.reach (subst (λ (h : Hypothesis). IsReachOf docket.graph h closed.reach) same closed.reach_is) own.reach reach_is in
-    no_partial (case_for docket.graph docket.log own.hypothesis own.reach) (steps_now docket read own.number)
-    (subst (λ (nodes : List ℕ). IsRefutation (case_for docket.graph docket.log own.hypothesis nodes) (steps_now docket read own.number)) same_reach
-    (subst (λ (h : Hypothesis). IsRefutation (case_for docket.graph docket.log h closed.reach) (steps_now docket read own.number)) same closed.refutation))
+    reach_is_one basis.graph own.hypothesis.set closed.reach (subst (λ (h : Hypothesis). IsReachOf basis.graph h closed.reach) same closed.reach_is) own.reach reach_is in
+    no_partial (case_for basis.graph basis.log own.hypothesis own.reach) (steps_now basis read own.number)
+    (subst (λ (nodes : List ℕ). IsRefutation (case_for basis.graph basis.log own.hypothesis nodes) (steps_now basis read own.number)) same_reach
+    (subst (λ (h : Hypothesis). IsRefutation (case_for basis.graph basis.log h closed.reach) (steps_now basis read own.number)) same closed.refutation))
     partial
 
-module _ (docket : Docket) (line : ℕ) (read : ReadRound) (passes : RoundPasses docket line read) (valid : IsValid docket.graph)
-    (before : EachHasRightSteps docket.graph docket.log docket.hypotheses docket.steps) where
-  module _ (number : ℕ) (hypothesis : Hypothesis) (at : IsNumberOf docket number hypothesis) where
+module _ (basis : RoundBasis) (line : ℕ) (read : ReadRound) (passes : RoundPasses basis line read) (valid : IsValid basis.graph)
+    (before : EachHasRightSteps basis.graph basis.log basis.hypotheses basis.steps) where
+  module _ (number : ℕ) (hypothesis : Hypothesis) (at : IsNumberOf basis number hypothesis) where
     abbrev Own : Reached
-    Own = record { number = number; hypothesis = hypothesis; reach = (reach_there docket.graph valid hypothesis.set).0 }
+    Own = record { number = number; hypothesis = hypothesis; reach = (reach_there basis.graph valid hypothesis.set).0 }
 
     -- a finding of a status for which the round has what it says
-    made : (status : Status) → HasRead docket read Own status → (finding : Finding) × IsReadFinding docket read number hypothesis finding
+    made : (status : Status) → HasRead basis read Own status → (finding : Finding) × IsReadFinding basis read number hypothesis finding
     made status has = (
       record { number = number; set = hypothesis.set; doubts = hypothesis.doubts; steps = steps_read read number; status = status },
       record {
@@ -158,26 +158,26 @@ module _ (docket : Docket) (line : ℕ) (read : ReadRound) (passes : RoundPasses
         hypothesis_is = refl;
         steps_are = refl;
         reach = Own.reach;
-        reach_is = (reach_there docket.graph valid hypothesis.set).1;
+        reach_is = (reach_there basis.graph valid hypothesis.set).1;
         has = has;
       },
     )
 
     -- a hypothesis whose tree is not closed is ranked, open or covered
-    not_rejected : IsPartialNow docket read Own → HasStatus docket read number hypothesis → (finding : Finding) × IsReadFinding docket read number hypothesis finding
-    not_rejected partial (inl closed) = absurd (closed_not_partial docket read Own at (reach_there docket.graph valid hypothesis.set).1 closed partial)
+    not_rejected : IsPartialNow basis read Own → HasStatus basis read number hypothesis → (finding : Finding) × IsReadFinding basis read number hypothesis finding
+    not_rejected partial (inl closed) = absurd (closed_not_partial basis read Own at (reach_there basis.graph valid hypothesis.set).1 closed partial)
     not_rejected partial (inr (inl ranked)) = made (status_read ranked.0) (partial, (ranked.0, ranked.1, ranked.2, refl))
     not_rejected partial (inr (inr (inl unsettled))) = made Open (partial, unsettled)
     not_rejected partial (inr (inr (inr covered))) =
-        let least = least_part docket read hypothesis covered.1 in
+        let least = least_part basis read hypothesis covered.1 in
         made (Covered least.0) (partial, covered.0, least.1)
 
-    finding_read : (finding : Finding) × IsReadFinding docket read number hypothesis finding
-    finding_read = elim (right_now docket line read passes before number hypothesis at Own.reach (reach_there docket.graph valid hypothesis.set).1) [
+    finding_read : (finding : Finding) × IsReadFinding basis read number hypothesis finding
+    finding_read = elim (right_now basis line read passes before number hypothesis at Own.reach (reach_there basis.graph valid hypothesis.set).1) [
       | inl partial ↦ not_rejected partial (passes.statuses number hypothesis at)
       | inr refutation ↦ made Rejected refutation
     ]
 
   -- A round that passes has a finding on each hypothesis.
-  pub findings_read : (findings : List Finding) × AreReadFindings docket read findings
-  findings_read = one_for_each (IsReadFinding docket read) docket.hypotheses finding_read
+  pub findings_read : (findings : List Finding) × AreReadFindings basis read findings
+  findings_read = one_for_each (IsReadFinding basis read) basis.hypotheses finding_read

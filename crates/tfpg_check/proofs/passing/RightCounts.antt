@@ -17,8 +17,8 @@ use Rattle.tfpg_evidence.specs.RoundOf.{is_ranked, is_covered, is_rejected, is_o
 use Rattle.tfpg_hyp.specs.Rounds.{counts_of}
 use Rattle.tfpg_report.specs.declared.read_round.RankedLine.{RankedLine}
 use Rattle.tfpg_report.specs.declared.read_round.ReadRound.{ReadRound}
-use Rattle.tfpg_check.specs.Judging.{Docket, named_by}
-use Rattle.tfpg_check.specs.inside.Passing.{RoundPasses}
+use Rattle.tfpg_check.specs.Judging.{RoundBasis, named_by}
+use Rattle.tfpg_check.specs.Passing.{RoundPasses}
 use Rattle.tfpg_check.proofs.passing.ByNumber.{AllPairs-from_indexes, Contains-along}
 use Rattle.tfpg_check.proofs.passing.ReadFindings.{AreReadFindings}
 use Rattle.tfpg_check.proofs.passing.OneStatus.{not_twice, ranked_exactly, rejected_exactly, finding_there, hypothesis_there, ranked_finding}
@@ -49,7 +49,7 @@ four_counts (f ∷ findings) =
       sum_by-cons (λ (g : Finding). cond (is_open g.status) 1 0) f findings,
     )
 
-module _ (docket : Docket) (line : ℕ) (read : ReadRound) (passes : RoundPasses docket line read) (findings : List Finding) (are : AreReadFindings docket read findings) where
+module _ (basis : RoundBasis) (line : ℕ) (read : ReadRound) (passes : RoundPasses basis line read) (findings : List Finding) (are : AreReadFindings basis read findings) where
   -- the numbers of the findings that pass a test
   abbrev numbers_of : (Finding → Bool) → List ℕ
   numbers_of test = map (λ (f : Finding). f.number) (filter test findings)
@@ -57,7 +57,7 @@ module _ (docket : Docket) (line : ℕ) (read : ReadRound) (passes : RoundPasses
   numbers_rise : (test : Finding → Bool) → Rises (numbers_of test)
   numbers_rise test =
       AllPairs-map ◌<◌ (λ (f : Finding). f.number) (filter test findings)
-      (AllPairs-filter (λ (a b : Finding). a.number < b.number) test findings (findings_rise docket line read passes findings are))
+      (AllPairs-filter (λ (a b : Finding). a.number < b.number) test findings (findings_rise basis line read passes findings are))
 
   length-numbers_of : (test : Finding → Bool) → length (numbers_of test) ≡ count_by test findings
   length-numbers_of test = length-map (filter test findings) (λ (f : Finding). f.number) ∙ length-filter test findings
@@ -70,12 +70,12 @@ module _ (docket : Docket) (line : ℕ) (read : ReadRound) (passes : RoundPasses
   ranked_apart : AllPairs ◌≢◌ ranked_numbers
   ranked_apart =
       AllPairs-map ◌≢◌ (λ (r : RankedLine). r.number) read.ranked
-      (AllPairs-from_indexes (λ (a b : RankedLine). a.number ≢ b.number) read.ranked (not_twice docket line read passes))
+      (AllPairs-from_indexes (λ (a b : RankedLine). a.number ≢ b.number) read.ranked (not_twice basis line read passes))
 
   ranked_to : (number : ℕ) → Contains ranked_numbers number → Contains (numbers_of (λ (f : Finding). is_ranked f.status)) number
   ranked_to number member =
       let from = Contains-map_only (λ (r : RankedLine). r.number) read.ranked number member in
-      let found = ranked_finding docket line read passes findings are from.0 from.1 in
+      let found = ranked_finding basis line read passes findings are from.0 from.1 in
       subst (Contains (numbers_of (λ (f : Finding). is_ranked f.status))) (found.2.number_is ∙ from.2)
       (Contains-map (λ (f : Finding). f.number) (filter (λ (f : Finding). is_ranked f.status) findings) found.0
       (Contains-filter (λ (f : Finding). is_ranked f.status) findings from.0.number found.0 found.1 (ap is_ranked found.3)))
@@ -84,8 +84,8 @@ module _ (docket : Docket) (line : ℕ) (read : ReadRound) (passes : RoundPasses
   ranked_from number member =
       let from = Contains-map_only (λ (f : Finding). f.number) (filter (λ (f : Finding). is_ranked f.status) findings) number member in
       let at = Contains-filter_only (λ (f : Finding). is_ranked f.status) findings from.0 from.1 in
-      let own = hypothesis_there docket line read passes findings are at.0 from.0 at.1 in
-      let ranked = (ranked_exactly docket line read passes at.0 own.0 own.1 from.0 own.2).0 at.2 in
+      let own = hypothesis_there basis line read passes findings are at.0 from.0 at.1 in
+      let ranked = (ranked_exactly basis line read passes at.0 own.0 own.1 from.0 own.2).0 at.2 in
       subst (Contains ranked_numbers) from.2
       (Contains-along ranked_numbers ranked.0.number at.0 from.0.number ranked.2 (sym own.2.number_is) (Contains-map (λ (r : RankedLine). r.number) read.ranked ranked.0 ranked.1))
 
@@ -104,15 +104,15 @@ module _ (docket : Docket) (line : ℕ) (read : ReadRound) (passes : RoundPasses
   count_open : count is_open findings ≡ length read.unsettled
   count_open =
       sym (length-filter (λ (f : Finding). is_open f.status) findings) ∙ sym (length-map (filter (λ (f : Finding). is_open f.status) findings) named_in)
-      ∙ ap length (open_named docket line read passes findings are) ∙ length-map read.unsettled named_by
+      ∙ ap length (open_named basis line read passes findings are) ∙ length-map read.unsettled named_by
 
   -- ---- rejected ones
 
   rejected_to : (number : ℕ) → Contains passes.counts.closed number → Contains (numbers_of (λ (f : Finding). is_rejected f.status)) number
   rejected_to number member =
       let closed = (passes.counts.exact number).0 member in
-      let found = finding_there docket line read passes findings are number closed.hypothesis closed.listed in
-      let rejected = (rejected_exactly docket line read passes number closed.hypothesis closed.listed found.0 found.2).1 closed in
+      let found = finding_there basis line read passes findings are number closed.hypothesis closed.listed in
+      let rejected = (rejected_exactly basis line read passes number closed.hypothesis closed.listed found.0 found.2).1 closed in
       subst (Contains (numbers_of (λ (f : Finding). is_rejected f.status))) found.2.number_is
       (Contains-map (λ (f : Finding). f.number) (filter (λ (f : Finding). is_rejected f.status) findings) found.0
       (Contains-filter (λ (f : Finding). is_rejected f.status) findings number found.0 found.1 rejected))
@@ -121,8 +121,8 @@ module _ (docket : Docket) (line : ℕ) (read : ReadRound) (passes : RoundPasses
   rejected_from number member =
       let from = Contains-map_only (λ (f : Finding). f.number) (filter (λ (f : Finding). is_rejected f.status) findings) number member in
       let at = Contains-filter_only (λ (f : Finding). is_rejected f.status) findings from.0 from.1 in
-      let own = hypothesis_there docket line read passes findings are at.0 from.0 at.1 in
-      let closed = (rejected_exactly docket line read passes at.0 own.0 own.1 from.0 own.2).0 at.2 in
+      let own = hypothesis_there basis line read passes findings are at.0 from.0 at.1 in
+      let closed = (rejected_exactly basis line read passes at.0 own.0 own.1 from.0 own.2).0 at.2 in
       subst (Contains passes.counts.closed) (sym own.2.number_is ∙ from.2) ((passes.counts.exact at.0).1 closed)
 
   -- as many are rejected as there are closed trees

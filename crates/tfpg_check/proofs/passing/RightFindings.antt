@@ -23,8 +23,8 @@ use Rattle.tfpg_hyp.proofs.FindingsOfRound.{steps_so_far-push}
 use Rattle.tfpg_report.specs.declared.read_round.RankedLine.{RankedLine}
 use Rattle.tfpg_report.specs.declared.read_round.ReadRound.{ReadRound}
 use Rattle.tfpg_report.specs.ReadRounds.{hypothesis_ranked}
-use Rattle.tfpg_check.specs.Judging.{Docket, IsNumberOf, HasRankedPartIn, key_read, steps_read}
-use Rattle.tfpg_check.specs.inside.Passing.{RankedPasses, RoundPasses}
+use Rattle.tfpg_check.specs.Judging.{RoundBasis, IsNumberOf, HasRankedPartIn, key_read, steps_read}
+use Rattle.tfpg_check.specs.Passing.{RankedPasses, RoundPasses}
 use Rattle.tfpg_check.proofs.passing.ByNumber.{AllPairs-from_before, map-same}
 use Rattle.tfpg_check.proofs.passing.PartSteps.{steps_now}
 use Rattle.tfpg_check.proofs.passing.ReadFindings.{Reached, HasRead, IsRankedPartIn, HasRankedPartIn-from, IsReadFinding, AreReadFindings, status_read}
@@ -49,61 +49,61 @@ has_key number (Covered by) key is = cc
 has_key number Rejected key is = cc
 has_key number Open key is = cc
 
-module _ (docket : Docket) (line : ℕ) (read : ReadRound) (passes : RoundPasses docket line read) (findings : List Finding) (are : AreReadFindings docket read findings) where
+module _ (basis : RoundBasis) (line : ℕ) (read : ReadRound) (passes : RoundPasses basis line read) (findings : List Finding) (are : AreReadFindings basis read findings) where
   -- ---- evidence
 
-  module _ (number : ℕ) (hypothesis : Hypothesis) (at : IsNumberOf docket number hypothesis) (finding : Finding) (is : IsReadFinding docket read number hypothesis finding) where
+  module _ (number : ℕ) (hypothesis : Hypothesis) (at : IsNumberOf basis number hypothesis) (finding : Finding) (is : IsReadFinding basis read number hypothesis finding) where
     -- a ranked part among the findings has a ranked line
-    part_read : (other : ℕ) → IsRankedPart findings (hypothesis_of finding) other → IsRankedPartIn docket read hypothesis other
+    part_read : (other : ℕ) → IsRankedPart findings (hypothesis_of finding) other → IsRankedPartIn basis read hypothesis other
     part_read other part =
-        let there = hypothesis_there docket line read passes findings are other part.finding part.numbered in
-        let ranked = (ranked_exactly docket line read passes other there.0 there.1 part.finding there.2).0 part.ranked in
+        let there = hypothesis_there basis line read passes findings are other part.finding part.numbered in
+        let ranked = (ranked_exactly basis line read passes other there.0 there.1 part.finding there.2).0 part.ranked in
         (ranked, (there.0, there.1, subst₂ IsProperPart there.2.hypothesis_is is.hypothesis_is part.part))
 
     -- and the other way round
-    part_found : (other : ℕ) → IsRankedPartIn docket read hypothesis other → IsRankedPart findings (hypothesis_of finding) other
+    part_found : (other : ℕ) → IsRankedPartIn basis read hypothesis other → IsRankedPart findings (hypothesis_of finding) other
     part_found other part =
-        let there = finding_there docket line read passes findings are other part.1.0 part.1.1 in
+        let there = finding_there basis line read passes findings are other part.1.0 part.1.1 in
         record {
           finding = there.0;
           numbered = there.1;
-          ranked = (ranked_exactly docket line read passes other part.1.0 part.1.1 there.0 there.2).1 part.0;
+          ranked = (ranked_exactly basis line read passes other part.1.0 part.1.1 there.0 there.2).1 part.0;
           part = subst₂ IsProperPart (sym there.2.hypothesis_is) (sym is.hypothesis_is) part.1.2;
         }
 
     -- no proper part is ranked where none has a line
-    alone : (HasRankedPartIn docket read hypothesis → ⊥) → HasRankedPart findings (hypothesis_of finding) → ⊥
-    alone none has = none (HasRankedPartIn-from docket read hypothesis has.0 (part_read has.0 has.1))
+    alone : (HasRankedPartIn basis read hypothesis → ⊥) → HasRankedPart findings (hypothesis_of finding) → ⊥
+    alone none has = none (HasRankedPartIn-from basis read hypothesis has.0 (part_read has.0 has.1))
 
     abbrev Own : Reached
     Own = record { number = number; hypothesis = hypothesis; reach = is.reach }
 
     -- it has the evidence of this status
     abbrev Evidence : Status → Type 0
-    Evidence status = HasEvidence (case_for docket.graph docket.log hypothesis is.reach) docket.terms.budget findings (steps_now docket read number) finding status
+    Evidence status = HasEvidence (case_for basis.graph basis.log hypothesis is.reach) basis.terms.budget findings (steps_now basis read number) finding status
 
-    ranked_evidence : (r : RankedLine) → Contains read.ranked r → r.number ≡ number → IsPartial (case_for docket.graph docket.log hypothesis is.reach) (steps_now docket read number)
+    ranked_evidence : (r : RankedLine) → Contains read.ranked r → r.number ≡ number → IsPartial (case_for basis.graph basis.log hypothesis is.reach) (steps_now basis read number)
         → Evidence (status_read r)
     ranked_evidence r stands numbered partial = (
       partial,
-      subst (λ (h : Hypothesis). Explains docket.graph (log_for docket.log hypothesis) h.set r.trace) (sym is.hypothesis_is)
-          (subst (λ (h : Hypothesis). Explains docket.graph (log_for docket.log h) h.set r.trace) names passed.explains),
-      alone (ranked_alone docket line read passes number hypothesis at (r, stands, numbered)),
-      passed.may.cost ∙ ap (cost_of docket.graph) (names ∙ sym is.hypothesis_is),
-      sym (λ i. robustness_of docket.graph docket.log (same_reach i) ((names ∙ sym is.hypothesis_is) i).doubts) ∙ passed.may.robust,
+      subst (λ (h : Hypothesis). Explains basis.graph (log_for basis.log hypothesis) h.set r.trace) (sym is.hypothesis_is)
+          (subst (λ (h : Hypothesis). Explains basis.graph (log_for basis.log h) h.set r.trace) names passed.explains),
+      alone (ranked_alone basis line read passes number hypothesis at (r, stands, numbered)),
+      passed.may.cost ∙ ap (cost_of basis.graph) (names ∙ sym is.hypothesis_is),
+      sym (λ i. robustness_of basis.graph basis.log (same_reach i) ((names ∙ sym is.hypothesis_is) i).doubts) ∙ passed.may.robust,
     )
       where
-        passed : RankedPasses docket read (take stands.0 read.ranked) r
-        passed = ranked_passes docket line read passes r stands
+        passed : RankedPasses basis read (take stands.0 read.ranked) r
+        passed = ranked_passes basis line read passes r stands
 
         names : hypothesis_ranked r ≡ hypothesis
-        names = ranked_names docket line read passes number hypothesis at r stands numbered
+        names = ranked_names basis line read passes number hypothesis at r stands numbered
 
         same_reach : passed.may.reach ≡ is.reach
         same_reach =
-            reach_is_one docket.graph hypothesis.set passed.may.reach (subst (λ (h : Hypothesis). IsReachOf docket.graph h passed.may.reach) names passed.may.reach_is) is.reach is.reach_is
+            reach_is_one basis.graph hypothesis.set passed.may.reach (subst (λ (h : Hypothesis). IsReachOf basis.graph h passed.may.reach) names passed.may.reach_is) is.reach is.reach_is
 
-    evidence_by : (status : Status) → HasRead docket read Own status → Evidence status
+    evidence_by : (status : Status) → HasRead basis read Own status → Evidence status
     evidence_by Rejected has = has
     evidence_by (Ranked trace cost alarmed monitored) has = subst Evidence (sym has.1.3) (ranked_evidence has.1.0 has.1.1 has.1.2 has.0)
     evidence_by (Covered by) has = (
@@ -113,28 +113,28 @@ module _ (docket : Docket) (line : ℕ) (read : ReadRound) (passes : RoundPasses
     )
     evidence_by Open has = (
       has.0,
-      alone (open_alone docket line read passes number hypothesis at has.1),
-      ap split_count is.steps_are ∙ ap (λ (n : ℕ). split_count (steps_read read n)) (sym has.1.2) ∙ (open_passes docket line read passes has.1.0 has.1.1).spent,
+      alone (open_alone basis line read passes number hypothesis at has.1),
+      ap split_count is.steps_are ∙ ap (λ (n : ℕ). split_count (steps_read read n)) (sym has.1.2) ∙ (open_passes basis line read passes has.1.0 has.1.1).spent,
     )
 
     evidence_read : Evidence finding.status
     evidence_read = evidence_by finding.status is.has
 
   -- Each is a finding of the round, after rounds with the steps so far.
-  pub are_findings : (rounds : List Round) → ((number : ℕ) → docket.steps number ≡ steps_so_far number rounds) → (number : ℕ) (hypothesis : Hypothesis) (finding : Finding)
-      → IsNumberOf docket number hypothesis → slice_get findings number ≡ Some finding
-      → IsFinding (record { graph = docket.graph; log = docket.log; terms = docket.terms }) (rounds ++ round_read read findings ∷ []) findings number hypothesis finding
+  pub are_findings : (rounds : List Round) → ((number : ℕ) → basis.steps number ≡ steps_so_far number rounds) → (number : ℕ) (hypothesis : Hypothesis) (finding : Finding)
+      → IsNumberOf basis number hypothesis → slice_get findings number ≡ Some finding
+      → IsFinding (record { graph = basis.graph; log = basis.log; terms = basis.terms }) (rounds ++ round_read read findings ∷ []) findings number hypothesis finding
   are_findings rounds steps number hypothesis finding at found =
       let is = are.each number hypothesis finding at found in
-      let same : steps_so_far number (rounds ++ round_read read findings ∷ []) ≡ steps_now docket read number =
-      steps_so_far-push number rounds (round_read read findings) (length docket.log.events) finding passes.begins.number found
-      ∙ (λ i. with_steps (sym (steps number) i) docket.log (is.steps_are i)) in
+      let same : steps_so_far number (rounds ++ round_read read findings ∷ []) ≡ steps_now basis read number =
+      steps_so_far-push number rounds (round_read read findings) (length basis.log.events) finding passes.begins.number found
+      ∙ (λ i. with_steps (sym (steps number) i) basis.log (is.steps_are i)) in
       record {
         number_is = is.number_is;
         hypothesis_is = is.hypothesis_is;
         reach = is.reach;
         reach_is = is.reach_is;
-        evidence = subst (λ (all : List Judged). HasEvidence (case_for docket.graph docket.log hypothesis is.reach) docket.terms.budget findings all finding finding.status) (sym same)
+        evidence = subst (λ (all : List Judged). HasEvidence (case_for basis.graph basis.log hypothesis is.reach) basis.terms.budget findings all finding finding.status) (sym same)
             (evidence_read number hypothesis at finding is);
       }
 
@@ -143,7 +143,7 @@ module _ (docket : Docket) (line : ℕ) (read : ReadRound) (passes : RoundPasses
   -- the finding of the number of a ranked line has its key
   key_of_line : (r : RankedLine) → Contains read.ranked r → key_at findings r.number ≡ Some (key_read r)
   key_of_line r stands =
-      let found = ranked_finding docket line read passes findings are r stands in
+      let found = ranked_finding basis line read passes findings are r stands in
       ap (option_and_then (λ (f : Finding). key_of_status r.number f.status)) found.1 ∙ ap (key_of_status r.number) found.3
 
   each_ranked : (number : ℕ) (key : Place) → key_at findings number ≡ Some key → Contains (map (λ (r : RankedLine). r.number) read.ranked) number
@@ -153,8 +153,8 @@ module _ (docket : Docket) (line : ℕ) (read : ReadRound) (passes : RoundPasses
           → Contains (map (λ (r : RankedLine). r.number) read.ranked) number
       by None none key_is = cc
       by (Some finding) there key_is =
-          let own = hypothesis_there docket line read passes findings are number finding there in
-          let ranked = (ranked_exactly docket line read passes number own.0 own.1 finding own.2).0 (has_key number finding.status key key_is) in
+          let own = hypothesis_there basis line read passes findings are number finding there in
+          let ranked = (ranked_exactly basis line read passes number own.0 own.1 finding own.2).0 (has_key number finding.status key key_is) in
           subst (Contains (map (λ (r : RankedLine). r.number) read.ranked)) ranked.2 (Contains-map (λ (r : RankedLine). r.number) read.ranked ranked.0 ranked.1)
 
   -- The numbers of the ranked lines are the order of the findings.

@@ -20,8 +20,8 @@ use Rattle.tfpg_report.specs.declared.report_line.ReportLine.{ReportLine}
 use Rattle.tfpg_report.specs.declared.report_line.ReportLine.TheVariants.{Round, Hyp, Ranked, At, Open, Rejected, Counts}
 use Rattle.tfpg_report.specs.Blocks.{lines_of_finding, lines_if_ranked, open_line, rejected_line, round_lines}
 use Rattle.tfpg_report.specs.ReadRounds.{NumberedLine, numbered_from, step_lines, lines_of_steps, lines_of_part, lines_of_ranked, line_of_open, line_of_rejected, lines_of_round, HasLineForEachStep, hypothesis_ranked}
-use Rattle.tfpg_check.specs.Judging.{Docket, NumberedHypothesis, named_by}
-use Rattle.tfpg_check.specs.inside.Passing.{RoundPasses}
+use Rattle.tfpg_check.specs.Judging.{RoundBasis, NumberedHypothesis, named_by}
+use Rattle.tfpg_check.specs.Passing.{RoundPasses}
 use Rattle.tfpg_check.proofs.passing.ReadFindings.{AreReadFindings}
 use Rattle.tfpg_check.proofs.passing.OneStatus.{hypothesis_there, ranked_finding}
 use Rattle.tfpg_check.proofs.passing.RightFindings.{round_read}
@@ -88,17 +88,17 @@ line_of_rejected_named named = Rejected named.number named.hypothesis
 abbrev pub ranked_said : RankedLine → List ReportLine
 ranked_said r = Ranked r.number r.cost r.alarmed r.monitored (hypothesis_ranked r) ∷ map At r.trace
 
-module _ (docket : Docket) (line : ℕ) (read : ReadRound) (passes : RoundPasses docket line read) (findings : List Finding) (are : AreReadFindings docket read findings) where
+module _ (basis : RoundBasis) (line : ℕ) (read : ReadRound) (passes : RoundPasses basis line read) (findings : List Finding) (are : AreReadFindings basis read findings) where
   -- the lines of the finding of a number, if there is one
   abbrev lines_at : ℕ → List ReportLine
   lines_at number = unwrap_or (option_map (λ (f : Finding). lines_if_ranked f f.status) (finding_numbered findings number)) []
 
   ranked_lines_at : (r : RankedLine) → Contains read.ranked r → lines_at r.number ≡ ranked_said r
   ranked_lines_at r stands =
-      let found = ranked_finding docket line read passes findings are r stands in
+      let found = ranked_finding basis line read passes findings are r stands in
       let at : finding_numbered findings r.number ≡ Some found.0 =
       finding_numbered-first findings r.number r.number found.0 found.1 found.2.number_is
-      (λ earlier other before there same. omega (arith, before, same, (hypothesis_there docket line read passes findings are earlier other there).2.number_is)) in
+      (λ earlier other before there same. omega (arith, before, same, (hypothesis_there basis line read passes findings are earlier other there).2.number_is)) in
       ap (λ (o : Option Finding). unwrap_or (option_map (λ (f : Finding). lines_if_ranked f f.status) o) []) at
       ∙ ap (lines_if_ranked found.0) found.3
       ∙ (λ i. Ranked (found.2.number_is i) r.cost r.alarmed r.monitored (found.2.hypothesis_is i) ∷ map At r.trace)
@@ -117,21 +117,21 @@ module _ (docket : Docket) (line : ℕ) (read : ReadRound) (passes : RoundPasses
   open_are =
       map-map (λ (l : NumberedLine). l.says) line_of_open read.unsettled
       ∙ sym (map-map line_of_open_named named_by read.unsettled)
-      ∙ sym (ap (map line_of_open_named) (open_named docket line read passes findings are))
+      ∙ sym (ap (map line_of_open_named) (open_named basis line read passes findings are))
       ∙ map-map line_of_open_named named_in (filter (λ (f : Finding). is_open f.status) findings)
 
   module _ (each_has : All (λ (part : Part). 0 < length part.steps) read.parts) (each_step : All HasLineForEachStep read.parts) where
     steps_are : said (flat_map lines_of_part read.parts) ≡ flat_map lines_of_finding findings
     steps_are =
         parts_said read.parts each_step
-        ∙ sym (ap (flat_map lines_of_numbered) (steps_named docket line read passes findings are each_has))
+        ∙ sym (ap (flat_map lines_of_numbered) (steps_named basis line read passes findings are each_has))
         ∙ sym (with_steps_alone findings)
 
     rejected_are : said (map line_of_rejected read.rejected) ≡ map rejected_line (filter is_rejected_now findings)
     rejected_are =
         map-map (λ (l : NumberedLine). l.says) line_of_rejected read.rejected
         ∙ sym (map-map line_of_rejected_named named_by read.rejected)
-        ∙ sym (ap (map line_of_rejected_named) (rejected_named docket line read passes findings are each_has))
+        ∙ sym (ap (map line_of_rejected_named) (rejected_named basis line read passes findings are each_has))
         ∙ map-map line_of_rejected_named named_in (filter is_rejected_now findings)
 
     -- The lines that were read are those of the round.

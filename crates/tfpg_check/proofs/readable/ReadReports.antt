@@ -63,22 +63,22 @@ lines_say graph valid lines own are named small index bytes read at there =
 
 -- The lines of a report can be read.
 pub lines_can_be_read : RoundsAreOfTheirGraph → LinesComeInOrder → LinesOfReportsCanBeRead
-lines_can_be_read of_graph in_order matter terms blocks bytes valid are few =
-    let has = has_lines matter terms blocks (lines_of bytes) valid are in
+lines_can_be_read of_graph in_order problem terms blocks bytes valid are few =
+    let has = has_lines problem terms blocks (lines_of bytes) valid are in
     let report = are.report in
     let own : List ReportLine = has.head ∷ flat_map block_lines blocks in
-    let named : All (NamesOfGraph matter.graph) own =
-    All-cons (NamesOfGraph matter.graph) has.head (flat_map block_lines blocks) has.named (blocks_named of_graph matter.graph terms matter.log_lines blocks report.are_blocks) in
+    let named : All (NamesOfGraph problem.graph) own =
+    All-cons (NamesOfGraph problem.graph) has.head (flat_map block_lines blocks) has.named (blocks_named of_graph problem.graph terms problem.log_lines blocks report.are_blocks) in
     let small : All HasSmallNumbers own =
     All-cons HasSmallNumbers has.head (flat_map block_lines blocks) (head_small terms has.head report.has_reports.within has.is_head)
-    (blocks_small matter.graph terms matter.log_lines blocks report.are_blocks valid report.has_reports report.few_lines
-    (block_lines_few matter.graph has.head blocks bytes has.lines_are few)) in
-    let stands = in_order terms has.head blocks has.is_head (blocks_in_order matter.graph terms matter.log_lines blocks report.are_blocks) in (
+    (blocks_small problem.graph terms problem.log_lines blocks report.are_blocks valid report.has_reports report.few_lines
+    (block_lines_few problem.graph has.head blocks bytes has.lines_are few)) in
+    let stands = in_order terms has.head blocks has.is_head (blocks_in_order problem.graph terms problem.log_lines blocks report.are_blocks) in (
       has.head,
       has.is_head,
       record {
-        one_each = sym (ap length has.lines_are ∙ length-map own (written_line matter.graph));
-        each = lines_say matter.graph valid (lines_of bytes) own has.lines_are named small;
+        one_each = sym (ap length has.lines_are ∙ length-map own (written_line problem.graph));
+        each = lines_say problem.graph valid (lines_of bytes) own has.lines_are named small;
         stand = stands.0;
         stands = stands.1;
       },
@@ -86,6 +86,6 @@ lines_can_be_read of_graph in_order matter terms blocks bytes valid are few =
 
 -- So they have no cause.
 pub short_reports_have_no_cause : OneLine → RoundsAreOfTheirGraph → LinesComeInOrder → ShortReportsHaveNoCause
-short_reports_have_no_cause one_line of_graph in_order matter terms blocks bytes at why valid are few =
-    let read = lines_can_be_read of_graph in_order matter terms blocks bytes valid are few in
-    reports_have_no_cause one_line matter terms blocks (lines_of bytes) read.0 at why valid are read.1 read.2
+short_reports_have_no_cause one_line of_graph in_order problem terms blocks bytes at why valid are few =
+    let read = lines_can_be_read of_graph in_order problem terms blocks bytes valid are few in
+    reports_have_no_cause one_line problem terms blocks (lines_of bytes) read.0 at why valid are read.1 read.2

@@ -21,29 +21,29 @@ use Rattle.tfpg_check.specs.declared.judge_fault.JudgeFault.TheVariants as judge
 use Rattle.tfpg_check.specs.declared.round_fault.RoundFault.{RoundFault}
 use Rattle.tfpg_check.specs.declared.round_fault.RoundFault.TheVariants as round
 use Rattle.tfpg_check.specs.Report.{event_of_line}
-use Rattle.tfpg_check.specs.Causes.{RefusedFails}
-use Rattle.tfpg_check.specs.Judging.{Docket, RoundFails}
-use Rattle.tfpg_check.specs.DocketState.{DocketState, KeepsDocket}
+use Rattle.tfpg_check.specs.Tests.{Fails}
+use Rattle.tfpg_check.specs.Judging.{RoundBasis, RoundFails}
+use Rattle.tfpg_check.specs.HypothesesState.{HypothesesState, KeepsBasis}
 use Rattle.tfpg_check.specs.inside.AfterRound.{after_round}
 use Rattle.tfpg_check.specs.inside.ReadRoundOf.{IsReadRoundOf}
 use Rattle.tfpg_check.specs.JudgeState.{BlocksState}
-use Rattle.tfpg_check.specs.inside.Passing.{RoundPasses}
+use Rattle.tfpg_check.specs.Passing.{RoundPasses}
 
 -- ---- what is kept, whatever came before
 
 -- The log and the table of hypotheses, if there is one, are of the graph, and the log ignores no monitor.
-pub record AreOfGraph (graph : Tfpg) (log : Logbook) (docket : Option DocketState) : Type 0 where
+pub record AreOfGraph (graph : Tfpg) (log : Logbook) (hypotheses : Option HypothesesState) : Type 0 where
   pub log_of : IsLogOf graph log
   pub ignores_none : log.ignored ≡ []
-  pub table_of : (kept : DocketState) → docket ≡ Some kept → IsTableOf graph kept.terms kept.table
+  pub table_of : (kept : HypothesesState) → hypotheses ≡ Some kept → IsTableOf graph kept.terms kept.table
 
 -- What a line completes names what the graph has, and there are hypotheses where it is a round.
-abbrev pub IsFedOf : Tfpg → Option DocketState → Fed → Type 0
-IsFedOf graph docket fed.More = Unit {0}
-IsFedOf graph docket (fed.Head k doubt budget) = doubt ≤ MAX_DOUBT
-IsFedOf graph docket (fed.Refused number cause) = Unit {0}
-IsFedOf graph docket (fed.Round read) = IsReadRoundOf graph read × ((docket ≡ None) → ⊥)
-IsFedOf graph docket (fed.Lost panel no_memory) = Unit {0}
+abbrev pub IsFedOf : Tfpg → Option HypothesesState → Fed → Type 0
+IsFedOf graph hypotheses fed.More = Unit {0}
+IsFedOf graph hypotheses (fed.Head k doubt budget) = doubt ≤ MAX_DOUBT
+IsFedOf graph hypotheses (fed.Refused number cause) = Unit {0}
+IsFedOf graph hypotheses (fed.Round read) = IsReadRoundOf graph read × ((hypotheses ≡ None) → ⊥)
+IsFedOf graph hypotheses (fed.Lost panel no_memory) = Unit {0}
 
 -- ---- the next line of the log
 
@@ -86,6 +86,12 @@ pub record SaidRefused : Type 0 where
   pub number : ℕ
   pub cause : RefusedLine
 
+-- The line of a refused line fails where the next line of the log is not refused for this cause, or has another number.
+abbrev pub RefusedFails : ℕ → ℕ → RefusedLine → ℕ → Result Event RefusedLine → Fails
+RefusedFails first number said next (Err refused) line why =
+    (line ≡ first) × (why ≡ cause.WrongRound) × ((said ≡ refused) × (number ≡ next) → ⊥)
+RefusedFails first number said next (Ok event) line why = (line ≡ first) × (why ≡ cause.WrongRound)
+
 -- It is wrong: there is no next line of the log, or that brings something else.
 abbrev pub RefusedIsWrong : SaidRefused → BlocksState → ℕ → CheckCause → Type 0
 RefusedIsWrong said old line why =
@@ -99,28 +105,28 @@ IsRefusedJudged said old new (Ok done) = PassesLine old new (Err said.cause) × 
 IsRefusedJudged said old new (Err (round.NotAccepted line why)) = RefusedIsWrong said old line why
 IsRefusedJudged said old new (Err round.NoMemory) = Unit {0}
 
--- By this docket, of which this is kept, the round of the last line of the log is judged.
-pub record JudgesBy (state : BlocksState) (docket : Docket) (kept : DocketState) : Type 0 where
-  pub is_kept : state.docket ≡ Some kept
-  pub graph : docket.graph ≡ state.graph
-  pub log : docket.log ≡ state.log
+-- By this basis, of which this is kept, the round of the last line of the log is judged.
+pub record JudgesBy (state : BlocksState) (basis : RoundBasis) (kept : HypothesesState) : Type 0 where
+  pub is_kept : state.hypotheses ≡ Some kept
+  pub graph : basis.graph ≡ state.graph
+  pub log : basis.log ≡ state.log
   pub earlier : Logbook
   pub goes_on : GoesOn earlier state.log
-  pub keeps : KeepsDocket docket earlier kept
+  pub keeps : KeepsBasis basis earlier kept
 
 -- The round passes, and what is kept then is with its steps.
 pub record RoundIsRight (read : ReadRound) (state new : BlocksState) : Type 0 where
-  pub kept : DocketState
-  pub after : new ≡ record state { docket = Some kept }
-  pub passes : (docket : Docket) (before : DocketState) → JudgesBy state docket before
-      → RoundPasses docket state.log_lines.passed read × KeepsDocket (after_round docket read) docket.log kept
+  pub kept : HypothesesState
+  pub after : new ≡ record state { hypotheses = Some kept }
+  pub passes : (basis : RoundBasis) (before : HypothesesState) → JudgesBy state basis before
+      → RoundPasses basis state.log_lines.passed read × KeepsBasis (after_round basis read) basis.log kept
 
 -- what is returned for a round, once its line of the log is passed
-abbrev pub IsJudgedByDocket : ReadRound → BlocksState → BlocksState → Result (Unit {0}) RoundFault → Type 0
-IsJudgedByDocket read state new (Ok done) = RoundIsRight read state new
-IsJudgedByDocket read state new (Err (round.NotAccepted line why)) =
-    (docket : Docket) (before : DocketState) → JudgesBy state docket before → RoundFails docket state.log_lines.passed read line why
-IsJudgedByDocket read state new (Err round.NoMemory) = Unit {0}
+abbrev pub IsJudgedByHypotheses : ReadRound → BlocksState → BlocksState → Result (Unit {0}) RoundFault → Type 0
+IsJudgedByHypotheses read state new (Ok done) = RoundIsRight read state new
+IsJudgedByHypotheses read state new (Err (round.NotAccepted line why)) =
+    (basis : RoundBasis) (before : HypothesesState) → JudgesBy state basis before → RoundFails basis state.log_lines.passed read line why
+IsJudgedByHypotheses read state new (Err round.NoMemory) = Unit {0}
 
 -- It is wrong: there is no next line of the log, it is refused, or a test fails.
 abbrev pub RoundIsWrong : ReadRound → BlocksState → ℕ → CheckCause → Type 0
@@ -128,7 +134,7 @@ RoundIsWrong read old line why =
     ((old.log_lines.left ≡ []) × (line ≡ read.first_line) × (why ≡ cause.Surplus))
     ⊎ (((refused : RefusedLine) × NextBrings old (Err refused) × (line ≡ read.first_line) × (why ≡ cause.WrongRound))
     ⊎ ((event : Event) × (state : BlocksState) × PassesLine old state (Ok event)
-    × ((docket : Docket) (before : DocketState) → JudgesBy state docket before → RoundFails docket state.log_lines.passed read line why)))
+    × ((basis : RoundBasis) (before : HypothesesState) → JudgesBy state basis before → RoundFails basis state.log_lines.passed read line why)))
 
 -- what is returned for a round
 abbrev pub IsRoundJudged : ReadRound → BlocksState → BlocksState → Result (Unit {0}) RoundFault → Type 0
@@ -139,12 +145,12 @@ IsRoundJudged read old new (Err round.NoMemory) = Unit {0}
 
 -- The hypotheses on these terms are kept, each without a step, and they are not too many.
 pub record KeepsTerms (terms : Terms) (old new : BlocksState) : Type 0 where
-  pub kept : DocketState
-  pub after : new ≡ record old { docket = Some kept }
+  pub kept : HypothesesState
+  pub after : new ≡ record old { hypotheses = Some kept }
   pub on_terms : kept.terms ≡ terms
   pub table : IsTableOf old.graph kept.terms kept.table
-  pub keeps : (docket : Docket) (log : Logbook) → docket.graph ≡ old.graph → docket.terms ≡ terms
-      → docket.hypotheses ≡ kept.table.hypotheses → ((number : ℕ) → docket.steps number ≡ []) → KeepsDocket docket log kept
+  pub keeps : (basis : RoundBasis) (log : Logbook) → basis.graph ≡ old.graph → basis.terms ≡ terms
+      → basis.hypotheses ≡ kept.table.hypotheses → ((number : ℕ) → basis.steps number ≡ []) → KeepsBasis basis log kept
   pub few : (count : ℕ) → HasHypotheses old.graph terms count → count ≤ MAX_HYPOTHESES
 
 -- what is returned for the first line

@@ -10,10 +10,6 @@ abbrev pub HoldBefore : {X : Type 0} → (List X → X → Type 0) → List X �
 HoldBefore {X} holds xs end =
     (index : ℕ) (x : X) → index < end → slice_get xs index ≡ Some x → holds (take index xs) x
 
--- This holds of each item, with the items before it.
-abbrev pub HoldInTurn : {X : Type 0} → (List X → X → Type 0) → List X → Type 0
-HoldInTurn {X} holds xs = (index : ℕ) (x : X) → slice_get xs index ≡ Some x → holds (take index xs) x
-
 -- The test of an item, with the items before it, passes.
 abbrev pub PassesWith : {X : Type 0} → (List X → X → Fails) → List X → X → Type 0
 PassesWith test before x = Passes (test before x)

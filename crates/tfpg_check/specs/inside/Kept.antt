@@ -6,11 +6,10 @@ use Rattle.tfpg_kernel.specs.CheckerState.{CheckerState}
 use Rattle.tfpg_kernel.specs.Represents.{CheckerRepresents}
 use Rattle.tfpg_report.specs.declared.read_round.ReadRound.{ReadRound}
 use Rattle.tfpg_check.specs.declared.cause.CheckCause.TheVariants as cause
-use Rattle.tfpg_check.specs.Tests.{Fails, Owes, Then, InTurn}
-use Rattle.tfpg_check.specs.Judging.{Docket, WasClosed, RankedFails, OpenFails, RejectedFails, MayBeOpen, AreNewlyClosed, EachHasStatus, AreRightCounts, named_by}
-use Rattle.tfpg_check.specs.inside.Passing.{RankedPasses}
-use Rattle.tfpg_check.specs.inside.InTurn.{HoldInTurn}
-use Rattle.tfpg_check.specs.inside.Hearings.{flag_at}
+use Rattle.tfpg_check.specs.Tests.{Fails, Owes, Then, InTurn, HoldInTurn}
+use Rattle.tfpg_check.specs.Judging.{RoundBasis, WasClosed, RankedFails, OpenFails, RejectedFails, MayBeOpen, AreNewlyClosed, EachHasStatus, AreRightCounts, named_by}
+use Rattle.tfpg_check.specs.Passing.{RankedPasses}
+use Rattle.tfpg_check.specs.inside.Lookups.{flag_at}
 
 -- The checker took no step.
 abbrev pub IsNewChecker : CheckerState → Type 0
@@ -22,22 +21,22 @@ pub record AreNewCheckers (reaches : List (List ℕ)) (checkers : List CheckerSt
   pub each : All IsNewChecker checkers
 
 -- The flag of a number is up where its tree was closed in an earlier round.
-abbrev pub AreFlagsBefore : Docket → List Bool → Type 0
-AreFlagsBefore docket flags = (number : ℕ) → IsTrue (flag_at flags number) ↔ WasClosed docket number
+abbrev pub AreFlagsBefore : RoundBasis → List Bool → Type 0
+AreFlagsBefore basis flags = (number : ℕ) → IsTrue (flag_at flags number) ↔ WasClosed basis number
 
 -- No test after those of the steps fails.
-pub record PassesRest (docket : Docket) (read : ReadRound) : Type 0 where
-  pub ranked : HoldInTurn (RankedPasses docket read) read.ranked
-  pub unsettled : HoldInTurn (MayBeOpen docket read) read.unsettled
-  pub rejected : AreNewlyClosed docket read (map named_by read.rejected)
-  pub statuses : EachHasStatus docket read
-  pub counts : AreRightCounts docket read
+pub record PassesRest (basis : RoundBasis) (read : ReadRound) : Type 0 where
+  pub ranked : HoldInTurn (RankedPasses basis read) read.ranked
+  pub unsettled : HoldInTurn (MayBeOpen basis read) read.unsettled
+  pub rejected : AreNewlyClosed basis read (map named_by read.rejected)
+  pub statuses : EachHasStatus basis read
+  pub counts : AreRightCounts basis read
 
 -- A test after those of the steps fails, and none before it.
-abbrev pub RestFails : Docket → ReadRound → Fails
-RestFails docket read =
-    Then (InTurn (RankedFails docket read) [] read.ranked)
-    (Then (InTurn (OpenFails docket read) [] read.unsettled)
-    (Then (RejectedFails docket read)
-    (Then (Owes (EachHasStatus docket read) read.counts_line cause.WrongStatus)
-    (Owes (AreRightCounts docket read) read.counts_line cause.WrongCounts))))
+abbrev pub RestFails : RoundBasis → ReadRound → Fails
+RestFails basis read =
+    Then (InTurn (RankedFails basis read) [] read.ranked)
+    (Then (InTurn (OpenFails basis read) [] read.unsettled)
+    (Then (RejectedFails basis read)
+    (Then (Owes (EachHasStatus basis read) read.counts_line cause.WrongStatus)
+    (Owes (AreRightCounts basis read) read.counts_line cause.WrongCounts))))

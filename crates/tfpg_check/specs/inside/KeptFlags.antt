@@ -6,7 +6,7 @@ use Rattle.tfpg_kernel.specs.CheckerState.{CheckerState}
 use Rattle.tfpg_report.specs.declared.read_round.RankedLine.{RankedLine}
 use Rattle.tfpg_report.specs.declared.read_round.ReadRound.{ReadRound}
 use Rattle.tfpg_check.specs.declared.kept_flags.KeptFlags.{KeptFlags}
-use Rattle.tfpg_check.specs.inside.Hearings.{flag_at, IsFlagged}
+use Rattle.tfpg_check.specs.inside.Lookups.{flag_at, IsFlagged}
 use Rattle.tfpg_check.specs.inside.LargestParts.{SayFlaggedParts}
 
 -- These are the flags of these hypotheses and checkers, for the numbers that were ranked.

@@ -1,7 +1,7 @@
 -- The largest proper parts of hypotheses, by their numbers.
 use Rattle.std.specs.Prelude.{◌≡◌, ◌⊎◌, ◌↔◌, ℕ, ◌<◌, ◌≤◌, List, length, All, Contains, Bool, IsTrue, Some, slice_get}
 use Rattle.tfpg_base.specs.Hypothesis.{Hypothesis, IsProperPart}
-use Rattle.tfpg_check.specs.inside.Hearings.{flag_at}
+use Rattle.tfpg_check.specs.inside.Lookups.{flag_at}
 
 -- The hypothesis of the one number is a proper part of that of the other.
 pub record IsPartAmong (hypotheses : List Hypothesis) (part whole : ℕ) : Type 0 where

@@ -19,7 +19,7 @@ pub record CanRead (reader : ReaderState) (blocks : BlocksState) (lines : ℕ) :
   pub reader_is : ReaderRepresents reader reads
   pub counted : lines ≡ length reads
   pub within : All (IsLineWithin blocks.graph) (begun_in reads)
-  pub begun : blocks.docket ≡ None → reads ≡ []
+  pub begun : blocks.hypotheses ≡ None → reads ≡ []
 
 -- what stays true of a judge
 pub record IsJudge (reader : ReaderState) (blocks : BlocksState) (lines : ℕ) (fault : Option JudgeFault) : Type 0 where

@@ -14,11 +14,11 @@ use Rattle.tfpg_kernel.specs.declared.taken.Taken.{Taken}
 use Rattle.tfpg_kernel.specs.declared.taken.Taken.TheVariants.{Open, Closed, Bad}
 use Rattle.tfpg_hyp.specs.Hypotheses.{Hypotheses}
 use Rattle.tfpg_report.specs.declared.read_round.Part.{Part}
-use Rattle.tfpg_check.specs.Tests.{Fails, Passes}
-use Rattle.tfpg_check.specs.Judging.{Docket, IsNumberOf, PartFails, cause_of_step}
-use Rattle.tfpg_check.specs.DocketState.{DocketState, HasChecker, KeepsDocket}
-use Rattle.tfpg_check.specs.inside.Passing.{PartPasses}
-use Rattle.tfpg_check.specs.inside.InTurn.{HoldInTurn, PassesWith}
+use Rattle.tfpg_check.specs.Tests.{Fails, Passes, HoldInTurn}
+use Rattle.tfpg_check.specs.Judging.{RoundBasis, IsNumberOf, PartFails, cause_of_step}
+use Rattle.tfpg_check.specs.HypothesesState.{HypothesesState, HasChecker, KeepsBasis}
+use Rattle.tfpg_check.specs.Passing.{PartPasses}
+use Rattle.tfpg_check.specs.inside.InTurn.{PassesWith}
 
 -- ---- steps
 
@@ -49,7 +49,7 @@ pub record HasTaken (case : Case) (earlier : List Judged) (part : Part) (after :
 -- ---- parts
 
 -- what is kept, of these fields
-abbrev pub kept_of : Terms → Hypotheses → List CheckerState → DocketState
+abbrev pub kept_of : Terms → Hypotheses → List CheckerState → HypothesesState
 kept_of terms table checkers = record { terms = terms; table = table; checkers = checkers }
 
 -- The next number is above those of the items before, and no greater one is needed.
@@ -70,28 +70,28 @@ abbrev pub steps_among : List Part → ℕ → List Step
 steps_among parts number =
     unwrap_or (option_map (λ (part : Part). part.steps) (find (λ (part : Part). part.number == number) parts)) []
 
--- the docket with the steps of these parts
-abbrev pub after_parts : Docket → List Part → Docket
-after_parts docket parts =
-    record docket { steps = λ number. with_steps (docket.steps number) docket.log (steps_among parts number) }
+-- the basis with the steps of these parts
+abbrev pub after_parts : RoundBasis → List Part → RoundBasis
+after_parts basis parts =
+    record basis { steps = λ number. with_steps (basis.steps number) basis.log (steps_among parts number) }
 
--- the docket where the hypothesis of each number has these steps more
-abbrev pub after_steps : Docket → List Step → Docket
-after_steps docket steps = record docket { steps = λ number. with_steps (docket.steps number) docket.log steps }
+-- the basis where the hypothesis of each number has these steps more
+abbrev pub after_steps : RoundBasis → List Step → RoundBasis
+after_steps basis steps = record basis { steps = λ number. with_steps (basis.steps number) basis.log steps }
 
 -- The checker of this number represents the steps of its hypothesis.
-abbrev pub KeepsNumber : Docket → DocketState → ℕ → Type 0
-KeepsNumber docket state number =
-    (hypothesis : Hypothesis) → IsNumberOf docket number hypothesis → HasChecker docket docket.log state number hypothesis
+abbrev pub KeepsNumber : RoundBasis → HypothesesState → ℕ → Type 0
+KeepsNumber basis state number =
+    (hypothesis : Hypothesis) → IsNumberOf basis number hypothesis → HasChecker basis basis.log state number hypothesis
 
 -- The part passes, and its steps are kept.
-pub record IsPartTaken (docket : Docket) (before : List Part) (part : Part) (state : DocketState) : Type 0 where
-  pub passes : PartPasses docket before part
-  pub not_fails : Passes (PartFails docket before part)
-  pub keeps : KeepsNumber (after_steps docket part.steps) state part.number
+pub record IsPartTaken (basis : RoundBasis) (before : List Part) (part : Part) (state : HypothesesState) : Type 0 where
+  pub passes : PartPasses basis before part
+  pub not_fails : Passes (PartFails basis before part)
+  pub keeps : KeepsNumber (after_steps basis part.steps) state part.number
 
 -- Each part passes, and all their steps are kept.
-pub record ArePartsTaken (docket : Docket) (parts : List Part) (state : DocketState) : Type 0 where
-  pub passes : HoldInTurn (PartPasses docket) parts
-  pub not_fails : HoldInTurn (PassesWith (PartFails docket)) parts
-  pub keeps : KeepsDocket (after_parts docket parts) docket.log state
+pub record ArePartsTaken (basis : RoundBasis) (parts : List Part) (state : HypothesesState) : Type 0 where
+  pub passes : HoldInTurn (PartPasses basis) parts
+  pub not_fails : HoldInTurn (PassesWith (PartFails basis)) parts
+  pub keeps : KeepsBasis (after_parts basis parts) basis.log state

@@ -1,21 +1,21 @@
 //! The counts of a round.
 
 ghost use Rattle.std.specs.Prelude.{◌≡◌, ◌↔◌, ◌+◌, ℕ, length, count_by, IsTrue};
-ghost use Rattle.tfpg_check.specs.inside.Named.{AreCountsHeard};
+ghost use Rattle.tfpg_check.specs.inside.Named.{AreCountsFound};
 
-use crate::round::hearing::Hearing;
+use crate::round::lookup::RoundLookup;
 use tfpg_evidence::Counts;
 
 /// Whether the counts are right.
-pub(crate) fn are_right_counts(hearing: &Hearing<'_>) -> bool
-    ensures { IsTrue result ↔ AreCountsHeard hearing.now }
+pub(crate) fn are_right_counts(lookup: &RoundLookup<'_>) -> bool
+    ensures { IsTrue result ↔ AreCountsFound lookup.now }
 {
-    let read = hearing.read;
+    let read = lookup.read;
     let counts = read.counts;
     counts.ranked as usize == read.ranked.as_slice().len()
         && counts.unsettled as usize == read.unsettled.as_slice().len()
-        && counts.rejected as usize == hearing.closed_count
-        && total(counts) == u64::from(hearing.table.len())
+        && counts.rejected as usize == lookup.closed_count
+        && total(counts) == u64::from(lookup.table.len())
 }
 
 /// How many hypotheses the counts are of.

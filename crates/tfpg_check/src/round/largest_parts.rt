@@ -3,10 +3,10 @@
 ghost use Rattle.std.specs.Prelude.{◌≡◌, ◌↔◌, ◌<◌, ◌||◌, ℕ, List, length, All, IsTrue, IfOk, Some, slice_get};
 ghost use Rattle.std.specs.List.{list_any};
 ghost use Rattle.tfpg_base.specs.Hypothesis.{Hypothesis};
-ghost use Rattle.tfpg_check.specs.inside.Hearings.{flag_at};
+ghost use Rattle.tfpg_check.specs.inside.Lookups.{flag_at};
 ghost use Rattle.tfpg_check.specs.inside.LargestParts.{IsPartAmong, IsPartOfOne, AreLargestFrom, ListsLargestParts, ArePartsBefore, SayFlaggedParts};
 
-use crate::round::hearing::flag;
+use crate::round::lookup::flag;
 use std::alloc::Global;
 use std::marker::Model;
 use tfpg_base::NoMemory;

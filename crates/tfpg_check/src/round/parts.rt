@@ -6,8 +6,8 @@ ghost use Rattle.tfpg_log.specs.Log.{IsLogOf};
 ghost use Rattle.tfpg_hyp.specs.Hypotheses.{IsTableOf};
 ghost use Rattle.tfpg_report.specs.ReadRounds.{HasLineForEachStep};
 ghost use Rattle.tfpg_report.specs.declared.read_round.Part.{Part as PartRead};
-ghost use Rattle.tfpg_check.specs.DocketState.{KeepsDocket};
-ghost use Rattle.tfpg_check.specs.Judging.{Docket, PartFails};
+ghost use Rattle.tfpg_check.specs.HypothesesState.{KeepsBasis};
+ghost use Rattle.tfpg_check.specs.Judging.{RoundBasis, PartFails};
 ghost use Rattle.tfpg_check.specs.Tests.{InTurn};
 ghost use Rattle.tfpg_check.specs.inside.InTurn.{IsFaultOf};
 ghost use Rattle.tfpg_check.specs.inside.Parts.{kept_of, IsNextAfter, IsUnfinished, MayTake, KeepsNumber, IsPartTaken, ArePartsTaken};
@@ -36,11 +36,11 @@ pub(crate) fn judge_parts(
     requires table { (terms : Terms) × IsTableOf graph.now terms table.now }
     requires one_each { length checkers.old ≡ length table.now.hypotheses }
     requires lines { All HasLineForEachStep parts.now }
-    ensures taken { (docket : Docket) → docket.graph ≡ graph.now → docket.log ≡ log.old →
-        KeepsDocket docket docket.log (kept_of docket.terms table.now checkers.old) →
+    ensures taken { (basis : RoundBasis) → basis.graph ≡ graph.now → basis.log ≡ log.old →
+        KeepsBasis basis basis.log (kept_of basis.terms table.now checkers.old) →
         MatchResult result
-        (λ _. ArePartsTaken docket parts.now (kept_of docket.terms table.now checkers.new))
-        (IsFaultOf (InTurn (PartFails docket) [] parts.now)) }
+        (λ _. ArePartsTaken basis parts.now (kept_of basis.terms table.now checkers.new))
+        (IsFaultOf (InTurn (PartFails basis) [] parts.now)) }
     ensures log { log.new ≡ log.old }
 {
     let mut next = 0;
@@ -65,12 +65,12 @@ fn judge_part(
     requires table { (terms : Terms) × IsTableOf graph.now terms table.now }
     requires one_each { length checkers.old ≡ length table.now.hypotheses }
     requires lines { HasLineForEachStep part.now }
-    ensures taken { (docket : Docket) (before : List PartRead) → docket.graph ≡ graph.now → docket.log ≡ log.old →
-        docket.hypotheses ≡ table.now.hypotheses → IsNextAfter (λ part. part.number) before next →
-        (next ≤ part.now.number → KeepsNumber docket (kept_of docket.terms table.now checkers.old) part.now.number) →
+    ensures taken { (basis : RoundBasis) (before : List PartRead) → basis.graph ≡ graph.now → basis.log ≡ log.old →
+        basis.hypotheses ≡ table.now.hypotheses → IsNextAfter (λ part. part.number) before next →
+        (next ≤ part.now.number → KeepsNumber basis (kept_of basis.terms table.now checkers.old) part.now.number) →
         MatchResult result
-        (λ _. IsPartTaken docket before part.now (kept_of docket.terms table.now checkers.new))
-        (IsFaultOf (PartFails docket before part.now)) }
+        (λ _. IsPartTaken basis before part.now (kept_of basis.terms table.now checkers.new))
+        (IsFaultOf (PartFails basis before part.now)) }
     ensures next { IsOk result → next ≤ part.now.number }
     ensures others { (number : ℕ) → number ≢ part.now.number →
         slice_get checkers.new number ≡ slice_get checkers.old number }

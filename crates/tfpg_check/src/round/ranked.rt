@@ -7,15 +7,15 @@ ghost use Rattle.tfpg_hyp.specs.Views.{log_for};
 ghost use Rattle.tfpg_report.specs.declared.read_round.RankedLine.{RankedLine as RankedRead};
 ghost use Rattle.tfpg_report.specs.ReadRounds.{hypothesis_ranked};
 ghost use Rattle.tfpg_check.specs.inside.ReadRoundOf.{IsRankedLineOf};
-ghost use Rattle.tfpg_check.specs.Judging.{Docket, RankedFails, key_read};
-ghost use Rattle.tfpg_check.specs.Tests.{InTurn};
-ghost use Rattle.tfpg_check.specs.inside.Passing.{RankedPasses};
-ghost use Rattle.tfpg_check.specs.inside.InTurn.{HoldInTurn, IsFailure};
-ghost use Rattle.tfpg_check.specs.inside.Hearings.{IsHearing};
+ghost use Rattle.tfpg_check.specs.Judging.{RoundBasis, RankedFails, key_read};
+ghost use Rattle.tfpg_check.specs.Tests.{InTurn, HoldInTurn};
+ghost use Rattle.tfpg_check.specs.Passing.{RankedPasses};
+ghost use Rattle.tfpg_check.specs.inside.InTurn.{IsFailure};
+ghost use Rattle.tfpg_check.specs.inside.Lookups.{IsLookupOf};
 ghost use Rattle.tfpg_check.specs.inside.RankedKeys.{IsLastOf, IsFractionOf, ComesAfter, HasRobustness, SaysRight};
 
 use crate::cause::CheckCause;
-use crate::round::hearing::Hearing;
+use crate::round::lookup::RoundLookup;
 use crate::round_fault::FailedTest;
 use tfpg_base::Doubts;
 use tfpg_graph::Graph;
@@ -26,20 +26,20 @@ use tfpg_report::RankedLine;
 use tfpg_trace::{Verdict, explains};
 
 /// Tests each ranked hypothesis in turn: what its line says, and then its trace.
-pub(crate) fn judge_ranked(hearing: &Hearing<'_>, log: &mut Log) -> Result<(), FailedTest>
-    requires of { IsLogOf hearing.now.graph.now log.old }
+pub(crate) fn judge_ranked(lookup: &RoundLookup<'_>, log: &mut Log) -> Result<(), FailedTest>
+    requires of { IsLogOf lookup.now.graph.now log.old }
     requires ignores { log.old.ignored ≡ [] }
-    requires lines { All (IsRankedLineOf hearing.now.graph.now) hearing.now.read.now.ranked }
-    ensures ranked { (docket : Docket) → IsHearing docket hearing.now → docket.log ≡ log.old →
+    requires lines { All (IsRankedLineOf lookup.now.graph.now) lookup.now.read.now.ranked }
+    ensures ranked { (basis : RoundBasis) → IsLookupOf basis lookup.now → basis.log ≡ log.old →
         MatchResult result
-        (λ _. HoldInTurn (RankedPasses docket hearing.now.read.now) hearing.now.read.now.ranked)
-        (IsFailure (InTurn (RankedFails docket hearing.now.read.now) [] hearing.now.read.now.ranked)) }
+        (λ _. HoldInTurn (RankedPasses basis lookup.now.read.now) lookup.now.read.now.ranked)
+        (IsFailure (InTurn (RankedFails basis lookup.now.read.now) [] lookup.now.read.now.ranked)) }
     ensures log { log.new ≡ log.old }
 {
     the_ranking_order_is_total();
     let mut last = None;
-    for r in hearing.read.ranked.as_slice() {
-        judge_line(hearing, log, last, r)?;
+    for r in lookup.read.ranked.as_slice() {
+        judge_line(lookup, log, last, r)?;
         last = Some(key_of(r));
     }
     Ok(())
@@ -47,30 +47,30 @@ pub(crate) fn judge_ranked(hearing: &Hearing<'_>, log: &mut Log) -> Result<(), F
 
 /// Tests a ranked hypothesis. The key is that of the one before.
 fn judge_line(
-    hearing: &Hearing<'_>,
+    lookup: &RoundLookup<'_>,
     log: &mut Log,
     last: Option<Place>,
     r: &RankedLine,
 ) -> Result<(), FailedTest>
-    requires of { IsLogOf hearing.now.graph.now log.old }
+    requires of { IsLogOf lookup.now.graph.now log.old }
     requires ignores { log.old.ignored ≡ [] }
-    requires line { IsRankedLineOf hearing.now.graph.now r.now }
+    requires line { IsRankedLineOf lookup.now.graph.now r.now }
     requires last { IsFractionOf last }
-    ensures ranked { (docket : Docket) (earlier : List RankedRead) → IsHearing docket hearing.now →
-        docket.log ≡ log.old → IsLastOf earlier last →
+    ensures ranked { (basis : RoundBasis) (earlier : List RankedRead) → IsLookupOf basis lookup.now →
+        basis.log ≡ log.old → IsLastOf earlier last →
         MatchResult result
-        (λ _. RankedPasses docket hearing.now.read.now earlier r.now)
-        (IsFailure (RankedFails docket hearing.now.read.now earlier r.now)) }
+        (λ _. RankedPasses basis lookup.now.read.now earlier r.now)
+        (IsFailure (RankedFails basis lookup.now.read.now earlier r.now)) }
     ensures log { log.new ≡ log.old }
     ensures fraction { IsOk result → 1 ≤ r.now.monitored }
 {
-    if !may_be_ranked(hearing, log, last, r) {
+    if !may_be_ranked(lookup, log, last, r) {
         return Err(FailedTest {
             line: r.first_line,
             cause: CheckCause::WrongRanked,
         });
     }
-    if !is_explained(hearing.graph, log, r) {
+    if !is_explained(lookup.graph, log, r) {
         return Err(FailedTest {
             line: r.first_line,
             cause: CheckCause::NotATrace,
@@ -81,30 +81,30 @@ fn judge_line(
 
 /// Whether the line says what is right: it names a hypothesis of the table whose tree is not closed, with its cost and its
 /// robustness, it comes after the one before, and no proper part of it is ranked.
-fn may_be_ranked(hearing: &Hearing<'_>, log: &Log, last: Option<Place>, r: &RankedLine) -> bool
-    requires line { IsRankedLineOf hearing.now.graph.now r.now }
+fn may_be_ranked(lookup: &RoundLookup<'_>, log: &Log, last: Option<Place>, r: &RankedLine) -> bool
+    requires line { IsRankedLineOf lookup.now.graph.now r.now }
     requires last { IsFractionOf last }
-    ensures right { IsTrue result ↔ SaysRight hearing.now log.now last r.now }
+    ensures right { IsTrue result ↔ SaysRight lookup.now log.now last r.now }
     ensures fraction { IsTrue result → 1 ≤ r.now.monitored }
 {
-    hearing.is_listed(r.number, r.hypothesis())
-        && !hearing.is_closed(r.number)
-        && cost(hearing.graph, r.set, r.doubts) == r.cost
-        && has_robustness(hearing, log, r)
+    lookup.is_listed(r.number, r.hypothesis())
+        && !lookup.is_closed(r.number)
+        && cost(lookup.graph, r.set, r.doubts) == r.cost
+        && has_robustness(lookup, log, r)
         && comes_after(last, key_of(r))
-        && !hearing.has_ranked_part(r.number)
+        && !lookup.has_ranked_part(r.number)
 }
 
 /// Whether the robustness is that of the hypothesis of this number, by its reach. Goes once over the nodes.
-fn has_robustness(hearing: &Hearing<'_>, log: &Log, r: &RankedLine) -> bool
-    ensures robust { IsTrue result ↔ HasRobustness hearing.now log.now r.now }
+fn has_robustness(lookup: &RoundLookup<'_>, log: &Log, r: &RankedLine) -> bool
+    ensures robust { IsTrue result ↔ HasRobustness lookup.now log.now r.now }
     ensures fraction { IsTrue result → 1 ≤ r.now.monitored }
 {
-    if r.number >= hearing.table.len() {
+    if r.number >= lookup.table.len() {
         return false;
     }
-    let reach = hearing.table.reach(r.number);
-    let found = robust(hearing.graph, log, reach, r.doubts);
+    let reach = lookup.table.reach(r.number);
+    let found = robust(lookup.graph, log, reach, r.doubts);
     found.alarmed == r.alarmed && found.monitored == r.monitored
 }
 

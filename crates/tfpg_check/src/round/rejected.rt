@@ -2,74 +2,74 @@
 
 ghost use Rattle.std.specs.Prelude.{◌≡◌, ◌↔◌, ◌<◌, ℕ, [], length, map, MatchResult, IsTrue, slice_get};
 ghost use Rattle.tfpg_check.specs.declared.cause.CheckCause.TheVariants as cause;
-ghost use Rattle.tfpg_check.specs.Judging.{Docket, AreNewlyClosed, RejectedFails, named_by};
+ghost use Rattle.tfpg_check.specs.Judging.{RoundBasis, AreNewlyClosed, RejectedFails, named_by};
 ghost use Rattle.tfpg_check.specs.inside.InTurn.{IsFailure};
-ghost use Rattle.tfpg_check.specs.inside.Hearings.{IsHearing};
+ghost use Rattle.tfpg_check.specs.inside.Lookups.{IsLookupOf};
 ghost use Rattle.tfpg_check.specs.inside.Named.{line_at, Names};
 
 use crate::cause::CheckCause;
-use crate::round::hearing::Hearing;
+use crate::round::lookup::RoundLookup;
 use crate::round_fault::FailedTest;
 use tfpg_report::ReadRound;
 
 /// Tests that the rejected lines are those of the hypotheses whose trees were closed in this round. Goes once through the
 /// hypotheses, if the round has steps.
-pub(crate) fn judge_rejected(hearing: &Hearing<'_>) -> Result<(), FailedTest>
-    ensures { (docket : Docket) → IsHearing docket hearing.now →
+pub(crate) fn judge_rejected(lookup: &RoundLookup<'_>) -> Result<(), FailedTest>
+    ensures { (basis : RoundBasis) → IsLookupOf basis lookup.now →
         MatchResult result
-        (λ _. AreNewlyClosed docket hearing.now.read.now (map named_by hearing.now.read.now.rejected))
-        (IsFailure (RejectedFails docket hearing.now.read.now)) }
+        (λ _. AreNewlyClosed basis lookup.now.read.now (map named_by lookup.now.read.now.rejected))
+        (IsFailure (RejectedFails basis lookup.now.read.now)) }
 {
-    if hearing.read.parts.as_slice().is_empty() {
-        return judge_none_rejected(hearing);
+    if lookup.read.parts.as_slice().is_empty() {
+        return judge_none_rejected(lookup);
     }
-    judge_each_rejected(hearing)
+    judge_each_rejected(lookup)
 }
 
 /// The same for a round without steps, which closes no tree.
-fn judge_none_rejected(hearing: &Hearing<'_>) -> Result<(), FailedTest>
-    requires { hearing.now.read.now.parts ≡ [] }
-    ensures { (docket : Docket) → IsHearing docket hearing.now →
+fn judge_none_rejected(lookup: &RoundLookup<'_>) -> Result<(), FailedTest>
+    requires { lookup.now.read.now.parts ≡ [] }
+    ensures { (basis : RoundBasis) → IsLookupOf basis lookup.now →
         MatchResult result
-        (λ _. AreNewlyClosed docket hearing.now.read.now (map named_by hearing.now.read.now.rejected))
-        (IsFailure (RejectedFails docket hearing.now.read.now)) }
+        (λ _. AreNewlyClosed basis lookup.now.read.now (map named_by lookup.now.read.now.rejected))
+        (IsFailure (RejectedFails basis lookup.now.read.now)) }
 {
-    if hearing.read.rejected.as_slice().is_empty() {
+    if lookup.read.rejected.as_slice().is_empty() {
         return Ok(());
     }
-    Err(fails_at(hearing.read, 0))
+    Err(fails_at(lookup.read, 0))
 }
 
 /// The same for any round. Goes once through the hypotheses.
-fn judge_each_rejected(hearing: &Hearing<'_>) -> Result<(), FailedTest>
-    ensures { (docket : Docket) → IsHearing docket hearing.now →
+fn judge_each_rejected(lookup: &RoundLookup<'_>) -> Result<(), FailedTest>
+    ensures { (basis : RoundBasis) → IsLookupOf basis lookup.now →
         MatchResult result
-        (λ _. AreNewlyClosed docket hearing.now.read.now (map named_by hearing.now.read.now.rejected))
-        (IsFailure (RejectedFails docket hearing.now.read.now)) }
+        (λ _. AreNewlyClosed basis lookup.now.read.now (map named_by lookup.now.read.now.rejected))
+        (IsFailure (RejectedFails basis lookup.now.read.now)) }
 {
     let mut index = 0;
-    for number in 0..hearing.table.len() {
-        if hearing.is_newly_closed(number) {
-            if !names(hearing, index, number) {
-                return Err(fails_at(hearing.read, index));
+    for number in 0..lookup.table.len() {
+        if lookup.is_newly_closed(number) {
+            if !names(lookup, index, number) {
+                return Err(fails_at(lookup.read, index));
             }
             index += 1;
         }
     }
-    if index < hearing.read.rejected.as_slice().len() {
-        return Err(fails_at(hearing.read, index));
+    if index < lookup.read.rejected.as_slice().len() {
+        return Err(fails_at(lookup.read, index));
     }
     Ok(())
 }
 
 /// Whether there is a rejected line of this index, and it names the hypothesis of this number.
-fn names(hearing: &Hearing<'_>, index: usize, number: u32) -> bool
-    requires { number < length hearing.now.table.now.hypotheses }
+fn names(lookup: &RoundLookup<'_>, index: usize, number: u32) -> bool
+    requires { number < length lookup.now.table.now.hypotheses }
     ensures { IsTrue result ↔
-        Names hearing.now.table.now.hypotheses number (slice_get hearing.now.read.now.rejected index) }
+        Names lookup.now.table.now.hypotheses number (slice_get lookup.now.read.now.rejected index) }
 {
-    match hearing.read.rejected.as_slice().get(index) {
-        Some(named) => named.number == number && hearing.is_listed(number, named.hypothesis()),
+    match lookup.read.rejected.as_slice().get(index) {
+        Some(named) => named.number == number && lookup.is_listed(number, named.hypothesis()),
         None => false,
     }
 }

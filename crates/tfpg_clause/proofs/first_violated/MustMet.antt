@@ -1,13 +1,14 @@
 -- Whether times meet the must clause of a node in a window, edge by edge.
-use Rattle.std.proofs.Common.{◌≡◌, ℕ, ◌<◌, Bool, true, ◌&&◌, eqb, List, [], ◌∷◌, get_or, Option, Some, None, refl, sym, ap, subst, ◌∙◌, inl, inr, arith, pos}
-use Rattle.std.specs.Prelude.{All, Contains, IsSomeAnd, map, option_and_then}
+use Rattle.std.proofs.Common.{◌≡◌, ℕ, ◌<◌, ◌≤◌, Bool, true, ◌&&◌, eqb, List, [], ◌∷◌, get_or, Option, Some, None, refl, sym, ap, subst, ◌∙◌, inl, inr, arith, pos}
+use Rattle.std.specs.Prelude.{All, Contains, IfSome, IsSomeAnd, map, option_and_then}
 use Rattle.std.specs.Bool.{then_some}
 use Rattle.std.specs.List.{list_all}
-use Rattle.std.proofs.lemmas.Bool.{and_parts, and_from, eqb-true, eq-eqb}
+use Rattle.std.proofs.lemmas.Bool.{and_parts, and_from, eqb-true, eq-eqb, leb-true}
 use Rattle.tfpg_base.specs.Choice.{each_of}
 use Rattle.tfpg_base.specs.declared.constraint.Constraint.{Constraint}
 use Rattle.tfpg_base.specs.Constraint.{Meets}
 use Rattle.tfpg_base.proofs.lists.Choices.{Contains-each_of_only, Contains-each_of, then_some-true, IsSomeAnd-from, IsSomeAnd-there}
+use Rattle.tfpg_base.proofs.lists.Elements.{list_all-each}
 use Rattle.tfpg_log.specs.declared.span.Window.{Window}
 use Rattle.tfpg_clause.specs.Clauses.{Due}
 use Rattle.tfpg_base.specs.Bounds.{at_most}
@@ -31,6 +32,21 @@ module _ (f : ℕ → Option Due) (edges : List ℕ) (times : List ℕ) (node nu
           let parts = then_some-true (eqb window.first number && list_all (fits window.hi) ds) (must_alternatives node window.hi ds) all at in
           let both = and_parts (eqb window.first number) (list_all (fits window.hi) ds) parts.0 in
           (ds, are, eqb-true window.first number both.0, both.1, parts.1)
+
+  -- The times meet it where over an edge what is due is excused, if the window has room for it.
+  pub met_if_excused : (edge : ℕ) × Contains edges edge × IfSome (f edge) (λ (due : Due). due.by ≤ window.hi → IsExcused times window.hi due)
+      → MeetsIfAny times (option_and_then (λ dues. must_in node number window dues) (each_of (map f edges)))
+  met_if_excused excuse all at =
+      let parts = must_there all at in
+      let due = Contains-each_of f edges parts.0 excuse.0 parts.1 excuse.1 in
+      let room : due.0.by ≤ window.hi = leb-true due.0.by window.hi (list_all-each (fits window.hi) parts.0 due.0 parts.3 due.1) in
+      let excused : IsExcused times window.hi due.0 =
+      subst (λ (o : Option Due). IfSome o (λ (d : Due). d.by ≤ window.hi → IsExcused times window.hi d)) due.2 excuse.2 room in
+      subst (MeetsClause times) parts.4
+      (elim excused [
+        | inl late ↦ (starts_late window.hi due.0, late_there node window.hi parts.0 due.0 due.1, late)
+        | inr soon ↦ (follows_in_time due.0, follows_there node window.hi parts.0 due.0 due.1, soon)
+      ])
 
   module _ (latest : ℕ) (room : latest_within window.hi (each_of (map f edges)) ≡ Some latest) where
     -- The times meet it where it is excused by an edge;

@@ -68,12 +68,53 @@ module _ (log : Logbook) (times : List ℕ) (passes : ℕ → Bool) (windows : �
           let first : own.0.first ≡ window.first = ap (λ (w : Window). w.first) same in
           omega (arith, own.2, first, ((found number window).0 at).first_span, number_rises log window.lo here.0 here.2, here.1, after)
 
-  -- and none has one after the span of now.
-  none_past : (other : ℕ) → span_number log (now_of log) < other → (all : List (List Constraint)) → clauses other ≡ Some all → ⊥
-  none_past other after all there =
+  -- and after the span of an instant a clause is met, where it is in a window that begins later.
+  met_past : (end other : ℕ) → ((window : Window) → windows other ≡ Some window → window.lo ≤ now_of log → end < window.lo → MeetsIfAny times (clauses other)) → span_number log end < other
+      → MeetsIfAny times (clauses other)
+  met_past end other late after all there =
       let own = begins other all there in
       let inside = around other own.0 own.1 in
-      omega (arith, number_rises log inside.0 (now_of log) (omega (arith, inside.3, inside.4)), inside.1, after)
+      let first : other ≡ span_number log own.0.lo = omega (arith, own.2, ((found other own.0).0 own.1).first_span) in
+      elim (cases_lt end own.0.lo) [
+        | inl later ↦ late own.0 own.1 (omega (arith, inside.2, inside.3, inside.4)) later all there
+        | inr upto ↦ absurd (omega (arith, number_rises log own.0.lo end upto, first, after))
+      ]
+
+  -- Each clause is met, where it is in a window that ends by now.
+  pub met_each : ((other : ℕ) (window : Window) → windows other ≡ Some window → window.hi ≤ now_of log → MeetsIfAny times (clauses other)) → MeetsEach times clauses
+  met_each met other all there =
+      let own = begins other all there in
+      met other own.0 own.1 (around other own.0 own.1).4 all there
+
+  -- Before the span of an instant a clause is met, where it is in a window that ends before the instant, and the window round the instant
+  -- does not begin with its span.
+  met_unless_round : (instant other : ℕ) → ((window : Window) → windows other ≡ Some window → window.hi < instant → MeetsIfAny times (clauses other))
+      → other < span_number log instant → ((window : Window) → windows (span_number log instant) ≡ Some window → window.first ≡ other → ⊥) → MeetsIfAny times (clauses other)
+  met_unless_round instant other early before none all there =
+      let own = begins other all there in
+      let first : other ≡ span_number log own.0.lo = omega (arith, own.2, ((found other own.0).0 own.1).first_span) in
+      elim (cases_lt own.0.hi instant) [
+        | inl past ↦ early own.0 own.1 past all there
+        | inr till ↦ elim (cases_lt instant own.0.lo) [
+          | inl after ↦ absurd (omega (arith, number_rises log instant own.0.lo (omega (arith, after)), first, before))
+          | inr from ↦ absurd (none own.0 (throughout other instant own.0 own.1 from till) own.2)
+        ]
+      ]
+
+  module _ (instant : ℕ) (early : (other : ℕ) (window : Window) → windows other ≡ Some window → window.hi < instant → MeetsIfAny times (clauses other)) where
+    -- Where the clauses are met in windows that end before an instant, they are before the span of the instant, if there is no window round it,
+    pub met_before : None ≡ windows (span_number log instant) → (other : ℕ) → other < span_number log instant → MeetsIfAny times (clauses other)
+    met_before none other before = met_unless_round instant other (early other) before (λ window at first. absurd (cc (none, at)))
+
+    -- and else before the first span of that.
+    pub met_before_window : (window : Window) → windows (span_number log instant) ≡ Some window → (other : ℕ) → other < window.first → MeetsIfAny times (clauses other)
+    met_before_window window at other before =
+        let here = around (span_number log instant) window at in
+        let first : window.first ≡ span_number log window.lo = ((found (span_number log instant) window).0 at).first_span in
+        met_unless_round instant other (early other) (omega (arith, before, first, number_rises log window.lo here.0 here.2, here.1))
+        (λ own there begins_here.
+        let same : own ≡ window = cc (there, at) in
+        omega (arith, before, begins_here, ap (λ (w : Window). w.first) same))
 
   -- Where there is no window, there is no clause.
   pub met_without : (number : ℕ) → None ≡ windows number → MeetsUpTo times clauses number (Some number)
@@ -102,13 +143,14 @@ module _ (log : Logbook) (times : List ℕ) (passes : ℕ → Bool) (windows : �
             ],
       )
 
-  -- The clauses are met that are met up to the span of now.
-  pub met_all : (number until : ℕ) → span_number log (now_of log) ≤ until → ((other : ℕ) → other < number → MeetsIfAny times (clauses other))
+  -- The clauses are met that are met up to the span of an instant, and in windows that begin later.
+  pub met_all : (number end until : ℕ) → ((other : ℕ) (window : Window) → windows other ≡ Some window → window.lo ≤ now_of log → end < window.lo → MeetsIfAny times (clauses other))
+      → span_number log end ≤ until → ((other : ℕ) → other < number → MeetsIfAny times (clauses other))
       → ((other : ℕ) → number ≤ other → other ≤ until → MeetsIfAny times (clauses other)) → MeetsEach times clauses
-  met_all number until last before here other = elim (cases_lt other number) [
+  met_all number end until late last before here other = elim (cases_lt other number) [
     | inl below ↦ before other below
     | inr from ↦ elim (cases_lt until other) [
-      | inl past ↦ (λ all at. absurd (none_past other (omega (arith, last, past)) all at))
+      | inl past ↦ met_past end other (late other) (omega (arith, last, past))
       | inr till ↦ here other from till
     ]
   ]

@@ -59,6 +59,11 @@ MeetsUpTo times clauses span result =
     MatchOption result (IsViolated times (clauses span))
     (λ last. (span ≤ last) × ((other : ℕ) → span ≤ other → other ≤ last → MeetsIfAny times (clauses other)))
 
+-- The result is a span before which the times meet the clauses, and none where they meet each.
+abbrev pub MeetsBefore : List ℕ → (ℕ → Option (List (List Constraint))) → Option ℕ → Type 0
+MeetsBefore times clauses result =
+    MatchOption result (MeetsEach times clauses) (λ number. (other : ℕ) → other < number → MeetsIfAny times (clauses other))
+
 -- the clauses of a kind and of a node or an edge by their spans, with the horizon now
 abbrev pub clauses_of : Tfpg → Logbook → ClauseKind → ℕ → ℕ → Option (List (List Constraint))
 clauses_of graph log kind subject span = alternatives graph log (named kind subject span (now_of log))

@@ -14,7 +14,7 @@ use Rattle.tfpg_hyp.specs.declared.place.Fraction.{Fraction}
 use Rattle.tfpg_hyp.specs.declared.place.Place.{Place}
 use Rattle.tfpg_hyp.specs.Rounds.{Inquiry, HasEvidence, IsOrder, counts_of, key_of_status}
 use Rattle.tfpg_search.specs.Enough.{IsEnough}
-use Rattle.tfpg_search.specs.SearchState.{SearchState}
+use Rattle.tfpg_search.specs.SearchState.{SearchState, calls_of_search}
 use Rattle.tfpg_clause.specs.Paths.{with_steps}
 use Rattle.tfpg_search.specs.declared.found.Found.{Found}
 use Rattle.tfpg_search.specs.declared.found.Found.TheVariants as found
@@ -28,7 +28,7 @@ use Rattle.tfpg_engine.specs.inside.RankedKeys.{HasFraction}
 -- what is kept of a search that found this
 abbrev pub kept : SearchState → Found → Slot
 kept search (found.Shown trace) = Searched search
-kept search found.Closed = Rejected
+kept search found.Closed = Rejected (record { number = calls_of_search search })
 kept search found.Spent = Searched search
 
 -- the status by the cost and the robustness of a hypothesis, and by what was found

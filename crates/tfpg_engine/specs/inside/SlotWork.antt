@@ -1,5 +1,6 @@
 -- How many counted calls the findings of a round take at most, by what was kept of the hypotheses before.
-use Rattle.std.specs.Prelude.{◌≡◌, ℕ, ◌+◌, ◌≤◌, List, length, sum_by, Some, slice_get}
+use Rattle.std.specs.Prelude.{◌≡◌, ℕ, ◌+◌, ◌≤◌, List, length, sum_by, Bool, Some, slice_get}
+use Rattle.std.specs.Bool.{MatchBool}
 use Rattle.tfpg_base.specs.Hypothesis.{Hypothesis}
 use Rattle.tfpg_evidence.specs.declared.finding.Finding.{Finding}
 use Rattle.tfpg_clause.specs.Case.{Case}
@@ -8,7 +9,19 @@ use Rattle.tfpg_hyp.specs.Views.{case_for}
 use Rattle.tfpg_hyp.specs.Rounds.{Inquiry}
 use Rattle.tfpg_engine.specs.declared.slot.Slot.{Slot}
 use Rattle.tfpg_engine.specs.EngineState.{is_rejected_slot, seen_by}
-use Rattle.tfpg_engine.specs.Work.{is_worked_on, IsLimitWhere, AreLimits}
+use Rattle.tfpg_search.specs.Work.{IsWorkLimit}
+use Rattle.tfpg_engine.specs.Work.{is_worked_on}
+
+-- The limit for a hypothesis: that of its search where the round works on it, and else 0. The search saw so many events before, and
+-- it appends so many steps.
+abbrev pub IsLimitWhere : Bool → Case → ℕ → ℕ → ℕ → Type 0
+IsLimitWhere worked_on case seen steps limit = MatchBool worked_on (IsWorkLimit case seen steps limit) (limit ≡ 0)
+
+-- There is one limit for each of the findings, and each is a limit of this kind, by the number of its finding.
+pub record AreLimits (IsLimit : ℕ → Finding → ℕ → Type 0) (findings : List Finding) (limits : List ℕ) : Type 0 where
+  pub one_each : length limits ≡ length findings
+  pub each : (number : ℕ) (finding : Finding) (limit : ℕ) → slice_get findings number ≡ Some finding
+      → slice_get limits number ≡ Some limit → IsLimit number finding limit
 
 -- the limit for a finding, by what was kept before
 abbrev pub IsSlotLimit : Case → Slot → Finding → ℕ → Type 0

@@ -5,7 +5,7 @@ ghost use Rattle.std.specs.Prelude.{◌<◌, length};
 use crate::given::on_graph;
 use std::alloc::Global;
 use std::test::Fail;
-use tfpg_graph::{Edge, Graph, Kind, append_edge_start, write};
+use tfpg_graph::{Edge, Graph, append_edge_start, write};
 
 /// Three modes, an AND discrepancy before its sources, comments, and edges that name their modes in every way.
 const THREE_MODES: &[u8] =
@@ -134,14 +134,6 @@ fn an_edge_is_active_in_its_modes(rt: HostRuntime) {
         modes: 0b010,
     };
     assert_eq!(rt; edge.active_with(&other), both);
-}
-
-#[test]
-fn a_discrepancy_is_or_or_and(rt: HostRuntime) {
-    assert!(rt; Kind::Or { lag: None }.is_or());
-    assert!(rt; !Kind::Or { lag: None }.is_and());
-    assert!(rt; Kind::And { lag: None }.is_and());
-    assert!(rt; !Kind::And { lag: None }.is_or());
 }
 
 /// Nodes, and whether each is an OR node, and an AND node.

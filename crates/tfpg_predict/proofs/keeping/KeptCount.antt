@@ -12,9 +12,11 @@ use Rattle.tfpg_log.specs.declared.event.Event.{Event}
 use Rattle.tfpg_log.specs.declared.event.Event.TheVariants.{Alarm, Silent, Sweep, Tick, Mode}
 use Rattle.tfpg_log.specs.Log.{Logbook, IsLogOf, IsOrdered, alarm_event, is_mode_change}
 use Rattle.tfpg_log.proofs.events.SilentNodes.{event_own, silent_within}
-use Rattle.tfpg_predict.specs.Kept.{is_at, last_alarm, last_silence, is_kept_alarm, kept_of, kept_after, kept_events}
+use Rattle.tfpg_predict.specs.Kept.{kept_events}
+use Rattle.tfpg_predict.specs.inside.KeptEvents.{is_at, last_alarm, last_silence, is_kept_alarm, kept_of_number, kept_after_number}
 use Rattle.tfpg_predict.proofs.explained.KeptFacts.{IsSaidBy}
 use Rattle.tfpg_predict.proofs.keeping.KeptOrder.{changes_kept}
+use Rattle.tfpg_predict.proofs.keeping.SameKept.{same_kept}
 use Rattle.tfpg_predict.proofs.keeping.KeptEventsKeep.{keeps}
 
 -- 1 where a test passes, and else 0
@@ -123,14 +125,14 @@ module _ (graph : Tfpg) (log : Logbook) where
     silences_about : (time : ℕ) → count_by (is_about node) (map (λ n. Silent time n) (filter (λ n. is_at (last_silence graph log n) number) (range_with_len 0 (length graph.nodes)))) ≤ ends
     silences_about time = let one = one_at_most (λ n. is_at (last_silence graph log n) number) time node 0 (length graph.nodes) in omega (arith, one)
 
-    about_of : (event : Event) → count_by (is_about node) (kept_of graph log number event) ≤ ends
+    about_of : (event : Event) → count_by (is_about node) (kept_of_number graph log number event) ≤ ends
     about_of (Alarm time other) = alarm_about time other (is_kept_alarm log other number) refl
     about_of (Silent time other) = silences_about time
     about_of (Sweep time) = silences_about time
     about_of (Tick time) = omega arith
     about_of (Mode time mode) = omega (arith, sum_by-cons (one_if (is_about node)) (Mode time mode) [])
 
-  about_after : (node number : ℕ) (events : List Event) → count_by (is_about node) (kept_after graph log number events)
+  about_after : (node number : ℕ) (events : List Event) → count_by (is_about node) (kept_after_number graph log number events)
       ≤ due (alarm_event log node) number + due (last_alarm log node) number + due (last_silence graph log node) number
   about_after node number [] = omega arith
   about_after node number (event ∷ events) =
@@ -141,7 +143,7 @@ module _ (graph : Tfpg) (log : Logbook) where
       let silence = due_next (last_silence graph log node) number in
       omega (
         arith,
-        sum_by-append (one_if (is_about node)) (kept_of graph log (suc number) event) (kept_after graph log (suc number) events),
+        sum_by-append (one_if (is_about node)) (kept_of_number graph log (suc number) event) (kept_after_number graph log (suc number) events),
         here,
         rest,
         first,
@@ -155,7 +157,7 @@ module _ (graph : Tfpg) (log : Logbook) where
       let first = due_small (alarm_event log node) 0 in
       let last = due_small (last_alarm log node) 0 in
       let silence = due_small (last_silence graph log node) 0 in
-      omega (arith, all, first, last, silence)
+      omega (arith, ap (count_by (is_about node)) (same_kept graph log), all, first, last, silence)
 
 -- ---- all nodes
 

@@ -12,7 +12,7 @@ use Rattle.tfpg_graph.specs.Graph.{Tfpg}
 use Rattle.tfpg_log.specs.declared.event.Event.{Event}
 use Rattle.tfpg_log.specs.declared.event.Event.TheVariants.{Alarm, Silent, Sweep, Tick, Mode}
 use Rattle.tfpg_log.specs.Log.{Logbook, mode_after}
-use Rattle.tfpg_predict.specs.Kept.{is_at, last_silence, is_kept_alarm, kept_silences, kept_of, kept_after, kept_events}
+use Rattle.tfpg_predict.specs.inside.KeptEvents.{is_at, last_silence, is_kept_alarm, kept_silences, kept_of_number, kept_after_number, kept_by_numbers}
 
 -- a number that is there is this one
 pub at_number : (found : Option ℕ) (number : ℕ) → is_at found number ≡ true → found ≡ Some number
@@ -46,37 +46,37 @@ module _ (graph : Tfpg) (log : Logbook) where
 
   -- ---- what holds of all kept events
 
-  module _ (Q : Event → Type 0) (each : (index : ℕ) (event kept : Event) → slice_get log.events index ≡ Some event → Contains (kept_of graph log (suc index) event) kept → Q kept) where
-    all_after : (number : ℕ) (events : List Event) → StandAfter number events → All Q (kept_after graph log number events)
+  module _ (Q : Event → Type 0) (each : (index : ℕ) (event kept : Event) → slice_get log.events index ≡ Some event → Contains (kept_of_number graph log (suc index) event) kept → Q kept) where
+    all_after : (number : ℕ) (events : List Event) → StandAfter number events → All Q (kept_after_number graph log number events)
     all_after number [] stand = All-nil Q
     all_after number (event ∷ events) stand =
-        All-append Q (kept_of graph log (suc number) event) (kept_after graph log (suc number) events)
-        (All-from_members Q (kept_of graph log (suc number) event) (λ kept among. each number event kept (first_stands number event events stand) among))
+        All-append Q (kept_of_number graph log (suc number) event) (kept_after_number graph log (suc number) events)
+        (All-from_members Q (kept_of_number graph log (suc number) event) (λ kept among. each number event kept (first_stands number event events stand) among))
         (all_after (suc number) events (others_stand number event events stand))
 
-    pub all_kept : All Q (kept_events graph log)
+    pub all_kept : All Q (kept_by_numbers graph log)
     all_kept = all_after 0 log.events all_stand
 
   -- ---- what is kept of an event stands among the kept events
 
   among_after : (number : ℕ) (events : List Event) (index : ℕ) (event kept : Event) → slice_get events index ≡ Some event
-      → Contains (kept_of graph log (suc (number + index)) event) kept → Contains (kept_after graph log number events) kept
+      → Contains (kept_of_number graph log (suc (number + index)) event) kept → Contains (kept_after_number graph log number events) kept
   among_after number [] index event kept at among = absurd (omega (arith, slice_get_within [] index event at))
   among_after number (first ∷ events) zero event kept at among =
       let here : first ≡ event = same_Some first event at in
       let same : suc (number + 0) ≡ suc number = omega arith in
-      Contains-append_left (kept_of graph log (suc number) first) (kept_after graph log (suc number) events) kept
-      (subst (λ (e : Event). Contains (kept_of graph log (suc number) e) kept) (sym here) (subst (λ (n : ℕ). Contains (kept_of graph log n event) kept) same among))
+      Contains-append_left (kept_of_number graph log (suc number) first) (kept_after_number graph log (suc number) events) kept
+      (subst (λ (e : Event). Contains (kept_of_number graph log (suc number) e) kept) (sym here) (subst (λ (n : ℕ). Contains (kept_of_number graph log n event) kept) same among))
   among_after number (first ∷ events) (suc index) event kept at among =
       let same : suc (number + suc index) ≡ suc (suc number + index) = omega arith in
-      Contains-append_right (kept_of graph log (suc number) first) (kept_after graph log (suc number) events) kept
-      (among_after (suc number) events index event kept at (subst (λ (n : ℕ). Contains (kept_of graph log n event) kept) same among))
+      Contains-append_right (kept_of_number graph log (suc number) first) (kept_after_number graph log (suc number) events) kept
+      (among_after (suc number) events index event kept at (subst (λ (n : ℕ). Contains (kept_of_number graph log n event) kept) same among))
 
   pub among_kept : (index : ℕ) (event kept : Event) → slice_get log.events index ≡ Some event
-      → Contains (kept_of graph log (suc index) event) kept → Contains (kept_events graph log) kept
+      → Contains (kept_of_number graph log (suc index) event) kept → Contains (kept_by_numbers graph log) kept
   among_kept index event kept at among =
       let same : suc (0 + index) ≡ suc index = omega arith in
-      among_after 0 log.events index event kept at (subst (λ (n : ℕ). Contains (kept_of graph log n event) kept) (sym same) among)
+      among_after 0 log.events index event kept at (subst (λ (n : ℕ). Contains (kept_of_number graph log n event) kept) (sym same) among)
 
   -- ---- silences
 
@@ -111,20 +111,20 @@ module _ (graph : Tfpg) (log : Logbook) where
   modes_past_silences time held instant [] events = refl
   modes_past_silences time held instant (node ∷ nodes) events = modes_past_silences time held instant nodes events
 
-  modes_after : (held number instant : ℕ) (events : List Event) → mode_after held (kept_after graph log number events) instant ≡ mode_after held events instant
+  modes_after : (held number instant : ℕ) (events : List Event) → mode_after held (kept_after_number graph log number events) instant ≡ mode_after held events instant
   modes_after held number instant [] = refl
   modes_after held number instant (Alarm time node ∷ events) = by (is_kept_alarm log node (suc number)) (modes_after held (suc number) instant events)
     where
-      by : (b : Bool) → mode_after held (kept_after graph log (suc number) events) instant ≡ mode_after held events instant
-          → mode_after held (cond b (Alarm time node ∷ []) [] ++ kept_after graph log (suc number) events) instant ≡ mode_after held events instant
+      by : (b : Bool) → mode_after held (kept_after_number graph log (suc number) events) instant ≡ mode_after held events instant
+          → mode_after held (cond b (Alarm time node ∷ []) [] ++ kept_after_number graph log (suc number) events) instant ≡ mode_after held events instant
       by true rest = rest
       by false rest = rest
   modes_after held number instant (Silent time node ∷ events) =
-      modes_past_silences time held instant (last_silent (suc number)) (kept_after graph log (suc number) events) ∙ modes_after held (suc number) instant events
+      modes_past_silences time held instant (last_silent (suc number)) (kept_after_number graph log (suc number) events) ∙ modes_after held (suc number) instant events
   modes_after held number instant (Sweep time ∷ events) =
-      modes_past_silences time held instant (last_silent (suc number)) (kept_after graph log (suc number) events) ∙ modes_after held (suc number) instant events
+      modes_past_silences time held instant (last_silent (suc number)) (kept_after_number graph log (suc number) events) ∙ modes_after held (suc number) instant events
   modes_after held number instant (Tick time ∷ events) = modes_after held (suc number) instant events
   modes_after held number instant (Mode time mode ∷ events) = modes_after (cond (nat_lt time instant) mode held) (suc number) instant events
 
-  pub modes_kept : (instant : ℕ) → mode_after 0 (kept_events graph log) instant ≡ mode_after 0 log.events instant
+  pub modes_kept : (instant : ℕ) → mode_after 0 (kept_by_numbers graph log) instant ≡ mode_after 0 log.events instant
   modes_kept instant = modes_after 0 0 instant log.events

@@ -8,4 +8,6 @@ pub mod FittingDrafts
 pub mod GrowingDrafts
 -- the round that lines begin, and one line more
 pub mod BegunLines
+-- where a block may begin
+pub mod WholeBlocks
 pub mod ReaderSteps

@@ -4,3 +4,5 @@ pub mod ReadInOrder
 -- the round that was read from them
 pub mod LinesOfOneRound
 pub mod RoundsReadBack
+-- what a reader returns for the lines of what is rendered
+pub mod RenderedRounds

@@ -15,7 +15,7 @@ use Rattle.tfpg_report.specs.Reading.{IsHead}
 use Rattle.tfpg_check.specs.declared.cause.CheckCause.{CheckCause}
 use Rattle.tfpg_check.specs.declared.cause.CheckCause.TheVariants.{EndsEarly}
 use Rattle.tfpg_check.specs.Report.{rounds_of}
-use Rattle.tfpg_check.specs.Causes.{Matter, AreRead, AreRight, AreReportLines, IsCause}
+use Rattle.tfpg_check.specs.Causes.{DiagnosisProblem, AreRead, AreRight, AreReportLines, IsCause}
 use Rattle.tfpg_run.specs.declared.end.End.{End}
 use Rattle.tfpg_run.specs.declared.fault.CheckFault.{CheckFault}
 use Rattle.tfpg_run.specs.declared.fault.CheckFault.TheVariants.{NotAccepted, TooMany, Stream}
@@ -27,73 +27,73 @@ use Rattle.tfpg_run.specs.Streams.{Streams, HasLeft}
 use Rattle.tfpg_run.specs.World.{World, streams_of}
 
 -- The whole input was taken, its lines are those of a report of the graph and the log, and the text says how many rounds it has.
-pub record IsAccepted (matter : Matter) (input : SourceState) (taken text : List ℕ) : Type 0 where
+pub record IsAccepted (problem : DiagnosisProblem) (input : SourceState) (taken text : List ℕ) : Type 0 where
   pub terms : Terms
   pub blocks : List Block
-  pub report : AreReportLines matter terms blocks (lines_of taken)
+  pub report : AreReportLines problem terms blocks (lines_of taken)
   pub few : length taken ≤ MAX_BYTES
   pub at_end : IsAtEnd input
   pub text_is : text ≡ text_line (codes "accepted" ∷ decimal (length (flat_map rounds_of blocks)) ∷ [])
 
 -- The input is what was taken and what is left, and this is the cause for which its lines are not accepted, at this line. A report
 -- that ends early was read to its end.
-pub record IsRefused (matter : Matter) (now : SourceState) (taken : List ℕ) (line : ℕ) (cause : CheckCause) : Type 0 where
+pub record IsRefused (problem : DiagnosisProblem) (now : SourceState) (taken : List ℕ) (line : ℕ) (cause : CheckCause) : Type 0 where
   pub rest : List ℕ
   pub left : HasLeft now rest
-  pub is_cause : IsCause matter (lines_of (taken ++ rest)) line cause
+  pub is_cause : IsCause problem (lines_of (taken ++ rest)) line cause
   pub ended : cause ≡ EndsEarly → IsAtEnd now
 
 -- The first line of the input gives more than 4,096 hypotheses, exactly this many.
-pub record HasTooManyInHead (matter : Matter) (now : SourceState) (taken : List ℕ) (count : ℕ) : Type 0 where
+pub record HasTooManyInHead (problem : DiagnosisProblem) (now : SourceState) (taken : List ℕ) (count : ℕ) : Type 0 where
   pub rest : List ℕ
   pub left : HasLeft now rest
   pub first : List ℕ
   pub at : slice_get (lines_of (taken ++ rest)) 0 ≡ Some first
   pub head : ReportLine
-  pub says : Says matter.graph head first
+  pub says : Says problem.graph head first
   pub terms : Terms
   pub is_head : IsHead terms head
   pub too_many : MAX_HYPOTHESES < count
-  pub counted : HasHypotheses matter.graph terms count
+  pub counted : HasHypotheses problem.graph terms count
 
 -- Nothing is wrong with these lines of a report.
-abbrev pub IsRightSoFar : Matter → List (List ℕ) → Type 0
-IsRightSoFar matter lines = (reads : List ReportLine) × AreRead matter.graph lines reads × AreRight matter reads
+abbrev pub IsRightSoFar : DiagnosisProblem → List (List ℕ) → Type 0
+IsRightSoFar problem lines = (reads : List ReportLine) × AreRead problem.graph lines reads × AreRight problem reads
 
 -- How judging a report ends, where these bytes were taken. Before it is accepted, nothing is written. Where the input fails or is too
 -- long, nothing is wrong with the lines that came whole. Where the input fails, the output does not, and where the output fails, the
 -- input does not; where it ends otherwise, neither does.
-abbrev pub CheckingEnds : Matter → Streams → Streams → List ℕ → Result (Unit {0}) CheckFault → Type 0
-CheckingEnds matter before now taken (Ok done) =
-    WritesText (IsAccepted matter now.input taken) before.output now.output × (now.input.faults ≡ before.input.faults)
-CheckingEnds matter before now taken (Err (NotAccepted line cause)) =
-    IsRefused matter now.input taken line cause × (now.output ≡ before.output) × (now.input.faults ≡ before.input.faults)
-CheckingEnds matter before now taken (Err (TooMany count)) =
-    HasTooManyInHead matter now.input taken count × (now.output ≡ before.output) × (now.input.faults ≡ before.input.faults)
-CheckingEnds matter before now taken (Err (Stream ReadFault)) =
-    Rose before.input.faults now.input.faults × IsRightSoFar matter (whole_lines taken) × (now.output ≡ before.output)
-CheckingEnds matter before now taken (Err (Stream WriteFault)) =
-    BeginsText (IsAccepted matter now.input taken) before.output now.output × (now.input.faults ≡ before.input.faults)
-CheckingEnds matter before now taken (Err (Stream TooMuchInput)) =
-    (length taken ≡ MAX_BYTES + 1) × IsRightSoFar matter (whole_lines (take MAX_BYTES taken)) × (now.output ≡ before.output)
+abbrev pub CheckingEnds : DiagnosisProblem → Streams → Streams → List ℕ → Result (Unit {0}) CheckFault → Type 0
+CheckingEnds problem before now taken (Ok done) =
+    WritesText (IsAccepted problem now.input taken) before.output now.output × (now.input.faults ≡ before.input.faults)
+CheckingEnds problem before now taken (Err (NotAccepted line cause)) =
+    IsRefused problem now.input taken line cause × (now.output ≡ before.output) × (now.input.faults ≡ before.input.faults)
+CheckingEnds problem before now taken (Err (TooMany count)) =
+    HasTooManyInHead problem now.input taken count × (now.output ≡ before.output) × (now.input.faults ≡ before.input.faults)
+CheckingEnds problem before now taken (Err (Stream ReadFault)) =
+    Rose before.input.faults now.input.faults × IsRightSoFar problem (whole_lines taken) × (now.output ≡ before.output)
+CheckingEnds problem before now taken (Err (Stream WriteFault)) =
+    BeginsText (IsAccepted problem now.input taken) before.output now.output × (now.input.faults ≡ before.input.faults)
+CheckingEnds problem before now taken (Err (Stream TooMuchInput)) =
+    (length taken ≡ MAX_BYTES + 1) × IsRightSoFar problem (whole_lines (take MAX_BYTES taken)) × (now.output ≡ before.output)
     × (now.input.faults ≡ before.input.faults)
-CheckingEnds matter before now taken (Err (Stream NoMemory)) =
+CheckingEnds problem before now taken (Err (Stream NoMemory)) =
     (now.output ≡ before.output) × (now.input.faults ≡ before.input.faults)
 
 -- The report of the input was judged, with this result.
-pub record ChecksReport (matter : Matter) (before now : Streams) (result : Result (Unit {0}) CheckFault) : Type 0 where
+pub record ChecksReport (problem : DiagnosisProblem) (before now : Streams) (result : Result (Unit {0}) CheckFault) : Type 0 where
   pub taken : List ℕ
   pub takes : Takes before.input now.input taken
-  pub ends : CheckingEnds matter before now taken result
+  pub ends : CheckingEnds problem before now taken result
 
 -- what a report is judged by: the graph, and the lines of the log's text
-abbrev pub matter_of : Tfpg → List ℕ → Matter
-matter_of graph text = record { graph = graph; log_lines = lines_of text }
+abbrev pub problem_of : Tfpg → List ℕ → DiagnosisProblem
+problem_of graph text = record { graph = graph; log_lines = lines_of text }
 
 -- There is no graph or no log of the files of those names; or a report was judged by them.
 abbrev pub CheckEnds : List ℕ → List ℕ → World → World → End → Type 0
 CheckEnds graph_name log_name before now end =
     LacksGraphOrText graph_name log_name before now end
     ⊎ WorksByFiles (GivesGraphAndText before.shelf graph_name log_name)
-    (λ graph text. EndsBy (ChecksReport (matter_of graph text) (streams_of before) (streams_of now)) end_of_check_fault)
+    (λ graph text. EndsBy (ChecksReport (problem_of graph text) (streams_of before) (streams_of now)) end_of_check_fault)
     before now end

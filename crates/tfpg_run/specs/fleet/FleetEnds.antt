@@ -14,30 +14,30 @@ use Rattle.tfpg_run.specs.Fetch.{GivesGraph, LacksGraph}
 use Rattle.tfpg_run.specs.Outputs.{BeginsOutputOfInput, IsStreamFault, IsWrittenBefore, WritesOutput}
 use Rattle.tfpg_run.specs.Streams.{Streams}
 use Rattle.tfpg_run.specs.World.{World, streams_of, watched_of}
-use Rattle.tfpg_run.specs.fleet.FleetOutput.{FleetMatter, BeginsFleetOutput, IsFleetOutput, IsFleetOutputSoFar, fleet_matter}
+use Rattle.tfpg_run.specs.fleet.FleetOutput.{FleetProblem, BeginsFleetOutput, IsFleetOutput, IsFleetOutputSoFar, fleet_problem}
 
 -- What a failed write has cut begins the answers to the first lines of the input; or, once the input has ended, the whole output for it. So
 -- no line of a failure mode is written before that end.
-abbrev pub IsCutOutput : FleetMatter → SourceState → List ℕ → List ℕ → Type 0
+abbrev pub IsCutOutput : FleetProblem → SourceState → List ℕ → List ℕ → Type 0
 IsCutOutput fleet input taken written =
     BeginsOutputOfInput (BeginsFleetOutput fleet) input taken written
     ⊎ (IsAtEnd input × (more : List ℕ) × IsFleetOutput fleet (lines_of taken) (written ++ more))
 
 -- What was written by then. A failed write alone may cut it; else it is what is right so far, or, without memory, nothing.
-abbrev pub IsAnsweredBefore : FleetMatter → SourceState → List ℕ → List ℕ → StreamFault → Type 0
+abbrev pub IsAnsweredBefore : FleetProblem → SourceState → List ℕ → List ℕ → StreamFault → Type 0
 IsAnsweredBefore fleet input taken written WriteFault = IsCutOutput fleet input taken written
 IsAnsweredBefore fleet input taken written fault =
     IsWrittenBefore (IsFleetOutputSoFar fleet) (BeginsFleetOutput fleet) input taken written fault
 
 -- How it ends where these bytes were taken, and these were written: with the whole output for the whole input; or with its cause, and
 -- what was written by then.
-abbrev pub AnsweringEnds : FleetMatter → Streams → Streams → (List ℕ × List ℕ) → Result (Unit {0}) StreamFault → Type 0
+abbrev pub AnsweringEnds : FleetProblem → Streams → Streams → (List ℕ × List ℕ) → Result (Unit {0}) StreamFault → Type 0
 AnsweringEnds fleet before now (taken, written) (Ok done) = WritesOutput (IsFleetOutput fleet) before now taken written
 AnsweringEnds fleet before now (taken, written) (Err fault) =
     IsStreamFault before now taken fault × IsAnsweredBefore fleet now.input taken written fault
 
 -- A diagnosis of the fleet took bytes from the input and wrote its answers, with this result.
-pub record AnswersStream (fleet : FleetMatter) (before now : Streams) (result : Result (Unit {0}) StreamFault) : Type 0 where
+pub record AnswersStream (fleet : FleetProblem) (before now : Streams) (result : Result (Unit {0}) StreamFault) : Type 0 where
   pub taken : List ℕ
   pub takes : Takes before.input now.input taken
   pub written : List ℕ
@@ -70,7 +70,7 @@ pub record DiagnosesFleet (said : FleetWords) (before now : World) (end : End) :
   pub gives : GivesGraph before.shelf said.file graph
   pub no_fault : now.shelf.faults ≡ before.shelf.faults
   pub not_too_many : (count : ℕ) → IsTooMany graph said.terms (length said.names) count → ⊥
-  pub ends : EndsBy (AnswersStream (fleet_matter graph said.terms said.names) (streams_of before) (streams_of now)) end_of_stream_fault end
+  pub ends : EndsBy (AnswersStream (fleet_problem graph said.terms said.names) (streams_of before) (streams_of now)) end_of_stream_fault end
 
 -- There is no graph of the file; or it has too many hypotheses; or the vehicles were diagnosed.
 abbrev pub FleetEnds : FleetWords → World → World → End → Type 0

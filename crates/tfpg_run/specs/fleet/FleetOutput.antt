@@ -13,14 +13,14 @@ use Rattle.tfpg_run.specs.fleet.Answers.{Answer, answers_text, blocks_for, openi
 use Rattle.tfpg_run.specs.fleet.Counting.{last_ranks, modes_text, vehicles_that}
 
 -- What is diagnosed: vehicles of these names, each of this graph, on these terms.
-pub record FleetMatter : Type 0 where
+pub record FleetProblem : Type 0 where
   pub graph : Tfpg
   pub terms : Terms
   pub names : List (List ℕ)
 
 -- these three
-abbrev pub fleet_matter : Tfpg → Terms → List (List ℕ) → FleetMatter
-fleet_matter graph terms names = record { graph = graph; terms = terms; names = names }
+abbrev pub fleet_problem : Tfpg → Terms → List (List ℕ) → FleetProblem
+fleet_problem graph terms names = record { graph = graph; terms = terms; names = names }
 
 -- The blocks of a vehicle are those of a report of its lines alone, each of whose rounds says what a round says. No panel is lost.
 pub record IsVehicleReport (graph : Tfpg) (terms : Terms) (lines : List (List ℕ)) (blocks : List Block) : Type 0 where
@@ -32,12 +32,12 @@ pub record IsVehicleReport (graph : Tfpg) (terms : Terms) (lines : List (List �
 
 -- These are the answers to the lines of the stream, one for each in order. Each is of the vehicle that its line belongs to, or of none.
 -- The blocks of each vehicle, joined in order, are a report of its own lines alone.
-pub record AreAnswers (fleet : FleetMatter) (lines : List (List ℕ)) (answers : List Answer) : Type 0 where
+pub record AreAnswers (fleet : FleetProblem) (lines : List (List ℕ)) (answers : List Answer) : Type 0 where
   pub addressed : map vehicle_of answers ≡ map (addressee fleet.names) lines
   pub reports : (number : ℕ) → IsVehicleReport fleet.graph fleet.terms (lines_for fleet.names number lines) (blocks_for number answers)
 
 -- the text up to the answers so far: each vehicle's name with the first line of a report, and then the answers
-abbrev pub answered_text : FleetMatter → List Answer → List ℕ
+abbrev pub answered_text : FleetProblem → List Answer → List ℕ
 answered_text fleet answers = opening_text fleet.names fleet.terms ++ answers_text fleet.graph fleet.names 1 answers
 
 -- the rounds of the vehicle of this number
@@ -45,26 +45,26 @@ abbrev pub rounds_for : ℕ → List Answer → List Round
 rounds_for number answers = flat_map rounds_of (blocks_for number answers)
 
 -- how many vehicles have the failure mode at this position among what their last round ranks
-abbrev pub vehicles_with : FleetMatter → List Answer → ℕ → ℕ
+abbrev pub vehicles_with : FleetProblem → List Answer → ℕ → ℕ
 vehicles_with fleet answers position =
     vehicles_that (λ number. last_ranks position (rounds_for number answers)) (length fleet.names)
 
 -- the text after the answers: a line for each failure mode
-abbrev pub counts_text : FleetMatter → List Answer → List ℕ
+abbrev pub counts_text : FleetProblem → List Answer → List ℕ
 counts_text fleet answers = modes_text fleet.graph (vehicles_with fleet answers) (length (failures fleet.graph))
 
 -- The bytes are what a diagnosis of the fleet writes for these lines of the stream.
-pub record IsFleetOutput (fleet : FleetMatter) (lines : List (List ℕ)) (bytes : List ℕ) : Type 0 where
+pub record IsFleetOutput (fleet : FleetProblem) (lines : List (List ℕ)) (bytes : List ℕ) : Type 0 where
   pub answers : List Answer
   pub are : AreAnswers fleet lines answers
   pub text : bytes ≡ answered_text fleet answers ++ counts_text fleet answers
 
 -- The bytes are what it has written after these lines of a stream that has not ended: all but the lines of the failure modes.
-pub record IsFleetOutputSoFar (fleet : FleetMatter) (lines : List (List ℕ)) (bytes : List ℕ) : Type 0 where
+pub record IsFleetOutputSoFar (fleet : FleetProblem) (lines : List (List ℕ)) (bytes : List ℕ) : Type 0 where
   pub answers : List Answer
   pub are : AreAnswers fleet lines answers
   pub text : bytes ≡ answered_text fleet answers
 
 -- The bytes, and what is to follow them, are what it has written after these lines.
-abbrev pub BeginsFleetOutput : FleetMatter → List (List ℕ) → List ℕ → List ℕ → Type 0
+abbrev pub BeginsFleetOutput : FleetProblem → List (List ℕ) → List ℕ → List ℕ → Type 0
 BeginsFleetOutput fleet lines bytes more = IsFleetOutputSoFar fleet lines (bytes ++ more)

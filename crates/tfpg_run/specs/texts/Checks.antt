@@ -1,5 +1,5 @@
 -- Judging a report, where graph, log and report are texts.
-use Rattle.std.specs.Prelude.{◌≡◌, ◌⊎◌, ◌<◌, ◌≤◌, ℕ, List, Some, slice_get, flat_map, length}
+use Rattle.std.specs.Prelude.{◌≡◌, ◌⊎◌, ◌<◌, ◌≤◌, ℕ, List, Some, slice_get, length}
 use Rattle.tfpg_base.specs.declared.terms.Terms.{Terms}
 use Rattle.tfpg_base.specs.declared.limits.TheConstants.{LONGEST_FILE, MAX_BYTES}
 use Rattle.tfpg_base.specs.Lines.{lines_of}
@@ -8,15 +8,13 @@ use Rattle.tfpg_graph.specs.Faults.{IsFirstFault}
 use Rattle.tfpg_hyp.specs.Hypotheses.{HasHypotheses}
 use Rattle.tfpg_hyp.specs.declared.limits.TheConstants.{MAX_HYPOTHESES}
 use Rattle.tfpg_report.specs.declared.report_line.ReportLine.{ReportLine}
-use Rattle.tfpg_report.specs.Blocks.{Block}
 use Rattle.tfpg_report.specs.ReportLines.{Says}
 use Rattle.tfpg_report.specs.Reading.{IsHead}
 use Rattle.tfpg_check.specs.declared.cause.CheckCause.{CheckCause}
-use Rattle.tfpg_check.specs.Report.{rounds_of}
-use Rattle.tfpg_check.specs.Causes.{AreReportLines, IsCause, Matter}
+use Rattle.tfpg_check.specs.Causes.{AreAcceptedLines, DiagnosisProblem, IsCause}
 use Rattle.tfpg_run.specs.declared.texts.fault.CheckTextsFault.{CheckTextsFault}
 use Rattle.tfpg_run.specs.declared.texts.fault.CheckTextsFault.TheVariants.{Graph, NotAccepted, TooManyHypotheses, TooMuchInput, NoMemory}
-use Rattle.tfpg_run.specs.check.Checking.{matter_of}
+use Rattle.tfpg_run.specs.check.Checking.{problem_of}
 use Rattle.tfpg_run.specs.texts.Opening.{GivesGraphOf}
 
 -- what is judged: the text of a report, by those of a graph and a log
@@ -30,43 +28,36 @@ abbrev pub checked_texts : List ℕ → List ℕ → List ℕ → CheckedTexts
 checked_texts graph log report = record { graph = graph; log = log; report = report }
 
 -- This holds of the graph that the one text spells with the lines of the log, and of the lines of the report.
-pub record HoldsOfTexts (texts : CheckedTexts) (Holds : Matter → List (List ℕ) → Type 0) : Type 0 where
+pub record HoldsOfTexts (texts : CheckedTexts) (Holds : DiagnosisProblem → List (List ℕ) → Type 0) : Type 0 where
   pub graph : Tfpg
   pub gives : GivesGraphOf texts.graph graph
-  pub holds : Holds (matter_of graph texts.log) (lines_of texts.report)
-
--- The lines are those of a report of the graph and the log, with so many rounds.
-pub record AreAcceptedLines (matter : Matter) (lines : List (List ℕ)) (rounds : ℕ) : Type 0 where
-  pub terms : Terms
-  pub blocks : List Block
-  pub report : AreReportLines matter terms blocks lines
-  pub counted : rounds ≡ length (flat_map rounds_of blocks)
+  pub holds : Holds (problem_of graph texts.log) (lines_of texts.report)
 
 -- The first line gives more than 4,096 hypotheses, exactly this many.
-pub record HaveTooManyInFirst (matter : Matter) (lines : List (List ℕ)) (count : ℕ) : Type 0 where
+pub record HaveTooManyInFirst (problem : DiagnosisProblem) (lines : List (List ℕ)) (count : ℕ) : Type 0 where
   pub first : List ℕ
   pub at : slice_get lines 0 ≡ Some first
   pub head : ReportLine
-  pub says : Says matter.graph head first
+  pub says : Says problem.graph head first
   pub terms : Terms
   pub is_head : IsHead terms head
   pub too_many : MAX_HYPOTHESES < count
-  pub counted : HasHypotheses matter.graph terms count
+  pub counted : HasHypotheses problem.graph terms count
 
 -- The report is accepted, with so many rounds.
 abbrev pub IsAcceptedText : CheckedTexts → ℕ → Type 0
-IsAcceptedText texts rounds = HoldsOfTexts texts (λ matter lines. AreAcceptedLines matter lines rounds)
+IsAcceptedText texts rounds = HoldsOfTexts texts (λ problem lines. AreAcceptedLines problem lines rounds)
 
 -- This is the cause for which it is not, at this line.
 abbrev pub IsRefusedText : CheckedTexts → ℕ → CheckCause → Type 0
-IsRefusedText texts line cause = HoldsOfTexts texts (λ matter lines. IsCause matter lines line cause)
+IsRefusedText texts line cause = HoldsOfTexts texts (λ problem lines. IsCause problem lines line cause)
 
 -- Why a report is not accepted: this is the first fault of the graph's text; or the cause at this line; or the first line gives too many
 -- hypotheses; or the log has more than 2^24 bytes, or the report more than 2^32; or memory ran out.
 abbrev pub IsCheckTextsFault : CheckedTexts → CheckTextsFault → Type 0
 IsCheckTextsFault texts (Graph fault) = IsFirstFault texts.graph fault
 IsCheckTextsFault texts (NotAccepted line cause) = IsRefusedText texts line cause
-IsCheckTextsFault texts (TooManyHypotheses count) = HoldsOfTexts texts (λ matter lines. HaveTooManyInFirst matter lines count)
+IsCheckTextsFault texts (TooManyHypotheses count) = HoldsOfTexts texts (λ problem lines. HaveTooManyInFirst problem lines count)
 IsCheckTextsFault texts TooMuchInput = (LONGEST_FILE < length texts.log) ⊎ (MAX_BYTES < length texts.report)
 IsCheckTextsFault texts NoMemory = Unit {0}
 

@@ -2,12 +2,13 @@
 
 ghost use Rattle.std.specs.Prelude.{◌≡◌, IfErr, IfOk};
 ghost use Rattle.tfpg_base.specs.Outside.{SourceState};
-ghost use Rattle.tfpg_check.specs.Causes.{Matter};
+ghost use Rattle.tfpg_check.specs.Causes.{DiagnosisProblem};
 ghost use Rattle.tfpg_run.specs.inside.check.UnderWay.{AcceptsReport, CanTakeNext, ChecksOn, IsChecking, IsNewJudge, IsReadingOn, LacksReport, ReadsOn, checking_at};
 
 use crate::fault::CheckFault;
 use std::alloc::Global;
 use tfpg_base::{Line, Lines, Source};
+use tfpg_check::laws::accepted_lines_are_those_of_a_report;
 use tfpg_check::{CheckCause, Judge, LogText};
 
 /// Whether one more line is right, or the input has ended.
@@ -28,11 +29,13 @@ pub(super) fn judge_lines<T: LogText, S: Source>(
     input: &mut S,
 ) -> Result<u32, CheckFault>
     requires { judge.old.lines ≡ 0 }
-    ensures accepted { (matter : Matter) → IsNewJudge matter judge.old →
-        IfOk result (AcceptsReport matter (S.state input.old) (S.state input.new)) }
-    ensures stopped { (matter : Matter) → IsNewJudge matter judge.old →
-        IfErr result (LacksReport matter (S.state input.old) (S.state input.new)) }
+    ensures accepted { (problem : DiagnosisProblem) → IsNewJudge problem judge.old →
+        IfOk result (AcceptsReport problem (S.state input.old) (S.state input.new)) }
+    ensures stopped { (problem : DiagnosisProblem) → IsNewJudge problem judge.old →
+        IfErr result (LacksReport problem (S.state input.old) (S.state input.new)) }
 {
+    // A law: what was accepted to the end is a report.
+    accepted_lines_are_those_of_a_report();
     let mut lines = Lines::new(alloc)?;
     loop {
         match judge_next_line(judge, &mut lines, input)? {
@@ -52,13 +55,15 @@ fn judge_next_line<T: LogText, S: Source>(
     ensures reads_on { (before : SourceState) →
         IsReadingOn before (checking_at (S.state input.old) lines.old judge.old) →
         IfOk result (ReadsOn before lines.old.number (checking_at (S.state input.new) lines.new judge.new)) }
-    ensures checks_on { (matter : Matter) (before : SourceState) →
-        IsChecking matter before (checking_at (S.state input.old) lines.old judge.old) →
-        IfOk result (ChecksOn matter before (checking_at (S.state input.new) lines.new judge.new)) }
-    ensures stopped { (matter : Matter) (before : SourceState) →
-        IsChecking matter before (checking_at (S.state input.old) lines.old judge.old) →
-        IfErr result (LacksReport matter before (S.state input.new)) }
+    ensures checks_on { (problem : DiagnosisProblem) (before : SourceState) →
+        IsChecking problem before (checking_at (S.state input.old) lines.old judge.old) →
+        IfOk result (ChecksOn problem before (checking_at (S.state input.new) lines.new judge.new)) }
+    ensures stopped { (problem : DiagnosisProblem) (before : SourceState) →
+        IsChecking problem before (checking_at (S.state input.old) lines.old judge.old) →
+        IfErr result (LacksReport problem before (S.state input.new)) }
 {
+    // A law: lines that were read are such with one more.
+    accepted_lines_are_those_of_a_report();
     match lines.next(input)? {
         Line::End => Ok(NextReportLine::Ended),
         Line::TooLong => Err(no_report_line(lines)),

@@ -4,7 +4,7 @@ ghost use Rattle.std.specs.Prelude.{◌≡◌, ◌<◌, ◌≤◌, ◌++◌, ◌
 ghost use Rattle.tfpg_base.specs.Append.{Appends};
 ghost use Rattle.tfpg_graph.specs.Graph.{sizes_of};
 ghost use Rattle.tfpg_run.specs.fleet.Answers.{Answer, naming_text, stray_text};
-ghost use Rattle.tfpg_run.specs.inside.fleet.UnderWay.{Answers, HasAnswered, IsToldOf, IsWatching, matter_in, told_text};
+ghost use Rattle.tfpg_run.specs.inside.fleet.UnderWay.{Answers, HasAnswered, IsToldOf, IsWatching, problem_in, told_text};
 
 use super::opening::append_name;
 use super::watch::{Vehicles, Watch, keep_at, kept_at, ranked_after};
@@ -30,10 +30,10 @@ pub(super) fn answer_line<L: Ledger>(
     text: &[u8],
     work: &mut Steps<L>,
 ) -> Result<Vec<u8>, NoMemory>
-    requires { IsWatching (matter_in vehicles.now) watch.old }
+    requires { IsWatching (problem_in vehicles.now) watch.old }
     ensures { (lines : List (List ℕ)) (answers : List Answer) →
-        HasAnswered (matter_in vehicles.now) lines answers watch.old →
-        IfOk result (λ answer. Answers (matter_in vehicles.now) (lines ++ text.now ∷ []) answers number answer.items watch.new) }
+        HasAnswered (problem_in vehicles.now) lines answers watch.old →
+        IfOk result (λ answer. Answers (problem_in vehicles.now) (lines ++ text.now ∷ []) answers number answer.items watch.new) }
 {
     rounds_say_which_sets_fit();
     statuses_are_those_of_minimal_sets();

@@ -5,8 +5,8 @@ ghost use Rattle.tfpg_base.specs.Outside.{Puts, Rose};
 ghost use Rattle.tfpg_check.specs.Report.{HasReports};
 ghost use Rattle.tfpg_run.specs.Streams.{Streams, streams};
 ghost use Rattle.tfpg_run.specs.fleet.FleetEnds.{AnswersStream};
-ghost use Rattle.tfpg_run.specs.fleet.FleetOutput.{FleetMatter};
-ghost use Rattle.tfpg_run.specs.inside.fleet.UnderWay.{ComesTo, HasAnswered, IsAnswering, IsWatching, WritesAnswer, answering_at, matter_in};
+ghost use Rattle.tfpg_run.specs.fleet.FleetOutput.{FleetProblem};
+ghost use Rattle.tfpg_run.specs.inside.fleet.UnderWay.{ComesTo, HasAnswered, IsAnswering, IsWatching, WritesAnswer, answering_at, problem_in};
 
 use super::answering::{answer_line, stray_answer};
 use super::counting::write_counts;
@@ -34,11 +34,11 @@ pub(super) fn answer_stream<S: Source, K: Sink, L: Ledger>(
     out: &mut K,
     work: &mut Steps<L>,
 ) -> Result<(), StreamFault>
-    requires new { HasAnswered (matter_in vehicles.now) [] [] watch.old }
+    requires new { HasAnswered (problem_in vehicles.now) [] [] watch.old }
     requires has_reports { HasReports vehicles.now.graph.now vehicles.now.terms }
-    ensures done { OnOk result (AnswersStream (matter_in vehicles.now) (streams (S.state input.old) (K.state out.old))
+    ensures done { OnOk result (AnswersStream (problem_in vehicles.now) (streams (S.state input.old) (K.state out.old))
         (streams (S.state input.new) (K.state out.new)) (Ok tt)) }
-    ensures stopped { IfErr result (λ fault. AnswersStream (matter_in vehicles.now) (streams (S.state input.old) (K.state out.old))
+    ensures stopped { IfErr result (λ fault. AnswersStream (problem_in vehicles.now) (streams (S.state input.old) (K.state out.old))
         (streams (S.state input.new) (K.state out.new)) (Err fault)) }
 {
     let mut lines = Lines::new(alloc)?;
@@ -64,14 +64,14 @@ fn write_next_answer<S: Source, K: Sink, L: Ledger>(
     out: &mut K,
     work: &mut Steps<L>,
 ) -> Result<NextAnswer, StreamFault>
-    requires { IsWatching (matter_in vehicles.now) watch.old }
-    ensures comes_to { (before : Streams) → IsAnswering (matter_in vehicles.now) before
+    requires { IsWatching (problem_in vehicles.now) watch.old }
+    ensures comes_to { (before : Streams) → IsAnswering (problem_in vehicles.now) before
         (answering_at (streams (S.state input.old) (K.state out.old)) lines.old watch.old)
-        → IfOk result (ComesTo (matter_in vehicles.now) before lines.old.number
+        → IfOk result (ComesTo (problem_in vehicles.now) before lines.old.number
         (answering_at (streams (S.state input.new) (K.state out.new)) lines.new watch.new)) }
-    ensures stopped { (before : Streams) → IsAnswering (matter_in vehicles.now) before
+    ensures stopped { (before : Streams) → IsAnswering (problem_in vehicles.now) before
         (answering_at (streams (S.state input.old) (K.state out.old)) lines.old watch.old)
-        → IfErr result (λ fault. AnswersStream (matter_in vehicles.now) before
+        → IfErr result (λ fault. AnswersStream (problem_in vehicles.now) before
         (streams (S.state input.new) (K.state out.new)) (Err fault)) }
 {
     match lines.next(input)? {

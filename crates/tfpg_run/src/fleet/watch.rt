@@ -8,7 +8,7 @@ ghost use Rattle.tfpg_evidence.specs.RoundOf.{is_ranked};
 ghost use Rattle.tfpg_fleet.specs.TooMany.{IsTooMany};
 ghost use Rattle.tfpg_words.specs.Names.{AreNames};
 ghost use Rattle.tfpg_run.specs.fleet.Counting.{is_in, ranks};
-ghost use Rattle.tfpg_run.specs.inside.fleet.UnderWay.{HasAnswered, KeepsLast, matter_in};
+ghost use Rattle.tfpg_run.specs.inside.fleet.UnderWay.{HasAnswered, KeepsLast, problem_in};
 
 use std::alloc::Global;
 use tfpg_base::{NoMemory, Set, Terms};
@@ -38,7 +38,7 @@ impl Watch {
     pub(crate) fn new(alloc: Global, vehicles: &Vehicles<'_>) -> Result<Watch, TableFault>
         requires terms { AreReportTerms vehicles.now.terms }
         requires names { AreNames vehicles.now.names.now }
-        ensures new { IfOk result (HasAnswered (matter_in vehicles.now) [] []) }
+        ensures new { IfOk result (HasAnswered (problem_in vehicles.now) [] []) }
         ensures too_many { (count : ℕ) → (result ≡ Err (TableFault.TooMany count)) ↔
             IsTooMany vehicles.now.graph.now vehicles.now.terms (length vehicles.now.names.now) count }
     {

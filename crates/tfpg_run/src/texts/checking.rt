@@ -4,10 +4,11 @@ ghost use Rattle.std.specs.Prelude.{◌≡◌, ◌≢◌, ◌≤◌, ◌⊎◌, 
 ghost use Rattle.tfpg_base.specs.Lines.{lines_of};
 ghost use Rattle.tfpg_base.specs.declared.limits.TheConstants.{LONGEST_FILE};
 ghost use Rattle.tfpg_check.specs.declared.cause.CheckCause.{CheckCause};
-ghost use Rattle.tfpg_run.specs.check.Checking.{matter_of};
+ghost use Rattle.tfpg_check.specs.Causes.{AreAcceptedLines};
+ghost use Rattle.tfpg_run.specs.check.Checking.{problem_of};
 ghost use Rattle.tfpg_run.specs.inside.texts.Faults.{check_texts_fault_of_check};
 ghost use Rattle.tfpg_run.specs.inside.texts.Judged.{LacksRounds};
-ghost use Rattle.tfpg_run.specs.texts.Checks.{AreAcceptedLines, CanAccept, CanRefuseText, IsAcceptedText, IsCheckTextsFault, checked_texts};
+ghost use Rattle.tfpg_run.specs.texts.Checks.{CanAccept, CanRefuseText, IsAcceptedText, IsCheckTextsFault, checked_texts};
 
 use super::fault::CheckTextsFault;
 use crate::check::judge_report;
@@ -71,8 +72,8 @@ fn rounds_in(
     report_text: &[u8],
 ) -> Result<u32, CheckTextsFault>
     requires { length log_text.now ≤ LONGEST_FILE }
-    ensures accepted { IfOk result (AreAcceptedLines (matter_of graph log_text.now) (lines_of report_text.now)) }
-    ensures fault { IfErr result (LacksRounds (matter_of graph log_text.now) report_text.now) }
+    ensures accepted { IfOk result (AreAcceptedLines (problem_of graph log_text.now) (lines_of report_text.now)) }
+    ensures fault { IfErr result (LacksRounds (problem_of graph log_text.now) report_text.now) }
 {
     let mut report = SteadySource::new(report_text);
     match judge_report(alloc, graph, log_text, &mut report) {

@@ -1,5 +1,5 @@
 -- What a call of a search comes to, for all steps that it represented before.
-use Rattle.std.proofs.Common.{◌≡◌, ℕ, ◌≤◌, List, [], ◌∷◌, length, Option, Some, None, refl, sym, ap, subst, ◌∙◌, arith}
+use Rattle.std.proofs.Common.{◌≡◌, ◌⊎◌, inl, inr, ℕ, ◌≤◌, List, [], ◌∷◌, length, Option, Some, None, refl, sym, ap, subst, ◌∙◌, arith}
 use Rattle.std.specs.Prelude.{All, Result, Ok, Err, map, option_map}
 use Rattle.std.proofs.lemmas.List.Elements.{All-nil, All-cons, All-head, All-tail}
 use Rattle.tfpg_base.specs.declared.constraint.Constraint.{Constraint}
@@ -7,7 +7,7 @@ use Rattle.tfpg_base.specs.declared.no_memory.NoMemory.{NoMemory}
 use Rattle.tfpg_graph.specs.Graph.{Tfpg}
 use Rattle.tfpg_log.specs.Log.{Logbook, IsOrdered, first_events}
 use Rattle.tfpg_evidence.specs.declared.step.Step.{Step}
-use Rattle.tfpg_clause.specs.Trees.{Judged, split_count}
+use Rattle.tfpg_clause.specs.Trees.{Judged, IsPartial, IsRefutation, split_count}
 use Rattle.tfpg_clause.specs.Clauses.{alternatives}
 use Rattle.tfpg_clause.specs.Order.{horizon_of}
 use Rattle.tfpg_clause.specs.declared.path.PathSplit.{PathSplit}
@@ -52,6 +52,10 @@ module _ (laws : ClauseLaws) (graph : Tfpg) (log : Logbook) (budget : ℕ) (new 
     bounds = record { unseen = λ none. absurd (omega arith); given = λ _. loaded.bounds };
   }
 
+  right_steps : (steps : List Judged) (end : Option (List PathSplit)) → LeadsTo case steps end → IsPartial case steps ⊎ IsRefutation case steps
+  right_steps steps None leads = inr leads.0
+  right_steps steps (Some path) leads = inl leads.0.partial
+
   finds : (added : List Step) (steps : List Judged) (splits : ℕ) (end : Option (List PathSplit)) (result : Result Found NoMemory) → split_count added ≡ splits → LeadsTo case steps end
       → (end ≡ Some new.path → AtTimes log new.path) → FoundAtLeaf case budget new splits end result → FindsOrNot case budget added steps new result
   finds added steps splits end (Ok (Shown trace)) count leads times ends =
@@ -68,7 +72,7 @@ module _ (laws : ClauseLaws) (graph : Tfpg) (log : Logbook) (budget : ℕ) (new 
         represents steps here (times ends.4) ends.2 ends.3,
         none_allowed laws case new.path steps here.0 ends.5,
       )
-  finds added steps splits end (Err no_memory) count leads times ends = tt
+  finds added steps splits end (Err no_memory) count leads times ends = right_steps steps end leads
 
 module _ (laws : ClauseLaws) (graph : Tfpg) (log : Logbook) (budget : ℕ) (old middle new : SearchState) (before after : List Step) (result : Result Found NoMemory) (ordered : IsOrdered log) (some : 1 ≤ length log.events)
     (middle_is : middle ≡ record old { seen = length log.events }) (reach : new.reach ≡ middle.reach) (seen : new.seen ≡ middle.seen)

@@ -124,12 +124,9 @@ module _ (case : Case) (path : List PathSplit) (old : Leaf) where
   abbrev Pushed : Leaf → Type 0
   Pushed new = Pushing case path old new
 
-  -- nothing is pushed yet
-  pub pushing_none : IsStated (fact case) (stated case path) old → Pushed old
-  pushing_none is_stated = record { variables = refl; stated = is_stated; more = ([], sym (append-nil (pick_reasons old))) }
-
-  pub pushing_same : (new : Leaf) → new ≡ old → IsStated (fact case) (stated case path) old → Pushed new
-  pushing_same new same is_stated = subst Pushed (sym same) (pushing_none is_stated)
+  -- nothing is pushed, whatever is counted
+  pub pushing_same : (new : Leaf) (calls : ℕ) → new ≡ record old { calls = calls } → IsStated (fact case) (stated case path) old → Pushed new
+  pushing_same new calls same is_stated = subst Pushed (sym same) (record { variables = refl; stated = is_stated; more = ([], sym (append-nil (pick_reasons old))) })
 
   -- one is pushed
   pub pushing_one : (new : Leaf) (reason : Reason) (c : Constraint) → IsStated (fact case) (stated case path) old
@@ -146,9 +143,9 @@ module _ (case : Case) (path : List PathSplit) (old : Leaf) where
   pub pushing_by : (new : Leaf) (reason : Reason) (c : Constraint) (result : Result (Unit {0}) AddFault) → IsStated (fact case) (stated case path) old
       → new.demands.bounds ≡ old.demands.bounds
       → ((facts stated : Reason → Option Constraint) → IsStated facts stated old → stated reason ≡ Some c → IsStated facts stated new)
-      → OnOk result (pick_reasons new ≡ pick_reasons old ++ reason ∷ []) → OnErr result (new ≡ old) → stated case path reason ≡ Some c → Pushed new
+      → OnOk result (pick_reasons new ≡ pick_reasons old ++ reason ∷ []) → OnErr result (new ≡ record old { calls = new.calls }) → stated case path reason ≡ Some c → Pushed new
   pushing_by new reason c (Ok done) is_stated bounds keeps picks same states = pushing_one new reason c is_stated bounds keeps picks states
-  pushing_by new reason c (Err fault) is_stated bounds keeps picks same states = pushing_same new same is_stated
+  pushing_by new reason c (Err fault) is_stated bounds keeps picks same states = pushing_same new new.calls same is_stated
 
   -- and more
   pub pushing_on : (middle new : Leaf) → Pushed middle → Pushing case path middle new → Pushed new

@@ -19,13 +19,13 @@ use Rattle.tfpg_search.specs.inside.Leaf.{Leaf, tagged_by, pick_reasons, AreBoun
 use Rattle.tfpg_search.specs.inside.Tags.{IsTagged}
 use Rattle.tfpg_base.proofs.lists.Cuts.{slice_get-take, slice_get-taken}
 
--- the system with these demands and reasons, and so many picks before each alternative
-abbrev pub system_of : Demands → List Reason → List ℕ → Leaf
-system_of demands reasons entered = record { demands = demands; reasons = reasons; entered = entered }
+-- the system with these demands and reasons, so many picks before each alternative, and so many calls
+abbrev pub system_of : Demands → List Reason → List ℕ → ℕ → Leaf
+system_of demands reasons entered calls = record { demands = demands; reasons = reasons; entered = entered; calls = calls }
 
--- the same, whichever alternatives are entered
+-- the same, whichever alternatives are entered, and however many calls there were
 abbrev pub leaf_of : Demands → List Reason → Leaf
-leaf_of demands reasons = system_of demands reasons []
+leaf_of demands reasons = system_of demands reasons [] 0
 
 module _ (stated : Reason → Option Constraint) (reasons others : List Reason) where
   -- what the tag of a lower bound names, where its reason stays

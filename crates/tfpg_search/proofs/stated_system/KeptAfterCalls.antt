@@ -90,12 +90,14 @@ module _ (leaf : Leaf) (demands : Demands) (lows : List LowReason) (highs : List
   abbrev reasons : List Reason
   reasons = kept_reasons demands lows highs entered
 
-  module _ (view : system_of demands reasons entered ≡ leaf) (kept : AreKept demands lows highs entered) where
-    -- ---- nothing changes at a fault
+  module _ {calls : ℕ} (view : system_of demands reasons entered calls ≡ leaf) (kept : AreKept demands lows highs entered) where
+    -- ---- nothing changes at a fault but what is counted
 
     module _ (new : Demands) (same : new ≡ demands) where
-      pub same_leaf : system_of new (kept_reasons new lows highs entered) entered ≡ leaf
-      same_leaf = ap (λ (d : Demands). system_of d (kept_reasons d lows highs entered) entered) same ∙ view
+      pub same_leaf : (more : ℕ) → system_of new (kept_reasons new lows highs entered) entered more ≡ record leaf { calls = more }
+      same_leaf more =
+          ap (λ (d : Demands). system_of d (kept_reasons d lows highs entered) entered more) same
+          ∙ ap (λ (l : Leaf). record l { calls = more }) view
 
       pub same_kept : AreKept new lows highs entered
       same_kept = subst (λ (d : Demands). AreKept d lows highs entered) (sym same) kept
@@ -155,8 +157,8 @@ module _ (leaf : Leaf) (demands : Demands) (lows : List LowReason) (highs : List
                 tagged = subst (IsTagged raising) (sym with_low_is) raising_tagged;
               })
 
-          pub raised_adds : AddsFact low_is (at_least v least) leaf (system_of new (kept_reasons new (set lows v low) highs entered) entered) (Ok tt)
-          raised_adds = record {
+          pub raised_adds : (more : ℕ) → AddsFact low_is (at_least v least) leaf (system_of new (kept_reasons new (set lows v low) highs entered) entered more) (Ok tt)
+          raised_adds more = record {
             err = tt;
             entered = ap (λ (l : Leaf). l.entered) view;
             nodes = ap (λ (d : Demands). length d.bounds) added ∙ raising_long ∙ ap (λ (l : Leaf). length l.demands.bounds) view;
@@ -181,15 +183,15 @@ module _ (leaf : Leaf) (demands : Demands) (lows : List LowReason) (highs : List
               (let long = length-set reasons v low_is in let one = ap (λ (rs : List Reason). length rs) (same_reasons new same) in omega arith)
               (λ more. let long = length-set reasons v low_is in let one = ap (λ (rs : List Reason). length rs) (same_reasons new same) in omega arith)
 
-          pub raised_refused : (fault : AddFault) → IsFaultOf (map (reason_or (kept_reasons new lows highs entered) tag low_is) lent) fault
-              → AddsFact low_is (at_least v least) leaf (system_of new (kept_reasons new lows highs entered) entered) (Err fault)
-          raised_refused fault is = record {
-            err = same_leaf new same;
+          pub raised_refused : (more : ℕ) (fault : AddFault) → IsFaultOf (map (reason_or (kept_reasons new lows highs entered) tag low_is) lent) fault
+              → AddsFact low_is (at_least v least) leaf (system_of new (kept_reasons new lows highs entered) entered more) (Err fault)
+          raised_refused more fault is = record {
+            err = same_leaf new same more;
             entered = ap (λ (l : Leaf). l.entered) view;
-            nodes = ap (λ (l : Leaf). length l.demands.bounds) (same_leaf new same);
-            reasons = ap pick_reasons (same_leaf new same);
+            nodes = ap (λ (l : Leaf). length l.demands.bounds) (same_leaf new same more);
+            reasons = ap pick_reasons (same_leaf new same more);
             stated = λ fact stated before states. record {
-              still = subst (IsStated fact stated) (sym (same_leaf new same)) before;
+              still = subst (IsStated fact stated) (sym (same_leaf new same more)) before;
               closes = cycle_closes raising with_low (kept_reasons new lows highs entered) tag low_is raising_or raising_tagged tags lent found is_lent fact stated fault
                   (raised_stated leaf demands reasons entered view kept.tagged v within low_is least tag is_tag tighter fact stated before states) is;
             };
@@ -238,8 +240,8 @@ module _ (leaf : Leaf) (demands : Demands) (lows : List LowReason) (highs : List
                 tagged = subst (IsTagged lowering) (sym with_high_is) lowering_tagged;
               })
 
-          pub lowered_adds : AddsFact high_is (at_most v (pos ceiling)) leaf (system_of new (kept_reasons new lows (set highs v high) entered) entered) (Ok tt)
-          lowered_adds = record {
+          pub lowered_adds : (more : ℕ) → AddsFact high_is (at_most v (pos ceiling)) leaf (system_of new (kept_reasons new lows (set highs v high) entered) entered more) (Ok tt)
+          lowered_adds more = record {
             err = tt;
             entered = ap (λ (l : Leaf). l.entered) view;
             nodes = ap (λ (d : Demands). length d.bounds) added ∙ lowering_long ∙ ap (λ (l : Leaf). length l.demands.bounds) view;
@@ -263,15 +265,15 @@ module _ (leaf : Leaf) (demands : Demands) (lows : List LowReason) (highs : List
               (let long = length-set reasons tag high_is in let one = ap (λ (rs : List Reason). length rs) (same_reasons new same) in omega arith)
               (λ more. let long = length-set reasons tag high_is in let one = ap (λ (rs : List Reason). length rs) (same_reasons new same) in omega arith)
 
-          pub lowered_refused : (fault : AddFault) → IsFaultOf (map (reason_or (kept_reasons new lows highs entered) tag high_is) lent) fault
-              → AddsFact high_is (at_most v (pos ceiling)) leaf (system_of new (kept_reasons new lows highs entered) entered) (Err fault)
-          lowered_refused fault is = record {
-            err = same_leaf new same;
+          pub lowered_refused : (more : ℕ) (fault : AddFault) → IsFaultOf (map (reason_or (kept_reasons new lows highs entered) tag high_is) lent) fault
+              → AddsFact high_is (at_most v (pos ceiling)) leaf (system_of new (kept_reasons new lows highs entered) entered more) (Err fault)
+          lowered_refused more fault is = record {
+            err = same_leaf new same more;
             entered = ap (λ (l : Leaf). l.entered) view;
-            nodes = ap (λ (l : Leaf). length l.demands.bounds) (same_leaf new same);
-            reasons = ap pick_reasons (same_leaf new same);
+            nodes = ap (λ (l : Leaf). length l.demands.bounds) (same_leaf new same more);
+            reasons = ap pick_reasons (same_leaf new same more);
             stated = λ fact stated before states. record {
-              still = subst (IsStated fact stated) (sym (same_leaf new same)) before;
+              still = subst (IsStated fact stated) (sym (same_leaf new same more)) before;
               closes = cycle_closes lowering with_high (kept_reasons new lows highs entered) tag high_is lowering_or lowering_tagged tags lent found is_lent fact stated fault
                   (lowered_stated leaf demands reasons entered view kept.tagged v within high_is ceiling tag is_tag tighter fact stated before states) is;
             };
@@ -309,10 +311,10 @@ module _ (leaf : Leaf) (demands : Demands) (lows : List LowReason) (highs : List
           tagged = subst (IsTagged demands) (sym reasons_same) kept.tagged;
         }
 
-        pub entered_leaf : system_of demands (kept_reasons demands lows highs longer) longer ≡ record leaf { entered = leaf.entered ++ length (pick_reasons leaf) ∷ [] }
+        pub entered_leaf : system_of demands (kept_reasons demands lows highs longer) longer calls ≡ record leaf { entered = leaf.entered ++ length (pick_reasons leaf) ∷ [] }
         entered_leaf =
-            (λ i. system_of demands (reasons_same i) (is_longer i))
-            ∙ ap (λ (n : ℕ). system_of demands reasons (entered ++ n ∷ [])) (is_count ∙ picks_each)
+            (λ i. system_of demands (reasons_same i) (is_longer i) calls)
+            ∙ ap (λ (n : ℕ). system_of demands reasons (entered ++ n ∷ []) calls) (is_count ∙ picks_each)
             ∙ ap (λ (l : Leaf). record l { entered = l.entered ++ length (pick_reasons leaf) ∷ [] }) view
 
     -- ---- a pick is pushed
@@ -353,10 +355,10 @@ module _ (leaf : Leaf) (demands : Demands) (lows : List LowReason) (highs : List
           ∙ reasons_of-pushed demands.bounds lows highs (entered_picks entered (length demands.picks)) kept.lows_each kept.highs_each adding
 
       module _ (new : Demands) (added : new ≡ pushing) where
-        pushed_leaf : system_of new (kept_reasons new lows highs entered) entered ≡ system_of pushing with_adding entered
+        pushed_leaf : leaf_of new (kept_reasons new lows highs entered) ≡ leaf_of pushing with_adding
         pushed_leaf =
-            ap (λ (d : Demands). system_of d (kept_reasons d lows highs entered) entered) added
-            ∙ ap (λ (rs : List Reason). system_of pushing rs entered) with_adding_is
+            ap (λ (d : Demands). leaf_of d (kept_reasons d lows highs entered)) added
+            ∙ ap (leaf_of pushing) with_adding_is
 
         pub pushed_kept : AreKept new lows highs entered
         pushed_kept =
@@ -368,8 +370,8 @@ module _ (leaf : Leaf) (demands : Demands) (lows : List LowReason) (highs : List
               tagged = subst (IsTagged pushing) (sym with_adding_is) pushing_tagged;
             })
 
-        pub pushed_adds : AddsPick adding constraint leaf (system_of new (kept_reasons new lows highs entered) entered) (Ok tt)
-        pushed_adds = record {
+        pub pushed_adds : (more : ℕ) → AddsPick adding constraint leaf (system_of new (kept_reasons new lows highs entered) entered more) (Ok tt)
+        pushed_adds more = record {
           err = tt;
           entered = ap (λ (l : Leaf). l.entered) view;
           bounds = ap (λ (d : Demands). d.bounds) added ∙ bounds_held ∙ ap (λ (l : Leaf). l.demands.bounds) view;
@@ -398,15 +400,15 @@ module _ (leaf : Leaf) (demands : Demands) (lows : List LowReason) (highs : List
             (let long = length-append reasons (adding ∷ []) in let one = ap (λ (rs : List Reason). length rs) (same_reasons new all_same) in omega arith)
             (λ more. last_tag ∙ sym (ap (λ (rs : List Reason). length rs) (same_reasons new all_same)))
 
-        pub pushed_refused : (fault : AddFault) → IsFaultOf (map (reason_or (kept_reasons new lows highs entered) tag adding) lent) fault
-            → AddsPick adding constraint leaf (system_of new (kept_reasons new lows highs entered) entered) (Err fault)
-        pushed_refused fault is = record {
-          err = same_leaf new all_same;
+        pub pushed_refused : (more : ℕ) (fault : AddFault) → IsFaultOf (map (reason_or (kept_reasons new lows highs entered) tag adding) lent) fault
+            → AddsPick adding constraint leaf (system_of new (kept_reasons new lows highs entered) entered more) (Err fault)
+        pushed_refused more fault is = record {
+          err = same_leaf new all_same more;
           entered = ap (λ (l : Leaf). l.entered) view;
-          bounds = ap (λ (l : Leaf). l.demands.bounds) (same_leaf new all_same);
+          bounds = ap (λ (l : Leaf). l.demands.bounds) (same_leaf new all_same more);
           reasons = tt;
           stated = λ fact stated before states. record {
-            still = subst (IsStated fact stated) (sym (same_leaf new all_same)) before;
+            still = subst (IsStated fact stated) (sym (same_leaf new all_same more)) before;
             closes = cycle_closes pushing with_adding (kept_reasons new lows highs entered) tag adding pushing_or pushing_tagged tags lent found is_lent fact stated fault
                 (pushed_stated leaf demands reasons entered view kept.tagged constraint adding tag last_tag with_adding refl held is_held fact stated before states) is;
           };
@@ -441,14 +443,14 @@ module _ (leaf : Leaf) (demands : Demands) (lows : List LowReason) (highs : List
             (subst (λ (d : Demands). IsTagged d (take (2 * length demands.bounds + before) reasons)) (sym popped) (IsTagged-pop demands reasons before kept.tagged before_within));
       }
 
-      pub left_leaf : Leaves (slice_get leaf.entered keep) leaf (system_of new (kept_reasons new lows highs rest) rest)
-      left_leaf =
+      pub left_leaf : (more : ℕ) → Leaves (slice_get leaf.entered keep) leaf (system_of new (kept_reasons new lows highs rest) rest more)
+      left_leaf more =
           let there : slice_get leaf.entered keep ≡ Some before = ap (λ (l : Leaf). slice_get l.entered keep) (sym view) ∙ begins in
-          let gone : Leaves (Some before) leaf (system_of new (kept_reasons new lows highs rest) rest) = (
+          let gone : Leaves (Some before) leaf (system_of new (kept_reasons new lows highs rest) rest more) = (
             record {
               variables = ap (λ (d : Demands). length d.bounds) popped ∙ ap (λ (l : Leaf). length l.demands.bounds) view;
               stated = popped_stated leaf demands reasons entered view kept.tagged before (2 * length demands.bounds + before) refl (kept_reasons new lows highs rest) rest_is new popped;
             },
             popped_reasons leaf demands reasons entered view kept.tagged before (2 * length demands.bounds + before) refl (kept_reasons new lows highs rest) rest_is new popped,
           ) in
-          subst (λ (o : Option ℕ). Leaves o leaf (system_of new (kept_reasons new lows highs rest) rest)) (sym there) gone
+          subst (λ (o : Option ℕ). Leaves o leaf (system_of new (kept_reasons new lows highs rest) rest more)) (sym there) gone

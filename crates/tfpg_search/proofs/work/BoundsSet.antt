@@ -121,7 +121,7 @@ module _ (bounds : NodeBounds) (old : Demands) (node time tag : ℕ) (b : Variab
 
 -- one call, that set one bound or came to a conflict
 pub one_call : (bounds : NodeBounds) (old new : Leaf) (before after : ℕ) (result : Result (Unit {0}) AddFault) → after ≡ before + 1 → OnOk result (unset bounds new + 1 ≡ unset bounds old)
-    → OnErr result (new ≡ old) → CountsFacts bounds old new before after result
+    → OnErr result (new ≡ record old { calls = new.calls }) → CountsFacts bounds old new before after result
 one_call bounds old new before after (Ok done) one set same = record { ok = omega (arith, set); any = omega (arith, set) }
 one_call bounds old new before after (Err fault) one set same =
     let kept : unset bounds new ≡ unset bounds old = ap (unset bounds) same in
@@ -129,7 +129,7 @@ one_call bounds old new before after (Err fault) one set same =
 
 -- the lower bound of a node was raised to its low, or that met a conflict
 pub raised_counts : (bounds : NodeBounds) (old new : Leaf) (node time tag : ℕ) (b : VariableBounds) → Bounded old.demands node b → b.floor < time → slice_get bounds.lows node ≡ Some time
-    → (before after : ℕ) (result : Result (Unit {0}) AddFault) → after ≡ before + 1 → OnOk result (new.demands ≡ with_floor old.demands node time tag) → OnErr result (new ≡ old)
+    → (before after : ℕ) (result : Result (Unit {0}) AddFault) → after ≡ before + 1 → OnOk result (new.demands ≡ with_floor old.demands node time tag) → OnErr result (new ≡ record old { calls = new.calls })
     → CountsFacts bounds old new before after result
 raised_counts bounds old new node time tag b at less there before after (Ok done) one is same =
     one_call bounds old new before after (Ok done) one
@@ -138,7 +138,7 @@ raised_counts bounds old new node time tag b at less there before after (Err fau
 
 -- the upper bound of a node was lowered to its high, or that met a conflict
 pub lowered_counts : (bounds : NodeBounds) (old new : Leaf) (node time tag : ℕ) (b : VariableBounds) → Bounded old.demands node b → time < b.ceiling → slice_get bounds.highs node ≡ Some time
-    → (before after : ℕ) (result : Result (Unit {0}) AddFault) → after ≡ before + 1 → OnOk result (new.demands ≡ with_ceiling old.demands node time tag) → OnErr result (new ≡ old)
+    → (before after : ℕ) (result : Result (Unit {0}) AddFault) → after ≡ before + 1 → OnOk result (new.demands ≡ with_ceiling old.demands node time tag) → OnErr result (new ≡ record old { calls = new.calls })
     → CountsFacts bounds old new before after result
 lowered_counts bounds old new node time tag b at less there before after (Ok done) one is same =
     one_call bounds old new before after (Ok done) one

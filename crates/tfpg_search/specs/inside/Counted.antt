@@ -1,5 +1,5 @@
 -- How the counted calls of a search are paid: by bounds that are set, by alternatives that are entered, and by steps.
-use Rattle.std.specs.Prelude.{ℕ, ◌+◌, ◌*◌, ◌-◌, ◌≤◌, length, Result, OnOk}
+use Rattle.std.specs.Prelude.{◌≡◌, ℕ, ◌+◌, ◌*◌, ◌-◌, ◌≤◌, length, Result, OnOk}
 use Rattle.tfpg_search.specs.declared.add_fault.AddFault.{AddFault}
 use Rattle.tfpg_search.specs.inside.Leaf.{Leaf, bounds_in}
 use Rattle.tfpg_search.specs.SearchState.{SearchState}
@@ -9,6 +9,10 @@ use Rattle.tfpg_search.specs.Work.{NodeBounds, changed_bounds}
 -- how many bounds of the system are not yet set to these
 abbrev pub unset : NodeBounds → Leaf → ℕ
 unset bounds leaf = changed_bounds (bounds_in leaf) bounds
+
+-- The count went from one number to the other, by as many calls as the system counted.
+abbrev pub CountsAlike : Leaf → Leaf → ℕ → ℕ → Type 0
+CountsAlike old new before after = new.calls + before ≡ old.calls + after
 
 -- The calls that bring the system to its leaf: one for each bound that differs, and three where an alternative is not entered.
 abbrev pub due : NodeBounds → SearchState → ℕ

@@ -14,9 +14,9 @@ pub record IsStatedAfter (fact stated : Reason → Option Constraint) (new : Lea
   pub closes : IfErr result (Closes stated)
 
 -- A bound was added by a reason that states this constraint as a fact. What was stated before is so afterwards, and at a fault
--- nothing changed.
+-- nothing changed but what was counted.
 pub record AddsFact (reason : Reason) (constraint : Constraint) (old new : Leaf) (result : Result (Unit {0}) AddFault) : Type 0 where
-  pub err : OnErr result (new ≡ old)
+  pub err : OnErr result (new ≡ record old { calls = new.calls })
   pub entered : new.entered ≡ old.entered
   pub nodes : length new.demands.bounds ≡ length old.demands.bounds
   pub reasons : pick_reasons new ≡ pick_reasons old
@@ -24,9 +24,9 @@ pub record AddsFact (reason : Reason) (constraint : Constraint) (old new : Leaf)
       → IsStatedAfter fact states new result
 
 -- A pick was added by a reason that states this constraint. What was stated before is so afterwards, and at a fault nothing
--- changed.
+-- changed but what was counted.
 pub record AddsPick (reason : Reason) (constraint : Constraint) (old new : Leaf) (result : Result (Unit {0}) AddFault) : Type 0 where
-  pub err : OnErr result (new ≡ old)
+  pub err : OnErr result (new ≡ record old { calls = new.calls })
   pub entered : new.entered ≡ old.entered
   pub bounds : new.demands.bounds ≡ old.demands.bounds
   pub reasons : OnOk result (pick_reasons new ≡ pick_reasons old ++ reason ∷ [])

@@ -10,6 +10,7 @@ ghost use Rattle.tfpg_search.specs.inside.Picks.{picks_from};
 ghost use Rattle.tfpg_search.specs.SearchState.{case_of_search};
 ghost use Rattle.tfpg_search.specs.inside.AtItsLeaf.{IsAtItsLeaf, HasEnteredAll};
 ghost use Rattle.tfpg_search.specs.inside.Closing.{Closes};
+ghost use Rattle.tfpg_search.specs.inside.Counted.{CountsAlike};
 ghost use Rattle.tfpg_search.specs.inside.Leaving.{constraint_count_at, Leaves, Pushing, PushesOne};
 ghost use Rattle.tfpg_search.specs.inside.EnteredPicks.{IsNext};
 ghost use Rattle.tfpg_search.specs.inside.AtItsLeaf.{with_next_entered};
@@ -40,6 +41,7 @@ impl Search {
         ensures entered { OnOk result (HasEnteredAll self.new) }
         ensures bounds { self.new.leaf.demands.bounds ≡ self.old.leaf.demands.bounds }
         ensures counts { work.new ≤ work.old + 3 * (length self.old.path - length self.old.entered) }
+        ensures counted { CountsAlike self.old.leaf self.new.leaf work.old work.new }
         ensures closes { IfErr result
             (Closes (stated (case_of_search graph.now log.now self.old) self.old.path)) }
     {
@@ -86,6 +88,7 @@ impl Search {
             (constraint_count_at graph.now log.now self.old.path split)) }
         ensures bounds { self.new.leaf.demands.bounds ≡ self.old.leaf.demands.bounds }
         ensures counts { work.new ≤ work.old + 3 }
+        ensures counted { CountsAlike self.old.leaf self.new.leaf work.old work.new }
         ensures closes { IfErr result
             (Closes (stated (case_of_search graph.now log.now self.old) self.old.path)) }
     {
@@ -123,6 +126,7 @@ impl Search {
             self.old.leaf self.new.leaf) }
         ensures bounds { self.new.leaf.demands.bounds ≡ self.old.leaf.demands.bounds }
         ensures counts { work.new ≤ work.old + 1 }
+        ensures counted { CountsAlike self.old.leaf self.new.leaf work.old work.new }
         ensures closes { IfErr result
             (Closes (stated (case_of_search graph.now log.now self.old) self.old.path)) }
     {
@@ -143,6 +147,7 @@ impl Search {
             ≡ record self.old { entered = take kept self.old.entered; leaf = self.new.leaf } }
         ensures leaf { Leaves (slice_get self.old.entered kept) self.old.leaf self.new.leaf }
         ensures bounds { self.new.leaf.demands.bounds ≡ self.old.leaf.demands.bounds }
+        ensures counted { self.new.leaf.calls ≡ self.old.leaf.calls }
     {
         if kept < self.entered_count() {
             self.leaf.leave(kept);

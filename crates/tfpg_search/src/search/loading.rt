@@ -15,7 +15,7 @@ ghost use Rattle.tfpg_search.specs.SearchState.{case_of_search};
 ghost use Rattle.tfpg_search.specs.inside.AtItsLeaf.{IsAtItsLeaf, HasEnteredAll};
 ghost use Rattle.tfpg_search.specs.Live.{IsLiveAt};
 ghost use Rattle.tfpg_search.specs.Work.{NodeBounds, AreFactBounds};
-ghost use Rattle.tfpg_search.specs.inside.Counted.{unset, due, IsPaid};
+ghost use Rattle.tfpg_search.specs.inside.Counted.{unset, due, CountsAlike, IsPaid};
 ghost use Rattle.tfpg_search.specs.inside.Facts.{AreFactsIn};
 ghost use Rattle.tfpg_search.specs.Searched.{call_of};
 ghost use Rattle.tfpg_search.specs.inside.Closing.{IsSimpleCycle, Closes};
@@ -50,6 +50,7 @@ impl Search {
         ensures looking { Looking graph.now log.now (call_of self.old self.new steps.old steps.new) result }
         ensures counts { (bounds : NodeBounds) → AreFactBounds (case_of_search graph.now log.now self.old) bounds →
             IsPaid bounds (call_of self.old self.new steps.old steps.new) work.old work.new }
+        ensures counted { CountsAlike self.old.leaf self.new.leaf work.old work.new }
     {
         match self.load(graph, log, steps, work) {
             Ok(true) => {}
@@ -96,6 +97,7 @@ impl Search {
         ensures loading { Loading graph.now log.now (call_of self.old self.new steps.old steps.new) result }
         ensures counts { (bounds : NodeBounds) → AreFactBounds (case_of_search graph.now log.now self.old) bounds →
             IsPaid bounds (call_of self.old self.new steps.old steps.new) work.old work.new }
+        ensures counted { CountsAlike self.old.leaf self.new.leaf work.old work.new }
     {
         loop {
             if self.is_reusable() {
@@ -132,6 +134,7 @@ impl Search {
         ensures loaded { OnOk result (IsLoaded graph.now log.now self.new) }
         ensures counts { (bounds : NodeBounds) → AreFactBounds (case_of_search graph.now log.now self.old) bounds →
             work.new + unset bounds self.new.leaf ≤ work.old + due bounds self.old + 1 }
+        ensures counted { CountsAlike self.old.leaf self.new.leaf work.old work.new }
         ensures closes { IfErr result
             (Closes (stated (case_of_search graph.now log.now self.old) self.old.path)) }
     {
@@ -155,6 +158,7 @@ impl Search {
             AreFactsIn (fact (case_of_search graph.now log.now self.old)) self.new.leaf.demands node) }
         ensures counts { (bounds : NodeBounds) → AreFactBounds (case_of_search graph.now log.now self.old) bounds →
             work.new + unset bounds self.new.leaf ≤ work.old + unset bounds self.old.leaf + 1 }
+        ensures counted { CountsAlike self.old.leaf self.new.leaf work.old work.new }
     {
         self.leaf.add_facts(graph, log, &self.reach, work)
     }
@@ -174,6 +178,7 @@ impl Search {
         ensures keeps { KeepsSet self.old self.new }
         ensures closing { Closing graph.now log.now (call_of self.old self.new steps.old steps.new) result }
         ensures bounds { self.new.leaf.demands.bounds ≡ self.old.leaf.demands.bounds }
+        ensures counted { self.new.leaf.calls ≡ self.old.leaf.calls }
         ensures appended { OnOk result (length steps.new ≡ length steps.old + 1) }
         ensures longer { length steps.old ≤ length steps.new }
     {
@@ -194,6 +199,7 @@ impl Search {
         ensures keeps { KeepsSet self.old self.new }
         ensures closing { Closing graph.now log.now (call_of self.old self.new steps.old steps.new) result }
         ensures bounds { self.new.leaf.demands.bounds ≡ self.old.leaf.demands.bounds }
+        ensures counted { self.new.leaf.calls ≡ self.old.leaf.calls }
         ensures appended { OnOk result (length steps.new ≡ length steps.old + 1) }
         ensures longer { length steps.old ≤ length steps.new }
     {

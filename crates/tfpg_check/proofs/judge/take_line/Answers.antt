@@ -7,25 +7,30 @@ use Rattle.tfpg_check.proofs.going_on.ReadOfGraph.{fed_of_graph}
 use Rattle.tfpg_check.proofs.going_on.LinesJudged.{not_read_so, judged_after}
 use Rattle.tfpg_check.proofs.judge.take_line.Goals as goal
 
+pub take-requires : goal.take-requires
+take-requires g c = λ accepted.
+    let counted = c.requires.reading.counted in
+    let taken = c.requires.reading.reader_is.taken in
+    let some = c.requires.numbered in
+    omega (arith, counted, taken, some)
+
 pub judge-requires : goal.judge-requires
 judge-requires g c =
-    let counted = c.requires.reading.counted in
-    let some = c.requires.numbered in
     let reads = c.requires.reading.reads in
     let taken = IfOk-at_ok (Takes c.graph.result.now reads c.args.line.now c.take.new.self) c.in-Ok.is
-    (c.take.ensures.fed reads c.requires.reading.reader_is (omega (arith, counted, some)) c.requires.ready) in
-    fed_of_graph c.args.blocks.now.graph reads c.args.line.now c.take.new.self c.args.blocks.now.docket c.in-Ok.fed
+    (c.take.ensures.fed reads c.requires.reading.reader_is c.requires.ready) in
+    fed_of_graph c.args.blocks.now.graph reads c.args.line.now c.take.new.self c.args.blocks.now.hypotheses c.in-Ok.fed
     (subst (λ (g : Tfpg). Takes g reads c.args.line.now c.take.new.self c.in-Ok.fed) c.graph.ensures taken)
     c.requires.reading.within c.requires.reading.begun
 
 pub returns-clause-judged : goal.returns-clause-judged
 returns-clause-judged g c = λ reads represents numbered.
     not_read_so reads c.args.line.now c.graph.result.now c.args.number c.take.new.self c.args.blocks.now c.args.blocks.now c.in-Err.refusal c.from.result _
-    c.graph.ensures numbered (λ at same. c.take.ensures.bad reads represents numbered c.requires.ready at (c.in-Err.is ∙ ap Err same)) refl c.from.ensures
+    c.graph.ensures numbered (λ at same. c.take.ensures.bad reads represents c.requires.ready at (c.in-Err.is ∙ ap Err same)) refl c.from.ensures
 
 pub returns-in-Ok-clause-judged : goal.returns-in-Ok-clause-judged
 returns-in-Ok-clause-judged g c = λ reads represents numbered.
     judged_after reads c.args.line.now c.graph.result.now c.args.number c.take.new.self c.args.blocks.now c.judge.new.self c.in-Ok.fed c.judge.result
     c.graph.ensures numbered
-    (IfOk-at_ok (Takes c.graph.result.now reads c.args.line.now c.take.new.self) c.in-Ok.is (c.take.ensures.fed reads represents numbered c.requires.ready))
+    (IfOk-at_ok (Takes c.graph.result.now reads c.args.line.now c.take.new.self) c.in-Ok.is (c.take.ensures.fed reads represents c.requires.ready))
     c.judge.ensures.judged

@@ -1,6 +1,4 @@
-use Rattle.std.proofs.Common.{◌≡◌, ap, sym, ◌∙◌, arith}
-use Rattle.tfpg_log.specs.Log.{now_of}
-use Rattle.tfpg_log.specs.Spans.{span_number}
+use Rattle.std.proofs.Common.{get_or, min, ap, ◌∙◌, arith}
 use Rattle.tfpg_clause.specs.inside.Musts.{musts_of}
 use Rattle.tfpg_clause.proofs.logs.SpanNumbers.{numbered_so}
 use Rattle.tfpg_clause.proofs.first_violated.MustSpans.{met_below}
@@ -10,14 +8,13 @@ use Rattle.tfpg_clause.proofs.must_violated.must_violated.Goals as goal
 pub returns-then-until-last : goal.returns-then-until-last
 returns-then-until-last c =
     let log = c.args.log.now in
-    let last : span_number log (now_of log) ≡ c.in_ok-last.last =
-    ap (span_number log) (sym c.now.ensures.now) ∙ (numbered_so log c.now.result c.in_ok-last.last c.in_ok-last.ensures).1 in
-    must_met_all c.args.graph.now log c.args.times.now c.args.must.now.node c.args.must.now.edges.now c.args.must.now.edge c.requires.must.due c.loop-until.number c.in-Some.until (omega arith)
+    let last = (numbered_so log c.min-end.result c.in_ok-last.last c.in_ok-last.ensures).1 in
+    must_met_all c.args.graph.now log c.args.times.now c.args.must.now.node c.args.must.now.edges.now c.args.must.now.edge c.requires.must.due c.loop-until.number c.min-end.result c.in-Some.until
+    (c.min-end.ensures ∙ ap (min (get_or c.args.times.now c.args.must.now.node 0)) c.now.ensures.now) (omega (arith, last))
     c.loop-until.invariant.met c.in-Some.ensures.met.1
 
 pub loop-until-preserved : goal.loop-until-preserved
 loop-until-preserved c = record {
-  in_range = omega arith;
   met = met_below c.args.times.now (musts_of c.args.graph.now c.args.log.now c.args.must.now.node c.args.must.now.edge) c.loop-until.number c.in-Some.until
       c.loop-until.invariant.met c.in-Some.ensures.met.1;
   known = c.must_met_up_to.ensures.known;

@@ -10,7 +10,6 @@ decreases-loop-until l = l.last - l.number
 
 abbrev pub invariant-loop-until : goal.invariant-loop-until
 invariant-loop-until l = record {
-  in_range : l.number ≤ l.last;
   met : (other : ℕ) → other < l.number → MeetsIfAny l.times (musts_of l.graph l.log l.must.node l.must.edge other);
   known : AreKnown l.graph l.log (now_of l.log) l.must.edges.now l.known;
   room : length l.must.edges.now ≤ length l.known;

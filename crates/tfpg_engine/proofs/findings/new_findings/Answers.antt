@@ -1,5 +1,5 @@
 use Rattle.std.proofs.Common.{◌<◌, length, get_or, refl, ap, sym, subst, arith, ◌∙◌}
-use Rattle.std.specs.Prelude.{All, IsTrue}
+use Rattle.std.specs.Prelude.{All, IsTrue, sum_by}
 use Rattle.tfpg_base.specs.Hypothesis.{Hypothesis}
 use Rattle.tfpg_graph.specs.Graph.{AreFailures, is_monitored}
 use Rattle.tfpg_base.proofs.lists.Elements.{All-at}
@@ -9,6 +9,8 @@ use Rattle.tfpg_engine.specs.inside.Inquiries.{inquiry_of}
 use Rattle.tfpg_engine.specs.inside.Slots.{CanGoOn}
 use Rattle.tfpg_engine.specs.inside.NewFindings.{AreFirstFindings}
 use Rattle.tfpg_engine.specs.inside.SlotWork.{IsLimitBySlots, AreSlotsWithin}
+use Rattle.tfpg_engine.specs.EngineState.{calls_of_slot}
+use Rattle.tfpg_engine.proofs.CallsCounted.{calls_with}
 use Rattle.tfpg_engine.proofs.FindingWork.{none_within, found_within}
 use Rattle.tfpg_engine.proofs.Ignoring.{same_ignoring, inquiry_ignoring}
 use Rattle.tfpg_engine.proofs.NewFindingIsRight.{none_found, found_by, found_ignoring, slot_before}
@@ -21,6 +23,7 @@ loop-number-init g c = (
       (none_found (inquiry_of c.args.inquiry.now c.args.log.now) c.args.table.now c.args.slots.now),
   subst (λ fs. AreSlotsWithin (inquiry_of c.args.inquiry.now c.args.log.now) c.args.table.now c.args.slots.now fs c.args.work.now c.args.work.now) (sym c.in_ok-findings.ensures.items)
       (none_within (IsLimitBySlots (inquiry_of c.args.inquiry.now c.args.log.now) c.args.table.now c.args.slots.now) c.args.work.now),
+  refl,
 )
 
 pub new_finding-requires-clause-inquiry : goal.new_finding-requires-clause-inquiry
@@ -72,7 +75,19 @@ loop-number-preserved g c =
           (record { hypothesis = at; reach = c.reach.ensures })
           (slot_before asked c.args.table.now c.args.slots.now c.loop-number.slots c.loop-number.findings.items c.loop-number.number c.loop-number.invariant.1 c.requires.one_each within c.index-slots-number.result)
           c.loop-number.invariant.2 c.in_ok-finding.ensures.work,
+      calls_with c.loop-number.slots c.loop-number.number c.index-slots-number.result c.new_finding.new.slot c.args.work.now c.loop-number.work c.new_finding.new.work (sum_by calls_of_slot c.args.slots.now)
+          (omega (arith, within, c.loop-number.invariant.1.one_each, c.requires.one_each)) c.loop-number.invariant.3 c.new_finding.ensures.counted,
     )
+
+pub returns-in_err-finding-clause-counted : goal.returns-in_err-finding-clause-counted
+returns-in_err-finding-clause-counted g c =
+    calls_with c.loop-number.slots c.loop-number.number c.index-slots-number.result c.new_finding.new.slot c.args.work.now c.loop-number.work c.new_finding.new.work (sum_by calls_of_slot c.args.slots.now)
+    (omega (arith, c.loop-number-test.true, c.len-number-end.ensures.count, c.loop-number.invariant.1.one_each, c.requires.one_each)) c.loop-number.invariant.3 c.new_finding.ensures.counted
+
+pub returns-in_err-push-clause-counted : goal.returns-in_err-push-clause-counted
+returns-in_err-push-clause-counted g c =
+    calls_with c.loop-number.slots c.loop-number.number c.index-slots-number.result c.new_finding.new.slot c.args.work.now c.loop-number.work c.new_finding.new.work (sum_by calls_of_slot c.args.slots.now)
+    (omega (arith, c.loop-number-test.true, c.len-number-end.ensures.count, c.loop-number.invariant.1.one_each, c.requires.one_each)) c.loop-number.invariant.3 c.new_finding.ensures.counted
 
 pub returns-clause-each : goal.returns-clause-each
 returns-clause-each g c = (

@@ -1,9 +1,9 @@
-use Rattle.std.proofs.Common.{subst, arith}
+use Rattle.std.proofs.Common.{subst}
 use Rattle.tfpg_log.specs.Log.{ignoring}
 use Rattle.tfpg_predict.specs.LeastTime.{lookahead_of}
 use Rattle.tfpg_predict.specs.inside.Tried.{IsTried}
 use Rattle.tfpg_predict.specs.declared.trial.Tried.{Tried}
-use Rattle.tfpg_predict.proofs.Halving.{halved_none, never_by_its_end}
+use Rattle.tfpg_predict.proofs.Halving.{halved_none, never_by_its_end, unsettled_at_end}
 use Rattle.tfpg_predict.proofs.forecasting.forecast.Goals as goal
 
 pub returns-in-Out : goal.returns-in-Out
@@ -13,11 +13,10 @@ returns-in-Out g c =
     c.in_ok-trace.ensures)
 
 pub returns-in-Spent : goal.returns-in-Spent
-returns-in-Spent g c = record {
-  within = omega arith;
-  spent = subst (λ (tried : Tried). IsTried (lookahead_of c.args.graph.now (ignoring c.args.log.now c.args.doubts) c.args.node c.args.to) c.args.set c.args.budget c.args.to tried) c.in-Spent.is
-      c.in_ok-trace.ensures;
-}
+returns-in-Spent g c =
+    unsettled_at_end (lookahead_of c.args.graph.now (ignoring c.args.log.now c.args.doubts) c.args.node c.args.to) c.args.set c.args.budget c.in-Spent.steps
+    (subst (λ (tried : Tried). IsTried (lookahead_of c.args.graph.now (ignoring c.args.log.now c.args.doubts) c.args.node c.args.to) c.args.set c.args.budget c.args.to tried) c.in-Spent.is
+    c.in_ok-trace.ensures)
 
 pub halve-requires-clause-halved : goal.halve-requires-clause-halved
 halve-requires-clause-halved g c =

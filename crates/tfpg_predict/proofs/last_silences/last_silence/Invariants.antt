@@ -2,7 +2,7 @@ use Rattle.std.proofs.Common.{◌≡◌}
 use Rattle.std.specs.Prelude.{is_some}
 use Rattle.tfpg_base.specs.Trials.{greatest}
 use Rattle.tfpg_log.specs.Log.{silence_at}
-use Rattle.tfpg_predict.specs.Kept.{last_silence}
+use Rattle.tfpg_predict.specs.inside.KeptEvents.{last_silence}
 use Rattle.tfpg_predict.proofs.last_silences.last_silence.Given as goal
 
 -- the last silence is the last one up to this number

@@ -1,6 +1,6 @@
 use Rattle.std.proofs.Common.{◌∙◌, ◌++◌, ◌∷◌, [], sym, arith}
 use Rattle.std.proofs.lemmas.List.FromFn.{map-range_with_len_more}
-use Rattle.tfpg_predict.specs.Kept.{last_silence}
+use Rattle.tfpg_predict.specs.inside.KeptEvents.{last_silence}
 use Rattle.tfpg_predict.proofs.last_silences.last_silences.Goals as goal
 
 pub loop-node-preserved : goal.loop-node-preserved

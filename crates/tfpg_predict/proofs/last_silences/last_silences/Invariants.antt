@@ -1,6 +1,6 @@
 use Rattle.std.proofs.Common.{◌≡◌, map}
 use Rattle.std.specs.List.{range_with_len}
-use Rattle.tfpg_predict.specs.Kept.{last_silence}
+use Rattle.tfpg_predict.specs.inside.KeptEvents.{last_silence}
 use Rattle.tfpg_predict.proofs.last_silences.last_silences.Given as goal
 
 abbrev pub invariant-loop-node : goal.invariant-loop-node

@@ -78,7 +78,7 @@ begun_in_block lines (RoundBlock round losses) =
     counted = fold-append begun_with (begun_in lines) (lines_before_counts round) (Counts round.counts ∷ [])
 
 -- the line ends nothing
-abbrev IsWithin : ReportLine → Type 0
+abbrev pub IsWithin : ReportLine → Type 0
 IsWithin line = is_last line ≡ false
 
 -- each line of a list that is shown item by item
@@ -110,7 +110,7 @@ ranked_within finding status.Rejected = All-nil IsWithin
 ranked_within finding status.Open = All-nil IsWithin
 
 -- Before the counts, no line of a round ends it.
-before_counts_within : (round : RoundOf) → All IsWithin (lines_before_counts round)
+pub before_counts_within : (round : RoundOf) → All IsWithin (lines_before_counts round)
 before_counts_within round =
     All-append IsWithin (front ++ steps ++ ranked ++ opened) rejected
     (All-append IsWithin (front ++ steps ++ ranked) opened

@@ -1,5 +1,5 @@
 -- A reader that represents lines takes the next one.
-use Rattle.std.proofs.Common.{◌≡◌, ℕ, ◌+◌, ◌-◌, List, [], ◌∷◌, ◌++◌, length, refl, true, Some, None, sym, ap, subst, ◌∙◌, ⊎_elim, length-append, arith}
+use Rattle.std.proofs.Common.{◌≡◌, ℕ, ◌+◌, ◌-◌, List, [], ◌∷◌, ◌++◌, length, refl, true, Some, sym, ap, subst, ◌∙◌, ⊎_elim, length-append, arith}
 use Rattle.tfpg_base.specs.declared.terms.Terms.{Terms}
 use Rattle.tfpg_graph.specs.Graph.{Tfpg}
 use Rattle.tfpg_report.specs.declared.fed.Fed.{Fed}
@@ -74,10 +74,6 @@ module _ (lines : List ReportLine) (read : ReportLine) (number : ℕ) (next_is :
     begun_is = nothing_begun lines read after (ap is_last feeds.0) feeds.1;
   }
 
--- a reader with this stand and this draft
-abbrev pub reading_at : Stand → Draft → ReaderState
-reading_at stand draft = record { refused = None; stand = stand; begun = begun_lines stand draft }
-
 -- What is left of a draft to which a line was added is the draft after it.
 pub left_with : (at : ℕ) (next : Stand) (line : ReportLine) (draft : Draft) → left_after line (draft_with at next line draft) ≡ draft_after at next line draft
 left_with at next (Head terms) draft = refl
@@ -98,10 +94,11 @@ left_with at next (Panel panel memory) draft = refl
 
 -- A line that may come is taken.
 pub takes : (graph : Tfpg) (lines : List ReportLine) (bytes : List ℕ) (old new : ReaderState) (before next : Stand) (draft after : Draft) (number : ℕ) (read : ReportLine) (completes : Fed)
-    → old.stand ≡ before → old.begun ≡ begun_lines before draft → new.stand ≡ next → new.begun ≡ begun_lines next after
-    → ReaderRepresents old lines → number ≡ length lines + 1 → Fits before draft → Says graph read bytes → stand_after before read ≡ Some next
+    → old.stand ≡ before → old.begun ≡ begun_lines before draft → new.taken ≡ number → new.stand ≡ next → new.begun ≡ begun_lines next after
+    → ReaderRepresents old lines → number ≡ old.taken + 1 → Fits before draft → Says graph read bytes → stand_after before read ≡ Some next
     → after ≡ draft_after number next read draft → completes ≡ completed number read (draft_with number next read draft) → Takes graph lines bytes new completes
-takes graph lines bytes old new before next draft after number read completes old_stand old_begun new_stand new_begun represents next_is fits says steps after_is completes_is =
+takes graph lines bytes old new before next draft after number read completes old_stand old_begun new_taken new_stand new_begun represents follows fits says steps after_is completes_is =
+    let next_is : number ≡ length lines + 1 = follows ∙ ap (λ (n : ℕ). n + 1) represents.taken in
     let are : begun_lines before draft ≡ numbered_from (first_begun lines) (begun_in lines) = sym old_begun ∙ represents.begun in
     let stands : stand_of (lines ++ read ∷ []) ≡ Some next = stand_of_more lines read before (represents.stands ∙ ap Some old_stand) ∙ steps in
     let feeds : Feeds (begun_lines before draft) (begun_lines next (draft_after number next read draft)) (numbered number read) (completed number read (draft_with number next read draft)) =
@@ -114,6 +111,7 @@ takes graph lines bytes old new before next draft after number read completes ol
       may_come = record { says = says; stand = next; stands = stands };
       completes = subst (Completes lines read) (sym completes_is) gone.completed_is;
       represents = record {
+        taken = new_taken ∙ next_is ∙ sym (length-append lines (read ∷ []));
         stands = stands ∙ ap Some (sym new_stand);
         begun = new_begun ∙ ap (begun_lines next) after_is ∙ gone.begun_is;
       };

@@ -5,7 +5,6 @@ use Rattle.std.specs.Bool.{then_some}
 use Rattle.std.proofs.lemmas.Bool.{cond-false, lt-ltb, ne_eqb}
 use Rattle.std.proofs.lemmas.List.Elements.{All-head, All-tail, All-weaker}
 use Rattle.std.proofs.lemmas.List.Sums.{fold-append}
-use Rattle.std.proofs.lemmas.List.Folds.{fold_stays}
 use Rattle.tfpg_base.specs.Trace.{IsRisingByNode}
 use Rattle.tfpg_base.specs.declared.terms.Terms.{Terms}
 use Rattle.tfpg_base.specs.declared.activation.Activation.{Activation}
@@ -273,15 +272,3 @@ pub report_arrives : (terms : Terms) (head : ReportLine) (blocks : List Block) �
 report_arrives terms head blocks is order =
     arrives_cons (λ s. may_begin_block s ≡ true) stand.Nothing stand.Block head (flat_map block_lines blocks) (head_leads terms head is)
     (blocks_arrive blocks stand.Block order refl)
-
--- If lines may come, so may those with which they begin.
-pub front_leads : (front back : List ReportLine) (from to : Stand) → stand_after_all from (front ++ back) ≡ Some to → Arrives (λ s. stand_after_all s back ≡ Some to) from front
-front_leads front back from to whole = by (stand_after_all from front) refl
-  where
-    parted : fold stepped (stand_after_all from front) back ≡ Some to
-    parted = sym (fold-append stepped (Some from) front back) ∙ whole
-
-    by : (reached : Option Stand) → stand_after_all from front ≡ reached → Arrives (λ s. stand_after_all s back ≡ Some to) from front
-    by None is =
-        let nowhere : None ≡ Some to = sym (fold_stays stepped None (λ line. refl) back) ∙ ap (λ (r : Option Stand). fold stepped r back) (sym is) ∙ parted in absurd cc
-    by (Some middle) is = record { to = middle; leads = is; there = ap (λ (r : Option Stand). fold stepped r back) (sym is) ∙ parted }

@@ -7,13 +7,13 @@ use Rattle.tfpg_base.specs.Outside.{SourceState, SinkState, Rose, Puts}
 use Rattle.tfpg_base.specs.TextLine.{text_line}
 use Rattle.tfpg_graph.specs.Graph.{Tfpg}
 use Rattle.tfpg_graph.specs.Valid.{IsValid}
-use Rattle.tfpg_check.specs.Causes.{Matter}
+use Rattle.tfpg_check.specs.Causes.{DiagnosisProblem}
 use Rattle.tfpg_check.specs.JudgeState.{JudgeRepresents, JudgeState}
 use Rattle.tfpg_run.specs.declared.fault.CheckFault.{CheckFault}
 use Rattle.tfpg_run.specs.declared.fault.CheckFault.TheVariants.{NotAccepted, TooMany, Stream}
 use Rattle.tfpg_run.specs.declared.fault.StreamFault.TheVariants.{ReadFault, WriteFault, TooMuchInput, NoMemory}
 use Rattle.tfpg_run.specs.Streams.{streams}
-use Rattle.tfpg_run.specs.check.Checking.{ChecksReport, IsAccepted, matter_of}
+use Rattle.tfpg_run.specs.check.Checking.{ChecksReport, IsAccepted, problem_of}
 use Rattle.tfpg_run.specs.inside.check.UnderWay.{AcceptsReport, IsNewJudge, LacksReport}
 use Rattle.tfpg_run.proofs.InputLines.{few_lines}
 
@@ -22,21 +22,21 @@ few_log_lines : (text : List ℕ) → length text ≤ LONGEST_FILE → length (l
 few_log_lines text small = omega (arith, few_lines text, small)
 
 -- the judge of a valid graph and of the text of a file to which no line came yet
-pub new_judge : (graph : Tfpg) (text : List ℕ) (judge : JudgeState) → IsValid graph → length text ≤ LONGEST_FILE → JudgeRepresents (matter_of graph text) judge [] → IsNewJudge (matter_of graph text) judge
+pub new_judge : (graph : Tfpg) (text : List ℕ) (judge : JudgeState) → IsValid graph → length text ≤ LONGEST_FILE → JudgeRepresents (problem_of graph text) judge [] → IsNewJudge (problem_of graph text) judge
 new_judge graph text judge valid small represents = record { valid = valid; few = few_log_lines text small; represents = represents }
 
 -- the report is not accepted, and nothing is written
-pub checks_badly : (matter : Matter) (before : SourceState) (output : SinkState) (input : SourceState) (fault : CheckFault) → LacksReport matter before input fault
-    → ChecksReport matter (streams before output) (streams input output) (Err fault)
-checks_badly matter before output input (NotAccepted at why) lacks = record { taken = lacks.taken; takes = lacks.takes; ends = (lacks.shown.0, refl, lacks.shown.1) }
-checks_badly matter before output input (TooMany count) lacks = record { taken = lacks.taken; takes = lacks.takes; ends = (lacks.shown.0, refl, lacks.shown.1) }
-checks_badly matter before output input (Stream ReadFault) lacks = record { taken = lacks.taken; takes = lacks.takes; ends = (lacks.shown.0, lacks.shown.1, refl) }
-checks_badly matter before output input (Stream WriteFault) lacks = absurd lacks.shown
-checks_badly matter before output input (Stream TooMuchInput) lacks = record { taken = lacks.taken; takes = lacks.takes; ends = (lacks.shown.0, lacks.shown.1, refl, lacks.shown.2) }
-checks_badly matter before output input (Stream NoMemory) lacks = record { taken = lacks.taken; takes = lacks.takes; ends = (refl, lacks.shown) }
+pub checks_badly : (problem : DiagnosisProblem) (before : SourceState) (output : SinkState) (input : SourceState) (fault : CheckFault) → LacksReport problem before input fault
+    → ChecksReport problem (streams before output) (streams input output) (Err fault)
+checks_badly problem before output input (NotAccepted at why) lacks = record { taken = lacks.taken; takes = lacks.takes; ends = (lacks.shown.0, refl, lacks.shown.1) }
+checks_badly problem before output input (TooMany count) lacks = record { taken = lacks.taken; takes = lacks.takes; ends = (lacks.shown.0, refl, lacks.shown.1) }
+checks_badly problem before output input (Stream ReadFault) lacks = record { taken = lacks.taken; takes = lacks.takes; ends = (lacks.shown.0, lacks.shown.1, refl) }
+checks_badly problem before output input (Stream WriteFault) lacks = absurd lacks.shown
+checks_badly problem before output input (Stream TooMuchInput) lacks = record { taken = lacks.taken; takes = lacks.takes; ends = (lacks.shown.0, lacks.shown.1, refl, lacks.shown.2) }
+checks_badly problem before output input (Stream NoMemory) lacks = record { taken = lacks.taken; takes = lacks.takes; ends = (refl, lacks.shown) }
 
-module _ (matter : Matter) (before input : SourceState) (output : SinkState) (rounds : ℕ) (accepts : AcceptsReport matter before input rounds) where
-  is_accepted : (text : List ℕ) → text ≡ text_line (codes "accepted" ∷ decimal rounds ∷ []) → IsAccepted matter input accepts.taken text
+module _ (problem : DiagnosisProblem) (before input : SourceState) (output : SinkState) (rounds : ℕ) (accepts : AcceptsReport problem before input rounds) where
+  is_accepted : (text : List ℕ) → text ≡ text_line (codes "accepted" ∷ decimal rounds ∷ []) → IsAccepted problem input accepts.taken text
   is_accepted text is = record {
     terms = accepts.terms;
     blocks = accepts.blocks;
@@ -47,12 +47,12 @@ module _ (matter : Matter) (before input : SourceState) (output : SinkState) (ro
   }
 
   -- memory runs out for the line
-  pub no_line : ChecksReport matter (streams before output) (streams input output) (Err (Stream NoMemory))
+  pub no_line : ChecksReport problem (streams before output) (streams input output) (Err (Stream NoMemory))
   no_line = record { taken = accepts.taken; takes = accepts.takes; ends = (refl, accepts.no_fault) }
 
   -- it is written
   pub checks_well : (line text : List ℕ) (output' : SinkState) → line ≡ text_line (codes "accepted" ∷ decimal rounds ∷ []) → text ≡ line → Puts output output' text → output'.faults ≡ output.faults
-      → ChecksReport matter (streams before output) (streams input output') (Ok tt)
+      → ChecksReport problem (streams before output) (streams input output') (Ok tt)
   checks_well line text output' line_is same puts no_fault = record {
     taken = accepts.taken;
     takes = accepts.takes;
@@ -61,7 +61,7 @@ module _ (matter : Matter) (before input : SourceState) (output : SinkState) (ro
 
   -- the output fails
   pub checks_in_part : (line : List ℕ) (output' : SinkState) (front rest : List ℕ) → line ≡ text_line (codes "accepted" ∷ decimal rounds ∷ []) → line ≡ front ++ rest → Puts output output' front
-      → Rose output.faults output'.faults → ChecksReport matter (streams before output) (streams input output') (Err (Stream WriteFault))
+      → Rose output.faults output'.faults → ChecksReport problem (streams before output) (streams input output') (Err (Stream WriteFault))
   checks_in_part line output' front rest line_is parts puts rose = record {
     taken = accepts.taken;
     takes = accepts.takes;

@@ -1,7 +1,7 @@
 -- Judging the report of the input, one line after another.
-use Rattle.std.proofs.Common.{◌≡◌, ◌⊎◌, ℕ, ◌+◌, ◌<◌, ◌≤◌, List, [], ◌∷◌, ◌++◌, length, drop, Some, Ok, Err, inl, inr, refl, sym, ap, subst, subst₂, ◌-◌, ◌^◌, ◌∙◌, arith, append-nil, append_assoc, length-append, slice_get}
+use Rattle.std.proofs.Common.{◌≡◌, ℕ, ◌+◌, ◌<◌, ◌≤◌, List, [], ◌∷◌, ◌++◌, length, drop, Some, Ok, Err, inl, inr, refl, sym, ap, subst, ◌-◌, ◌^◌, ◌∙◌, arith, append-nil, append_assoc, length-append, slice_get}
 use Rattle.std.proofs.lemmas.List.{take-append-drop}
-use Rattle.std.proofs.lemmas.Option.{none-some, slice_get_within}
+use Rattle.std.proofs.lemmas.Option.{none-some}
 use Rattle.tfpg_base.specs.declared.line.Line.{Line}
 use Rattle.tfpg_base.specs.declared.line.Line.TheVariants as line
 use Rattle.tfpg_base.specs.declared.line.LineFault.{LineFault}
@@ -12,19 +12,19 @@ use Rattle.tfpg_base.specs.Outside.{SourceState, Rose}
 use Rattle.tfpg_base.proofs.ReadingOn.{GaveLine, Continues-turn, Continues-text, Continues-too_long}
 use Rattle.tfpg_base.proofs.Taking.{Takes-append, Takes-nothing}
 use Rattle.tfpg_base.proofs.lists.Cuts.{front_is_within, front_with}
-use Rattle.tfpg_base.proofs.lists.Written.{slice_get-after, slice_get-push_cases}
+use Rattle.tfpg_base.proofs.lists.Written.{slice_get-after}
 use Rattle.tfpg_graph.specs.Graph.{Tfpg}
 use Rattle.tfpg_report.specs.declared.report_line.ReportLine.{ReportLine}
 use Rattle.tfpg_report.specs.Reading.{MayCome}
-use Rattle.tfpg_report.specs.ReportLines.{Says}
 use Rattle.tfpg_report.specs.declared.stand.Stand.TheVariants.{Nothing}
 use Rattle.tfpg_check.specs.declared.cause.CheckCause.{CheckCause}
 use Rattle.tfpg_check.specs.declared.cause.CheckCause.TheVariants.{BadReport}
 use Rattle.tfpg_check.specs.declared.judge_fault.JudgeFault.{JudgeFault}
 use Rattle.tfpg_check.specs.declared.judge_fault.JudgeFault.TheVariants as faults
-use Rattle.tfpg_check.specs.Causes.{Matter, AreRead, EndFails, LineFails}
+use Rattle.tfpg_check.specs.Causes.{DiagnosisProblem, AreRead, EndFails, LineFails}
 use Rattle.tfpg_check.specs.Judged.{HasTooMany, IsJudged, IsJudgedAtEnd}
 use Rattle.tfpg_check.specs.JudgeState.{GoesOnTo, JudgeState}
+use Rattle.tfpg_check.specs.RightReports.{WholeLinesAreThoseOfReports}
 use Rattle.tfpg_run.specs.declared.fault.CheckFault.{CheckFault}
 use Rattle.tfpg_run.specs.declared.fault.CheckFault.TheVariants as check
 use Rattle.tfpg_run.specs.declared.fault.StreamFault.TheVariants as streams
@@ -33,7 +33,6 @@ use Rattle.tfpg_run.specs.inside.Faults.{check_fault_of_judge, check_fault_of_li
 use Rattle.tfpg_run.specs.inside.check.UnderWay.{AcceptsReport, HasJudgedAll, IsChecking, IsJudging, IsNewJudge, IsReadingLines, IsReadingOn, LacksReport, checking_at}
 use Rattle.tfpg_run.proofs.InputLines.{rest_of, rest_is_left, rest_at_end, front_of_input, came_to_end, few_lines}
 use Rattle.tfpg_check.proofs.EarlyEnds.{line_never_early}
-use Rattle.tfpg_check.proofs.WholeReports.{whole_report}
 
 -- ---- the lines so far
 
@@ -43,25 +42,10 @@ few_read before input lines under =
     let within = front_is_within (lines_of under.reading.taken) under.reading.given under.front in
     omega (arith, within, few_lines under.reading.taken, under.few, under.represents.number)
 
--- what is read of lines goes on with what is read of one more
-one_more_read : (graph : Tfpg) (lines : List (List ℕ)) (reads : List ReportLine) (bytes : List ℕ) (read : ReportLine) → AreRead graph lines reads → MayCome graph reads bytes read
+-- Lines that were read are such with one more, as a law of the judge says.
+abbrev OneMoreIsRead : Type 0
+OneMoreIsRead = (graph : Tfpg) (lines : List (List ℕ)) (reads : List ReportLine) (bytes : List ℕ) (read : ReportLine) → AreRead graph lines reads → MayCome graph reads bytes read
     → AreRead graph (lines ++ bytes ∷ []) (reads ++ read ∷ [])
-one_more_read graph lines reads bytes read are may = record {
-  one_each = omega (arith, same, length-append reads (read ∷ []), length-append lines (bytes ∷ []));
-  each = λ index some one at said. by index some one (slice_get-push_cases lines bytes index some at) (slice_get-push_cases reads read index one said);
-  stand = may.stand;
-  stands = may.stands;
-}
-  where
-    same : length reads ≡ length lines
-    same = are.one_each
-
-    by : (index : ℕ) (some : List ℕ) (one : ReportLine) → (slice_get lines index ≡ Some some) ⊎ ((index ≡ length lines) × (bytes ≡ some))
-        → (slice_get reads index ≡ Some one) ⊎ ((index ≡ length reads) × (read ≡ one)) → Says graph one some
-    by index some one (inl at) (inl said) = are.each index some one at said
-    by index some one (inr at) (inr said) = subst₂ (Says graph) said.1 at.1 may.says
-    by index some one (inl at) (inr said) = let last = said.0 in absurd (omega (arith, slice_get_within lines index some at, last, same))
-    by index some one (inr at) (inl said) = let last = at.0 in absurd (omega (arith, slice_get_within reads index one said, last, same))
 
 -- a line of a report is not too long
 no_long_line : (graph : Tfpg) (before : List ReportLine) (bytes : List ℕ) → LONGEST_LINE < length bytes → (read : ReportLine) → MayCome graph before bytes read → ⊥
@@ -73,7 +57,7 @@ no_long_line graph before bytes long read may =
 pub begins_judging : (before : SourceState) (lines : LinesState) (judge : JudgeState) → LinesRepresent lines new_reading → judge.lines ≡ 0 → IsJudging judge before (checking_at before lines judge)
 begins_judging before lines judge unread none = record {
   reads_on = record { under = under; counted = none ∙ sym unread.number };
-  checks = λ matter new. record {
+  checks = λ problem new. record {
     under = under;
     reads = [];
     are_read = record { one_each = refl; each = λ index bytes read at said. absurd (none-some bytes at); stand = Nothing; stands = refl };
@@ -119,20 +103,20 @@ module _ (before now input : SourceState) (lines lines' : LinesState) (under : I
       ∙ append_assoc under.reading.given (gave.first ∷ []) Later
 
 -- the line is judged
-module _ (matter : Matter) (before now input : SourceState) (lines lines' : LinesState) (judge : JudgeState) (checking : IsChecking matter before (checking_at now lines judge))
+module _ (problem : DiagnosisProblem) (before now input : SourceState) (lines lines' : LinesState) (judge : JudgeState) (checking : IsChecking problem before (checking_at now lines judge))
     (gave : GaveLine checking.under.reading now input lines') where
   -- it is right
-  right_line : (judge' : JudgeState) → GoesOnTo matter checking.reads gave.first judge' → IsChecking matter before (checking_at input lines' judge')
-  right_line judge' on = record {
+  right_line : OneMoreIsRead → (judge' : JudgeState) → GoesOnTo problem checking.reads gave.first judge' → IsChecking problem before (checking_at input lines' judge')
+  right_line one_more judge' on = record {
     under = reads_line before now input lines lines' checking.under gave;
     reads = checking.reads ++ on.read ∷ [];
-    are_read = one_more_read matter.graph checking.under.reading.given checking.reads gave.first on.read checking.are_read on.goes_on.may_come;
+    are_read = one_more problem.graph checking.under.reading.given checking.reads gave.first on.read checking.are_read on.goes_on.may_come;
     right = on.goes_on.right;
     represents = on.represents;
   }
 
   -- it is refused
-  refused_line : (at : ℕ) (why : CheckCause) → LineFails matter checking.reads gave.first at why → LacksReport matter before input (check.NotAccepted at why)
+  refused_line : (at : ℕ) (why : CheckCause) → LineFails problem checking.reads gave.first at why → LacksReport problem before input (check.NotAccepted at why)
   refused_line at why fails = record {
     taken = checking.under.reading.taken ++ gave.more;
     takes = Takes-append before now input checking.under.reading.taken gave.more checking.under.takes gave.takes;
@@ -147,14 +131,14 @@ module _ (matter : Matter) (before now input : SourceState) (lines lines' : Line
           right = checking.right;
           fails = inl (gave.first, Later before now input lines lines' checking.under gave, line_in_place before now input lines lines' checking.under gave, fails);
         };
-        ended = λ early. absurd (line_never_early matter checking.reads gave.first at why fails early);
+        ended = λ early. absurd (line_never_early problem checking.reads gave.first at why fails early);
       },
       gave.no_fault ∙ checking.under.no_fault,
     );
   }
 
   -- it is the first one, on terms with too many hypotheses
-  too_many : (count : ℕ) → HasTooMany matter checking.reads gave.first count → LacksReport matter before input (check.TooMany count)
+  too_many : (count : ℕ) → HasTooMany problem checking.reads gave.first count → LacksReport problem before input (check.TooMany count)
   too_many count many =
       let none : length checking.reads ≡ 0 = ap length many.first in
       let each = checking.are_read.one_each in
@@ -182,14 +166,14 @@ module _ (matter : Matter) (before now input : SourceState) (lines lines' : Line
       }
 
   -- memory ran out
-  without_memory : LacksReport matter before input (check.Stream streams.NoMemory)
+  without_memory : LacksReport problem before input (check.Stream streams.NoMemory)
   without_memory = record {
     taken = checking.under.reading.taken ++ gave.more;
     takes = Takes-append before now input checking.under.reading.taken gave.more checking.under.takes gave.takes;
     shown = gave.no_fault ∙ checking.under.no_fault;
   }
 
-  by_judge : (fault : JudgeFault) → IsJudged matter checking.reads gave.first (Err fault) → LacksReport matter before input (check_fault_of_judge fault)
+  by_judge : (fault : JudgeFault) → IsJudged problem checking.reads gave.first (Err fault) → LacksReport problem before input (check_fault_of_judge fault)
   by_judge (faults.NotAccepted at why) judged = refused_line at why judged.1
   by_judge (faults.TooMany count) judged = too_many count judged
   by_judge faults.NoMemory judged = without_memory
@@ -220,19 +204,19 @@ module _ (before now input : SourceState) (lines lines' : LinesState) (judge : J
 
 -- ---- and with it
 
-module _ (matter : Matter) (before now input : SourceState) (lines lines' : LinesState) (judge : JudgeState) (checking : IsChecking matter before (checking_at now lines judge)) where
-  right_so_far : IsRightSoFar matter checking.under.reading.given
+module _ (problem : DiagnosisProblem) (before now input : SourceState) (lines lines' : LinesState) (judge : JudgeState) (checking : IsChecking problem before (checking_at now lines judge)) where
+  right_so_far : IsRightSoFar problem checking.under.reading.given
   right_so_far = (checking.reads, checking.are_read, checking.right)
 
   -- the reader of lines reports a fault
-  pub lacks_by_fault : (f : LineFault) → Continues checking.under.reading checking.under.reading.ended now input (Err f) lines' → LacksReport matter before input (check_fault_of_lines f)
+  pub lacks_by_fault : (f : LineFault) → Continues checking.under.reading checking.under.reading.ended now input (Err f) lines' → LacksReport problem before input (check_fault_of_lines f)
   lacks_by_fault fault.ReadFault continues =
       let reading = checking.under.reading in
       let turn = Continues-turn reading now input (Err fault.ReadFault) lines' checking.under.goes_on (λ e. cc) continues in
       record {
         taken = reading.taken ++ turn.more;
         takes = Takes-append before now input reading.taken turn.more checking.under.takes turn.takes;
-        shown = (subst (λ (count : ℕ). Rose count input.faults) checking.under.no_fault turn.faults, subst (IsRightSoFar matter) (sym turn.returns.0) right_so_far);
+        shown = (subst (λ (count : ℕ). Rose count input.faults) checking.under.no_fault turn.faults, subst (IsRightSoFar problem) (sym turn.returns.0) right_so_far);
       }
   lacks_by_fault fault.TooMuchInput continues =
       let reading = checking.under.reading in
@@ -240,12 +224,12 @@ module _ (matter : Matter) (before now input : SourceState) (lines lines' : Line
       record {
         taken = reading.taken ++ turn.more;
         takes = Takes-append before now input reading.taken turn.more checking.under.takes turn.takes;
-        shown = (turn.returns.1, subst (IsRightSoFar matter) (sym turn.returns.0) right_so_far, turn.faults ∙ checking.under.no_fault);
+        shown = (turn.returns.1, subst (IsRightSoFar problem) (sym turn.returns.0) right_so_far, turn.faults ∙ checking.under.no_fault);
       }
 
   module _ (l : Line) (continues : Continues checking.under.reading checking.under.reading.ended now input (Ok l) lines') where
     -- the input has ended
-    pub met_end : l ≡ line.End → HasJudgedAll matter before input judge
+    pub met_end : l ≡ line.End → HasJudgedAll problem before input judge
     met_end ends =
         let reading = checking.under.reading in
         let end =
@@ -257,25 +241,25 @@ module _ (matter : Matter) (before now input : SourceState) (lines lines' : Line
           few = end.few;
           at_end = end.end;
           reads = checking.reads;
-          are_read = subst (λ (ls : List (List ℕ)). AreRead matter.graph ls checking.reads) (sym end.all) checking.are_read;
+          are_read = subst (λ (ls : List (List ℕ)). AreRead problem.graph ls checking.reads) (sym end.all) checking.are_read;
           right = checking.right;
           represents = checking.represents;
           no_fault = end.no_fault ∙ checking.under.no_fault;
         }
 
     -- a line is too long
-    pub met_long : l ≡ line.TooLong → (f : CheckFault) → f ≡ check.NotAccepted lines'.number BadReport → LacksReport matter before input f
+    pub met_long : l ≡ line.TooLong → (f : CheckFault) → f ≡ check.NotAccepted lines'.number BadReport → LacksReport problem before input f
     met_long is f fault_is =
         let met =
         Continues-too_long checking.under.reading now input lines' checking.under.goes_on
         (subst (λ (x : Line). Continues checking.under.reading checking.under.reading.ended now input (Ok x) lines') is continues) in
         let each = checking.are_read.one_each in
-        subst (LacksReport matter before input) (sym fault_is)
-        (refused_line matter before now input lines lines' judge checking met.0 lines'.number BadReport
+        subst (LacksReport problem before input) (sym fault_is)
+        (refused_line problem before now input lines lines' judge checking met.0 lines'.number BadReport
         (inl (
           refl,
           omega (arith, met.0.stands.number, each, length-append checking.under.reading.given (met.0.first ∷ [])),
-          no_long_line matter.graph checking.reads met.0.first met.1,
+          no_long_line problem.graph checking.reads met.0.first met.1,
         )))
 
     -- a text
@@ -289,21 +273,21 @@ module _ (matter : Matter) (before now input : SourceState) (lines lines' : Line
       along = text_is ∙ met_text.2
 
       -- that is right
-      pub met_right : (judge' : JudgeState) → GoesOnTo matter checking.reads text judge' → IsChecking matter before (checking_at input lines' judge')
-      met_right judge' on =
-          right_line matter before now input lines lines' judge checking met_text.0 judge'
-          (subst (λ (bytes : List ℕ). GoesOnTo matter checking.reads bytes judge') along on)
+      pub met_right : OneMoreIsRead → (judge' : JudgeState) → GoesOnTo problem checking.reads text judge' → IsChecking problem before (checking_at input lines' judge')
+      met_right one_more judge' on =
+          right_line problem before now input lines lines' judge checking met_text.0 one_more judge'
+          (subst (λ (bytes : List ℕ). GoesOnTo problem checking.reads bytes judge') along on)
 
       -- that is not accepted, or not judged
-      pub met_fault : (fault : JudgeFault) → IsJudged matter checking.reads text (Err fault) → LacksReport matter before input (check_fault_of_judge fault)
+      pub met_fault : (fault : JudgeFault) → IsJudged problem checking.reads text (Err fault) → LacksReport problem before input (check_fault_of_judge fault)
       met_fault fault judged =
-          by_judge matter before now input lines lines' judge checking met_text.0 fault
-          (subst (λ (bytes : List ℕ). IsJudged matter checking.reads bytes (Err fault)) along judged)
+          by_judge problem before now input lines lines' judge checking met_text.0 fault
+          (subst (λ (bytes : List ℕ). IsJudged problem checking.reads bytes (Err fault)) along judged)
 
 -- ---- the end
 
-module _ (matter : Matter) (before now : SourceState) (judge : JudgeState) (all : HasJudgedAll matter before now judge) where
-  ends_early : (at : ℕ) (why : CheckCause) → EndFails matter all.reads at why → LacksReport matter before now (check.NotAccepted at why)
+module _ (problem : DiagnosisProblem) (before now : SourceState) (judge : JudgeState) (all : HasJudgedAll problem before now judge) where
+  ends_early : (at : ℕ) (why : CheckCause) → EndFails problem all.reads at why → LacksReport problem before now (check.NotAccepted at why)
   ends_early at why fails =
       let whole : all.taken ++ rest_of now ≡ all.taken = ap (λ (rest : List ℕ). all.taken ++ rest) (rest_at_end now all.at_end) ∙ append-nil all.taken in
       record {
@@ -321,15 +305,15 @@ module _ (matter : Matter) (before now : SourceState) (judge : JudgeState) (all 
       }
 
   -- the report is not whole
-  pub lacks_at_end : (fault : JudgeFault) → IsJudgedAtEnd matter all.reads (Err fault) → LacksReport matter before now (check_fault_of_judge fault)
+  pub lacks_at_end : (fault : JudgeFault) → IsJudgedAtEnd problem all.reads (Err fault) → LacksReport problem before now (check_fault_of_judge fault)
   lacks_at_end (faults.NotAccepted at why) judged = ends_early at why judged.1
   lacks_at_end (faults.TooMany count) judged = absurd judged
   lacks_at_end faults.NoMemory judged = absurd judged
 
   -- it is
-  pub accepts_at_end : (first : JudgeState) → IsNewJudge matter first → (rounds : ℕ) → IsJudgedAtEnd matter all.reads (Ok rounds) → AcceptsReport matter before now rounds
-  accepts_at_end first new rounds judged =
-      let report = whole_report matter (lines_of all.taken) all.reads rounds new.valid new.few all.are_read judged in
+  pub accepts_at_end : WholeLinesAreThoseOfReports → (first : JudgeState) → IsNewJudge problem first → (rounds : ℕ) → IsJudgedAtEnd problem all.reads (Ok rounds) → AcceptsReport problem before now rounds
+  accepts_at_end whole_report first new rounds judged =
+      let report = whole_report problem (lines_of all.taken) all.reads rounds new.valid new.few all.are_read judged in
       record {
         taken = all.taken;
         takes = all.takes;

@@ -25,7 +25,7 @@ use Rattle.tfpg_run.specs.inside.Faults.{stream_fault_of_lines, stream_fault_of_
 use Rattle.tfpg_run.specs.Outputs.{BeginsOutputOfInput, HasOutputOfFirstLines, TextEnds}
 use Rattle.tfpg_run.specs.Streams.{Streams, streams}
 use Rattle.tfpg_run.specs.fleet.Answers.{Answer, answer_text, answers_text, blocks_for, opening_text, vehicle_of}
-use Rattle.tfpg_run.specs.fleet.FleetOutput.{AreAnswers, BeginsFleetOutput, FleetMatter, IsFleetOutputSoFar, answered_text, counts_text}
+use Rattle.tfpg_run.specs.fleet.FleetOutput.{AreAnswers, BeginsFleetOutput, FleetProblem, IsFleetOutputSoFar, answered_text, counts_text}
 use Rattle.tfpg_run.specs.fleet.FleetEnds.{AnswersStream}
 use Rattle.tfpg_run.specs.inside.fleet.UnderWay.{Answers, AreOwnBlocks, ComesTo, HasAnswered, HasAnsweredAll, IsAnswering, WritesAnswer, answering_at, kept_text}
 use Rattle.tfpg_run.proofs.InputLines.{came_to_end, few_lines, front_of_input, rest_at_end, rest_is_left, rest_of}
@@ -55,7 +55,7 @@ answers_text-push graph names number (first ∷ others) answer =
     ∙ sym (append_assoc (answer_text graph names number first) (answers_text graph names (number + 1) others) (answer_text graph names (number + 1 + length others) answer))
     ∙ ap (λ (n : ℕ). (answer_text graph names number first ++ answers_text graph names (number + 1) others) ++ answer_text graph names n answer) e
 
-module _ (fleet : FleetMatter) where
+module _ (fleet : FleetProblem) where
   answered-push : (answers : List Answer) (answer : Answer) (number : ℕ) → number ≡ 1 + length answers
       → answered_text fleet answers ++ answer_text fleet.graph fleet.names number answer ≡ answered_text fleet (answers ++ answer ∷ [])
   answered-push answers answer number is =

@@ -21,7 +21,7 @@ use Rattle.tfpg_run.specs.inside.Faults.{IsFetchFault, end_of_table_fault}
 use Rattle.tfpg_run.specs.Fetch.{GivesGraph}
 use Rattle.tfpg_run.specs.Streams.{Streams}
 use Rattle.tfpg_run.specs.World.{Watched, World, streams_in, streams_of, watched_of}
-use Rattle.tfpg_run.specs.fleet.FleetOutput.{fleet_matter}
+use Rattle.tfpg_run.specs.fleet.FleetOutput.{fleet_problem}
 use Rattle.tfpg_run.specs.fleet.FleetEnds.{AnswersStream, FleetEnds, FleetWords, fleet_words}
 use Rattle.tfpg_run.specs.Run.{CommandEnds}
 use Rattle.tfpg_words.specs.Meaning.{Meaning, Fleet}
@@ -104,30 +104,30 @@ module _ {T : Type 0} (said : FleetWords) (before now : World) (result : Result 
           not_too_many = none;
           ends = record {
             result = Err faults.NoMemory;
-            works = subst (λ (w : Watched). AnswersStream (fleet_matter graph said.terms said.names) (streams_of before) (streams_in w) (Err faults.NoMemory)) (sym untouched)
-                (begins_without_memory (fleet_matter graph said.terms said.names) (streams_of before) (has_reports graph said.terms (length said.names) none within));
+            works = subst (λ (w : Watched). AnswersStream (fleet_problem graph said.terms said.names) (streams_of before) (streams_in w) (Err faults.NoMemory)) (sym untouched)
+                (begins_without_memory (fleet_problem graph said.terms said.names) (streams_of before) (has_reports graph said.terms (length said.names) none within));
             end_is = refl;
           };
         })))
 
     -- the answering was stopped
     pub stops_answering : ((count : ℕ) → IsTooMany graph said.terms (length said.names) count → ⊥) → (fault : StreamFault)
-        → AnswersStream (fleet_matter graph said.terms said.names) (streams_of before) (streams_of now) (Err fault) → IsErrAnd result (λ end. end ≡ end_of_stream_fault fault)
+        → AnswersStream (fleet_problem graph said.terms said.names) (streams_of before) (streams_of now) (Err fault) → IsErrAnd result (λ end. end ≡ end_of_stream_fault fault)
         → IfErr result (FleetEnds said before now)
     stops_answering none fault answers err = ends_by (end_of_stream_fault fault) err
         (inr (inr (record { graph = graph; gives = gives; no_fault = no_fault; not_too_many = none; ends = record { result = Err fault; works = answers; end_is = refl } })))
 
 -- all lines were answered
 pub stops_when_answered : (said : FleetWords) (before now : World) (graph : Tfpg) → GivesGraph before.shelf said.file graph → now.shelf.faults ≡ before.shelf.faults
-    → ((count : ℕ) → IsTooMany graph said.terms (length said.names) count → ⊥) → AnswersStream (fleet_matter graph said.terms said.names) (streams_of before) (streams_of now) (Ok tt)
+    → ((count : ℕ) → IsTooMany graph said.terms (length said.names) count → ⊥) → AnswersStream (fleet_problem graph said.terms said.names) (streams_of before) (streams_of now) (Ok tt)
     → FleetEnds said before now ends.Done
 stops_when_answered said before now graph gives no_fault none answers =
     inr (inr (record { graph = graph; gives = gives; no_fault = no_fault; not_too_many = none; ends = record { result = Ok tt; works = answers; end_is = refl } }))
 
 -- for the names that the words have
 pub for_names : (graph : Tfpg) (terms : Terms) (names said : List (List ℕ)) (before now : Streams) (result : Result (Unit {0}) StreamFault) → names ≡ said
-    → AnswersStream (fleet_matter graph terms names) before now result → AnswersStream (fleet_matter graph terms said) before now result
-for_names graph terms names said before now result same answers = subst (λ (ns : List (List ℕ)). AnswersStream (fleet_matter graph terms ns) before now result) same answers
+    → AnswersStream (fleet_problem graph terms names) before now result → AnswersStream (fleet_problem graph terms said) before now result
+for_names graph terms names said before now result same answers = subst (λ (ns : List (List ℕ)). AnswersStream (fleet_problem graph terms ns) before now result) same answers
 
 pub counts_for_names : {X : Type 0} (graph : Tfpg) (terms : Terms) (names said : List (List ℕ)) (result : Result X TableFault) → names ≡ said
     → CountsTooMany graph terms (length names) result → CountsTooMany graph terms (length said) result

@@ -32,7 +32,7 @@ use Rattle.tfpg_run.specs.diagnose.RightReport.{BlockSays}
 use Rattle.tfpg_run.specs.diagnose.TellsPanels.{losses_in}
 use Rattle.tfpg_run.specs.fleet.Answers.{Answer, OwnBlock, StrayLine, block_for, blocks_for, naming_text, stray_text, vehicle_of}
 use Rattle.tfpg_run.specs.fleet.Counting.{is_in, ranks}
-use Rattle.tfpg_run.specs.fleet.FleetOutput.{FleetMatter, rounds_for}
+use Rattle.tfpg_run.specs.fleet.FleetOutput.{FleetProblem, rounds_for}
 use Rattle.tfpg_run.specs.inside.fleet.UnderWay.{Answers, AreOwnBlocks, HasAnswered, IsKept, KeepsLast, told_text}
 use Rattle.tfpg_run.proofs.lemmas.diagnose.NextBlocks.{AreBlocks-none, AreBlocks-push, RoundsSay-none, RoundsSay-push}
 use Rattle.tfpg_run.proofs.lemmas.diagnose.ToldBlocks.{flat_map-push}
@@ -50,7 +50,7 @@ last_pushed xs x = slice_get-push_at xs x (length (xs ++ x ∷ []) - 1) (omega (
 pub long_stray : (names : List (List ℕ)) (line : List ℕ) → LONGEST_LINE < length line → belongs names line ≡ None
 long_stray names line lt = let long : is_too_long line ≡ true = lt-ltb _ _ lt in rw long refl
 
-module _ (fleet : FleetMatter) (lines : List (List ℕ)) (answers : List Answer) (watch later : Watch) (so_far : HasAnswered fleet lines answers watch) (text : List ℕ) where
+module _ (fleet : FleetProblem) (lines : List (List ℕ)) (answers : List Answer) (watch later : Watch) (so_far : HasAnswered fleet lines answers watch) (text : List ℕ) where
   stray_blocks : (number : ℕ) → blocks_for number (answers ++ StrayLine ∷ []) ≡ blocks_for number answers
   stray_blocks number = filter_map-push_none (block_for number) answers StrayLine refl
 
@@ -103,7 +103,7 @@ kept_told graph rounds (told.Refused refusal) before after same kept = subst (Is
 kept_told graph rounds (told.Round round) before after keeps kept = λ position within.
     keeps position within ∙ ap (λ (last : Option Round). option_map_or (ranks position) last false) (sym (last_pushed rounds round))
 
-module _ (laws : RoundLaws) (fleet : FleetMatter) (valid : IsValid fleet.graph) (lines : List (List ℕ)) (answers : List Answer) (watch later : Watch)
+module _ (laws : RoundLaws) (fleet : FleetProblem) (valid : IsValid fleet.graph) (lines : List (List ℕ)) (answers : List Answer) (watch later : Watch)
     (so_far : HasAnswered fleet lines answers watch) (text : List ℕ) (number line : ℕ) (answer : Told) (is : IsToldTo text watch.fleet later.fleet number line answer) where
   abbrev own : List ℕ
   own = is.own
@@ -191,7 +191,7 @@ module _ (laws : RoundLaws) (fleet : FleetMatter) (valid : IsValid fleet.graph) 
           }
 
 -- the answer to a stray line, with its text
-pub answers_stray : (fleet : FleetMatter) (lines : List (List ℕ)) (answers : List Answer) (watch later : Watch) (text : List ℕ) (place : ℕ) (bytes : List ℕ) → HasAnswered fleet lines answers watch
+pub answers_stray : (fleet : FleetProblem) (lines : List (List ℕ)) (answers : List Answer) (watch later : Watch) (text : List ℕ) (place : ℕ) (bytes : List ℕ) → HasAnswered fleet lines answers watch
     → belongs fleet.names text ≡ None → later.fleet ≡ watch.fleet → later.ranked.items ≡ watch.ranked.items → bytes ≡ stray_text place
     → Answers fleet (lines ++ text ∷ []) answers place bytes later
 answers_stray fleet lines answers watch later text place bytes so_far none same_fleet same_ranked is = record {
@@ -207,7 +207,7 @@ pub no_own_blocks : (graph : Tfpg) (terms : Terms) → AreOwnBlocks graph terms 
 no_own_blocks graph terms = record { are = AreBlocks-none graph terms; say = RoundsSay-none graph terms; none_lost = refl }
 
 -- a new fleet has answered no line
-pub answered_none : (fleet : FleetMatter) (watch : Watch) (count : ℕ) → names_of watch.fleet ≡ fleet.names → FleetRepresents fleet.graph fleet.terms watch.fleet [] (λ number. [])
+pub answered_none : (fleet : FleetProblem) (watch : Watch) (count : ℕ) → names_of watch.fleet ≡ fleet.names → FleetRepresents fleet.graph fleet.terms watch.fleet [] (λ number. [])
     → watch.ranked.items ≡ replicate count [] → count ≡ length fleet.names → HasAnswered fleet [] [] watch
 answered_none fleet watch count named represents empty counted = record {
   addressed = refl;

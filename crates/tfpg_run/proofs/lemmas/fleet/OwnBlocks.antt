@@ -24,7 +24,7 @@ use Rattle.tfpg_run.specs.declared.fleet.watch.Watch.{Watch}
 use Rattle.tfpg_run.specs.diagnose.TellsPanels.{losses_in}
 use Rattle.tfpg_run.specs.inside.diagnose.LineBlocks.{EngineReports, HasBlock, numbered}
 use Rattle.tfpg_run.specs.fleet.Answers.{Answer, blocks_for}
-use Rattle.tfpg_run.specs.fleet.FleetOutput.{FleetMatter, rounds_for}
+use Rattle.tfpg_run.specs.fleet.FleetOutput.{FleetProblem, rounds_for}
 use Rattle.tfpg_run.specs.inside.fleet.UnderWay.{HasAnswered, IsToldOf, told_text}
 use Rattle.tfpg_run.proofs.lemmas.diagnose.LineBlocks.{FitsOfRounds, MinimalOfRounds, NamesOfRounds, block_of_refusal, block_of_round, round_is_of_graph, round_says}
 
@@ -37,7 +37,7 @@ pub record RoundLaws : Type 0 where
   pub fit : FitsOfRounds
   pub minimal : MinimalOfRounds
 
-module _ (laws : RoundLaws) (fleet : FleetMatter) (valid : IsValid fleet.graph) (lines : List (List ℕ)) (answers : List Answer) (watch : Watch)
+module _ (laws : RoundLaws) (fleet : FleetProblem) (valid : IsValid fleet.graph) (lines : List (List ℕ)) (answers : List Answer) (watch : Watch)
     (so_far : HasAnswered fleet lines answers watch) (text : List ℕ) (later : FleetState) (number line : ℕ) where
   -- the vehicle's own lines before this one
   abbrev pub own_lines : List (List ℕ)

@@ -9,7 +9,7 @@ use Rattle.tfpg_graph.specs.Valid.{IsValid}
 use Rattle.tfpg_report.specs.declared.report_line.ReportLine.{ReportLine}
 use Rattle.tfpg_report.specs.Blocks.{Block}
 use Rattle.tfpg_check.specs.Report.{rounds_of}
-use Rattle.tfpg_check.specs.Causes.{Matter, AreRead, AreRight, AreReportLines}
+use Rattle.tfpg_check.specs.Causes.{DiagnosisProblem, AreRead, AreRight, AreReportLines}
 use Rattle.tfpg_check.specs.JudgeState.{JudgeState, JudgeRepresents}
 use Rattle.tfpg_run.specs.declared.fault.CheckFault.{CheckFault}
 use Rattle.tfpg_run.specs.declared.fault.CheckFault.TheVariants.{NotAccepted, TooMany, Stream}
@@ -29,10 +29,10 @@ abbrev pub checking_at : SourceState → LinesState → JudgeState → CheckingS
 checking_at input lines judge = record { input = input; lines = lines; judge = judge }
 
 -- The judge is of a valid graph and of a log that has not too many lines, and no line came to it yet.
-pub record IsNewJudge (matter : Matter) (judge : JudgeState) : Type 0 where
-  pub valid : IsValid matter.graph
-  pub few : length matter.log_lines ≤ MAX_LINE_NUMBER
-  pub represents : JudgeRepresents matter judge []
+pub record IsNewJudge (problem : DiagnosisProblem) (judge : JudgeState) : Type 0 where
+  pub valid : IsValid problem.graph
+  pub few : length problem.log_lines ≤ MAX_LINE_NUMBER
+  pub represents : JudgeRepresents problem judge []
 
 -- Reading lines that began with this input has come to this, and nothing has failed.
 pub record IsReadingLines (before input : SourceState) (lines : LinesState) : Type 0 where
@@ -50,32 +50,32 @@ pub record IsReadingOn (before : SourceState) (now : CheckingState) : Type 0 whe
   pub counted : now.judge.lines ≡ now.lines.number
 
 -- Judging that began with this input has come to this: each line that the reader returned was read and is right.
-pub record IsChecking (matter : Matter) (before : SourceState) (now : CheckingState) : Type 0 where
+pub record IsChecking (problem : DiagnosisProblem) (before : SourceState) (now : CheckingState) : Type 0 where
   pub under : IsReadingLines before now.input now.lines
   pub reads : List ReportLine
-  pub are_read : AreRead matter.graph under.reading.given reads
-  pub right : AreRight matter reads
-  pub represents : JudgeRepresents matter now.judge reads
+  pub are_read : AreRead problem.graph under.reading.given reads
+  pub right : AreRight problem reads
+  pub represents : JudgeRepresents problem now.judge reads
 
 -- The lines so far are right for whatever the judge is of.
 pub record IsJudging (first : JudgeState) (before : SourceState) (now : CheckingState) : Type 0 where
   pub reads_on : IsReadingOn before now
-  pub checks : (matter : Matter) → IsNewJudge matter first → IsChecking matter before now
+  pub checks : (problem : DiagnosisProblem) → IsNewJudge problem first → IsChecking problem before now
 
 -- some reading of lines has come to this
 abbrev pub CanTakeNext : CheckingState → Type 0
 CanTakeNext now = (before : SourceState) × IsReadingOn before now
 
 -- The whole input was taken, and each of its lines was read and is right.
-pub record HasJudgedAll (matter : Matter) (before now : SourceState) (judge : JudgeState) : Type 0 where
+pub record HasJudgedAll (problem : DiagnosisProblem) (before now : SourceState) (judge : JudgeState) : Type 0 where
   pub taken : List ℕ
   pub takes : Takes before now taken
   pub few : length taken ≤ MAX_BYTES
   pub at_end : IsAtEnd now
   pub reads : List ReportLine
-  pub are_read : AreRead matter.graph (lines_of taken) reads
-  pub right : AreRight matter reads
-  pub represents : JudgeRepresents matter judge reads
+  pub are_read : AreRead problem.graph (lines_of taken) reads
+  pub right : AreRight problem reads
+  pub represents : JudgeRepresents problem judge reads
   pub no_fault : now.faults ≡ before.faults
 
 -- Where a line was read, reading is under way still, one line on.
@@ -84,35 +84,35 @@ ReadsOn before number now Right = IsReadingOn before now × (now.lines.number �
 ReadsOn before number now Ended = Unit {0}
 
 -- What judging the next line leads to: judging is under way still; or all is judged.
-abbrev pub ChecksOn : Matter → SourceState → CheckingState → NextReportLine → Type 0
-ChecksOn matter before now Right = IsChecking matter before now
-ChecksOn matter before now Ended = HasJudgedAll matter before now.input now.judge
+abbrev pub ChecksOn : DiagnosisProblem → SourceState → CheckingState → NextReportLine → Type 0
+ChecksOn problem before now Right = IsChecking problem before now
+ChecksOn problem before now Ended = HasJudgedAll problem before now.input now.judge
 
 -- The lines of the whole input are those of a report with so many rounds.
-pub record AcceptsReport (matter : Matter) (before now : SourceState) (rounds : ℕ) : Type 0 where
+pub record AcceptsReport (problem : DiagnosisProblem) (before now : SourceState) (rounds : ℕ) : Type 0 where
   pub taken : List ℕ
   pub takes : Takes before now taken
   pub few : length taken ≤ MAX_BYTES
   pub at_end : IsAtEnd now
   pub terms : Terms
   pub blocks : List Block
-  pub report : AreReportLines matter terms blocks (lines_of taken)
+  pub report : AreReportLines problem terms blocks (lines_of taken)
   pub counted : rounds ≡ length (flat_map rounds_of blocks)
   pub no_fault : now.faults ≡ before.faults
 
 -- what shows why the report is not accepted, where these bytes were taken
-abbrev pub ShowsCheckFault : Matter → SourceState → SourceState → List ℕ → CheckFault → Type 0
-ShowsCheckFault matter before now taken (NotAccepted at why) = IsRefused matter now taken at why × (now.faults ≡ before.faults)
-ShowsCheckFault matter before now taken (TooMany count) = HasTooManyInHead matter now taken count × (now.faults ≡ before.faults)
-ShowsCheckFault matter before now taken (Stream ReadFault) =
-    Rose before.faults now.faults × IsRightSoFar matter (whole_lines taken)
-ShowsCheckFault matter before now taken (Stream WriteFault) = ⊥
-ShowsCheckFault matter before now taken (Stream TooMuchInput) =
-    (length taken ≡ MAX_BYTES + 1) × IsRightSoFar matter (whole_lines (take MAX_BYTES taken)) × (now.faults ≡ before.faults)
-ShowsCheckFault matter before now taken (Stream NoMemory) = now.faults ≡ before.faults
+abbrev pub ShowsCheckFault : DiagnosisProblem → SourceState → SourceState → List ℕ → CheckFault → Type 0
+ShowsCheckFault problem before now taken (NotAccepted at why) = IsRefused problem now taken at why × (now.faults ≡ before.faults)
+ShowsCheckFault problem before now taken (TooMany count) = HasTooManyInHead problem now taken count × (now.faults ≡ before.faults)
+ShowsCheckFault problem before now taken (Stream ReadFault) =
+    Rose before.faults now.faults × IsRightSoFar problem (whole_lines taken)
+ShowsCheckFault problem before now taken (Stream WriteFault) = ⊥
+ShowsCheckFault problem before now taken (Stream TooMuchInput) =
+    (length taken ≡ MAX_BYTES + 1) × IsRightSoFar problem (whole_lines (take MAX_BYTES taken)) × (now.faults ≡ before.faults)
+ShowsCheckFault problem before now taken (Stream NoMemory) = now.faults ≡ before.faults
 
 -- The report of the input is not accepted, with this cause.
-pub record LacksReport (matter : Matter) (before now : SourceState) (fault : CheckFault) : Type 0 where
+pub record LacksReport (problem : DiagnosisProblem) (before now : SourceState) (fault : CheckFault) : Type 0 where
   pub taken : List ℕ
   pub takes : Takes before now taken
-  pub shown : ShowsCheckFault matter before now taken fault
+  pub shown : ShowsCheckFault problem before now taken fault

@@ -29,7 +29,7 @@ use Rattle.tfpg_run.specs.diagnose.TellsPanels.{losses_in}
 use Rattle.tfpg_run.specs.fleet.Answers.{Answer, answer_text, blocks_for, vehicle_of}
 use Rattle.tfpg_run.specs.fleet.Counting.{is_in, last_ranks, modes_text, ranks, vehicles_that}
 use Rattle.tfpg_run.specs.fleet.FleetEnds.{FleetWords, fleet_words}
-use Rattle.tfpg_run.specs.fleet.FleetOutput.{FleetMatter, answered_text, fleet_matter, rounds_for}
+use Rattle.tfpg_run.specs.fleet.FleetOutput.{FleetProblem, answered_text, fleet_problem, rounds_for}
 use Rattle.tfpg_run.specs.inside.Writing.{Cuts}
 
 -- what the words say, as the code has it
@@ -37,8 +37,8 @@ abbrev pub said_by : FleetSubject → FleetWords
 said_by subject = fleet_words subject.terms subject.file.now (comma_parts subject.names.now)
 
 -- what is diagnosed, as the code has it
-abbrev pub matter_in : Vehicles → FleetMatter
-matter_in vehicles = fleet_matter vehicles.graph.now vehicles.terms vehicles.names.now
+abbrev pub problem_in : Vehicles → FleetProblem
+problem_in vehicles = fleet_problem vehicles.graph.now vehicles.terms vehicles.names.now
 
 -- The blocks of a vehicle so far are those of its lines, each of whose rounds says what a round says. No panel is lost.
 pub record AreOwnBlocks (graph : Tfpg) (terms : Terms) (lines : List (List ℕ)) (blocks : List Block) : Type 0 where
@@ -53,7 +53,7 @@ IsKept graph rounds set =
 
 -- These lines of the stream have these answers. The fleet has taken the lines, and has returned the rounds of the answers. What is kept
 -- of each vehicle is which failure modes its last round ranks.
-pub record HasAnswered (fleet : FleetMatter) (lines : List (List ℕ)) (answers : List Answer) (watch : Watch) : Type 0 where
+pub record HasAnswered (fleet : FleetProblem) (lines : List (List ℕ)) (answers : List Answer) (watch : Watch) : Type 0 where
   pub addressed : map vehicle_of answers ≡ map (addressee fleet.names) lines
   pub blocks : (number : ℕ) → AreOwnBlocks fleet.graph fleet.terms (lines_for fleet.names number lines) (blocks_for number answers)
   pub names : names_of watch.fleet ≡ fleet.names
@@ -63,13 +63,13 @@ pub record HasAnswered (fleet : FleetMatter) (lines : List (List ℕ)) (answers 
       → IsKept fleet.graph (rounds_for number answers) set
 
 -- some lines have some answers
-pub record IsWatching (fleet : FleetMatter) (watch : Watch) : Type 0 where
+pub record IsWatching (fleet : FleetProblem) (watch : Watch) : Type 0 where
   pub lines : List (List ℕ)
   pub answers : List Answer
   pub answered : HasAnswered fleet lines answers watch
 
 -- With one answer more, to a line of this number, these lines have theirs; and the bytes are its text.
-pub record Answers (fleet : FleetMatter) (lines : List (List ℕ)) (answers : List Answer) (number : ℕ) (bytes : List ℕ) (watch : Watch) : Type 0 where
+pub record Answers (fleet : FleetProblem) (lines : List (List ℕ)) (answers : List Answer) (number : ℕ) (bytes : List ℕ) (watch : Watch) : Type 0 where
   pub answer : Answer
   pub answered : HasAnswered fleet lines (answers ++ answer ∷ []) watch
   pub text : bytes ≡ answer_text fleet.graph fleet.names number answer
@@ -113,7 +113,7 @@ answering_at streams lines watch = record { streams = streams; lines = lines; wa
 
 -- A diagnosis that began with the streams before has come to this: each line that the reader has returned has its answer, which is
 -- written, and nothing else was written but what stands before the answers. Nothing has failed.
-pub record IsAnswering (fleet : FleetMatter) (before : Streams) (now : AnsweringState) : Type 0 where
+pub record IsAnswering (fleet : FleetProblem) (before : Streams) (now : AnsweringState) : Type 0 where
   pub reading : Reading
   pub takes : Takes before.input now.streams.input reading.taken
   pub few : length reading.taken ≤ MAX_BYTES
@@ -127,7 +127,7 @@ pub record IsAnswering (fleet : FleetMatter) (before : Streams) (now : Answering
   pub no_fault : CountsUnchanged before now.streams
 
 -- It has come to the end of the input, and all lines have their answers.
-pub record HasAnsweredAll (fleet : FleetMatter) (before now : Streams) (watch : Watch) : Type 0 where
+pub record HasAnsweredAll (fleet : FleetProblem) (before now : Streams) (watch : Watch) : Type 0 where
   pub taken : List ℕ
   pub takes : Takes before.input now.input taken
   pub few : length taken ≤ MAX_BYTES
@@ -139,6 +139,6 @@ pub record HasAnsweredAll (fleet : FleetMatter) (before now : Streams) (watch : 
   pub no_fault : CountsUnchanged before now
 
 -- What writing the answer after the line of this number leads to: one line on; or to the end of the input.
-abbrev pub ComesTo : FleetMatter → Streams → ℕ → AnsweringState → NextAnswer → Type 0
+abbrev pub ComesTo : FleetProblem → Streams → ℕ → AnsweringState → NextAnswer → Type 0
 ComesTo fleet before number now Written = IsAnswering fleet before now × (now.lines.number ≡ number + 1)
 ComesTo fleet before number now Ended = HasAnsweredAll fleet before now.streams now.watch

@@ -28,7 +28,7 @@ find_outcome-requires g c =
       members = its_members graph terms c.table-table.result.now c.table-table.ensures.of c.args.number hypothesis there c.graph-graph.result.now c.graph-graph.ensures;
       reaches = its_reach graph terms c.table-table.result.now c.table-table.ensures.of c.args.number hypothesis there c.graph-graph.result.now c.reach.result.now c.graph-graph.ensures c.reach.ensures;
       kept = IfSome_then c.search.result
-          (c.search.ensures hypothesis (sym (ap (λ (t : Hypotheses). slice_get t.hypotheses c.args.number) c.table-table.ensures.table) ∙ there))
+          (c.search.ensures.represents hypothesis (sym (ap (λ (t : Hypotheses). slice_get t.hypotheses c.args.number) c.table-table.ensures.table) ∙ there))
           (λ search lent.
           can_continue c.args.asking.now.engine.now c.graph-graph.result.now hypothesis search.now c.args.log.now c.ignore.new.self c.graph-graph.ensures c.requires.log.goes_on (c.ignore.ensures ∙ ap (λ (h : Hypothesis). ignoring c.args.log.now h.doubts) c.hypothesis.view_is) lent);
       budget = c.requires.budget;

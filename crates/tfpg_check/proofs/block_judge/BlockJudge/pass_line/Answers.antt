@@ -8,5 +8,5 @@ pub returns-clause-next : goal.returns-clause-next
 returns-clause-next g c =
     subst (IsNextLine c.args.self.now _) (sym c.of.ensures)
     (passed_is_next c.args.self.now _ c.in_ok-event.event
-    (offered_is_passed c.args.self.now c.self.inside.graph c.self.inside.log_lines c.pass.new.self c.self.inside.log c.event_of.new.log c.self.inside.docket c.in-Some.text.now c.in_ok-event.event
+    (offered_is_passed c.args.self.now c.self.inside.graph c.self.inside.log_lines c.pass.new.self c.self.inside.log c.event_of.new.log c.self.inside.hypotheses c.in-Some.text.now c.in_ok-event.event
     c.self.view_is c.in-Some.ensures c.pass.ensures c.in_ok-event.ensures.log c.in_ok-event.ensures.event))

@@ -19,29 +19,29 @@ invariant_of-self g c =
     }
 
 pub returns-in-Ok-clause-judged : goal.returns-in-Ok-clause-judged
-returns-in-Ok-clause-judged g c = λ matter reads represents.
+returns-in-Ok-clause-judged g c = λ problem reads represents.
     let numbered = c.requires.next represents.running ∙ ap (λ (n : ℕ). n + 1) represents.lines in
-    let own = subst (λ (s : JudgeState). JudgeRepresents matter s reads) (sym c.self.view_is) represents in
-    let gone = line_goes_on matter reads c.args.line.now
+    let own = subst (λ (s : JudgeState). JudgeRepresents problem s reads) (sym c.self.view_is) represents in
+    let gone = line_goes_on problem reads c.args.line.now
     (record { reader = c.self.inside.reader; blocks = c.self.inside.blocks; lines = c.self.inside.lines; fault = c.self.inside.fault }) own
     (subst IsValid c.graph.ensures c.is_always_valid.ensures.valid) c.take_line.new.reader c.take_line.new.blocks c.take_line.result
     (c.take_line.ensures.judged reads own.reader numbered) c.in-Ok.field-0 c.in-Ok.is c.args.number numbered c.in-Ok.ensures.ready c.self.inside.fault c.in_default.is in
     (gone.read, gone.goes_on)
 
 pub returns-in-Ok-clause-goes_on : goal.returns-in-Ok-clause-goes_on
-returns-in-Ok-clause-goes_on g c = λ matter reads represents.
+returns-in-Ok-clause-goes_on g c = λ problem reads represents.
     let numbered = c.requires.next represents.running ∙ ap (λ (n : ℕ). n + 1) represents.lines in
-    let own = subst (λ (s : JudgeState). JudgeRepresents matter s reads) (sym c.self.view_is) represents in
-    line_goes_on matter reads c.args.line.now
+    let own = subst (λ (s : JudgeState). JudgeRepresents problem s reads) (sym c.self.view_is) represents in
+    line_goes_on problem reads c.args.line.now
     (record { reader = c.self.inside.reader; blocks = c.self.inside.blocks; lines = c.self.inside.lines; fault = c.self.inside.fault }) own
     (subst IsValid c.graph.ensures c.is_always_valid.ensures.valid) c.take_line.new.reader c.take_line.new.blocks c.take_line.result
     (c.take_line.ensures.judged reads own.reader numbered) c.in-Ok.field-0 c.in-Ok.is c.args.number numbered c.in-Ok.ensures.ready c.self.inside.fault c.in_default.is
 
 pub returns-in-Err-clause-judged : goal.returns-in-Err-clause-judged
-returns-in-Err-clause-judged g c = λ matter reads represents.
+returns-in-Err-clause-judged g c = λ problem reads represents.
     let numbered = c.requires.next represents.running ∙ ap (λ (n : ℕ). n + 1) represents.lines in
-    let own = subst (λ (s : JudgeState). JudgeRepresents matter s reads) (sym c.self.view_is) represents in
-    line_is_judged matter reads c.args.line.now
+    let own = subst (λ (s : JudgeState). JudgeRepresents problem s reads) (sym c.self.view_is) represents in
+    line_is_judged problem reads c.args.line.now
     (record { reader = c.self.inside.reader; blocks = c.self.inside.blocks; lines = c.self.inside.lines; fault = c.self.inside.fault }) own
     (subst IsValid c.graph.ensures c.is_always_valid.ensures.valid) c.take_line.new.reader c.take_line.new.blocks c.in-Err.fault
     (subst (IsLineJudged reads c.args.line.now c.take_line.new.reader c.self.inside.blocks c.take_line.new.blocks) c.in-Err.is (c.take_line.ensures.judged reads own.reader numbered))

@@ -16,18 +16,18 @@ loop-part-init c = (
   refl,
   next_none (λ (part : Part). part.number),
   λ number least. refl,
-  λ docket same_graph same_log keeps. first_none docket c.args.parts.now c.args.table.now c.args.checkers.now keeps,
+  λ basis same_graph same_log keeps. first_none basis c.args.parts.now c.args.table.now c.args.checkers.now keeps,
 )
 
 pub returns-in_err-judge_part-clause-taken : goal.returns-in_err-judge_part-clause-taken
-returns-in_err-judge_part-clause-taken c = λ docket same_graph same_log keeps.
+returns-in_err-judge_part-clause-taken c = λ basis same_graph same_log keeps.
     let at = slice_get_read c.args.parts.now (length c.args.parts.now) c.loop-part.part-index c.part-item.result refl c.loop-part-test.true c.part-item.is in
     let p = err_from_is_err_and c.from_residual.result c.from_residual.ensures.1 in
     rw p.1
-    (subst (λ (fault : RoundFault). IsFaultOf (InTurn (PartFails docket) [] c.args.parts.now) fault) (sym p.2)
-    (fails_here docket c.args.parts.now c.loop-part.part-index c.part-item.result c.in_err-judge_part.field-0.0 at (c.loop-part.invariant.3 docket same_graph same_log keeps).not_fails
-    (c.in_err-judge_part.ensures.taken docket (take c.loop-part.part-index c.args.parts.now) same_graph (same_log ∙ sym c.loop-part.invariant.0) (sym keeps.hypotheses) c.loop-part.invariant.1
-    (λ least. keeps_number docket c.args.parts.now c.args.table.now c.args.checkers.now c.loop-part.checkers c.part-item.result.number keeps (c.loop-part.invariant.2 c.part-item.result.number least)))))
+    (subst (λ (fault : RoundFault). IsFaultOf (InTurn (PartFails basis) [] c.args.parts.now) fault) (sym p.2)
+    (fails_here basis c.args.parts.now c.loop-part.part-index c.part-item.result c.in_err-judge_part.field-0.0 at (c.loop-part.invariant.3 basis same_graph same_log keeps).not_fails
+    (c.in_err-judge_part.ensures.taken basis (take c.loop-part.part-index c.args.parts.now) same_graph (same_log ∙ sym c.loop-part.invariant.0) (sym keeps.hypotheses) c.loop-part.invariant.1
+    (λ least. keeps_number basis c.args.parts.now c.args.table.now c.args.checkers.now c.loop-part.checkers c.part-item.result.number keeps (c.loop-part.invariant.2 c.part-item.result.number least)))))
 
 pub loop-part-preserved : goal.loop-part-preserved
 loop-part-preserved c =
@@ -38,15 +38,15 @@ loop-part-preserved c =
       λ number more.
           c.in_ok-judge_part.ensures.others number (λ same. absurd (omega (arith, same, more, c.from-next.ensures)))
           ∙ c.loop-part.invariant.2 number (omega (arith, more, least, c.from-next.ensures)),
-      λ docket same_graph same_log keeps.
-          (let before = c.loop-part.invariant.3 docket same_graph same_log keeps in
-          first_more docket c.args.parts.now c.args.table.now c.loop-part.part-index c.part-item.result c.loop-part.checkers c.judge_part.new.checkers at before
+      λ basis same_graph same_log keeps.
+          (let before = c.loop-part.invariant.3 basis same_graph same_log keeps in
+          first_more basis c.args.parts.now c.args.table.now c.loop-part.part-index c.part-item.result c.loop-part.checkers c.judge_part.new.checkers at before
           ((c.loop-part.invariant.1 c.part-item.result.number).1 least) c.judge_part.auto.checkers c.in_ok-judge_part.ensures.others
-          (c.in_ok-judge_part.ensures.taken docket (take c.loop-part.part-index c.args.parts.now) same_graph (same_log ∙ sym c.loop-part.invariant.0) (sym keeps.hypotheses) c.loop-part.invariant.1
-          (λ next. keeps_number docket c.args.parts.now c.args.table.now c.args.checkers.now c.loop-part.checkers c.part-item.result.number keeps (c.loop-part.invariant.2 c.part-item.result.number next)))),
+          (c.in_ok-judge_part.ensures.taken basis (take c.loop-part.part-index c.args.parts.now) same_graph (same_log ∙ sym c.loop-part.invariant.0) (sym keeps.hypotheses) c.loop-part.invariant.1
+          (λ next. keeps_number basis c.args.parts.now c.args.table.now c.args.checkers.now c.loop-part.checkers c.part-item.result.number keeps (c.loop-part.invariant.2 c.part-item.result.number next)))),
     )
 
 pub returns-clause-taken : goal.returns-clause-taken
-returns-clause-taken c = λ docket same_graph same_log keeps.
-    first_all docket c.args.parts.now c.args.table.now c.loop-part.part-index (kept_of docket.terms c.args.table.now c.loop-part.checkers) c.loop-part-test.false
-    (c.loop-part.invariant.3 docket same_graph same_log keeps)
+returns-clause-taken c = λ basis same_graph same_log keeps.
+    first_all basis c.args.parts.now c.args.table.now c.loop-part.part-index (kept_of basis.terms c.args.table.now c.loop-part.checkers) c.loop-part-test.false
+    (c.loop-part.invariant.3 basis same_graph same_log keeps)

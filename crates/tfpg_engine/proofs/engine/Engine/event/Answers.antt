@@ -4,6 +4,7 @@ use Rattle.tfpg_log.specs.LogOfLines.{log_after_reply}
 use Rattle.std.specs.Prelude.{Ok}
 use Rattle.tfpg_engine.specs.declared.told.Told.TheVariants as told
 use Rattle.tfpg_engine.specs.EngineState.{EngineRepresents}
+use Rattle.tfpg_engine.proofs.CallsCounted.{event_calls}
 use Rattle.tfpg_engine.proofs.EventBringsRound.{of_graph, same_refusal, lent_go_on, engine_now, gives_from, counts_from}
 use Rattle.tfpg_engine.proofs.engine.Engine.event.Goals as goal
 
@@ -42,3 +43,8 @@ returns-in-Ok-clause-work g c rounds represented =
     c.subsets_stand_before_their_supersets.ensures.before c.args.text.now (sym c.in-Ok-Accepted.ensures.reply ∙ c.in-Ok-Accepted.field-0-is) rounds
     (subst (λ e. EngineRepresents e rounds) (sym c.self.view_is) represented) c.args.work.now c.make.new.work
     c.in-Ok.ensures.work
+
+pub returns-in-Ok-clause-counted : goal.returns-in-Ok-clause-counted
+returns-in-Ok-clause-counted g c =
+    event_calls _ c.args.self.now c.deref_mut.result.now c.make.new.slots _ c.args.work.now c.make.new.work c.self.view_is c.deref_mut.ensures.value
+    (take_at c.make.new.slots (drop (length c.make.new.slots) c.self.inside.slots.items) c.self.inside.slots.len (c.make.ensures.one_each ∙ c.deref_mut.ensures.len)) c.make.ensures.counted

@@ -1,5 +1,6 @@
 use Rattle.std.proofs.Common.{ℕ, refl}
 use Rattle.std.proofs.lemmas.Result.{err_from_is_err_and}
+use Rattle.tfpg_engine.proofs.CallsCounted.{untouched_calls}
 use Rattle.tfpg_engine.proofs.EventBringsRound.{new_engine, new_represents, too_many_by, not_too_many}
 use Rattle.tfpg_base.proofs.lists.Choices.{ok-err}
 use Rattle.tfpg_base.specs.declared.terms.Terms.{Terms}
@@ -30,3 +31,6 @@ returns-clause-represents c =
 
 pub returns-clause-too_many : goal.returns-clause-too_many
 returns-clause-too_many c count = (λ is. absurd (ok-err _ _ is), λ many. absurd (ok-err _ _ ((c.in_ok-table.ensures.too_many (terms_of c.args.k c.args.doubt c.args.budget) refl refl count).1 many)))
+
+pub returns-clause-uncounted : goal.returns-clause-uncounted
+returns-clause-uncounted c = untouched_calls c.in_ok-slots.slots.items c.len.result c.in_ok-slots.ensures

@@ -15,7 +15,7 @@ pub add-requires : goal.add-requires
 add-requires c =
     let before = c.self.inside.stand in
     let next : Next = c.in-Ok.next in
-    lets_fit before c.self.inside.draft next.line next.stand c.self.invariant
+    lets_fit before c.self.inside.draft next.line next.stand c.self.invariant.fits
     (IfOk-at_ok (λ (n : Next). stand_after before n.line ≡ Some n.stand) c.in-Ok.is c.next_line.ensures.stand)
 
 pub invariant_of-self : goal.invariant_of-self
@@ -25,19 +25,22 @@ invariant_of-self c =
     let next : Next = c.in-Ok.next in
     let after : c.complete.new.self ≡ draft_after c.args.number next.stand next.line draft =
     c.complete.ensures.draft ∙ ap (left_after next.line) c.in-Ok-add.ensures ∙ left_with c.args.number next.stand next.line draft in
-    subst (Fits next.stand) (sym after)
-    (fits_after before draft c.args.number next.line next.stand c.self.invariant
-    (IfOk-at_ok (λ (n : Next). stand_after before n.line ≡ Some n.stand) c.in-Ok.is c.next_line.ensures.stand))
+    record {
+      fits = subst (Fits next.stand) (sym after)
+          (fits_after before draft c.args.number next.line next.stand c.self.invariant.fits
+          (IfOk-at_ok (λ (n : Next). stand_after before n.line ≡ Some n.stand) c.in-Ok.is c.next_line.ensures.stand));
+      refuses = λ refusal is. absurd (let none = c.in_default.is in cc);
+    }
 
 pub returns-in-Ok-add-clause-fed : goal.returns-in-Ok-add-clause-fed
-returns-in-Ok-add-clause-fed c = λ lines represents number accepted.
+returns-in-Ok-add-clause-fed c = λ lines represents accepted.
     let before = c.self.inside.stand in
     let draft = c.self.inside.draft in
     let next : Next = c.in-Ok.next in
     takes c.args.graph.now lines c.args.line.now c.args.self.now _ before next.stand draft c.complete.new.self
     c.args.number next.line c.complete.result
-    (sym (ap (λ (r : ReaderState). r.stand) c.self.view_is)) (sym (ap (λ (r : ReaderState). r.begun) c.self.view_is)) refl refl
-    represents number c.self.invariant
+    (sym (ap (λ (r : ReaderState). r.stand) c.self.view_is)) (sym (ap (λ (r : ReaderState). r.begun) c.self.view_is)) c.of.ensures refl refl
+    represents (c.requires accepted) c.self.invariant.fits
     (IfOk-at_ok (λ (n : Next). Says c.args.graph.now n.line c.args.line.now) c.in-Ok.is c.next_line.ensures.says)
     (IfOk-at_ok (λ (n : Next). stand_after before n.line ≡ Some n.stand) c.in-Ok.is c.next_line.ensures.stand)
     (c.complete.ensures.draft ∙ ap (left_after next.line) c.in-Ok-add.ensures ∙ left_with c.args.number next.stand next.line draft)

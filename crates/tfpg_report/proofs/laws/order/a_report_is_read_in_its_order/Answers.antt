@@ -1,5 +1,6 @@
 -- Block by block, after the first line.
-use Rattle.tfpg_report.proofs.lemmas.laws.ReadInOrder.{report_arrives, front_leads}
+use Rattle.tfpg_report.proofs.lemmas.laws.ReadInOrder.{report_arrives}
+use Rattle.tfpg_report.proofs.lemmas.block_reader.WholeBlocks.{comes_by}
 use Rattle.tfpg_report.specs.declared.stand.Stand.TheVariants as stand
 use Rattle.tfpg_report.proofs.laws.order.a_report_is_read_in_its_order.Goals as goal
 
@@ -9,6 +10,6 @@ returns c = record {
       let arrives = report_arrives terms head blocks is_head order in
       (arrives.to, arrives.leads, arrives.there);
   front = λ front back after whole.
-      let arrives = front_leads front back stand.Nothing after whole in
-      (arrives.to, arrives.leads, arrives.there);
+      let parts = comes_by stand.Nothing front back after whole in
+      (parts.between, parts.front_leads, parts.back_leads);
 }

@@ -23,23 +23,23 @@ loop-lines-preserved g c =
     let on = subst (ReadsOn before c.loop-lines.lines.number (checking_at (g.S.Source.state c.judge_next_line.new.input) c.judge_next_line.new.lines c.judge_next_line.new.judge)) c.in-Right.is leads in
     record {
       reads_on = on.0;
-      checks = λ matter new. subst (ChecksOn matter before (checking_at (g.S.Source.state c.judge_next_line.new.input) c.judge_next_line.new.lines c.judge_next_line.new.judge)) c.in-Right.is
-          (c.in_ok-judge_next_line.ensures.checks_on matter before (c.loop-lines.invariant.checks matter new));
+      checks = λ problem new. subst (ChecksOn problem before (checking_at (g.S.Source.state c.judge_next_line.new.input) c.judge_next_line.new.lines c.judge_next_line.new.judge)) c.in-Right.is
+          (c.in_ok-judge_next_line.ensures.checks_on problem before (c.loop-lines.invariant.checks problem new));
     }
 
 pub returns-in_err-end-in-Ended-clause-stopped : goal.returns-in_err-end-in-Ended-clause-stopped
-returns-in_err-end-in-Ended-clause-stopped g c matter new =
+returns-in_err-end-in-Ended-clause-stopped g c problem new =
     let before = g.S.Source.state c.args.input.now in
     let input = g.S.Source.state c.judge_next_line.new.input in
-    let all = subst (ChecksOn matter before (checking_at input c.judge_next_line.new.lines c.judge_next_line.new.judge)) c.in-Ended.is
-    (c.in_ok-judge_next_line.ensures.checks_on matter before (c.loop-lines.invariant.checks matter new)) in
-    IfErr-from (LacksReport matter before input) c.from_residual-in_err-end-in-Ended.result (check_fault_of_judge c.in_err-end-in-Ended.field-0.0) c.from_residual-in_err-end-in-Ended.ensures.1
-    (lacks_at_end matter before input c.judge_next_line.new.judge all c.in_err-end-in-Ended.field-0.0 (c.in_err-end-in-Ended.ensures.ends matter all.reads all.represents))
+    let all = subst (ChecksOn problem before (checking_at input c.judge_next_line.new.lines c.judge_next_line.new.judge)) c.in-Ended.is
+    (c.in_ok-judge_next_line.ensures.checks_on problem before (c.loop-lines.invariant.checks problem new)) in
+    IfErr-from (LacksReport problem before input) c.from_residual-in_err-end-in-Ended.result (check_fault_of_judge c.in_err-end-in-Ended.field-0.0) c.from_residual-in_err-end-in-Ended.ensures.1
+    (lacks_at_end problem before input c.judge_next_line.new.judge all c.in_err-end-in-Ended.field-0.0 (c.in_err-end-in-Ended.ensures.ends problem all.reads all.represents))
 
 pub returns-in-Ended-clause-accepted : goal.returns-in-Ended-clause-accepted
-returns-in-Ended-clause-accepted g c matter new =
+returns-in-Ended-clause-accepted g c problem new =
     let before = g.S.Source.state c.args.input.now in
     let input = g.S.Source.state c.judge_next_line.new.input in
-    let all = subst (ChecksOn matter before (checking_at input c.judge_next_line.new.lines c.judge_next_line.new.judge)) c.in-Ended.is
-    (c.in_ok-judge_next_line.ensures.checks_on matter before (c.loop-lines.invariant.checks matter new)) in
-    accepts_at_end matter before input c.judge_next_line.new.judge all c.args.judge.now new c.in_ok-end-in-Ended.field-0 (c.in_ok-end-in-Ended.ensures.ends matter all.reads all.represents)
+    let all = subst (ChecksOn problem before (checking_at input c.judge_next_line.new.lines c.judge_next_line.new.judge)) c.in-Ended.is
+    (c.in_ok-judge_next_line.ensures.checks_on problem before (c.loop-lines.invariant.checks problem new)) in
+    accepts_at_end problem before input c.judge_next_line.new.judge all c.accepted_lines_are_those_of_a_report.ensures.whole c.args.judge.now new c.in_ok-end-in-Ended.field-0 (c.in_ok-end-in-Ended.ensures.ends problem all.reads all.represents)

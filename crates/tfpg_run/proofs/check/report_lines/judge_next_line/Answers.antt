@@ -6,9 +6,9 @@ use Rattle.tfpg_run.proofs.lemmas.check.NextReportLines.{few_numbers, lacks_by_f
 use Rattle.tfpg_run.proofs.check.report_lines.judge_next_line.Goals as goal
 
 pub returns-in_err-next-clause-stopped : goal.returns-in_err-next-clause-stopped
-returns-in_err-next-clause-stopped g c matter before checking =
-    IfErr-from (LacksReport matter before (g.S.Source.state c.next.new.source)) c.from_residual.result (check_fault_of_lines c.in_err-next.field-0.0) c.from_residual.ensures.1
-    (lacks_by_fault matter before (g.S.Source.state c.args.input.now) (g.S.Source.state c.next.new.source) c.args.lines.now c.next.new.self c.args.judge.now checking
+returns-in_err-next-clause-stopped g c problem before checking =
+    IfErr-from (LacksReport problem before (g.S.Source.state c.next.new.source)) c.from_residual.result (check_fault_of_lines c.in_err-next.field-0.0) c.from_residual.ensures.1
+    (lacks_by_fault problem before (g.S.Source.state c.args.input.now) (g.S.Source.state c.next.new.source) c.args.lines.now c.next.new.self c.args.judge.now checking
     c.in_err-next.field-0.0 (c.in_err-next.ensures checking.under.reading checking.under.represents))
 
 pub take-requires-clause-few : goal.take-requires-clause-few
@@ -19,20 +19,20 @@ take-requires-clause-few g c =
     c.in_ok-next.field-0 (c.in_ok-next.ensures on.under.reading on.under.represents) c.in-Text.is)
 
 pub returns-in_err-take-in-Text-clause-stopped : goal.returns-in_err-take-in-Text-clause-stopped
-returns-in_err-take-in-Text-clause-stopped g c matter before checking =
-    IfErr-from (LacksReport matter before (g.S.Source.state c.next.new.source)) c.from_residual-in_err-take-in-Text.result (check_fault_of_judge c.in_err-take-in-Text.field-0.0) c.from_residual-in_err-take-in-Text.ensures.1
-    (met_fault matter before (g.S.Source.state c.args.input.now) (g.S.Source.state c.next.new.source) c.args.lines.now c.next.new.self c.args.judge.now checking
+returns-in_err-take-in-Text-clause-stopped g c problem before checking =
+    IfErr-from (LacksReport problem before (g.S.Source.state c.next.new.source)) c.from_residual-in_err-take-in-Text.result (check_fault_of_judge c.in_err-take-in-Text.field-0.0) c.from_residual-in_err-take-in-Text.ensures.1
+    (met_fault problem before (g.S.Source.state c.args.input.now) (g.S.Source.state c.next.new.source) c.args.lines.now c.next.new.self c.args.judge.now checking
     c.in_ok-next.field-0 (c.in_ok-next.ensures checking.under.reading checking.under.represents) c.in-Text.is c.text.result.now c.text.ensures
-    c.in_err-take-in-Text.field-0.0 (c.in_err-take-in-Text.ensures.judged matter checking.reads checking.represents))
+    c.in_err-take-in-Text.field-0.0 (c.in_err-take-in-Text.ensures.judged problem checking.reads checking.represents))
 
 pub returns-in-End-clause-checks_on : goal.returns-in-End-clause-checks_on
-returns-in-End-clause-checks_on g c matter before checking =
-    met_end matter before (g.S.Source.state c.args.input.now) (g.S.Source.state c.next.new.source) c.args.lines.now c.next.new.self c.args.judge.now checking
+returns-in-End-clause-checks_on g c problem before checking =
+    met_end problem before (g.S.Source.state c.args.input.now) (g.S.Source.state c.next.new.source) c.args.lines.now c.next.new.self c.args.judge.now checking
     c.in_ok-next.field-0 (c.in_ok-next.ensures checking.under.reading checking.under.represents) c.in-End.is
 
 pub returns-in-TooLong-clause-stopped : goal.returns-in-TooLong-clause-stopped
-returns-in-TooLong-clause-stopped g c matter before checking =
-    met_long matter before (g.S.Source.state c.args.input.now) (g.S.Source.state c.next.new.source) c.args.lines.now c.next.new.self c.args.judge.now checking
+returns-in-TooLong-clause-stopped g c problem before checking =
+    met_long problem before (g.S.Source.state c.args.input.now) (g.S.Source.state c.next.new.source) c.args.lines.now c.next.new.self c.args.judge.now checking
     c.in_ok-next.field-0 (c.in_ok-next.ensures checking.under.reading checking.under.represents) c.in-TooLong.is c.no_report_line.result c.no_report_line.ensures
 
 pub returns-in_ok-take-in-Text-clause-reads_on : goal.returns-in_ok-take-in-Text-clause-reads_on
@@ -41,7 +41,7 @@ returns-in_ok-take-in-Text-clause-reads_on g c before on =
     c.in_ok-next.field-0 (c.in_ok-next.ensures on.under.reading on.under.represents) c.in-Text.is c.take.new.self c.number.result c.in_ok-take-in-Text.ensures.lines c.number.ensures
 
 pub returns-in_ok-take-in-Text-clause-checks_on : goal.returns-in_ok-take-in-Text-clause-checks_on
-returns-in_ok-take-in-Text-clause-checks_on g c matter before checking =
-    met_right matter before (g.S.Source.state c.args.input.now) (g.S.Source.state c.next.new.source) c.args.lines.now c.next.new.self c.args.judge.now checking
+returns-in_ok-take-in-Text-clause-checks_on g c problem before checking =
+    met_right problem before (g.S.Source.state c.args.input.now) (g.S.Source.state c.next.new.source) c.args.lines.now c.next.new.self c.args.judge.now checking
     c.in_ok-next.field-0 (c.in_ok-next.ensures checking.under.reading checking.under.represents) c.in-Text.is c.text.result.now c.text.ensures
-    c.take.new.self (c.in_ok-take-in-Text.ensures.goes_on matter checking.reads checking.represents)
+    c.accepted_lines_are_those_of_a_report.ensures.next c.take.new.self (c.in_ok-take-in-Text.ensures.goes_on problem checking.reads checking.represents)

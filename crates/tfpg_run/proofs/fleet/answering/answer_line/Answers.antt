@@ -6,14 +6,14 @@ use Rattle.tfpg_fleet.specs.Belonging.{belongs}
 use Rattle.tfpg_fleet.specs.FleetState.{FleetRepresents, rounds_after}
 use Rattle.tfpg_run.specs.declared.fleet.watch.Watch.{Watch}
 use Rattle.tfpg_run.specs.fleet.FleetOutput.{rounds_for}
-use Rattle.tfpg_run.specs.inside.fleet.UnderWay.{KeepsLast, matter_in}
+use Rattle.tfpg_run.specs.inside.fleet.UnderWay.{KeepsLast, problem_in}
 use Rattle.tfpg_run.proofs.lemmas.fleet.OwnBlocks.{RoundLaws, own_within, told_of_graph}
 use Rattle.tfpg_run.proofs.lemmas.fleet.NextAnswers.{answers_own, answers_stray, brings_of, brings_stray}
 use Rattle.tfpg_run.proofs.fleet.answering.answer_line.Goals as goal
 
 pub returns-in-Stray : goal.returns-in-Stray
 returns-in-Stray g c lines answers so_far =
-    let fleet = matter_in c.args.vehicles.now in
+    let fleet = problem_in c.args.vehicles.now in
     let brings = brings_stray c.args.text.now c.args.watch.now.fleet c.line.new.self c.in_ok-line.field-0 c.in-Stray.is c.in_ok-line.ensures.brings in
     let none = subst (λ (names : List (List ℕ)). belongs names c.args.text.now ≡ None) so_far.names brings.0 in
     let later : Watch = record { fleet = c.line.new.self; ranked = c.args.watch.now.ranked } in
@@ -31,7 +31,7 @@ own_answer-requires-clause-of g c =
       minimal = c.statuses_are_those_of_minimal_sets.ensures;
     } in
     let is = brings_of c.args.text.now c.args.watch.now.fleet c.line.new.self c.in_ok-line.field-0 c.in-Of.vehicle c.in-Of.line c.in-Of.told c.in-Of.is c.in_ok-line.ensures.brings in
-    told_of_graph laws (matter_in c.args.vehicles.now) c.is_always_valid.ensures.valid c.requires.lines c.requires.answers c.args.watch.now c.requires.answered c.args.text.now c.line.new.self c.in-Of.vehicle c.in-Of.line c.in-Of.told is
+    told_of_graph laws (problem_in c.args.vehicles.now) c.is_always_valid.ensures.valid c.requires.lines c.requires.answers c.args.watch.now c.requires.answered c.args.text.now c.line.new.self c.in-Of.vehicle c.in-Of.line c.in-Of.told is
 
 pub own_answer-requires-clause-within : goal.own_answer-requires-clause-within
 own_answer-requires-clause-within g c =
@@ -44,11 +44,11 @@ own_answer-requires-clause-within g c =
       minimal = c.statuses_are_those_of_minimal_sets.ensures;
     } in
     let is = brings_of c.args.text.now c.args.watch.now.fleet c.line.new.self c.in_ok-line.field-0 c.in-Of.vehicle c.in-Of.line c.in-Of.told c.in-Of.is c.in_ok-line.ensures.brings in
-    own_within laws (matter_in c.args.vehicles.now) c.is_always_valid.ensures.valid c.requires.lines c.requires.answers c.args.watch.now c.requires.answered c.args.text.now c.line.new.self c.in-Of.vehicle c.in-Of.line c.in-Of.told is
+    own_within laws (problem_in c.args.vehicles.now) c.is_always_valid.ensures.valid c.requires.lines c.requires.answers c.args.watch.now c.requires.answered c.args.text.now c.line.new.self c.in-Of.vehicle c.in-Of.line c.in-Of.told is
 
 pub returns-in-Of : goal.returns-in-Of
 returns-in-Of g c lines answers so_far =
-    let fleet = matter_in c.args.vehicles.now in
+    let fleet = problem_in c.args.vehicles.now in
     let laws : RoundLaws = record {
       grows = c.a_log_of_lines_is_of_its_graph.ensures.grows;
       of = c.a_log_of_lines_is_of_its_graph.ensures.of;

@@ -1,7 +1,7 @@
 use Rattle.std.proofs.Common.{subst, ◌∙◌}
 use Rattle.tfpg_run.specs.declared.fault.StreamFault.TheVariants as faults
 use Rattle.tfpg_run.specs.Streams.{streams}
-use Rattle.tfpg_run.specs.inside.fleet.UnderWay.{ComesTo, answering_at, matter_in}
+use Rattle.tfpg_run.specs.inside.fleet.UnderWay.{ComesTo, answering_at, problem_in}
 use Rattle.tfpg_base.proofs.lists.Choices.{IfErr-from}
 use Rattle.tfpg_run.proofs.Putting.{Puts-same}
 use Rattle.tfpg_run.proofs.InputLines.{falls_short}
@@ -13,23 +13,23 @@ use Rattle.tfpg_run.proofs.fleet.stream.answer_stream.Goals as goal
 pub returns-in_err-lines-clause-stopped : goal.returns-in_err-lines-clause-stopped
 returns-in_err-lines-clause-stopped g c =
     IfErr-from _ c.from_residual.result faults.NoMemory c.from_residual.ensures.1
-    (begins_without_memory (matter_in c.args.vehicles.now) (streams (g.S.Source.state c.args.input.now) (g.K.Sink.state c.args.out.now)) c.requires.has_reports)
+    (begins_without_memory (problem_in c.args.vehicles.now) (streams (g.S.Source.state c.args.input.now) (g.K.Sink.state c.args.out.now)) c.requires.has_reports)
 
 pub returns-in_err-opening-clause-stopped : goal.returns-in_err-opening-clause-stopped
 returns-in_err-opening-clause-stopped g c =
     IfErr-from _ c.from_residual-in_err-opening.result faults.NoMemory c.from_residual-in_err-opening.ensures.1
-    (begins_without_memory (matter_in c.args.vehicles.now) (streams (g.S.Source.state c.args.input.now) (g.K.Sink.state c.args.out.now)) c.requires.has_reports)
+    (begins_without_memory (problem_in c.args.vehicles.now) (streams (g.S.Source.state c.args.input.now) (g.K.Sink.state c.args.out.now)) c.requires.has_reports)
 
 pub returns-in_err-write_all-clause-stopped : goal.returns-in_err-write_all-clause-stopped
 returns-in_err-write_all-clause-stopped g c =
     let front = c.in_err-write_all.ensures.front in
     IfErr-from _ c.from_residual-in_err-write_all.result faults.WriteFault c.from_residual-in_err-write_all.ensures.1
-    (begins_badly (matter_in c.args.vehicles.now) (streams (g.S.Source.state c.args.input.now) (g.K.Sink.state c.args.out.now)) c.requires.has_reports (g.K.Sink.state c.write_all.new.out)
+    (begins_badly (problem_in c.args.vehicles.now) (streams (g.S.Source.state c.args.input.now) (g.K.Sink.state c.args.out.now)) c.requires.has_reports (g.K.Sink.state c.write_all.new.out)
     c.deref.result.now front.0 front.1 (c.deref.ensures.value ∙ c.in_ok-opening.ensures) front.2 front.3 c.in_err-write_all.ensures.failed)
 
 pub loop-opening-init : goal.loop-opening-init
 loop-opening-init g c =
-    begins_answering (matter_in c.args.vehicles.now) (streams (g.S.Source.state c.args.input.now) (g.K.Sink.state c.args.out.now)) c.requires.has_reports c.in_ok-lines.lines c.args.watch.now (g.K.Sink.state c.write_all.new.out)
+    begins_answering (problem_in c.args.vehicles.now) (streams (g.S.Source.state c.args.input.now) (g.K.Sink.state c.args.out.now)) c.requires.has_reports c.in_ok-lines.lines c.args.watch.now (g.K.Sink.state c.write_all.new.out)
     c.in_ok-lines.ensures.unread c.requires.new
     (Puts-same (g.K.Sink.state c.args.out.now) (g.K.Sink.state c.write_all.new.out) _ _ (c.deref.ensures.value ∙ c.in_ok-opening.ensures) c.in_ok-write_all.ensures.put) c.in_ok-write_all.ensures.no_fault
 
@@ -43,7 +43,7 @@ write_next_answer-requires g c = record {
 
 pub loop-opening-smaller : goal.loop-opening-smaller
 loop-opening-smaller g c =
-    let fleet = matter_in c.args.vehicles.now in
+    let fleet = problem_in c.args.vehicles.now in
     let before = streams (g.S.Source.state c.args.input.now) (g.K.Sink.state c.args.out.now) in
     let now = streams (g.S.Source.state c.loop-opening.input) (g.K.Sink.state c.loop-opening.out) in
     let later = streams (g.S.Source.state c.write_next_answer.new.input) (g.K.Sink.state c.write_next_answer.new.out) in
@@ -53,7 +53,7 @@ loop-opening-smaller g c =
 
 pub returns-in-Ended-clause-done : goal.returns-in-Ended-clause-done
 returns-in-Ended-clause-done g c =
-    let fleet = matter_in c.args.vehicles.now in
+    let fleet = problem_in c.args.vehicles.now in
     let before = streams (g.S.Source.state c.args.input.now) (g.K.Sink.state c.args.out.now) in
     let later = streams (g.S.Source.state c.write_next_answer.new.input) (g.K.Sink.state c.write_next_answer.new.out) in
     let output = g.K.Sink.state c.write_counts.new.out in
@@ -64,7 +64,7 @@ returns-in-Ended-clause-done g c =
 
 pub returns-in_err-write_counts-in-Ended-clause-stopped : goal.returns-in_err-write_counts-in-Ended-clause-stopped
 returns-in_err-write_counts-in-Ended-clause-stopped g c =
-    let fleet = matter_in c.args.vehicles.now in
+    let fleet = problem_in c.args.vehicles.now in
     let before = streams (g.S.Source.state c.args.input.now) (g.K.Sink.state c.args.out.now) in
     let later = streams (g.S.Source.state c.write_next_answer.new.input) (g.K.Sink.state c.write_next_answer.new.out) in
     let output = g.K.Sink.state c.write_counts.new.out in

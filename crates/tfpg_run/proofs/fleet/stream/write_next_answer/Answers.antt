@@ -1,7 +1,7 @@
 use Rattle.std.proofs.Common.{refl, subst, List, ℕ, ◌++◌, ◌∷◌, [], ◌∙◌}
 use Rattle.tfpg_run.specs.declared.fault.StreamFault.TheVariants as faults
 use Rattle.tfpg_run.specs.inside.Faults.{stream_fault_of_lines}
-use Rattle.tfpg_run.specs.inside.fleet.UnderWay.{Answers, matter_in}
+use Rattle.tfpg_run.specs.inside.fleet.UnderWay.{Answers, problem_in}
 use Rattle.tfpg_base.proofs.lists.Choices.{IfErr-from}
 use Rattle.tfpg_run.proofs.lemmas.fleet.AnsweredStreams.{ends_by_fault, gave_without_memory, met_end, met_long, met_text, stopped, writes_same, wrote}
 use Rattle.tfpg_run.specs.Streams.{streams}
@@ -11,27 +11,27 @@ use Rattle.tfpg_run.proofs.fleet.stream.write_next_answer.Goals as goal
 pub returns-in_err-next-clause-stopped : goal.returns-in_err-next-clause-stopped
 returns-in_err-next-clause-stopped g c before under =
     IfErr-from _ c.from_residual.result (stream_fault_of_lines c.in_err-next.field-0.0) c.from_residual.ensures.1
-    (ends_by_fault (matter_in c.args.vehicles.now) before (streams (g.S.Source.state c.args.input.now) (g.K.Sink.state c.args.out.now)) c.args.lines.now c.args.watch.now (g.S.Source.state c.next.new.source) c.next.new.self under c.in_err-next.field-0.0 (c.in_err-next.ensures under.reading under.represents))
+    (ends_by_fault (problem_in c.args.vehicles.now) before (streams (g.S.Source.state c.args.input.now) (g.K.Sink.state c.args.out.now)) c.args.lines.now c.args.watch.now (g.S.Source.state c.next.new.source) c.next.new.self under c.in_err-next.field-0.0 (c.in_err-next.ensures under.reading under.represents))
 
 pub returns-in-End-clause-comes_to : goal.returns-in-End-clause-comes_to
 returns-in-End-clause-comes_to g c before under =
-    met_end (matter_in c.args.vehicles.now) before (streams (g.S.Source.state c.args.input.now) (g.K.Sink.state c.args.out.now)) c.args.lines.now c.args.watch.now (g.S.Source.state c.next.new.source) c.next.new.self under c.in_ok-next.field-0 (c.in_ok-next.ensures under.reading under.represents) c.in-End.is
+    met_end (problem_in c.args.vehicles.now) before (streams (g.S.Source.state c.args.input.now) (g.K.Sink.state c.args.out.now)) c.args.lines.now c.args.watch.now (g.S.Source.state c.next.new.source) c.next.new.self under c.in_ok-next.field-0 (c.in_ok-next.ensures under.reading under.represents) c.in-End.is
 
 pub returns-in_err-answer-in-TooLong-clause-stopped : goal.returns-in_err-answer-in-TooLong-clause-stopped
 returns-in_err-answer-in-TooLong-clause-stopped g c before under =
-    let met = met_long (matter_in c.args.vehicles.now) before (streams (g.S.Source.state c.args.input.now) (g.K.Sink.state c.args.out.now)) c.args.lines.now c.args.watch.now (g.S.Source.state c.next.new.source) c.next.new.self under c.in_ok-next.field-0 (c.in_ok-next.ensures under.reading under.represents) c.in-TooLong.is in
+    let met = met_long (problem_in c.args.vehicles.now) before (streams (g.S.Source.state c.args.input.now) (g.K.Sink.state c.args.out.now)) c.args.lines.now c.args.watch.now (g.S.Source.state c.next.new.source) c.next.new.self under c.in_ok-next.field-0 (c.in_ok-next.ensures under.reading under.represents) c.in-TooLong.is in
     IfErr-from _ c.from_residual-in_err-answer-in-TooLong.result faults.NoMemory c.from_residual-in_err-answer-in-TooLong.ensures.1
-    (gave_without_memory (matter_in c.args.vehicles.now) before (streams (g.S.Source.state c.args.input.now) (g.K.Sink.state c.args.out.now)) c.args.lines.now c.args.watch.now (g.S.Source.state c.next.new.source) c.next.new.self under met.0)
+    (gave_without_memory (problem_in c.args.vehicles.now) before (streams (g.S.Source.state c.args.input.now) (g.K.Sink.state c.args.out.now)) c.args.lines.now c.args.watch.now (g.S.Source.state c.next.new.source) c.next.new.self under met.0)
 
 pub returns-in_err-answer-in-Text-clause-stopped : goal.returns-in_err-answer-in-Text-clause-stopped
 returns-in_err-answer-in-Text-clause-stopped g c before under =
-    let met = met_text (matter_in c.args.vehicles.now) before (streams (g.S.Source.state c.args.input.now) (g.K.Sink.state c.args.out.now)) c.args.lines.now c.args.watch.now (g.S.Source.state c.next.new.source) c.next.new.self under c.in_ok-next.field-0 (c.in_ok-next.ensures under.reading under.represents) c.in-Text.is in
+    let met = met_text (problem_in c.args.vehicles.now) before (streams (g.S.Source.state c.args.input.now) (g.K.Sink.state c.args.out.now)) c.args.lines.now c.args.watch.now (g.S.Source.state c.next.new.source) c.next.new.self under c.in_ok-next.field-0 (c.in_ok-next.ensures under.reading under.represents) c.in-Text.is in
     IfErr-from _ c.from_residual-in_err-answer-in-Text.result faults.NoMemory c.from_residual-in_err-answer-in-Text.ensures.1
-    (gave_without_memory (matter_in c.args.vehicles.now) before (streams (g.S.Source.state c.args.input.now) (g.K.Sink.state c.args.out.now)) c.args.lines.now c.args.watch.now (g.S.Source.state c.next.new.source) c.next.new.self under met.0)
+    (gave_without_memory (problem_in c.args.vehicles.now) before (streams (g.S.Source.state c.args.input.now) (g.K.Sink.state c.args.out.now)) c.args.lines.now c.args.watch.now (g.S.Source.state c.next.new.source) c.next.new.self under met.0)
 
 pub returns-in_ok-answer-in-TooLong-clause-comes_to : goal.returns-in_ok-answer-in-TooLong-clause-comes_to
 returns-in_ok-answer-in-TooLong-clause-comes_to g c before under =
-    let fleet = matter_in c.args.vehicles.now in
+    let fleet = problem_in c.args.vehicles.now in
     let met = met_long fleet before (streams (g.S.Source.state c.args.input.now) (g.K.Sink.state c.args.out.now)) c.args.lines.now c.args.watch.now (g.S.Source.state c.next.new.source) c.next.new.self under c.in_ok-next.field-0 (c.in_ok-next.ensures under.reading under.represents) c.in-TooLong.is in
     let answers = answers_stray fleet under.reading.given under.answers c.args.watch.now c.args.watch.now met.0.first c.number.result c.in_ok-answer-in-TooLong.answer.items under.answered
     (long_stray fleet.names met.0.first met.1) refl refl c.in_ok-answer-in-TooLong.ensures in
@@ -40,7 +40,7 @@ returns-in_ok-answer-in-TooLong-clause-comes_to g c before under =
 
 pub returns-in_ok-answer-in-TooLong-clause-stopped : goal.returns-in_ok-answer-in-TooLong-clause-stopped
 returns-in_ok-answer-in-TooLong-clause-stopped g c before under =
-    let fleet = matter_in c.args.vehicles.now in
+    let fleet = problem_in c.args.vehicles.now in
     let met = met_long fleet before (streams (g.S.Source.state c.args.input.now) (g.K.Sink.state c.args.out.now)) c.args.lines.now c.args.watch.now (g.S.Source.state c.next.new.source) c.next.new.self under c.in_ok-next.field-0 (c.in_ok-next.ensures under.reading under.represents) c.in-TooLong.is in
     let answers = answers_stray fleet under.reading.given under.answers c.args.watch.now c.args.watch.now met.0.first c.number.result c.in_ok-answer-in-TooLong.answer.items under.answered
     (long_stray fleet.names met.0.first met.1) refl refl c.in_ok-answer-in-TooLong.ensures in
@@ -49,7 +49,7 @@ returns-in_ok-answer-in-TooLong-clause-stopped g c before under =
 
 pub returns-in_ok-answer-in-Text-clause-comes_to : goal.returns-in_ok-answer-in-Text-clause-comes_to
 returns-in_ok-answer-in-Text-clause-comes_to g c before under =
-    let fleet = matter_in c.args.vehicles.now in
+    let fleet = problem_in c.args.vehicles.now in
     let met = met_text fleet before (streams (g.S.Source.state c.args.input.now) (g.K.Sink.state c.args.out.now)) c.args.lines.now c.args.watch.now (g.S.Source.state c.next.new.source) c.next.new.self under c.in_ok-next.field-0 (c.in_ok-next.ensures under.reading under.represents) c.in-Text.is in
     let answers = subst (λ (text : List ℕ). Answers fleet (under.reading.given ++ text ∷ []) under.answers c.number-in-Text.result c.in_ok-answer-in-Text.answer.items c.answer_line.new.watch) (c.text.ensures ∙ met.2)
     (c.in_ok-answer-in-Text.ensures under.reading.given under.answers under.answered) in
@@ -58,7 +58,7 @@ returns-in_ok-answer-in-Text-clause-comes_to g c before under =
 
 pub returns-in_ok-answer-in-Text-clause-stopped : goal.returns-in_ok-answer-in-Text-clause-stopped
 returns-in_ok-answer-in-Text-clause-stopped g c before under =
-    let fleet = matter_in c.args.vehicles.now in
+    let fleet = problem_in c.args.vehicles.now in
     let met = met_text fleet before (streams (g.S.Source.state c.args.input.now) (g.K.Sink.state c.args.out.now)) c.args.lines.now c.args.watch.now (g.S.Source.state c.next.new.source) c.next.new.self under c.in_ok-next.field-0 (c.in_ok-next.ensures under.reading under.represents) c.in-Text.is in
     let answers = subst (λ (text : List ℕ). Answers fleet (under.reading.given ++ text ∷ []) under.answers c.number-in-Text.result c.in_ok-answer-in-Text.answer.items c.answer_line.new.watch) (c.text.ensures ∙ met.2)
     (c.in_ok-answer-in-Text.ensures under.reading.given under.answers under.answered) in

@@ -1,4 +1,4 @@
-use Rattle.std.proofs.Common.{refl, subst, Bool, Some, None, length, ◌+◌, ◌-◌}
+use Rattle.std.proofs.Common.{refl, subst, arith, Bool, Some, None, length, ◌+◌, ◌-◌}
 use Rattle.std.specs.Prelude.{Ok}
 use Rattle.tfpg_search.specs.inside.Moves.{Closing}
 use Rattle.tfpg_search.proofs.calls.FoundInTurn.{keeps_on}
@@ -18,6 +18,7 @@ loop-self-preserved-in-Ok-true g c =
       grows =
           grows_on c.args.graph.now c.args.log.now c.args.self.now c.loop-self.self c.loop-self.self c.reuse.new.self c.args.steps.now c.loop-self.steps c.reuse.new.steps 0 0 (Some c.reuse.new.self.path)
           c.loop-self.invariant.keeps refl c.loop-self.invariant.grows closing.1;
+      counted = (let so_far = c.loop-self.invariant.counted in let same = c.reuse.ensures.counted in omega arith);
       counts = λ bounds given.
           step_pays c.loop-self.work (unset bounds c.loop-self.self.leaf) (unset bounds c.reuse.new.self.leaf) (length c.reuse.new.self.path - length c.reuse.new.self.entered) (c.args.work.now + due bounds c.args.self.now)
           (length c.args.steps.now) (length c.loop-self.steps) (length c.reuse.new.steps)
@@ -53,6 +54,7 @@ loop-self-preserved g c =
       grows =
           grows_on c.args.graph.now c.args.log.now c.args.self.now c.loop-self.self c.add_all.new.self c.close.new.self c.args.steps.now c.loop-self.steps c.close.new.steps 0 0
           (Some c.close.new.self.path) keeps c.add_all.ensures.path c.loop-self.invariant.grows closing.1;
+      counted = (let so_far = c.loop-self.invariant.counted in let added = c.add_all.ensures.counted in let same = c.close.ensures.counted in omega arith);
       counts = λ bounds given.
           step_pays c.add_all.new.work (unset bounds c.add_all.new.self.leaf) (unset bounds c.close.new.self.leaf) (length c.close.new.self.path - length c.close.new.self.entered) (c.args.work.now + due bounds c.args.self.now)
           (length c.args.steps.now) (length c.loop-self.steps) (length c.close.new.steps)

@@ -1,4 +1,5 @@
 use Rattle.std.proofs.Common.{◌≡◌, ◌≤◌, ◌+◌, ◌++◌}
+use Rattle.tfpg_search.specs.inside.Counted.{CountsAlike}
 use Rattle.tfpg_search.specs.inside.Leaf.{pick_reasons}
 use Rattle.tfpg_search.specs.inside.Picks.{picks_from}
 use Rattle.tfpg_search.specs.inside.Leaving.{constraint_count_at}
@@ -13,5 +14,6 @@ invariant-loop-before g l = record {
   picks : pick_reasons l.self.leaf ≡ pick_reasons l.initial.self.leaf ++ picks_from l.split 1 l.before;
   bounds : l.self.leaf.demands.bounds ≡ l.initial.self.leaf.demands.bounds;
   counts : l.work ≤ l.initial.work + l.before;
+  counted : CountsAlike l.initial.self.leaf l.self.leaf l.initial.work l.work;
   within : l.before ≤ constraint_count_at l.graph l.log l.initial.self.path l.split;
 }

@@ -5,6 +5,7 @@ use Rattle.tfpg_search.specs.declared.search.Look.{Look}
 use Rattle.tfpg_search.specs.inside.Moves.{Looking, Sees}
 use Rattle.tfpg_search.proofs.calls.FoundInTurn.{keeps_on, grows_still, found_on}
 use Rattle.tfpg_search.specs.inside.Counted.{unset, due}
+use Rattle.tfpg_search.specs.inside.Leaf.{Leaf}
 use Rattle.tfpg_search.proofs.work.CallsPaid.{given_at, one_left, then_looked, step_pays, none_left}
 use Rattle.tfpg_search.proofs.steps.StepsAppended.{grows_on}
 use Rattle.tfpg_search.specs.Searched.{call_of}
@@ -47,6 +48,7 @@ loop-trace-preserved g c =
       stands = c.in-Ok.ensures.splitting.0;
       keeps = keeps_on c.args.self.now c.look.new.self c.split.new.self (keeps_on c.args.self.now c.loop-trace.self c.look.new.self c.loop-trace.invariant.keeps c.look.ensures.keeps) c.split.ensures.keeps;
       grows = grows_on c.args.graph.now c.args.log.now c.args.self.now c.look.new.self c.look.new.self c.split.new.self c.args.steps.now c.look.new.steps c.split.new.steps c.loop-trace.spent 1 (Some c.split.new.self.path) (keeps_on c.args.self.now c.loop-trace.self c.look.new.self c.loop-trace.invariant.keeps c.look.ensures.keeps) refl (grows_still c.args.graph.now c.args.log.now c.args.self.now c.loop-trace.self c.loop-trace.self c.look.new.self c.args.steps.now c.loop-trace.steps c.look.new.steps c.loop-trace.spent (Some c.look.new.self.path) c.loop-trace.invariant.keeps refl c.loop-trace.invariant.grows looking.3) c.in-Ok.ensures.splitting.1;
+      counted = (let so_far = c.loop-trace.invariant.counted in let looked = c.look.ensures.counted in let same = ap (λ (leaf : Leaf). leaf.calls) c.split.ensures.leaf in omega arith);
       counts = λ bounds given.
           step_pays c.look.new.work (unset bounds c.look.new.self.leaf) (unset bounds c.split.new.self.leaf) (length c.split.new.self.path - length c.split.new.self.entered) (c.args.work.now + due bounds c.args.self.now)
           (length c.args.steps.now) (length c.look.new.steps) (length c.split.new.steps)

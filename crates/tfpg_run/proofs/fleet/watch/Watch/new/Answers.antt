@@ -1,5 +1,5 @@
 use Rattle.std.proofs.Common.{length, ap}
-use Rattle.tfpg_run.specs.inside.fleet.UnderWay.{matter_in}
+use Rattle.tfpg_run.specs.inside.fleet.UnderWay.{problem_in}
 use Rattle.tfpg_run.proofs.lemmas.fleet.NextAnswers.{answered_none}
 use Rattle.tfpg_run.proofs.lemmas.fleet.NewFleets.{counts_again, counts_no_memory, counts_ok}
 use Rattle.tfpg_run.proofs.fleet.watch.Watch.new.Goals as goal
@@ -18,4 +18,4 @@ returns-clause-too_many c =
 
 pub returns-clause-new : goal.returns-clause-new
 returns-clause-new c =
-    answered_none (matter_in c.args.vehicles.now) _ (length c.as_slice.result.now) c.in_ok-fleet.ensures.names c.in_ok-fleet.ensures.represents c.in_ok-ranked.ensures (ap length c.as_slice.ensures)
+    answered_none (problem_in c.args.vehicles.now) _ (length c.as_slice.result.now) c.in_ok-fleet.ensures.names c.in_ok-fleet.ensures.represents c.in_ok-ranked.ensures (ap length c.as_slice.ensures)

@@ -1,0 +1,81 @@
+#!/usr/bin/env python3
+"""Compares the runs that the documents show with what the program writes. Prints those that differ, and ends with status 1 if any does.
+
+    bench/runs.py
+
+A run is a block of code whose first line begins with `$ `. Each such line is a command, and what follows is what it writes, where `...`
+stands for any lines. All runs of a document are made in one folder, one after the other, with the examples and the page in it. A block
+that begins with `tfpg ` is a graph: the file that the next command names and that is not there.
+
+Lines of `./tfpg` itself, which say that a trial answers, are left out. Runs from C are compared by `embed.sh`. It needs `jq` and Graphviz.
+"""
+import os
+import re
+import subprocess
+import sys
+import tempfile
+from pathlib import Path
+
+TOP = Path(__file__).resolve().parent.parent
+DOCUMENTS = ["README.md", "docs/commands.md", "docs/modelling.md", "examples/README.md"]
+BLOCK = re.compile(r"^( *)```\w*\n(.*?)^ *```$", re.M | re.S)
+
+
+def blocks_of(document):
+    """The blocks of code of a document, without their indent."""
+    for found in BLOCK.finditer((TOP / document).read_text()):
+        yield re.sub(rf"^{found[1]}", "", found[2], flags=re.M)
+
+
+def runs_of(block):
+    """The commands of a block, each with what it has to write."""
+    for run in re.split(r"^\$ ", block, flags=re.M)[1:]:
+        command, _, shown = run.partition("\n")
+        yield command, shown
+
+
+def written(command, folder):
+    """What a command writes in this folder, on both streams, without the lines of `./tfpg` itself."""
+    path = f"{TOP}:{os.environ['PATH']}"
+    done = subprocess.run(["bash", "-c", command], cwd=folder, env={**os.environ, "PATH": path}, capture_output=True, text=True)
+    return done.stdout + re.sub(r"^tfpg: .*\n", "", done.stderr, flags=re.M)
+
+
+def is_shown(text, shown):
+    """Whether a text is what is shown of it."""
+    pattern = "".join(r"(?:.*\n)*" if line == "..." else re.escape(line) + "\n" for line in shown.splitlines())
+    return re.fullmatch(pattern, text) is not None
+
+
+def differences(document, folder):
+    """The commands of a document that write something else than is shown."""
+    graph = ""
+    for block in blocks_of(document):
+        if block.startswith("tfpg "):
+            graph = block
+        if not block.startswith("$ "):
+            continue
+        for command, shown in runs_of(block):
+            for name in re.findall(r"[\w/-]+\.tfpg", command):
+                if graph and f"> {name}" not in command and not (folder / name).exists():
+                    (folder / name).write_text(graph)
+                    graph = ""
+            if not is_shown(written(command, folder), shown):
+                yield command
+
+
+def main():
+    status = 0
+    for document in DOCUMENTS:
+        with tempfile.TemporaryDirectory() as name:
+            folder = Path(name)
+            for entry in ("tfpg", "examples", "page"):
+                (folder / entry).symlink_to(TOP / entry)
+            for command in differences(document, folder):
+                print(f"{document}: {command}")
+                status = 1
+    sys.exit(status)
+
+
+if __name__ == "__main__":
+    main()

@@ -1,0 +1,48 @@
+"""The runs that README.md shows, beside what the commands write. `...` stands for any lines."""
+
+import os
+import re
+import subprocess
+import sys
+import tempfile
+import unittest
+from pathlib import Path
+
+from support import EXAMPLES, TOP
+from tfpg.program import find_program
+
+BLOCK = re.compile(r"^```\n(\$ .*?)^```$", re.M | re.S)
+
+
+def runs():
+    """The commands of the blocks, each with what it has to write."""
+    for block in BLOCK.findall((TOP / "python" / "README.md").read_text(encoding="utf-8")):
+        for run in re.split(r"^\$ ", block, flags=re.M)[1:]:
+            command, _, shown = run.partition("\n")
+            yield command, shown
+
+
+def written(command, folder):
+    """What a command writes in this folder, beside which the examples stand."""
+    words = {**os.environ, "PYTHONPATH": str(TOP / "python"), "TFPG_PROGRAM": find_program(), "PYTHONDONTWRITEBYTECODE": "1"}
+    command = re.sub(r"^python3 ", f"{sys.executable} ", command)
+    return subprocess.run(["sh", "-c", command], cwd=folder, env=words, stdout=subprocess.PIPE, check=False).stdout.decode()
+
+
+class Readme(unittest.TestCase):
+    def test_each_run(self):
+        with tempfile.TemporaryDirectory(prefix="tfpg-python-") as top:
+            folder = Path(top, "python")
+            folder.mkdir()
+            Path(top, "examples").symlink_to(EXAMPLES)
+            count = 0
+            for command, shown in runs():
+                shape = "".join(".*" if part == "...\n" else re.escape(part) for part in re.split(r"^(\.\.\.\n)", shown, flags=re.M))
+                with self.subTest(command=command):
+                    self.assertRegex(written(command, folder), re.compile(rf"\A{shape}\Z", re.S))
+                count += 1
+        self.assertGreaterEqual(count, 3)
+
+
+if __name__ == "__main__":
+    unittest.main()

@@ -1,0 +1,47 @@
+"""Runs a command: `python3 -m tfpg lint`, `brief` or `plot`."""
+
+from __future__ import annotations
+
+import io
+import sys
+from typing import Callable, Dict, List, Sequence
+
+from .brief.command import brief
+from .lint.command import lint
+from .plot.command import plot
+from .program import NO_TRIAL, NoProgram, NoReport
+from .reading.texts import BadText
+
+COMMANDS: Dict[str, Callable[[Sequence[str]], int]] = {"lint": lint, "brief": brief, "plot": plot}
+USAGE = """\
+python3 -m tfpg lint GRAPH [LOG]            what the program refuses, and why
+python3 -m tfpg lint --words WORD..         the same of the words of a command line
+python3 -m tfpg brief GRAPH LOG [REPORT]    what a crew reads of a report
+python3 -m tfpg plot GRAPH LOG [REPORT]     a picture of the ranking over time, as SVG"""
+BAD_TEXT, NOT_READ = 1, 5
+
+
+def main(words: List[str]) -> int:
+    if not words or words[0] not in COMMANDS:
+        print(USAGE, file=sys.stdout if words in (["-h"], ["--help"]) else sys.stderr)
+        return 0 if words in (["-h"], ["--help"]) else 2
+    if isinstance(sys.stdout, io.TextIOWrapper):
+        sys.stdout.reconfigure(encoding="utf-8", errors="replace")
+    try:
+        return COMMANDS[words[0]](words[1:])
+    except NoProgram as fault:
+        print(f"tfpg {words[0]}: {fault}", file=sys.stderr)
+        return NO_TRIAL
+    except NoReport as fault:
+        print(f"tfpg {words[0]}: {fault}", file=sys.stderr)
+        return fault.status
+    except BadText as fault:
+        print(f"tfpg {words[0]}: {fault}", file=sys.stderr)
+        return BAD_TEXT
+    except OSError as fault:
+        print(f"tfpg {words[0]}: {fault.filename or 'output'}: {fault.strerror}", file=sys.stderr)
+        return NOT_READ
+
+
+if __name__ == "__main__":
+    sys.exit(main(sys.argv[1:]))

@@ -1,0 +1,70 @@
+"""What a brief is of: a graph, the lines of a log, and a report of them."""
+
+from __future__ import annotations
+
+from math import comb
+from pathlib import Path
+from typing import List, Optional, Sequence
+
+from ..program import NoReport, file_words, run_program
+from ..reading.graphs import DeclaredGraph, graph_of
+from ..reading.logs import EventLog
+from ..reading.reports import Report, Round, read_report
+from ..reading.texts import BadText, lines_of, read_text, shown, text_of
+from ..saying.speech import Speech
+
+MOST_SHOWN = 64  # bytes of a line of the log
+
+
+class Subject:
+    """The texts of a brief, read. `start` is the time of day of the time 0, in milliseconds."""
+
+    def __init__(self, graph: DeclaredGraph, lines: Sequence[str], report: Report, start: int = 0) -> None:
+        self.graph, self.lines, self.report, self.start = graph, list(lines), report, start
+        if [block.line for block in report.blocks] != list(range(1, len(lines) + 1)):
+            raise BadText(1, f"the report has {len(report.blocks)} blocks, and the log {len(lines)} lines: it is of another log")
+        self.rounds: List[Round] = report.rounds
+        self.log = EventLog(graph, lines, [one.line for one in self.rounds])
+        self._need_fit()
+
+    def _need_fit(self) -> None:
+        """Refuses a report that is not of these lines and this graph, as far as their times and names show that."""
+        for here, event in zip(self.rounds, self.log.events):
+            if here.now != event.time:
+                raise BadText(here.line, "the report has another time for this line: it is of another log")
+            named = {member.lstrip("!") for one in here.ranked for member in one.set.split(",") if one.set != "-"}
+            named |= {name for one in here.ranked for name, _ in one.trace}
+            if not named <= self.graph.number_of.keys():
+                raise BadText(here.line, "the report names what the graph does not declare: it is of another graph")
+
+    @property
+    def last(self) -> Optional[Round]:
+        return self.rounds[-1] if self.rounds else None
+
+    def speech(self, set_text: str) -> Speech:
+        return Speech(self.graph, self.log, set_text, self.start)
+
+    def line(self, number: int) -> str:
+        """What a reader sees of a line of the log."""
+        said = self.lines[number - 1]
+        return shown(said[:MOST_SHOWN]) + ("…" if len(said) > MOST_SHOWN else "")
+
+    def set_count(self, k: int, doubt: int) -> int:
+        """How many sets of at most k members there are, of which at most so many are monitors."""
+        failures, monitors = len(self.graph.failures), len(self.graph.monitored)
+        return sum(comb(monitors, wrong) * comb(failures, size - wrong) for size in range(k + 1) for wrong in range(min(size, doubt) + 1))
+
+
+def subject_of(graph: str, log: str, report: Optional[str], terms: Sequence[str] = (), start: int = 0) -> Subject:
+    """Reads the files. Without a report it runs the program on them, with these words for its terms."""
+    declared, lines = graph_of(read_text(graph)), lines_of(read_text(log))
+    said = diagnosed(graph, log, terms) if report is None else read_text(report)
+    return Subject(declared, lines, read_report(said), start)
+
+
+def diagnosed(graph: str, log: str, terms: Sequence[str]) -> str:
+    """The report of the program, or NoReport with the line by which it ended."""
+    ended = run_program(["diagnose", *terms, *file_words(graph)], Path(log).read_bytes())
+    if ended.status != 0:
+        raise NoReport(ended.status, ended.line)
+    return text_of(ended.output)

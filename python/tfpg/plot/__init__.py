@@ -1,0 +1,1 @@
+"""A picture of a ranking over time."""

@@ -1,0 +1,107 @@
+"""Draws a ranking over time with matplotlib. The same report gives the same bytes."""
+
+from __future__ import annotations
+
+import io
+from typing import Any, Dict, List, Tuple
+
+import matplotlib
+
+matplotlib.use("svg")
+from matplotlib import pyplot  # noqa: E402
+from matplotlib.ticker import MultipleLocator  # noqa: E402
+
+from ..brief.subject import Subject  # noqa: E402
+from ..reading.sets import set_words  # noqa: E402
+from ..reading.spans import spans_at  # noqa: E402
+from ..saying.times import time_words  # noqa: E402
+
+MOST_SETS = 12
+SECOND, MINUTE, HOUR, DAY = 1000, 60_000, 3_600_000, 86_400_000
+TICKS = [number * unit for unit, numbers in ((1, (1, 10, 100)), (SECOND, (1, 5, 10, 30)), (MINUTE, (1, 5, 10, 30)), (HOUR, (1, 2, 6, 12)),
+                                             (DAY, (1, 7, 30, 365))) for number in numbers]
+MODE_COLOURS = ("#f2f2f2", "#dbe5f1", "#e8f1db", "#f6e7d8", "#ecdff0", "#fbf3cf")
+Points = List[Tuple[int, int, int]]  # of a set: the number of a round, its place and its cost
+
+
+def picture(subject: Subject) -> bytes:
+    """The picture as SVG."""
+    with matplotlib.rc_context({"svg.hashsalt": "tfpg", "svg.fonttype": "none", "font.size": 9, "font.family": "sans-serif"}):
+        figure, axes = pyplot.subplots(3, 1, sharex=True, figsize=(11, 7.5), layout="constrained")
+        _draw(subject, list(axes))
+        content = io.BytesIO()
+        figure.savefig(content, format="svg", metadata={"Date": None, "Title": "ranking over time"})
+        pyplot.close(figure)
+    return content.getvalue()
+
+
+def _draw(subject: Subject, axes: List[Any]) -> None:
+    places, costs, alarms = axes
+    points = _points(subject)
+    for number, (text, some) in enumerate(list(points.items())[:MOST_SETS]):
+        colour = f"C{number % 10}"
+        _draw_set(subject, places, [(at, place) for at, place, _ in some], colour, set_words(text))
+        _draw_set(subject, costs, [(at, cost) for at, _, cost in some], colour, "")
+    places.set_ylabel("place in the ranking")
+    places.yaxis.get_major_locator().set_params(integer=True)
+    lowest = max((place for some in points.values() for _, place, _ in some), default=1)
+    places.set_ylim(min(lowest, MOST_SETS) + 0.5, 0.5)
+    costs.set_ylabel("cost")
+    _draw_monitors(subject, alarms)
+    for here in axes:
+        _draw_modes(subject, here, here is places)
+    if places.lines:
+        places.legend(loc="center left", bbox_to_anchor=(1.0, 0.5), frameon=False)
+    alarms.xaxis.set_major_locator(MultipleLocator(_tick(subject.log.now)))
+    alarms.xaxis.set_major_formatter(lambda time, _: time_words(int(time)) if time >= 0 else "")
+    alarms.set_xlabel("time")
+
+
+def _draw_set(subject: Subject, axis: Any, points: List[Tuple[int, int]], colour: str, label: str) -> None:
+    """A line for each time that a set is ranked, up to the round that ranks it no longer, and a dot for each round."""
+    rounds, times, values = subject.rounds, [], []
+    for number, value in points:
+        following = rounds[min(number + 1, len(rounds) - 1)].now
+        times += [rounds[number].now, following, following]
+        values += [value, value, float("nan")]
+    axis.plot(times, values, "-", color=colour, label=label or None)
+    axis.plot([rounds[number].now for number, _ in points], [value for _, value in points], ".", color=colour)
+
+
+def _tick(now: int) -> int:
+    """The time between two marks on the axis, so that there are at most ten."""
+    return next((tick for tick in TICKS if now <= 10 * tick), max(1, now // 10))
+
+
+def _points(subject: Subject) -> Dict[str, Points]:
+    """The places and costs of each set that is ranked at some time, those that are ranked longest first."""
+    found: Dict[str, Points] = {}
+    for number, here in enumerate(subject.rounds):
+        for place, ranked in enumerate(here.ranked, 1):
+            found.setdefault(ranked.set, []).append((number, place, ranked.cost))
+    return dict(sorted(found.items(), key=lambda entry: (-len(entry[1]), entry[1][-1][1], entry[0])))
+
+
+def _draw_monitors(subject: Subject, axis: Any) -> None:
+    """A row for each monitored node, with its alarms and silences."""
+    graph = subject.graph
+    for row, node in enumerate(graph.monitored):
+        alarms = [event.time for event in subject.log.alarms.get(node, [])]
+        silences = [event.time for event in subject.log.events if subject.log.silences(event, node)]
+        axis.plot(alarms, [row] * len(alarms), "v", color="#b2182b", label="alarm" if row == 0 else None)
+        axis.plot(silences, [row] * len(silences), "o", color="#4d4d4d", fillstyle="none", label="silent" if row == 0 else None)
+    axis.set_yticks(range(len(graph.monitored)), [graph.name(node) for node in graph.monitored])
+    axis.set_ylim(len(graph.monitored) - 0.5, -0.5)
+    axis.set_ylabel("▼ alarm   ○ silent")
+
+
+def _draw_modes(subject: Subject, axis: Any, is_first: bool) -> None:
+    """The spans of the modes behind everything, with their names above the first axis."""
+    modes = subject.graph.modes
+    if not subject.rounds or len(modes) == 1:
+        return
+    for span in spans_at(subject.log.changes, subject.log.now):
+        axis.axvspan(span.lo, span.hi, color=MODE_COLOURS[span.mode % len(MODE_COLOURS)], zorder=0, linewidth=0)
+        if is_first:
+            axis.annotate(modes[span.mode], (span.lo, 1), xycoords=("data", "axes fraction"), xytext=(2, 3),
+                          textcoords="offset points", color="#505050", fontsize=8)

@@ -1,0 +1,1 @@
+"""Says in words what texts of tfpg say, in the words of the page."""
