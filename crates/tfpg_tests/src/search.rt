@@ -183,9 +183,9 @@ const SPENT: [Row; 2] = [
     },
 ];
 
-/// An alarm, and a tick after it. At the alarm the search splits on the rule that A has a cause, and in the first alternative F1 is at 20
-/// at the latest, 10 before A. At the tick no rule is violated, so that the second call adds no step: all that the facts change is that F2
-/// is not active up to 31.
+/// An alarm, and a tick after it. At the alarm the search splits on the rule that A has a cause. That A is later than 30, and that it is
+/// earlier, the alarm itself refutes: two steps more. In the third alternative F1 is at 20 at the latest, 10 before A. At the tick no rule
+/// is violated, so that the second call adds no step: all that the facts change is that F2 is not active up to 31.
 const TICKED: [Row; 2] = [
     Row {
         name: "an alarm is split on",
@@ -193,7 +193,7 @@ const TICKED: [Row; 2] = [
         member: Some(0),
         lines: &[b"30 alarm A"],
         result: Expected::After(
-            1,
+            3,
             &[
                 Activation { node: 0, time: 20 },
                 Activation { node: 2, time: 30 },
@@ -206,7 +206,7 @@ const TICKED: [Row; 2] = [
         member: Some(0),
         lines: &[b"30 alarm A", b"31 tick"],
         result: Expected::After(
-            1,
+            3,
             &[
                 Activation { node: 0, time: 20 },
                 Activation { node: 2, time: 30 },
