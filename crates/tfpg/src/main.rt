@@ -6,6 +6,16 @@
 //! ```text
 //! ./tfpg diagnose examples/pump.tfpg < examples/pump.log
 //! ```
+//!
+//! # Proved, and by which clause
+//!
+//! - The arguments after the first are the words, there is a file panel for each that names one, its line is the one of
+//!   its kind, and the code is that of the end: `words_after_name`, `panels_of`, `FilePanel::line_of`.
+//! - `End::code` of `tfpg_run`.
+//!
+//! # Not proved
+//!
+//! - What real files and streams hold.
 #![tactic(auto)]
 
 ghost use Rattle.std.specs.Prelude.{◌≡◌, ◌<◌, map, IfOk};

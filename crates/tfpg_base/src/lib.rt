@@ -34,6 +34,17 @@
 //!     // words.as_slice() is [b"5", b"alarm", b"A"]
 //! }
 //! ```
+//!
+//! # Proved, and by which clause
+//!
+//! - The lines of all bytes taken, each once, in order: `Lines::next`.
+//! - Words, names, numbers: `Words::of`, `read_name`, `read_number`.
+//! - A source, a sink and a shelf in memory give, keep and fail exactly as they say: `MemorySource::take`,
+//!   `MemorySink::put`, `MemoryShelf::fetch`.
+//!
+//! # Not proved
+//!
+//! - Code that calls them through the traits knows the clauses of the traits alone.
 #![tactic(auto)]
 
 mod activation;

@@ -14,6 +14,22 @@
 //! report 2 k 2 doubt 0 budget 1000
 //! refused 1 BadLine
 //! ```
+//!
+//! # Proved, and by which clause
+//!
+//! - The rounds and the log after one more block follow from those before it: law `a_report_goes_on_block_by_block`.
+//! - Equal reports say the same: law `equal_reports_say_the_same`.
+//! - A report of at most 2^32 bytes has lines that can be read: law `the_lines_of_a_report_can_be_read`.
+//! - A report whose lines can be read has no cause: law `a_report_has_no_cause`.
+//! - Lines have at most one cause, and those of a report of at most 2^32 bytes none: law
+//!   `lines_have_at_most_one_cause`.
+//! - Lines that are accepted to the end are those of a report: law `accepted_lines_are_those_of_a_report`.
+//! - A round passes each test exactly if it is right: law `a_round_passes_if_it_is_right`.
+//! - The judge of reports: `Judge::take`, `Judge::end`.
+//!
+//! # Not proved
+//!
+//! - That the number in a `pick` and the length of a `cycle` keep a limit in a report of more bytes.
 #![tactic(auto)]
 
 mod block_judge;

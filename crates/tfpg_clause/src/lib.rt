@@ -23,6 +23,15 @@
 //!     }
 //! }
 //! ```
+//!
+//! # Proved, and by which clause
+//!
+//! - A refutation leaves no trace, and numbers that meet all facts and clauses give a trace: its laws.
+//! - The first clause violated: `violated`, `first`, `rules`.
+//!
+//! # Not proved
+//!
+//! - The cost of `violated`.
 #![tactic(auto)]
 
 mod alternative;

@@ -28,6 +28,17 @@
 //! adding constraints one by one). `docs/difference-systems.md` says why this is right.
 //!
 //! No call but [`System::new`], [`System::copy`] and [`System::reserve`] takes memory.
+//!
+//! # Proved, and by which clause
+//!
+//! - A bound is kept or a negative cycle named: `System::push`, `raise`, `lower`, `adds`.
+//! - The latest solution: `solution`, `latest`.
+//! - A copy demands the same: `System::copy`.
+//! - Each call that adds is counted: `counted`.
+//!
+//! # Not proved
+//!
+//! - How many steps a call takes in all.
 #![tactic(auto)]
 
 mod bounds;

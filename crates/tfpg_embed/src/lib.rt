@@ -6,6 +6,14 @@
 //! What opens, takes a line, reports or judges calls `tfpg_run`, and its clause says what came of that.
 //!
 //! [`laws`] says that the statuses are the numbers that the header has.
+//!
+//! # Proved, and by which clause
+//!
+//! - The rows of the library for C in `docs/promises.md`: what each call answers, writes and leaves.
+//!
+//! # Not proved
+//!
+//! - That a C program passes what the header asks for.
 #![tactic(auto)]
 
 mod answer;

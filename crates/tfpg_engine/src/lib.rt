@@ -11,6 +11,14 @@
 //!     Told::Refused(refusal) => {} // nothing has changed
 //! }
 //! ```
+//!
+//! # Proved, and by which clause
+//!
+//! - An accepted line brings the round of the whole log: `Engine::event`, `brings`, `refused`, and how many counted
+//!   calls that takes: `work`, `counted`.
+//! - After its end it stays as it is: `stays`.
+//! - `Engine::new`, `too_many`.
+//! - Which search is lent, and that it can go on: `Engine::search`.
 #![tactic(auto)]
 
 mod counts;

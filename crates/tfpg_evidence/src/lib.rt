@@ -13,6 +13,13 @@
 //! let reasons = vec![in alloc; Reason::Unreached { node: 2, horizon: 30 }, Reason::Upto { event: 1 }]?;
 //! let step = Step::Cycle(Reasons::from_vec(reasons));
 //! ```
+//!
+//! # Proved, and by which clause
+//!
+//! - Which status ranks: `Status::is_ranked`.
+//! - The finding of a number: `finding_numbered`.
+//! - A round is of its graph: `IsRoundOf`, which the law `a_round_is_of_its_graph` of `tfpg_hyp` carries.
+//! - A copy is equal: `Round::copy`.
 #![tactic(auto)]
 
 mod clause_name;

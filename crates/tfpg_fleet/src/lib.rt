@@ -12,6 +12,17 @@
 //!     FleetTold::Of { vehicle, line, told } => {} // what `30 alarm LowFlow` brings to the vehicle north
 //! }
 //! ```
+//!
+//! # Proved, and by which clause
+//!
+//! - Each vehicle of a stream is diagnosed by its own lines, as if alone: `Fleet::line`, `brings`, `stray`, `others`,
+//!   `represents`.
+//! - `Fleet::new`, `too_many`.
+//! - Its laws.
+//!
+//! # Not proved
+//!
+//! - Time, and that one vehicle can use up the memory of all.
 #![tactic(auto)]
 
 mod belonging;

@@ -18,6 +18,13 @@
 //! assert_eq!(rt; graph.find(b"A"), Some(1));
 //! assert!(rt; reached.has(1));
 //! ```
+//!
+//! # Proved, and by which clause
+//!
+//! - A text is read exactly, or refused with its first fault: `read`, `spelled`, `valid`, `exact`, `refused`, `faulty`.
+//! - Its canonical text: `write`.
+//! - Reach: `Graph::reach`.
+//! - That a text spells a valid graph or has a first fault: its laws.
 #![tactic(auto)]
 
 mod cause;

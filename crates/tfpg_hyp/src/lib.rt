@@ -21,6 +21,15 @@
 //!     };
 //! }
 //! ```
+//!
+//! # Proved, and by which clause
+//!
+//! - Each hypothesis of at most `k` members and `doubt` monitors once: `Table::new`, `table`, `too_many`.
+//! - What statuses say of hypotheses, and that the ranking order is total: its laws.
+//!
+//! # Not proved
+//!
+//! - That cost by rarity ranks what is likely first.
 #![tactic(auto)]
 
 mod counting;

@@ -13,6 +13,12 @@
 //! // {"edges":[{"from":"F","max":3,"min":1,"modes":["N"],"to":"A"}],"modes":["N"],
 //! // "nodes":[{"kind":"failure","name":"F","rarity":1},{"kind":"or","lag":0,"name":"A"}]}
 //! ```
+//!
+//! # Proved, and by which clause
+//!
+//! - A graph from JSON, exactly, or its first fault: `read_graph`, `spelled`, `valid`, `exact`, `refused`, `faulty`.
+//! - The line of a graph, and of a round: `write_graph`, `write_round`.
+//! - The way back: law `a_written_graph_is_read_back`.
 #![tactic(auto)]
 
 pub mod laws;

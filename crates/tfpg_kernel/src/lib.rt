@@ -22,6 +22,11 @@
 //!     }
 //! }
 //! ```
+//!
+//! # Proved, and by which clause
+//!
+//! - Closed, partial or bad, exactly: `Checker::take`, `closed`, `partial`, `bad`, `no_trace`.
+//! - Unchanged where memory ran out: `Checker::reserve`, `err`, `full`.
 #![tactic(auto)]
 
 mod chain;

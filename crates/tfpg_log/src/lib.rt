@@ -20,6 +20,16 @@
 //! log.offer(&graph, b"4 tick")?; // Offered::Refused(Refusal::TimeBack { last: 5 })
 //! log.now(); // 5
 //! ```
+//!
+//! # Proved, and by which clause
+//!
+//! - A line is accepted or refused as `reply_to` says: `Log::offer`.
+//! - What the definitions find as spans, windows and ages are the maximal runs and the greatest ages: its laws.
+//!
+//! # Not proved
+//!
+//! - That `reply_to` is the right rule.
+//! - It is a definition, held against worked examples.
 #![tactic(auto)]
 
 mod active_modes;

@@ -14,6 +14,11 @@
 //!     // lost.panel was lost at the round of the number lost.round
 //! }
 //! ```
+//!
+//! # Proved, and by which clause
+//!
+//! - Who is told a round, and who is lost: `Desk::tell`, `told`.
+//! - Rounds in turn: laws `a_desk_is_told_round_by_round`, `the_losses_of_a_round_rise`.
 #![tactic(auto)]
 
 mod desk;

@@ -15,6 +15,15 @@
 //!     Outlook::Unsettled { bound, .. } => {} // 1,000 splits were not enough to say whether it is active by the bound
 //! }
 //! ```
+//!
+//! # Proved, and by which clause
+//!
+//! - A probed log says what it is made for: `probed`, `explains`.
+//! - Least times with their evidence: `forecast`.
+//!
+//! # Not proved
+//!
+//! - How many searches a forecast makes.
 #![tactic(auto)]
 
 mod events_log;

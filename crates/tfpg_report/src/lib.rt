@@ -21,6 +21,12 @@
 //! refused(1, RefusedLine::TooLong, &mut text)?;
 //! assert_eq!(rt; text.as_slice(), b"report 2 k 1 doubt 0 budget 1000\nrefused 1 TooLong\n".as_slice());
 //! ```
+//!
+//! # Proved, and by which clause
+//!
+//! - The text of each block, byte for byte: `head`, `refused`, `render`.
+//! - The lines of a report and its blocks, read exactly: `read_report_line`, `BlockReader::take`.
+//! - What is written of a round, read back: law `a_rendered_round_is_read_back`.
 #![tactic(auto)]
 
 mod block_reader;

@@ -12,6 +12,16 @@
 //! // The words `diagnose pump.tfpg`, over a shelf that has the graph, and an input that has a log of it.
 //! let end = run(alloc, &words, &mut shelf, &mut input, &mut out, &mut desk, &mut work);
 //! ```
+//!
+//! # Proved, and by which clause
+//!
+//! - The rows of the program in `docs/promises.md`: `run`, `ends`, `completes`, `refuses`, `rechecks`, `work`, `desk`,
+//!   `asks`.
+//! - The lines of file panels: `panel_line`.
+//!
+//! # Not proved
+//!
+//! - That a run does not run out of memory.
 #![tactic(auto)]
 
 mod ask;

@@ -16,6 +16,17 @@
 //!     Found::Spent => {} // 1,000 splits were not enough
 //! }
 //! ```
+//!
+//! # Proved, and by which clause
+//!
+//! - A trace, a refutation or a spent budget, over all rounds: `Search::round`, `searched`, `enough`, `seen`.
+//! - A copy is equal: `Search::copy`.
+//! - How many calls of its system a round makes: `work`, `counted`.
+//! - One latest solution at a leaf, and which trees are unsettled: its laws.
+//!
+//! # Not proved
+//!
+//! - What one call of the system costs.
 #![tactic(auto)]
 
 mod add_facts;

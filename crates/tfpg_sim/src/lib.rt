@@ -12,6 +12,16 @@
 //! let simulated = simulate(alloc, &graph, b"5 start ValveStuck\n40 stop\n", 1)?;
 //! let log = simulated.log; // its lines are what the monitors write
 //! ```
+//!
+//! # Proved, and by which clause
+//!
+//! - The simulation of a script, accepted line by line and explained: `simulate`, `simulated`, `accepted`, `explained`,
+//!   `fault`.
+//! - Valid graphs: `generate`, `graph`, `valid`, `script`.
+//!
+//! # Not proved
+//!
+//! - That drawn systems are like real ones.
 #![tactic(auto)]
 
 mod alarms;

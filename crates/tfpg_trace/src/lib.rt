@@ -13,6 +13,11 @@
 //!     fault => {} // something else is wrong with it first
 //! }
 //! ```
+//!
+//! # Proved, and by which clause
+//!
+//! - A trace is said to explain a log exactly where it does, else its first fault is named: `explains`, `verdict`,
+//!   `yes`.
 #![tactic(auto)]
 
 mod ages;

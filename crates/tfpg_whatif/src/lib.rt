@@ -18,6 +18,17 @@
 //! }
 //! let questions = questions(alloc, &engine, &among, 1_000, &mut work)?; // the most useful first
 //! ```
+//!
+//! # Proved, and by which clause
+//!
+//! - What a further line would show, each outcome with its evidence: `ask`, `outcomes`, `keeps`, `foresee`, `refused`,
+//!   `enough`.
+//! - The questions at now, counted and in order: `questions`, `foresee`, `refused`, `enough`.
+//! - What both say of the rounds to come: its laws.
+//!
+//! # Not proved
+//!
+//! - How many counted calls they make.
 #![tactic(auto)]
 
 mod answer;

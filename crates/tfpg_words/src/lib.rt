@@ -13,6 +13,10 @@
 //!     _ => {}
 //! }
 //! ```
+//!
+//! # Proved, and by which clause
+//!
+//! - The words mean one command, with its panels, or have their first cause: `plan`.
 #![tactic(auto)]
 
 mod command;
