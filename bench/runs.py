@@ -5,7 +5,7 @@
 
 A run is a block of code whose first line begins with `$ `. Each such line is a command, and what follows is what it writes, where `...`
 stands for any lines. All runs of a document are made in one folder, one after the other, with the examples and the page in it. A block
-that begins with `tfpg ` is a graph: the file that the next command names and that is not there.
+that begins with `tfpg ` is a graph: the file that its second line, a comment, names.
 
 Lines of `./tfpg` itself, which say that a trial answers, are left out. Runs from C are compared by `embed.sh`. It needs `jq` and Graphviz.
 """
@@ -19,6 +19,7 @@ from pathlib import Path
 TOP = Path(__file__).resolve().parent.parent
 DOCUMENTS = ["README.md", "docs/commands.md", "docs/modelling.md", "examples/README.md"]
 BLOCK = re.compile(r"^( *)```\w*\n(.*?)^ *```$", re.M | re.S)
+GRAPH = re.compile(r"tfpg \d\n# ([\w-]+\.tfpg)\n")
 
 
 def blocks_of(document):
@@ -49,17 +50,12 @@ def is_shown(text, shown):
 
 def differences(document, folder):
     """The commands of a document that write something else than is shown."""
-    graph = ""
     for block in blocks_of(document):
-        if block.startswith("tfpg "):
-            graph = block
+        if graph := GRAPH.match(block):
+            (folder / graph[1]).write_text(block)
         if not block.startswith("$ "):
             continue
         for command, shown in runs_of(block):
-            for name in re.findall(r"[\w/-]+\.tfpg", command):
-                if graph and f"> {name}" not in command and not (folder / name).exists():
-                    (folder / name).write_text(graph)
-                    graph = ""
             if not is_shown(written(command, folder), shown):
                 yield command
 
