@@ -25,8 +25,10 @@
 extern "C" {
 #endif
 
-/* How a call ended. Where more than one cause holds, any of them may be said. The numbers up to 8 are those with which the program ends;
- * 5 and 6, a failed read and a failed write, are not of a call. */
+/* How a call ended. Where more than one cause holds, the first one is said, in the order of the program: a number out of its range, a fault
+ * of the graph, too many hypotheses, a log that is too long. `tfpg_check` says first that a log is too long, then a fault of the graph, and
+ * then what is wrong with the report. Memory may run out before any of these is found. The numbers up to 8 are those with which the program
+ * ends; 5 and 6, a failed read and a failed write, are not of a call. */
 enum {
     /* It is done. */
     TFPG_DONE = 0,
@@ -39,7 +41,8 @@ enum {
     TFPG_BAD_GRAPH = 3,
     /* There are more than 4,096 hypotheses: `count_high` * 2^64 + `count`. */
     TFPG_TOO_MANY_HYPOTHESES = 4,
-    /* A text is too long. `tfpg_report` takes a log of at most 2^32 bytes, `tfpg_check` one of at most 2^24, and a report of 2^32. */
+    /* A text is too long. `tfpg_report` takes a log of at most 2^32 bytes, `tfpg_check` one of at most 2^24, and a report of 2^32. Of a
+     * longer report it may find another cause first. */
     TFPG_TOO_MUCH_INPUT = 7,
     /* Memory ran out. */
     TFPG_NO_MEMORY = 8,

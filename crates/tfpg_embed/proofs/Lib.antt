@@ -1,4 +1,5 @@
--- A box of an open session, opening one, and the answers of the calls of a session.
+-- A box of an open session, the answers of the calls of a session, and the laws.
 pub mod BoxedSession
-pub mod Opening
 pub mod SessionCalls
+pub mod OneCause
+pub mod TextOfLines

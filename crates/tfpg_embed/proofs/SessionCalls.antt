@@ -1,15 +1,17 @@
 -- The answers of the calls of a session.
-use Rattle.std.proofs.Common.{◌≡◌, ℕ, ◌++◌, ◌∷◌, [], List, length, Option, Some, None, Result, Ok, Err, refl, sym, ap, subst₂, ◌∙◌}
+use Rattle.std.proofs.Common.{◌≡◌, ◌⊎◌, ℕ, ◌++◌, ◌∷◌, [], List, length, Option, Some, None, Result, Ok, Err, refl, sym, ap, subst, subst₂, ◌∙◌, inl, inr, ⊎_elim}
 use Rattle.std.specs.Prelude.{◌↔◌, is_ok}
 use Rattle.std.proofs.lemmas.Bool.{false≢true}
 use Rattle.tfpg_base.specs.declared.terms.Terms.{Terms}
 use Rattle.tfpg_graph.specs.Graph.{Tfpg}
+use Rattle.tfpg_evidence.specs.declared.round.Round.{Round}
+use Rattle.tfpg_engine.specs.EngineState.{EngineState, EngineRepresents}
 use Rattle.tfpg_engine.specs.declared.told.EventFault.{EventFault}
 use Rattle.tfpg_engine.specs.declared.told.EventFault.TheVariants as event
 use Rattle.tfpg_run.specs.declared.texts.fault.OpenFault.{OpenFault}
 use Rattle.tfpg_run.specs.declared.texts.fault.OpenFault.TheVariants as opening
 use Rattle.tfpg_run.specs.texts.Opening.{CanOpen, IsOpenFault}
-use Rattle.tfpg_run.specs.texts.Sessions.{SessionRepresents}
+use Rattle.tfpg_run.specs.texts.Sessions.{CountsBlock, SessionRepresents}
 use Rattle.tfpg_embed.specs.declared.answer.TfpgAnswer.{TfpgAnswer}
 use Rattle.tfpg_embed.specs.declared.session.open_session.OpenSession.{OpenSession}
 use Rattle.tfpg_embed.specs.declared.status.TheConstants.{DONE, ENDED}
@@ -29,17 +31,30 @@ error_or other (Err error) = error
 same_error : {T U E : Type 0} (error other : E) → ◌≡◌ {A = Result T E} (Err error) (Err other) → ◌≡◌ {A = Result U E} (Err error) (Err other)
 same_error error other same = ap Err (ap (error_or error) same)
 
+-- what is Ok is no fault
+pub ok_refuses : {T E : Type 0} (value : T) (why memory : E) → (◌≡◌ {A = Result T E} (Ok value) (Err why)) ⊎ (◌≡◌ {A = Result T E} (Ok value) (Err memory)) → ⊥
+ok_refuses value why memory either = ⊎_elim (ok_is_no_error value why) (ok_is_no_error value memory) either
+
+-- a fault that is one of two is one of two
+pub err_refuses : {T E : Type 0} (fault why memory : E) → (◌≡◌ {A = Result T E} (Err fault) (Err why)) ⊎ (◌≡◌ {A = Result T E} (Err fault) (Err memory)) → (fault ≡ why) ⊎ (fault ≡ memory)
+err_refuses fault why memory either = ⊎_elim (λ same. inl (ap (error_or fault) same)) (λ same. inr (ap (error_or fault) same)) either
+
 module _ (line : List ℕ) (old new : Option OpenSession) (answer : TfpgAnswer) where
   -- a line that has a block
   pub line_taken : (before after : OpenSession) (count : ℕ) → Some before ≡ old → new ≡ Some after
       → ((graph : Tfpg) (terms : Terms) (lines : List (List ℕ)) (bytes : List ℕ) → SessionRepresents graph terms lines bytes before.session
       → SessionRepresents graph terms (lines ++ line ∷ []) (bytes ++ after.text.items) after.session)
+      → ((rounds : List Round) → EngineRepresents before.session.engine rounds
+      → CountsBlock before.session.engine rounds line after.text.items before.session.calls after.session.calls)
       → count ≡ length after.text.items → (◌≡◌ {A = Result ℕ EventFault} (Ok count) (Err event.Ended)) ↔ (before.session.next ≡ None)
       → answer ≡ counted DONE count → AnswersLine line old new answer
-  line_taken before after count had has block counts ended answer_is =
+  line_taken before after count had has block within counts ended answer_is =
       subst₂ (λ (o n : Option OpenSession). AnswersLine line o n answer) had (sym has) (record {
         made = Ok after.text.items;
         block = block;
+        work = λ engine rounds same represents.
+            subst (λ (e : EngineState). CountsBlock e rounds line after.text.items before.session.calls after.session.calls) same
+            (within rounds (subst (λ (e : EngineState). EngineRepresents e rounds) (sym same) represents));
         kept = refl;
         ended = (λ same. absurd (ok_is_no_error after.text.items event.Ended same), λ none. absurd (ok_is_no_error count event.Ended (ended.1 none)));
         closed = tt;
@@ -54,6 +69,7 @@ module _ (line : List ℕ) (old new : Option OpenSession) (answer : TfpgAnswer) 
       subst₂ (λ (o n : Option OpenSession). AnswersLine line o n answer) had (sym has) (record {
         made = Err fault;
         block = λ graph terms lines bytes represents. tt;
+        work = λ engine rounds same represents. tt;
         kept = tt;
         ended = (λ same. ended.0 (same_error fault event.Ended same), λ none. same_error fault event.Ended (ended.1 none));
         closed = refl;
@@ -66,6 +82,7 @@ module _ (line : List ℕ) (old new : Option OpenSession) (answer : TfpgAnswer) 
       subst₂ (λ (o n : Option OpenSession). AnswersLine line o n answer) had (sym has) (record {
         made = Err event.Ended;
         block = λ graph terms lines bytes represents. tt;
+        work = λ engine rounds same represents. tt;
         kept = tt;
         ended = (λ same. tt, λ none. refl);
         closed = refl;
@@ -75,25 +92,29 @@ module _ (line : List ℕ) (old new : Option OpenSession) (answer : TfpgAnswer) 
 module _ (graph : List ℕ) (terms : Terms) (new : Option OpenSession) (answer : TfpgAnswer) where
   -- a session that is opened
   pub opened : (made : OpenSession) (text : List ℕ) → new ≡ Some made → IsNewlyOpen graph terms made → text ≡ made.text.items
+      → ((why : OpenFault) → (why ≡ opening.NoMemory → ⊥) → IsOpenFault graph terms why → ⊥)
       → answer ≡ counted DONE (length text) → AnswersOpen graph terms new answer
-  opened made text has is text_is answer_is =
+  opened made text has is text_is none answer_is =
       subst₂ (λ (n : Option OpenSession) (t : List ℕ). answer ≡ counted DONE (length t) → AnswersOpen graph terms n answer) (sym has) (sym text_is) (λ answered. record {
         made = Ok made.text.items;
         opened = (refl, is);
         fault = tt;
         closed = tt;
         completes = λ can. tt;
+        refuses = λ why real stands. absurd (none why real stands);
         answer_is = answered;
       }) answer_is
 
   -- one that is not
   pub not_opened : (fault : OpenFault) → new ≡ None → IsOpenFault graph terms fault → (CanOpen graph terms → fault ≡ opening.NoMemory)
+      → ((why : OpenFault) → (why ≡ opening.NoMemory → ⊥) → IsOpenFault graph terms why → (fault ≡ why) ⊎ (fault ≡ opening.NoMemory))
       → answer ≡ answer_of_open_fault fault → AnswersOpen graph terms new answer
-  not_opened fault has is completes answer_is = record {
+  not_opened fault has is completes refuses answer_is = record {
     made = Err fault;
     opened = tt;
     fault = is;
     closed = has;
     completes = completes;
+    refuses = λ why real stands. ⊎_elim (λ same. inl (ap Err same)) (λ none. inr (ap Err none)) (refuses why real stands);
     answer_is = answer_is;
   }

@@ -1,4 +1,5 @@
--- The numbers of answers, and the room of the caller.
+-- The numbers of causes, answers, and the room of the caller.
+pub mod Causes
 pub mod Answers
 pub mod Rooms
 -- What the calls over whole texts come to.

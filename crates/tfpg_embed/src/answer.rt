@@ -1,7 +1,8 @@
 //! What a call answers, as C sees it.
 
 ghost use Rattle.std.specs.Prelude.{◌≡◌, ◌%◌, ◌/◌, ◌^◌};
-ghost use Rattle.tfpg_embed.specs.Answers.{answer_of_check_fault, answer_of_event_fault, answer_of_open_fault, answer_of_report_fault, answer_with, check_cause_number, counted, graph_cause_number, graph_refused, report_refused, too_many};
+ghost use Rattle.tfpg_embed.specs.Answers.{answer_of_check_fault, answer_of_event_fault, answer_of_open_fault, answer_of_report_fault, answer_with, counted, graph_refused, refused, too_many};
+ghost use Rattle.tfpg_embed.specs.Causes.{check_cause_number, graph_cause_number};
 
 use crate::status::{
     BAD_GRAPH, ENDED, NO_MEMORY, NOT_ACCEPTED, OUT_OF_RANGE, TOO_MANY_HYPOTHESES, TOO_MUCH_INPUT,
@@ -53,30 +54,24 @@ pub(crate) fn with_count(status: u32, count: u64) -> TfpgAnswer
     }
 }
 
-/// The answer for a graph that is refused.
-fn of_graph_fault(fault: GraphFault) -> TfpgAnswer
-    ensures { result ≡ graph_refused fault }
+/// The answer with this status, for what is refused with this cause at this line.
+fn with_cause(status: u32, cause: u32, line: u64) -> TfpgAnswer
+    ensures { result ≡ refused status cause line }
 {
     TfpgAnswer {
-        status: BAD_GRAPH,
-        cause: number_of_graph_cause(fault.cause),
-        line: fault.line,
+        status,
+        cause,
+        line,
         count: 0,
         count_high: 0,
     }
 }
 
-/// The answer for a report that is refused.
-fn of_refused_line(line: u64, cause: CheckCause) -> TfpgAnswer
-    ensures { result ≡ report_refused line cause }
+/// The answer for a graph that is refused.
+fn of_graph_fault(fault: GraphFault) -> TfpgAnswer
+    ensures { result ≡ graph_refused fault }
 {
-    TfpgAnswer {
-        status: NOT_ACCEPTED,
-        cause: number_of_check_cause(cause),
-        line,
-        count: 0,
-        count_high: 0,
-    }
+    with_cause(BAD_GRAPH, number_of_graph_cause(fault.cause), fault.line)
 }
 
 /// The answer for so many hypotheses.
@@ -125,7 +120,9 @@ pub(crate) fn of_check_fault(fault: CheckTextsFault) -> TfpgAnswer
 {
     match fault {
         CheckTextsFault::Graph(fault) => of_graph_fault(fault),
-        CheckTextsFault::NotAccepted { line, cause } => of_refused_line(line, cause),
+        CheckTextsFault::NotAccepted { line, cause } => {
+            with_cause(NOT_ACCEPTED, number_of_check_cause(cause), line)
+        }
         CheckTextsFault::TooManyHypotheses { count } => of_hypotheses(count),
         CheckTextsFault::TooMuchInput => plain(TOO_MUCH_INPUT),
         CheckTextsFault::NoMemory => plain(NO_MEMORY),

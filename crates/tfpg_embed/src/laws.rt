@@ -1,17 +1,31 @@
 //! Laws about the definitions of this crate: public functions that do nothing.
 
-ghost use Rattle.std.specs.Prelude.{◌≡◌};
+ghost use Rattle.std.specs.Prelude.{◌≡◌, ◌∷◌, [], ℕ, List, All, flat_map};
+ghost use Rattle.tfpg_base.specs.Lines.{HasNoLineEnd, lines_of, with_line_end};
+ghost use Rattle.tfpg_base.specs.declared.terms.Terms.{Terms};
+ghost use Rattle.tfpg_graph.specs.Graph.{Tfpg};
+ghost use Rattle.tfpg_graph.specs.declared.cause.GraphCause.{GraphCause};
+ghost use Rattle.tfpg_check.specs.declared.cause.CheckCause.{CheckCause};
+ghost use Rattle.tfpg_run.specs.texts.Opening.{GivesGraphOf};
+ghost use Rattle.tfpg_run.specs.texts.Reports.{IsReportOfTexts};
+ghost use Rattle.tfpg_run.specs.texts.Sessions.{SessionRepresents, SessionState};
+ghost use Rattle.tfpg_embed.specs.Causes.{check_cause_number, graph_cause_number};
 ghost use Rattle.tfpg_embed.specs.declared.status.TheConstants.{DONE, NOT_ACCEPTED, OUT_OF_RANGE, BAD_GRAPH, TOO_MANY_HYPOTHESES, TOO_MUCH_INPUT, NO_MEMORY, ROOM_TOO_SMALL, ENDED};
 
-/// A law: the statuses are these numbers. `include/tfpg.h` has the same, and `bench/embed.sh` compares them.
-pub fn statuses_are_the_numbers_of_the_header()
-    ensures done { DONE ≡ 0 }
-    ensures not_accepted { NOT_ACCEPTED ≡ 1 }
-    ensures out_of_range { OUT_OF_RANGE ≡ 2 }
-    ensures bad_graph { BAD_GRAPH ≡ 3 }
-    ensures too_many_hypotheses { TOO_MANY_HYPOTHESES ≡ 4 }
-    ensures too_much_input { TOO_MUCH_INPUT ≡ 7 }
-    ensures no_memory { NO_MEMORY ≡ 8 }
-    ensures room_too_small { ROOM_TOO_SMALL ≡ 9 }
-    ensures ended { ENDED ≡ 10 }
+/// A law: the statuses are these numbers, and a number says one cause of a graph, and one of a report. The numbers of causes are the rows of
+/// `graph_cause_number` and `check_cause_number`. `include/tfpg.h` has all of them once more, and `bench/embed.sh` compares them.
+pub fn each_number_says_one_thing()
+    ensures statuses { DONE ∷ NOT_ACCEPTED ∷ OUT_OF_RANGE ∷ BAD_GRAPH ∷ TOO_MANY_HYPOTHESES ∷ TOO_MUCH_INPUT ∷ NO_MEMORY ∷ ROOM_TOO_SMALL ∷ ENDED ∷ []
+        ≡ 0 ∷ 1 ∷ 2 ∷ 3 ∷ 4 ∷ 7 ∷ 8 ∷ 9 ∷ 10 ∷ [] }
+    ensures graph_causes { (cause other : GraphCause) → graph_cause_number cause ≡ graph_cause_number other → cause ≡ other }
+    ensures report_causes { (cause other : CheckCause) → check_cause_number cause ≡ check_cause_number other → cause ≡ other }
+{}
+
+/// A law: lines that have no line end inside are the lines of the text in which each is followed by one. So what a session returned for them,
+/// its first line and then the blocks, is a report of that text.
+pub fn a_session_of_lines_is_of_their_text()
+    ensures lines { (lines : List (List ℕ)) → All HasNoLineEnd lines → lines_of (flat_map with_line_end lines) ≡ lines }
+    ensures report { (graph_text : List ℕ) (graph : Tfpg) (terms : Terms) (lines : List (List ℕ)) (bytes : List ℕ) (session : SessionState) →
+        GivesGraphOf graph_text graph → SessionRepresents graph terms lines bytes session → All HasNoLineEnd lines →
+        IsReportOfTexts graph_text terms (flat_map with_line_end lines) bytes }
 {}

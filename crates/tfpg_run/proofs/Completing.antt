@@ -1,6 +1,8 @@
 -- A run ends well where nothing stands in its way.
-use Rattle.std.proofs.Common.{◌≡◌, ℕ, ◌+◌, ◌<◌, ◌≤◌, Bool, true, false, List, [], ◌++◌, length, take, drop, Option, Some, IfSome, Result, Ok, Err, refl, sym, ap, subst, ◌∙◌, inl, inr, ⊎_elim, arith, append-nil}
-use Rattle.std.specs.Prelude.{OnOk, IfErr}
+use Rattle.std.proofs.Common.{◌≡◌, ℕ, ◌+◌, ◌<◌, ◌≤◌, Bool, true, false, List, [], ◌∷◌, ◌++◌, length, take, drop, Option, Some, IfSome, Result, Ok, Err, refl, sym, ap, subst, subst₂, ◌∙◌, inl, inr, arith, append-nil}
+use Rattle.std.specs.Prelude.{All, OnOk, IfErr}
+use Rattle.std.proofs.lemmas.List.Elements.{All-cons, All-nil}
+use Rattle.tfpg_base.proofs.lists.Elements.{All-at}
 use Rattle.std.proofs.lemmas.List.{length-append, take-append-drop}
 use Rattle.std.proofs.lemmas.Option.{same_Some}
 use Rattle.tfpg_base.specs.declared.terms.Terms.{Terms}
@@ -10,14 +12,13 @@ use Rattle.tfpg_base.specs.Lines.{lines_of}
 use Rattle.tfpg_graph.specs.declared.cause.GraphFault.{GraphFault}
 use Rattle.tfpg_graph.specs.Declares.{declared_by}
 use Rattle.tfpg_graph.specs.Graph.{Tfpg}
-use Rattle.tfpg_hyp.specs.Hypotheses.{HasHypotheses}
-use Rattle.tfpg_hyp.specs.declared.limits.TheConstants.{MAX_HYPOTHESES}
 use Rattle.tfpg_graph.specs.Text.{Spells}
 use Rattle.tfpg_graph.specs.Valid.{IsValid}
 use Rattle.tfpg_graph.specs.Faults.{IsFirstFault}
 use Rattle.tfpg_graph.proofs.lemmas.reading.faults.NoFault.{Spells-clean}
 use Rattle.tfpg_json.specs.GraphText.{IsJsonFault, SpellsAsJson}
 use Rattle.tfpg_log.specs.Log.{Logbook}
+use Rattle.tfpg_log.specs.LogOfLines.{log_of_lines}
 use Rattle.tfpg_report.specs.Blocks.{Block}
 use Rattle.tfpg_check.specs.declared.cause.CheckCause.{CheckCause}
 use Rattle.tfpg_check.specs.Causes.{AreReportLines, IsCause, DiagnosisProblem}
@@ -42,27 +43,26 @@ use Rattle.tfpg_run.specs.declared.fault.OutputFault.{OutputFault}
 use Rattle.tfpg_run.specs.declared.fault.OutputFault.TheVariants as output
 use Rattle.tfpg_run.specs.declared.fault.QuestionsFault.{QuestionsFault}
 use Rattle.tfpg_run.specs.declared.fault.QuestionsFault.TheVariants as questions
-use Rattle.tfpg_run.specs.Completeness.{CanAsk, CanCheck, CanConvert, CanDiagnose, CanExplain, CanJudge, CanRefuse, CanSimulate, CanBeDone, NothingFails, IsShort, IsCompleted, IsRefusedFor, CanFleet, CanPredict}
+use Rattle.tfpg_run.specs.Completeness.{CanBeDone, CanRefuse, HasLines, IsCompleted, IsRefusedFor, IsShort, NothingFails, ServesGraph, ServesGraphAndText, TakesProbe}
 use Rattle.tfpg_run.specs.EndsOf.{end_of_fetch_fault, end_of_stream_fault, end_of_check_fault, end_of_explain_fault, end_of_simulate_fault, end_of_output_fault, end_of_questions_fault, end_of_result}
-use Rattle.tfpg_run.specs.Fetch.{HasFile, IsTooLong, GivesGraph, GivesGraphBy, GivesGraphAndText, HasFaultyGraphBy, IsFetchFaultBy, IsFilesFault, LacksGraphOrText}
+use Rattle.tfpg_run.specs.Fetch.{HasFile, IsTooLong, GivesGraph, GivesGraphBy, GivesGraphAndText, HasFaultyGraphBy, IsFetchFaultBy, LacksFiles}
 use Rattle.tfpg_run.specs.generate.Generating.{HasSummary}
 use Rattle.tfpg_run.specs.ask.Asking.{AskEnds, QuestionsEnd}
 use Rattle.tfpg_run.specs.convert.Converting.{ConvertEnds, IsFaultFrom, SpellsFrom, converted_text}
 use Rattle.tfpg_run.specs.check.Checking.{CheckEnds, CheckingEnds, HasTooManyInHead, IsAccepted, problem_of}
 use Rattle.tfpg_run.specs.explain.Explaining.{ExplainEnds, ExplainingEnds}
 use Rattle.tfpg_run.specs.map.Spelling.{HasMap, BeginsMap, IsMapFault}
-use Rattle.tfpg_run.specs.Outputs.{IsStreamFault, LineByLineEnds, TextEnds}
+use Rattle.tfpg_run.specs.Outputs.{IsStreamFault, TextEnds}
 use Rattle.tfpg_run.specs.Run.{CommandEnds, RunEnds}
-use Rattle.tfpg_run.specs.fleet.FleetEnds.{AnsweringEnds, FleetEnds, FleetWords, fleet_words}
+use Rattle.tfpg_run.specs.fleet.FleetEnds.{AnswersStream, FleetDiagnosisEnds, FleetEnds, FleetWords, HasFewForFleet, fleet_words}
 use Rattle.tfpg_run.specs.fleet.FleetOutput.{fleet_problem}
-use Rattle.tfpg_run.specs.diagnose.Diagnosing.{DiagnoseEnds}
-use Rattle.tfpg_run.specs.diagnose.RightReport.{IsRightReport, BeginsRightReport}
-use Rattle.tfpg_run.specs.diagnose.TellsPanels.{desks}
+use Rattle.tfpg_run.specs.diagnose.Diagnosing.{Diagnoses, DiagnoseEnds, DiagnosisEnds}
 use Rattle.tfpg_run.specs.simulate.Simulating.{HasSimulation, SimulateEnds, SimulationEnds}
+use Rattle.tfpg_run.specs.diagnosis.TooMany.{HasFewHypotheses}
 use Rattle.tfpg_run.specs.predict.Forecasts.{HasForecasts, Prediction, prediction}
 use Rattle.tfpg_run.specs.predict.Predicting.{PredictEnds, PredictionEnds}
 use Rattle.tfpg_run.specs.Streams.{HasLeft}
-use Rattle.tfpg_run.specs.World.{World, streams_of}
+use Rattle.tfpg_run.specs.World.{World, streams_of, watched_of}
 
 -- no text of a valid graph has a fault, for any notions of both
 abbrev NoFaultBy : (List ℕ → Tfpg → Type 0) → (List ℕ → GraphFault → Type 0) → Type 0
@@ -121,24 +121,29 @@ module _ (shelf : ShelfState) (files : List (List ℕ × List ℕ)) (known : she
         let same : faulty.text ≡ gives.text = same_Some _ _ (sym (gives_is name faulty.text faulty.file.gives) ∙ gives_is name gives.text gives.file.gives) in
         law gives.text graph gives.spells gives.valid fault (subst (λ (t : List ℕ). IsFirst t fault) same faulty.first)
 
-    -- where it is not fetched, memory ran out
-    fetched : (now : ShelfState) (fault : FetchFault) → (Rose shelf.faults now.faults → ⊥) → IsFetchFaultBy IsFirst shelf now name fault → fault ≡ NoMemory
-    fetched now Failed calm is = absurd (calm is)
-    fetched now TooLong calm is = absurd (not_too_long name gives.text gives.file.gives gives.file.small is.0)
-    fetched now (Graph fault) calm is = absurd (no_graph_fault fault is.0)
-    fetched now NoMemory calm is = refl
+    -- where it and the others are there and are not fetched, memory ran out
+    fetched : (others : List (List ℕ)) → All (λ other. (text : List ℕ) × HasFile shelf other text) others → (now : ShelfState) (fault : FetchFault) → (Rose shelf.faults now.faults → ⊥)
+        → IsFetchFaultBy IsFirst name others shelf now fault → fault ≡ NoMemory
+    fetched others there now Failed calm is = absurd (calm is.2)
+    fetched others there now TooLong calm is =
+        let all = All-cons (λ (other : List ℕ). (text : List ℕ) × HasFile shelf other text) name others (gives.text, gives.file) there in
+        let file : (text : List ℕ) × HasFile shelf is.0 text =
+        All-at (λ (other : List ℕ). (text : List ℕ) × HasFile shelf other text) (name ∷ others) is.1.count is.0 all is.1.next in
+        absurd (not_too_long is.0 file.0 file.1.gives file.1.small is.2)
+    fetched others there now (Graph fault) calm is = absurd (no_graph_fault fault is.1)
+    fetched others there now NoMemory calm is = refl
 
-  module _ (laws : GraphLaws) (name : List ℕ) (graph : Tfpg) (gives : GivesGraph shelf name graph) where
-    -- so it is with two files
-    both_fetched : (now : ShelfState) (other text : List ℕ) → HasFile shelf other text → (fault : FetchFault) → (Rose shelf.faults now.faults → ⊥)
-        → IsFilesFault shelf now name other fault → fault ≡ NoMemory
-    both_fetched now other text file Failed calm is = absurd (calm is.0)
-    both_fetched now other text file TooLong calm is = ⊎_elim
-        (λ long. absurd (not_too_long name gives.text gives.file.gives gives.file.small long))
-        (λ long. absurd (not_too_long other text file.gives file.small long.2))
-        is.0
-    both_fetched now other text file (Graph fault) calm is = absurd (no_graph_fault Spells IsFirstFault laws.text name graph gives fault is.1)
-    both_fetched now other text file NoMemory calm is = refl
+  -- so it is with a graph text alone
+  one_fetched : (laws : GraphLaws) (name : List ℕ) (graph : Tfpg) → GivesGraph shelf name graph → (now : ShelfState) (fault : FetchFault) → (Rose shelf.faults now.faults → ⊥)
+      → IsFetchFaultBy IsFirstFault name [] shelf now fault → fault ≡ NoMemory
+  one_fetched laws name graph gives = fetched Spells IsFirstFault laws.text name graph gives [] (All-nil (λ (other : List ℕ). (text : List ℕ) × HasFile shelf other text))
+
+  -- and with another file
+  both_fetched : (laws : GraphLaws) (name : List ℕ) (graph : Tfpg) → GivesGraph shelf name graph → (now : ShelfState) (other text : List ℕ) → HasFile shelf other text → (fault : FetchFault)
+      → (Rose shelf.faults now.faults → ⊥) → IsFetchFaultBy IsFirstFault name (other ∷ []) shelf now fault → fault ≡ NoMemory
+  both_fetched laws name graph gives now other text file =
+      let there = λ (also : List ℕ). (others : List ℕ) × HasFile shelf also others in
+      fetched Spells IsFirstFault laws.text name graph gives (other ∷ []) (All-cons there other [] (text, file) (All-nil there)) now
 
 -- ---- input that is short
 
@@ -193,31 +198,50 @@ module _ (graphs : GraphLaws) (laws : CheckLaws) (before now : World) (calm : No
   no_stream_fault short taken takes streams.NoMemory is = refl
 
   -- a diagnosis
-  diagnosed : IsShort before.input → (end : End) (terms : Terms) (name : List ℕ) → CanDiagnose before.shelf terms name → DiagnoseEnds terms name before now end
+  diagnosed : IsShort before.input → (end : End) (terms : Terms) (name : List ℕ) → ServesGraph Spells before.shelf name (HasFewHypotheses terms) → DiagnoseEnds terms name before now end
       → IsCompleted end
   diagnosed short end terms name can (inl lacks) =
-      inr (without_memory end lacks.fault (fetched before.shelf can.files can.known Spells IsFirstFault graphs.text name can.graph can.gives now.shelf lacks.fault calm.shelf lacks.is_fault) lacks.end_is)
-  diagnosed short end terms name can (inr (inl many)) = absurd (omega (arith, many.ends.too_many, can.few many.graph many.ends.count many.gives many.ends.counted))
-  diagnosed short end terms name can (inr (inr file)) = go file.ends.result file.ends.works.ends file.ends.end_is
+      inr (without_memory end lacks.fault (one_fetched before.shelf can.files can.known graphs name can.graph can.gives now.shelf lacks.fault calm.shelf lacks.is_fault) lacks.end_is)
+  diagnosed short end terms name can (inr file) = of_works file.works
     where
-      go : (result : Result (Unit {0}) StreamFault)
-          → LineByLineEnds (IsRightReport file.graph terms (desks before.desk now.desk)) (BeginsRightReport file.graph terms (desks before.desk now.desk)) (streams_of before) (streams_of now) (file.ends.works.taken, file.ends.works.written) result
-          → end ≡ end_of_result end_of_stream_fault result → IsCompleted end
-      go (Ok done) is e = inl e
-      go (Err fault) is e = inr (e ∙ ap end_of_stream_fault (no_stream_fault short file.ends.works.taken file.ends.works.takes fault is.0))
+      go : (result : Result (Unit {0}) StreamFault) → Diagnoses file.graph terms (watched_of before) (watched_of now) result → end ≡ end_of_result end_of_stream_fault result → IsCompleted end
+      go (Ok done) works e = inl e
+      go (Err fault) works e = inr (e ∙ ap end_of_stream_fault (no_stream_fault short works.taken works.takes fault works.ends.0))
+
+      of_works : DiagnosisEnds terms before now file.graph end → IsCompleted end
+      of_works (inl many) =
+          let few : HasFewHypotheses terms file.graph = subst (HasFewHypotheses terms) (only_graph before.shelf can.files can.known name can.graph file.graph can.gives file.gives) can.holds in
+          absurd (omega (arith, many.too_many, few many.count many.counted))
+      of_works (inr few) = go few.1.result few.1.works few.1.end_is
 
   -- a diagnosis of many vehicles
-  fleet_diagnosed : IsShort before.input → (end : End) (said : FleetWords) → CanFleet before.shelf said → FleetEnds said before now end → IsCompleted end
+  fleet_diagnosed : IsShort before.input → (end : End) (said : FleetWords) → ServesGraph Spells before.shelf said.file (HasFewForFleet said) → FleetEnds said before now end → IsCompleted end
   fleet_diagnosed short end said can (inl lacks) =
-      inr (without_memory end lacks.fault (fetched before.shelf can.files can.known Spells IsFirstFault graphs.text said.file can.graph can.gives now.shelf lacks.fault calm.shelf lacks.is_fault) lacks.end_is)
-  fleet_diagnosed short end said can (inr (inl many)) = absurd (can.few many.graph many.count many.gives many.too_many)
-  fleet_diagnosed short end said can (inr (inr done)) = go done.ends.result done.ends.works.ends done.ends.end_is
+      inr (without_memory end lacks.fault (one_fetched before.shelf can.files can.known graphs said.file can.graph can.gives now.shelf lacks.fault calm.shelf lacks.is_fault) lacks.end_is)
+  fleet_diagnosed short end said can (inr file) = of_works file.works
     where
-      go : (result : Result (Unit {0}) StreamFault)
-          → AnsweringEnds (fleet_problem done.graph said.terms said.names) (streams_of before) (streams_of now) (done.ends.works.taken, done.ends.works.written) result
+      go : (result : Result (Unit {0}) StreamFault) → AnswersStream (fleet_problem file.graph said.terms said.names) (streams_of before) (streams_of now) result
           → end ≡ end_of_result end_of_stream_fault result → IsCompleted end
-      go (Ok all) is e = inl e
-      go (Err fault) is e = inr (e ∙ ap end_of_stream_fault (no_stream_fault short done.ends.works.taken done.ends.works.takes fault is.0))
+      go (Ok done) works e = inl e
+      go (Err fault) works e = inr (e ∙ ap end_of_stream_fault (no_stream_fault short works.taken works.takes fault works.ends.0))
+
+      of_works : FleetDiagnosisEnds said before now file.graph end → IsCompleted end
+      of_works (inl many) =
+          absurd (subst (HasFewForFleet said) (only_graph before.shelf can.files can.known said.file can.graph file.graph can.gives file.gives) can.holds many.count many.too_many)
+      of_works (inr few) = go few.1.result few.1.works few.1.end_is
+
+  module _ {Hold : Tfpg → List ℕ → Type 0} (end : End) (graph_name text_name : List ℕ) (can : ServesGraphAndText before.shelf graph_name text_name Hold) where
+    -- where two files are there and are not fetched, memory ran out
+    not_fetched : LacksFiles graph_name (text_name ∷ []) before now end → end ≡ ends.NoMemory
+    not_fetched lacks =
+        without_memory end lacks.fault
+        (both_fetched before.shelf can.files can.known graphs graph_name can.graph can.gives.of_graph now.shelf text_name can.text can.gives.file lacks.fault calm.shelf lacks.is_fault) lacks.end_is
+
+    -- what holds of what they have holds of what they give
+    holds_of_given : (graph : Tfpg) (text : List ℕ) → GivesGraphAndText before.shelf graph_name text_name graph text → Hold graph text
+    holds_of_given graph text gives =
+        subst₂ Hold (only_graph before.shelf can.files can.known graph_name can.graph graph can.gives.of_graph gives.of_graph)
+        (only_text before.shelf can.files can.known text_name can.text text can.gives.file.gives gives.file.gives) can.hold
 
   -- a map whose verdict is written
   explained_map : (short : IsShort before.input) (graph : Tfpg) (log : Logbook) (taken : List ℕ) → HasMap graph (lines_of short.known) → Takes before.input now.input taken → (result : Result (Unit {0}) ExplainFault)
@@ -233,15 +257,13 @@ module _ (graphs : GraphLaws) (laws : CheckLaws) (before now : World) (calm : No
       absurd (omega (arith, few_taken before.input now.input taken short takes, more))
   explained_map short graph log taken map takes (Err (explain.Stream streams.NoMemory)) is = inr refl
 
-  explained : (end : End) (graph_name log_name : List ℕ) → CanExplain before.shelf before.input graph_name log_name → ExplainEnds graph_name log_name before now end → IsCompleted end
-  explained end graph_name log_name can (inl lacks) =
-      let file : HasFile before.shelf log_name can.gives.text = can.gives.gives.file in
-      inr (without_memory end lacks.fault
-      (both_fetched before.shelf can.files can.known graphs graph_name can.graph can.gives.gives.of_graph now.shelf log_name can.gives.text file lacks.fault calm.shelf lacks.is_fault) lacks.end_is)
+  explained : (end : End) (graph_name log_name : List ℕ) → ServesGraphAndText before.shelf graph_name log_name (λ graph text. HasLines before.input (HasMap graph))
+      → ExplainEnds graph_name log_name before now end → IsCompleted end
+  explained end graph_name log_name can (inl lacks) = inr (not_fetched end graph_name log_name can lacks)
   explained end graph_name log_name can (inr explains) =
-      let map : HasMap explains.graph (lines_of can.short.known) = can.map explains.graph explains.gives.gives.of_graph in
+      let holds : HasLines before.input (HasMap explains.graph) = holds_of_given end graph_name log_name can explains.graph explains.text explains.gives in
       subst IsCompleted (sym explains.works.end_is)
-      (explained_map can.short explains.graph explains.other explains.works.works.taken map explains.works.works.takes explains.works.result explains.works.works.ends)
+      (explained_map holds.0 explains.graph (log_of_lines explains.graph (lines_of explains.text)) explains.works.works.taken holds.1 explains.works.works.takes explains.works.result explains.works.works.ends)
 
   -- a report that is judged
   judged_report : (short : IsShort before.input) (problem : DiagnosisProblem) (taken : List ℕ) → IsValid problem.graph → (terms : Terms) (blocks : List Block) → AreReportLines problem terms blocks (lines_of short.known)
@@ -290,40 +312,23 @@ module _ (graphs : GraphLaws) (laws : CheckLaws) (before now : World) (calm : No
       absurd (omega (arith, few_taken before.input now.input taken short takes, more))
   refused_report short problem taken valid line cause has takes (Err (check.Stream streams.NoMemory)) is = inr refl
 
-  module _ (end : End) (graph_name log_name : List ℕ) (can : CanJudge before.shelf before.input graph_name log_name) where
-    -- where the files are there and are not fetched, memory ran out
-    not_fetched : LacksGraphOrText graph_name log_name before now end → end ≡ ends.NoMemory
-    not_fetched lacks =
-        without_memory end lacks.fault
-        (both_fetched before.shelf can.files can.known graphs graph_name can.graph can.gives.of_graph now.shelf log_name can.log_text can.gives.file lacks.fault calm.shelf lacks.is_fault) lacks.end_is
-
-    -- what is fetched is what they give
-    same_problem : (graph : Tfpg) (text : List ℕ) → GivesGraphAndText before.shelf graph_name log_name graph text → problem_of can.graph can.log_text ≡ problem_of graph text
-    same_problem graph text gives =
-        let one_graph : can.graph ≡ graph = only_graph before.shelf can.files can.known graph_name can.graph graph can.gives.of_graph gives.of_graph in
-        let one_text : can.log_text ≡ text = only_text before.shelf can.files can.known log_name can.log_text text can.gives.file.gives gives.file.gives in
-        λ i. problem_of (one_graph i) (one_text i)
-
-  checked : (end : End) (graph_name log_name : List ℕ) → CanCheck before.shelf before.input graph_name log_name → CheckEnds graph_name log_name before now end → IsCompleted end
-  checked end graph_name log_name can (inl lacks) = inr (not_fetched end graph_name log_name can.judges lacks)
+  checked : (end : End) (graph_name log_name : List ℕ) → CanBeDone (Check graph_name log_name) before → CheckEnds graph_name log_name before now end → IsCompleted end
+  checked end graph_name log_name can (inl lacks) = inr (not_fetched end graph_name log_name can lacks)
   checked end graph_name log_name can (inr checks) =
-      let problem = problem_of checks.graph checks.other in
-      let same = same_problem end graph_name log_name can.judges checks.graph checks.other checks.gives in
+      let problem = problem_of checks.graph checks.text in
+      let holds : HasLines before.input (λ (lines : List (List ℕ)). (terms : Terms) × (blocks : List Block) × AreReportLines problem terms blocks lines) =
+      holds_of_given end graph_name log_name can checks.graph checks.text checks.gives in
       subst IsCompleted (sym checks.works.end_is)
-      (judged_report can.judges.short problem checks.works.works.taken checks.gives.of_graph.valid can.terms can.blocks
-      (subst (λ (m : DiagnosisProblem). AreReportLines m can.terms can.blocks (lines_of can.judges.short.known)) same can.report)
-      checks.works.works.takes checks.works.result checks.works.works.ends)
+      (judged_report holds.0 problem checks.works.works.taken checks.gives.of_graph.valid holds.1.0 holds.1.1 holds.1.2 checks.works.works.takes checks.works.result checks.works.works.ends)
 
   refused : (end : End) (graph_name log_name : List ℕ) (line : ℕ) (cause : CheckCause) → CanRefuse before.shelf before.input graph_name log_name line cause → CheckEnds graph_name log_name before now end
       → IsRefusedFor line cause end
-  refused end graph_name log_name line cause can (inl lacks) = inr (not_fetched end graph_name log_name can.judges lacks)
+  refused end graph_name log_name line cause can (inl lacks) = inr (not_fetched end graph_name log_name can lacks)
   refused end graph_name log_name line cause can (inr checks) =
-      let problem = problem_of checks.graph checks.other in
-      let same = same_problem end graph_name log_name can.judges checks.graph checks.other checks.gives in
+      let problem = problem_of checks.graph checks.text in
+      let holds : HasLines before.input (λ (lines : List (List ℕ)). IsCause problem lines line cause) = holds_of_given end graph_name log_name can checks.graph checks.text checks.gives in
       subst (IsRefusedFor line cause) (sym checks.works.end_is)
-      (refused_report can.judges.short problem checks.works.works.taken checks.gives.of_graph.valid line cause
-      (subst (λ (m : DiagnosisProblem). IsCause m (lines_of can.judges.short.known) line cause) same can.is_cause)
-      checks.works.works.takes checks.works.result checks.works.works.ends)
+      (refused_report holds.0 problem checks.works.works.taken checks.gives.of_graph.valid line cause holds.1 checks.works.works.takes checks.works.result checks.works.works.ends)
 
   -- a script that is simulated
   simulated : (IsRight : Tfpg → List ℕ → List ℕ → Type 0) (graph : Tfpg) (script : List ℕ) → ((line : ℕ) → IsScriptFault graph (lines_of script) line → ⊥) → (result : Result (Unit {0}) SimulateFault)
@@ -333,14 +338,13 @@ module _ (graphs : GraphLaws) (laws : CheckLaws) (before now : World) (calm : No
   simulated IsRight graph script right (Err simulate.WriteFault) is = absurd (calm.output is.rose)
   simulated IsRight graph script right (Err simulate.NoMemory) is = inr refl
 
-  simulated_files : (end : End) (IsRight : Tfpg → List ℕ → List ℕ → Type 0) (graph_name script_name : List ℕ) → CanSimulate before.shelf graph_name script_name
+  simulated_files : (end : End) (IsRight : Tfpg → List ℕ → List ℕ → Type 0) (graph_name script_name : List ℕ)
+      → ServesGraphAndText before.shelf graph_name script_name (λ graph script. (line : ℕ) → IsScriptFault graph (lines_of script) line → ⊥)
       → SimulateEnds IsRight graph_name script_name before now end → IsCompleted end
-  simulated_files end IsRight graph_name script_name can (inl lacks) =
-      inr (without_memory end lacks.fault
-      (both_fetched before.shelf can.files can.known graphs graph_name can.graph can.gives.of_graph now.shelf script_name can.script can.gives.file lacks.fault calm.shelf lacks.is_fault) lacks.end_is)
+  simulated_files end IsRight graph_name script_name can (inl lacks) = inr (not_fetched end graph_name script_name can lacks)
   simulated_files end IsRight graph_name script_name can (inr simulates) =
       subst IsCompleted (sym simulates.works.end_is)
-      (simulated IsRight simulates.graph simulates.other (λ line. can.right simulates.graph simulates.other line simulates.gives) simulates.works.result simulates.works.works)
+      (simulated IsRight simulates.graph simulates.text (holds_of_given end graph_name script_name can simulates.graph simulates.text simulates.gives) simulates.works.result simulates.works.works)
 
   -- one text that is written
   text_written : (IsRight : List ℕ → Type 0) (result : Result (Unit {0}) OutputFault) → TextEnds IsRight before.output now.output result
@@ -350,42 +354,45 @@ module _ (graphs : GraphLaws) (laws : CheckLaws) (before now : World) (calm : No
   text_written IsRight (Err output.NoMemory) is = inr refl
 
   -- a graph that is converted
-  converted : (json : Bool) (end : End) (name : List ℕ) → CanConvert before.shelf json name → ConvertEnds json name before now end → IsCompleted end
+  converted : (json : Bool) (end : End) (name : List ℕ) → ServesGraph (SpellsFrom json) before.shelf name (λ graph. Unit {0}) → ConvertEnds json name before now end → IsCompleted end
   converted json end name can (inl lacks) =
       inr (without_memory end lacks.fault
-      (fetched before.shelf can.files can.known (SpellsFrom json) (IsFaultFrom json) (no_fault_from graphs json) name can.graph can.gives now.shelf lacks.fault calm.shelf lacks.is_fault) lacks.end_is)
+      (fetched before.shelf can.files can.known (SpellsFrom json) (IsFaultFrom json) (no_fault_from graphs json) name can.graph can.gives []
+      (All-nil (λ (other : List ℕ). (text : List ℕ) × HasFile before.shelf other text)) now.shelf lacks.fault calm.shelf lacks.is_fault) lacks.end_is)
   converted json end name can (inr converts) =
-      subst IsCompleted (sym converts.ends.end_is) (text_written (λ text. text ≡ converted_text json converts.graph) converts.ends.result converts.ends.works)
+      subst IsCompleted (sym converts.works.end_is) (text_written (λ text. text ≡ converted_text json converts.graph) converts.works.result converts.works.works)
 
   -- questions that are written
-  questions_written : (terms : Terms) (graph : Tfpg) (log_text : List ℕ) → ((count : ℕ) → HasHypotheses graph terms count → count ≤ MAX_HYPOTHESES) → (result : Result (Unit {0}) QuestionsFault)
+  questions_written : (terms : Terms) (graph : Tfpg) (log_text : List ℕ) → HasFewHypotheses terms graph → (result : Result (Unit {0}) QuestionsFault)
       → QuestionsEnd terms graph log_text before.output now.output result → IsCompleted (end_of_result end_of_questions_fault result)
   questions_written terms graph log_text few (Ok done) is = inl refl
   questions_written terms graph log_text few (Err (questions.TooMany count)) is = absurd (omega (arith, is.0, few count is.1))
   questions_written terms graph log_text few (Err questions.WriteFault) is = absurd (calm.output is.rose)
   questions_written terms graph log_text few (Err questions.NoMemory) is = inr refl
 
-  asked : (terms : Terms) (end : End) (graph_name log_name : List ℕ) → CanAsk before.shelf terms graph_name log_name → AskEnds terms graph_name log_name before now end → IsCompleted end
-  asked terms end graph_name log_name can (inl lacks) =
-      inr (without_memory end lacks.fault
-      (both_fetched before.shelf can.files can.known graphs graph_name can.graph can.gives.of_graph now.shelf log_name can.log_text can.gives.file lacks.fault calm.shelf lacks.is_fault) lacks.end_is)
+  asked : (terms : Terms) (end : End) (graph_name log_name : List ℕ) → ServesGraphAndText before.shelf graph_name log_name (λ graph text. HasFewHypotheses terms graph)
+      → AskEnds terms graph_name log_name before now end → IsCompleted end
+  asked terms end graph_name log_name can (inl lacks) = inr (not_fetched end graph_name log_name can lacks)
   asked terms end graph_name log_name can (inr asks) =
       subst IsCompleted (sym asks.works.end_is)
-      (questions_written terms asks.graph asks.other (λ count. can.few asks.graph count asks.gives.of_graph) asks.works.result asks.works.works)
+      (questions_written terms asks.graph asks.text (holds_of_given end graph_name log_name can asks.graph asks.text asks.gives) asks.works.result asks.works.works)
 
   -- a prediction
-  predicted : (end : End) (asked : Prediction) (graph_name log_name : List ℕ) → CanPredict before.shelf asked graph_name log_name → PredictEnds asked graph_name log_name before now end → IsCompleted end
-  predicted end asked graph_name log_name can (inl lacks) =
-      inr (without_memory end lacks.fault
-      (both_fetched before.shelf can.files can.known graphs graph_name can.graph can.gives.of_graph now.shelf log_name can.log_text can.gives.file lacks.fault calm.shelf lacks.is_fault) lacks.end_is)
+  predicted : (end : End) (asked : Prediction) (graph_name log_name : List ℕ)
+      → ServesGraphAndText before.shelf graph_name log_name (λ graph text. TakesProbe graph asked.node × HasFewHypotheses asked.terms graph)
+      → PredictEnds asked graph_name log_name before now end → IsCompleted end
+  predicted end asked graph_name log_name can (inl lacks) = inr (not_fetched end graph_name log_name can lacks)
   predicted end asked graph_name log_name can (inr predicts) = go predicts.works
     where
-      go : PredictionEnds asked before now predicts.graph predicts.other end → IsCompleted end
-      go (inl none) = absurd (can.takes_probe predicts.graph none.fault predicts.gives.of_graph none.is_fault)
-      go (inr (inl many)) = absurd (omega (arith, many.2.too_many, can.few predicts.graph many.2.count predicts.gives.of_graph many.2.counted))
+      holds : TakesProbe predicts.graph asked.node × HasFewHypotheses asked.terms predicts.graph
+      holds = holds_of_given end graph_name log_name can predicts.graph predicts.text predicts.gives
+
+      go : PredictionEnds asked before now predicts.graph predicts.text end → IsCompleted end
+      go (inl none) = absurd (holds.0 none.fault none.is_fault)
+      go (inr (inl many)) = absurd (omega (arith, many.2.too_many, holds.1 many.2.count many.2.counted))
       go (inr (inr writes)) =
           subst IsCompleted (sym writes.ends.end_is)
-          (text_written (HasForecasts predicts.graph asked writes.node (lines_of predicts.other)) writes.ends.result writes.ends.works)
+          (text_written (HasForecasts predicts.graph asked writes.node (lines_of predicts.text)) writes.ends.result writes.ends.works)
 
   completed : (meant : Meaning) (end : End) → CanBeDone meant before → CommandEnds (Ok meant) before now end → IsCompleted end
   completed (Diagnose terms graph) end can is = diagnosed can.1 end terms graph can.0 is

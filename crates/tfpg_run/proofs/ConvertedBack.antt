@@ -50,7 +50,7 @@ pub record Converted (json : Bool) (name : List ℕ) (before now : World) : Type
 converted_by : (json : Bool) (name : List ℕ) (before now : World) → ConvertEnds json name before now Done → before.output.holds ≡ Some [] → Converted json name before now
 converted_by json name before now (inl lacks) empty = absurd (fetch_not_done lacks.fault (sym lacks.end_is))
 converted_by json name before now (inr file) empty =
-    let writes = text_is_written (λ text. text ≡ converted_text json file.graph) before.output now.output file.ends.result file.ends.works file.ends.end_is in
+    let writes = text_is_written (λ text. text ≡ converted_text json file.graph) before.output now.output file.works.result file.works.works file.works.end_is in
     record { file = file; holds = held_is before.output now.output writes.text empty writes.writes ∙ ap Some writes.right }
 
 module _ (read_back : (graph : Tfpg) → IsValid graph → SpellsAsJson (graph_json graph) graph) where

@@ -1,77 +1,118 @@
--- Files that give no graph, or no log.
-use Rattle.std.proofs.Common.{◌≡◌, ◌⊎◌, ℕ, ◌<◌, Bool, true, false, List, [], ◌∷◌, ◌++◌, length, take, Option, Some, None, IfSome, ap, subst, ◌∙◌, inl, inr, append_assoc}
+-- Files that were fetched, and files that give no graph, or no text.
+use Rattle.std.proofs.Common.{◌≡◌, ℕ, ◌<◌, Bool, true, false, List, [], ◌∷◌, ◌++◌, length, take, Option, Some, None, IfSome, refl, sym, ap, subst, ◌∙◌, append-nil, append_assoc}
+use Rattle.std.proofs.lemmas.List.Elements.{All-cons, All-nil}
 use Rattle.tfpg_base.specs.declared.outside.ShelfFault.{ShelfFault}
 use Rattle.tfpg_base.specs.declared.outside.ShelfFault.TheVariants as faults
 use Rattle.tfpg_base.specs.Outside.{ShelfState, Rose, NotesName, file_of}
+use Rattle.tfpg_graph.specs.declared.cause.GraphFault.{GraphFault}
 use Rattle.tfpg_graph.specs.declared.cause.GraphRefusal.{GraphRefusal}
 use Rattle.tfpg_graph.specs.declared.cause.GraphRefusal.TheVariants.{Fault, NoMemory}
-use Rattle.tfpg_graph.specs.Faults.{IsRefusalOf}
 use Rattle.tfpg_run.specs.inside.Faults.{IsFileFault, fetch_fault_of_refusal, fetch_fault_of_shelf}
-use Rattle.tfpg_run.specs.Fetch.{HasFile, IsTooLong, IsFetchFaultBy, IsFilesFault, AsksFor, AsksInOrder}
+use Rattle.tfpg_run.specs.Fetch.{Fetched, HasFile, IsTooLong, IsFetchFaultBy}
 use Rattle.tfpg_run.specs.convert.Converting.{IsFaultFrom}
 use Rattle.tfpg_run.specs.inside.convert.Refusals.{IsRefusalFrom}
 
--- the refusal of a text that was fetched is why there is no graph, where JSON is read or not
-pub IsFetchFault-refused : (json : Bool) (before now : ShelfState) (name text : List ℕ) (refusal : GraphRefusal)
-    → HasFile before name text → now.faults ≡ before.faults → IsRefusalFrom json text refusal → IsFetchFaultBy (IsFaultFrom json) before now name (fetch_fault_of_refusal refusal)
-IsFetchFault-refused true before now name text (Fault fault) file unchanged refused = (record { text = text; file = file; first = refused }, unchanged)
-IsFetchFault-refused true before now name text NoMemory file unchanged refused = unchanged
-IsFetchFault-refused false before now name text (Fault fault) file unchanged refused = (record { text = text; file = file; first = refused }, unchanged)
-IsFetchFault-refused false before now name text NoMemory file unchanged refused = unchanged
+-- there is a file of this name
+abbrev IsThere : ShelfState → List ℕ → Type 0
+IsThere shelf name = (text : List ℕ) × HasFile shelf name text
 
--- ---- two files
+-- ---- files of a shelf that has the same
 
--- the file of a name after another was fetched
-pub HasFile-before : (before mid : ShelfState) (name text : List ℕ) → mid.files ≡ before.files → HasFile mid name text → HasFile before name text
-HasFile-before before mid name text same file = record {
-  gives = subst (λ (files : Option (List (List ℕ × List ℕ))). IfSome files (λ fs. file_of fs name ≡ Some text)) same file.gives;
-  small = file.small;
+module _ (before mid : ShelfState) (name : List ℕ) (same : mid.files ≡ before.files) where
+  -- the file of a name after another was fetched
+  pub HasFile-before : (text : List ℕ) → HasFile mid name text → HasFile before name text
+  HasFile-before text file = record {
+    gives = subst (λ (files : Option (List (List ℕ × List ℕ))). IfSome files (λ fs. file_of fs name ≡ Some text)) same file.gives;
+    small = file.small;
+  }
+
+  -- so is one that is too long
+  IsTooLong-before : IsTooLong mid name → IsTooLong before name
+  IsTooLong-before long = (
+    long.0,
+    (long.1.0, subst (λ (files : Option (List (List ℕ × List ℕ))). IfSome files (λ fs. (more : List ℕ) × (0 < length more) × (file_of fs name ≡ Some (long.0 ++ more)))) same long.1.1),
+  )
+
+-- ---- what was fetched
+
+-- nothing yet
+fetched_none : (before now : ShelfState) → now.faults ≡ before.faults → now.asked ≡ before.asked → Fetched [] before now
+fetched_none before now calm same = record {
+  files = All-nil (IsThere before);
+  asked = go before.asked same;
+  no_fault = calm;
+}
+  where
+    go : (asked : Option (List (List ℕ))) → now.asked ≡ asked → IfSome asked (λ earlier. now.asked ≡ Some (earlier ++ []))
+    go None is = tt
+    go (Some names) is = is ∙ ap Some (sym (append-nil names))
+
+-- one file
+pub fetched_one : (before now : ShelfState) (name text : List ℕ) → HasFile before name text → now.faults ≡ before.faults → NotesName before now name → Fetched (name ∷ []) before now
+fetched_one before now name text file calm noted = record {
+  files = All-cons (IsThere before) name [] (text, file) (All-nil (IsThere before));
+  asked = noted;
+  no_fault = calm;
 }
 
--- so is one that is too long
-IsTooLong-before : (before mid : ShelfState) (name : List ℕ) → mid.files ≡ before.files → IsTooLong mid name → IsTooLong before name
-IsTooLong-before before mid name same long = (
-  long.0,
-  (long.1.0, subst (λ (files : Option (List (List ℕ × List ℕ))). IfSome files (λ fs. (more : List ℕ) × (0 < length more) × (file_of fs name ≡ Some (long.0 ++ more)))) same long.1.1),
-)
-
--- the first was not fetched
-pub IsFilesFault-first : (before now : ShelfState) (first second : List ℕ) (fault : ShelfFault) → IsFileFault before now first fault
-    → IsFilesFault before now first second (fetch_fault_of_shelf fault)
-IsFilesFault-first before now first second faults.Failed is = (is.0, inl is.1)
-IsFilesFault-first before now first second faults.TooLong is = (inl is.0, is.1)
-IsFilesFault-first before now first second faults.NoMemory is = is
-
--- the first was, and the other was not
-pub IsFilesFault-second : (before mid now : ShelfState) (first second text : List ℕ) (fault : ShelfFault) → mid.files ≡ before.files → mid.faults ≡ before.faults
-    → HasFile before first text → IsFileFault mid now second fault → IsFilesFault before now first second (fetch_fault_of_shelf fault)
-IsFilesFault-second before mid now first second text faults.Failed same unchanged file is = (subst (λ (count : ℕ). Rose count now.faults) unchanged is.0, inr (text, file))
-IsFilesFault-second before mid now first second text faults.TooLong same unchanged file is = (
-  inr (text, file, IsTooLong-before before mid second same is.0),
-  is.1 ∙ unchanged,
-)
-IsFilesFault-second before mid now first second text faults.NoMemory same unchanged file is = is ∙ unchanged
-
--- the text of the first is refused
-pub IsFilesFault-refused : (before now : ShelfState) (graph_name log_name : List ℕ) (refusal : GraphRefusal) (text other : List ℕ) → HasFile before graph_name text → HasFile before log_name other
-    → now.faults ≡ before.faults → IsRefusalOf text refusal → IsFilesFault before now graph_name log_name (fetch_fault_of_refusal refusal)
-IsFilesFault-refused before now graph_name log_name (Fault fault) text other file log unchanged refused =
-    ((other, log), record { text = text; file = file; first = refused }, unchanged)
-IsFilesFault-refused before now graph_name log_name NoMemory text other file log unchanged refused = unchanged
-
--- ---- names asked for
-
--- where the first was, and the second may have been
-pub AsksInOrder-second : (before mid after : ShelfState) (first second : List ℕ) → NotesName before mid first → AsksFor second mid.asked after.asked
-    → AsksInOrder (first ∷ second ∷ []) before.asked after.asked
-AsksInOrder-second before mid after first second noted asks = go before.asked noted
+-- the last of them, and then another one
+noted_after : (before between now : ShelfState) (first second : List ℕ) → Fetched (first ∷ []) before between → NotesName between now second
+    → IfSome before.asked (λ earlier. now.asked ≡ Some (earlier ++ first ∷ second ∷ []))
+noted_after before between now first second fetched noted = go before.asked fetched.asked
   where
-    more : (names : List (List ℕ)) (asked : Option (List (List ℕ))) → (asked ≡ Some (names ++ first ∷ [])) ⊎ (asked ≡ Some ((names ++ first ∷ []) ++ second ∷ []))
-        → (count : ℕ) × (asked ≡ Some (names ++ take count (first ∷ second ∷ [])))
-    more names asked (inl none) = (1, none)
-    more names asked (inr one) = (2, one ∙ ap Some (append_assoc names (first ∷ []) (second ∷ [])))
-
-    go : (asked : Option (List (List ℕ))) → IfSome asked (λ names. mid.asked ≡ Some (names ++ first ∷ []))
-        → IfSome asked (λ names. (count : ℕ) × (after.asked ≡ Some (names ++ take count (first ∷ second ∷ []))))
+    go : (asked : Option (List (List ℕ))) → IfSome asked (λ earlier. between.asked ≡ Some (earlier ++ first ∷ []))
+        → IfSome asked (λ earlier. now.asked ≡ Some (earlier ++ first ∷ second ∷ []))
     go None is = tt
-    go (Some names) is = more names after.asked (subst (λ (m : Option (List (List ℕ))). IfSome m (λ ns. (after.asked ≡ Some ns) ⊎ (after.asked ≡ Some (ns ++ second ∷ [])))) is asks)
+    go (Some earlier) is =
+        subst (λ (m : Option (List (List ℕ))). IfSome m (λ ns. now.asked ≡ Some (ns ++ second ∷ []))) is noted ∙ ap Some (append_assoc earlier (first ∷ []) (second ∷ []))
+
+-- two files
+pub fetched_two : (before between now : ShelfState) (first second one other : List ℕ) → between.files ≡ before.files → HasFile before first one → HasFile between second other
+    → Fetched (first ∷ []) before between → Fetched (second ∷ []) between now → Fetched (first ∷ second ∷ []) before now
+fetched_two before between now first second one other same file also fetched then_fetched = record {
+  files = All-cons (IsThere before) first (second ∷ []) (one, file)
+      (All-cons (IsThere before) second [] (other, HasFile-before before between second same other also) (All-nil (IsThere before)));
+  asked = noted_after before between now first second fetched then_fetched.asked;
+  no_fault = then_fetched.no_fault ∙ fetched.no_fault;
+}
+
+-- ---- what was not
+
+module _ (IsFirst : List ℕ → GraphFault → Type 0) where
+  -- the first was not fetched
+  pub IsFetchFault-first : (before now : ShelfState) (name : List ℕ) (others : List (List ℕ)) (fault : ShelfFault) → IsFileFault before now name fault
+      → IsFetchFaultBy IsFirst name others before now (fetch_fault_of_shelf fault)
+  IsFetchFault-first before now name others faults.Failed is =
+      (name, record { count = 0; next = refl; between = before; fetched = fetched_none before before refl refl; asked = is.1 }, is.0)
+  IsFetchFault-first before now name others faults.TooLong is =
+      (name, record { count = 0; next = refl; between = before; fetched = fetched_none before before refl refl; asked = is.2 }, is.0, is.1)
+  IsFetchFault-first before now name others faults.NoMemory is = (0, fetched_none before now is.0 is.1)
+
+  -- the first was, and the other was not
+  pub IsFetchFault-second : (before between now : ShelfState) (name other : List ℕ) (fault : ShelfFault) → between.files ≡ before.files → Fetched (name ∷ []) before between
+      → IsFileFault between now other fault → IsFetchFaultBy IsFirst name (other ∷ []) before now (fetch_fault_of_shelf fault)
+  IsFetchFault-second before between now name other faults.Failed same fetched is =
+      (other, record { count = 1; next = refl; between = between; fetched = fetched; asked = is.1 }, subst (λ (count : ℕ). Rose count now.faults) fetched.no_fault is.0)
+  IsFetchFault-second before between now name other faults.TooLong same fetched is = (
+    other,
+    record { count = 1; next = refl; between = between; fetched = fetched; asked = is.2 },
+    IsTooLong-before before between other same is.0,
+    is.1 ∙ fetched.no_fault,
+  )
+  IsFetchFault-second before between now name other faults.NoMemory same fetched is = (
+    1,
+    record {
+      files = fetched.files;
+      asked = subst (λ (asked : Option (List (List ℕ))). IfSome before.asked (λ earlier. asked ≡ Some (earlier ++ name ∷ []))) (sym is.1) fetched.asked;
+      no_fault = is.0 ∙ fetched.no_fault;
+    },
+  )
+
+-- the text of the first is refused, where JSON is read or not
+pub IsFetchFault-refused : (json : Bool) (before now : ShelfState) (name : List ℕ) (others : List (List ℕ)) (count : ℕ) (text : List ℕ) (refusal : GraphRefusal)
+    → take count (name ∷ others) ≡ name ∷ others → Fetched (name ∷ others) before now → HasFile before name text → IsRefusalFrom json text refusal
+    → IsFetchFaultBy (IsFaultFrom json) name others before now (fetch_fault_of_refusal refusal)
+IsFetchFault-refused true before now name others count text (Fault fault) all fetched file refused = (fetched, record { text = text; file = file; first = refused })
+IsFetchFault-refused true before now name others count text NoMemory all fetched file refused = (count, subst (λ (names : List (List ℕ)). Fetched names before now) (sym all) fetched)
+IsFetchFault-refused false before now name others count text (Fault fault) all fetched file refused = (fetched, record { text = text; file = file; first = refused })
+IsFetchFault-refused false before now name others count text NoMemory all fetched file refused = (count, subst (λ (names : List (List ℕ)). Fetched names before now) (sym all) fetched)

@@ -1,5 +1,5 @@
 -- How a run on a file ends.
-use Rattle.std.proofs.Common.{◌≡◌, ℕ, ◌<◌, ◌≤◌, List, [], Result, Ok, Err, refl, sym, ap, subst, subst₂, ◌∙◌, inl, inr, Bool}
+use Rattle.std.proofs.Common.{◌≡◌, ℕ, ◌<◌, ◌≤◌, List, [], ◌∷◌, Result, Ok, Err, refl, sym, ap, subst, subst₂, ◌∙◌, inl, inr, Bool}
 use Rattle.std.specs.Prelude.{◌↔◌, IsErrAnd, OnOk, IfErr}
 use Rattle.tfpg_base.specs.declared.terms.Terms.{Terms}
 use Rattle.tfpg_base.specs.Terms.{AreReportTerms}
@@ -25,7 +25,7 @@ use Rattle.tfpg_run.specs.declared.fault.FetchFault.TheVariants as fetch
 use Rattle.tfpg_run.specs.Outputs.{WorksToEnd}
 use Rattle.tfpg_run.specs.diagnose.Work.{IsReportWithin, RunsWithin}
 use Rattle.tfpg_words.specs.declared.usage_cause.UsageCause.{UsageCause}
-use Rattle.tfpg_run.specs.Fetch.{GivesGraph}
+use Rattle.tfpg_run.specs.Fetch.{Fetched, GivesGraph}
 use Rattle.tfpg_run.specs.Run.{CommandEnds}
 use Rattle.tfpg_run.specs.diagnose.Diagnosing.{Diagnoses, DiagnoseEnds}
 use Rattle.tfpg_run.specs.explain.Explaining.{ExplainEnds}
@@ -79,48 +79,50 @@ module _ {T : Type 0} (terms : Terms) (name : List ℕ) (before now : World) (re
   ends_by end err ends = IfErr-from (DiagnoseEnds terms name before now) result end err ends
 
   -- there is no graph
-  pub stops_without_graph : (fault : FetchFault) → IsFetchFault before.shelf now.shelf name fault → watched_of now ≡ watched_of before → IsErrAnd result (λ end. end ≡ end_of_fetch_fault fault)
+  pub stops_without_graph : (fault : FetchFault) → IsFetchFault name [] before.shelf now.shelf fault → watched_of now ≡ watched_of before → IsErrAnd result (λ end. end ≡ end_of_fetch_fault fault)
       → IfErr result (DiagnoseEnds terms name before now)
   stops_without_graph fault is untouched err =
       ends_by (end_of_fetch_fault fault) err (inl (record { fault = fault; is_fault = is; end_is = refl; untouched = untouched }))
 
-  module _ (graph : Tfpg) (gives : GivesGraph before.shelf name graph) (no_fault : now.shelf.faults ≡ before.shelf.faults) where
+  module _ (graph : Tfpg) (gives : GivesGraph before.shelf name graph) (fetched : Fetched (name ∷ []) before.shelf now.shelf) where
     -- there is no engine
     pub stops_without_engine : {X : Type 0} (fault : TableFault) → AreReportTerms terms → HasTold [] [] before.desk before.desk → CountsHypotheses {X = X} graph terms (Err fault)
         → watched_of now ≡ watched_of before → IsErrAnd result (λ end. end ≡ end_of_table_fault fault) → IfErr result (DiagnoseEnds terms name before now)
     stops_without_engine (TooMany count) within told exact untouched err =
         let many = (exact count).0 refl in
-        ends_by (ends.TooManyHypotheses count) err (inr (inl (record {
+        ends_by (ends.TooManyHypotheses count) err (inr (record {
           graph = graph;
           gives = gives;
-          no_fault = no_fault;
-          ends = record { count = count; counted = many.1; too_many = many.0; end_is = refl; untouched = untouched };
-        })))
+          fetched = fetched;
+          works = inl (record { count = count; counted = many.1; too_many = many.0; end_is = refl; untouched = untouched });
+        }))
     stops_without_engine NoMemory within told exact untouched err =
-        ends_by ends.NoMemory err (inr (inr (record {
+        ends_by ends.NoMemory err (inr (record {
           graph = graph;
           gives = gives;
-          no_fault = no_fault;
-          not_too_many = without_memory graph terms exact;
-          ends = record {
-            result = Err faults.NoMemory;
-            works = subst (λ (s : Watched). Diagnoses graph terms (watched_of before) s (Err faults.NoMemory)) (sym untouched)
-                (begins_without_memory graph terms (watched_of before) (record { within = within; few_hypotheses = without_memory graph terms exact }) told);
-            end_is = refl;
-          };
-        })))
+          fetched = fetched;
+          works = inr (
+            without_memory graph terms exact,
+            record {
+              result = Err faults.NoMemory;
+              works = subst (λ (s : Watched). Diagnoses graph terms (watched_of before) s (Err faults.NoMemory)) (sym untouched)
+                  (begins_without_memory graph terms (watched_of before) (record { within = within; few_hypotheses = without_memory graph terms exact }) told);
+              end_is = refl;
+            },
+          );
+        }))
 
     -- the diagnosis was stopped
     pub stops_diagnosis : ((count : ℕ) → HasHypotheses graph terms count → count ≤ MAX_HYPOTHESES) → (fault : StreamFault) → Diagnoses graph terms (watched_of before) (watched_of now) (Err fault)
         → IsErrAnd result (λ end. end ≡ end_of_stream_fault fault) → IfErr result (DiagnoseEnds terms name before now)
     stops_diagnosis few fault diagnoses err = ends_by (end_of_stream_fault fault) err
-        (inr (inr (record { graph = graph; gives = gives; no_fault = no_fault; not_too_many = few; ends = record { result = Err fault; works = diagnoses; end_is = refl } })))
+        (inr (record { graph = graph; gives = gives; fetched = fetched; works = inr (few, record { result = Err fault; works = diagnoses; end_is = refl }) }))
 
 -- the diagnosis is done
-pub stops_when_done : (terms : Terms) (name : List ℕ) (before now : World) (graph : Tfpg) → GivesGraph before.shelf name graph → now.shelf.faults ≡ before.shelf.faults
+pub stops_when_done : (terms : Terms) (name : List ℕ) (before now : World) (graph : Tfpg) → GivesGraph before.shelf name graph → Fetched (name ∷ []) before.shelf now.shelf
     → ((count : ℕ) → HasHypotheses graph terms count → count ≤ MAX_HYPOTHESES) → Diagnoses graph terms (watched_of before) (watched_of now) (Ok tt) → DiagnoseEnds terms name before now Done
-stops_when_done terms name before now graph gives no_fault few diagnoses =
-    inr (inr (record { graph = graph; gives = gives; no_fault = no_fault; not_too_many = few; ends = record { result = Ok tt; works = diagnoses; end_is = refl } }))
+stops_when_done terms name before now graph gives fetched few diagnoses =
+    inr (record { graph = graph; gives = gives; fetched = fetched; works = inr (few, record { result = Ok tt; works = diagnoses; end_is = refl }) })
 
 -- what a diagnosis by an engine is, for the graph and the terms that it was made of
 pub diagnosed_for : (g graph : Tfpg) (other terms : Terms) (before now : Watched) (result : Result (Unit {0}) StreamFault) → g ≡ graph → other ≡ terms

@@ -1,12 +1,10 @@
 -- When a run is done, or memory ran out: where the files, the input and the output serve what the words mean.
-use Rattle.std.specs.Prelude.{◌≡◌, ◌⊎◌, ℕ, ◌≤◌, List, length, Bool, Some, Err}
+use Rattle.std.specs.Prelude.{◌≡◌, ◌⊎◌, ℕ, ◌≤◌, List, length, Some, Err}
 use Rattle.tfpg_base.specs.declared.limits.TheConstants.{MAX_BYTES}
 use Rattle.tfpg_base.specs.Outside.{SourceState, ShelfState, Rose}
 use Rattle.tfpg_base.specs.Lines.{lines_of}
 use Rattle.tfpg_graph.specs.Graph.{Tfpg}
-use Rattle.tfpg_log.specs.Log.{Logbook}
-use Rattle.tfpg_hyp.specs.Hypotheses.{HasHypotheses}
-use Rattle.tfpg_hyp.specs.declared.limits.TheConstants.{MAX_HYPOTHESES}
+use Rattle.tfpg_graph.specs.Text.{Spells}
 use Rattle.tfpg_report.specs.Blocks.{Block}
 use Rattle.tfpg_check.specs.declared.cause.CheckCause.{CheckCause}
 use Rattle.tfpg_check.specs.Causes.{AreReportLines, IsCause}
@@ -15,14 +13,13 @@ use Rattle.tfpg_words.specs.Meaning.{Meaning, Diagnose, Explain, Check, Simulate
 use Rattle.tfpg_base.specs.declared.terms.Terms.{Terms}
 use Rattle.tfpg_run.specs.declared.end.End.{End}
 use Rattle.tfpg_run.specs.declared.end.End.TheVariants.{Done, NoMemory, NotAccepted}
-use Rattle.tfpg_run.specs.Fetch.{GivesGraph, GivesGraphBy, GivesGraphAndLog, GivesGraphAndText}
+use Rattle.tfpg_run.specs.Fetch.{GivesGraphBy, GivesGraphAndText}
 use Rattle.tfpg_run.specs.check.Checking.{problem_of}
 use Rattle.tfpg_run.specs.convert.Converting.{SpellsFrom}
 use Rattle.tfpg_run.specs.map.Spelling.{HasMap}
-use Rattle.tfpg_fleet.specs.TooMany.{IsTooMany}
-use Rattle.tfpg_run.specs.fleet.FleetEnds.{FleetWords, fleet_words}
+use Rattle.tfpg_run.specs.fleet.FleetEnds.{HasFewForFleet, fleet_words}
+use Rattle.tfpg_run.specs.diagnosis.TooMany.{HasFewHypotheses}
 use Rattle.tfpg_run.specs.declared.fault.ProbeFault.{ProbeFault}
-use Rattle.tfpg_run.specs.predict.Forecasts.{Prediction, prediction}
 use Rattle.tfpg_run.specs.predict.Probing.{probed_node}
 use Rattle.tfpg_run.specs.World.{World}
 
@@ -32,108 +29,53 @@ pub record IsShort (input : SourceState) : Type 0 where
   pub left : input.left ≡ Some known
   pub few : length known ≤ MAX_BYTES
 
--- The contents of the shelf are known, the file of this name spells a valid graph, and each graph that it gives has at
--- most 4,096 hypotheses on these terms.
-pub record CanDiagnose (shelf : ShelfState) (terms : Terms) (name : List ℕ) : Type 0 where
+-- The input is short, and this holds of its lines.
+abbrev pub HasLines : SourceState → (List (List ℕ) → Type 0) → Type 0
+HasLines input Hold = (short : IsShort input) × Hold (lines_of short.known)
+
+-- The contents of the shelf are known, and the file of this name spells a valid graph, of which this holds.
+pub record ServesGraph (SpellsIt : List ℕ → Tfpg → Type 0) (shelf : ShelfState) (name : List ℕ) (Holds : Tfpg → Type 0) : Type 0 where
   pub files : List (List ℕ × List ℕ)
   pub known : shelf.files ≡ Some files
   pub graph : Tfpg
-  pub gives : GivesGraph shelf name graph
-  pub few : (other : Tfpg) (count : ℕ) → GivesGraph shelf name other → HasHypotheses other terms count
-      → count ≤ MAX_HYPOTHESES
+  pub gives : GivesGraphBy SpellsIt shelf name graph
+  pub holds : Holds graph
 
--- The contents of the shelf are known, the files of these names give a graph and a log, and the lines of the input spell
--- a map of each graph that the file gives.
-pub record CanExplain (shelf : ShelfState) (input : SourceState) (graph_name log_name : List ℕ) : Type 0 where
+-- The contents of the shelf are known, and the files of these names give a graph and a text, of which this holds.
+pub record ServesGraphAndText (shelf : ShelfState) (graph_name text_name : List ℕ) (Hold : Tfpg → List ℕ → Type 0) : Type 0 where
   pub files : List (List ℕ × List ℕ)
   pub known : shelf.files ≡ Some files
   pub graph : Tfpg
-  pub log : Logbook
-  pub gives : GivesGraphAndLog shelf graph_name log_name graph log
-  pub short : IsShort input
-  pub map : (other : Tfpg) → GivesGraph shelf graph_name other → HasMap other (lines_of short.known)
+  pub text : List ℕ
+  pub gives : GivesGraphAndText shelf graph_name text_name graph text
+  pub hold : Hold graph text
 
--- The contents of the shelf and of the input are known, and the files of these names give a graph and a text.
-pub record CanJudge (shelf : ShelfState) (input : SourceState) (graph_name log_name : List ℕ) : Type 0 where
-  pub files : List (List ℕ × List ℕ)
-  pub known : shelf.files ≡ Some files
-  pub graph : Tfpg
-  pub log_text : List ℕ
-  pub gives : GivesGraphAndText shelf graph_name log_name graph log_text
-  pub short : IsShort input
-
--- So a report can be judged, and the lines of the input are those of a report of the graph and the lines of the text.
-pub record CanCheck (shelf : ShelfState) (input : SourceState) (graph_name log_name : List ℕ) : Type 0 where
-  pub judges : CanJudge shelf input graph_name log_name
-  pub terms : Terms
-  pub blocks : List Block
-  pub report : AreReportLines (problem_of judges.graph judges.log_text) terms blocks (lines_of judges.short.known)
-
--- So a report can be judged, and the lines of the input are not accepted, for this cause at this line.
-pub record CanRefuse (shelf : ShelfState) (input : SourceState) (graph_name log_name : List ℕ) (line : ℕ) (cause : CheckCause) : Type 0 where
-  pub judges : CanJudge shelf input graph_name log_name
-  pub is_cause : IsCause (problem_of judges.graph judges.log_text) (lines_of judges.short.known) line cause
-
--- The contents of the shelf are known, and the files of these names give a graph and a text, which is a right script.
-pub record CanSimulate (shelf : ShelfState) (graph_name script_name : List ℕ) : Type 0 where
-  pub files : List (List ℕ × List ℕ)
-  pub known : shelf.files ≡ Some files
-  pub graph : Tfpg
-  pub script : List ℕ
-  pub gives : GivesGraphAndText shelf graph_name script_name graph script
-  pub right : (other : Tfpg) (text : List ℕ) (line : ℕ) → GivesGraphAndText shelf graph_name script_name other text
-      → IsScriptFault other (lines_of text) line → ⊥
-
--- The contents of the shelf are known, and the file of this name spells a valid graph, as JSON or as a graph text.
-pub record CanConvert (shelf : ShelfState) (json : Bool) (name : List ℕ) : Type 0 where
-  pub files : List (List ℕ × List ℕ)
-  pub known : shelf.files ≡ Some files
-  pub graph : Tfpg
-  pub gives : GivesGraphBy (SpellsFrom json) shelf name graph
-
--- The contents of the shelf are known, the files of these names give a graph and a text, and each graph that the one gives has at most
--- 4,096 hypotheses on these terms.
-pub record CanAsk (shelf : ShelfState) (terms : Terms) (graph_name log_name : List ℕ) : Type 0 where
-  pub files : List (List ℕ × List ℕ)
-  pub known : shelf.files ≡ Some files
-  pub graph : Tfpg
-  pub log_text : List ℕ
-  pub gives : GivesGraphAndText shelf graph_name log_name graph log_text
-  pub few : (other : Tfpg) (count : ℕ) → GivesGraph shelf graph_name other → HasHypotheses other terms count
-      → count ≤ MAX_HYPOTHESES
-
--- The contents of the shelf are known, the file of this name spells a valid graph, and each graph that it gives has not too many
--- hypotheses for the vehicles.
-pub record CanFleet (shelf : ShelfState) (said : FleetWords) : Type 0 where
-  pub files : List (List ℕ × List ℕ)
-  pub known : shelf.files ≡ Some files
-  pub graph : Tfpg
-  pub gives : GivesGraph shelf said.file graph
-  pub few : (other : Tfpg) (count : ℕ) → GivesGraph shelf said.file other → IsTooMany other said.terms (length said.names) count → ⊥
-
--- The contents of the shelf are known, and the files of these names give a graph and a text. Each graph that the one gives takes a
--- probe of the node, and has at most 4,096 hypotheses on these terms.
-pub record CanPredict (shelf : ShelfState) (asked : Prediction) (graph_name log_name : List ℕ) : Type 0 where
-  pub files : List (List ℕ × List ℕ)
-  pub known : shelf.files ≡ Some files
-  pub graph : Tfpg
-  pub log_text : List ℕ
-  pub gives : GivesGraphAndText shelf graph_name log_name graph log_text
-  pub takes_probe : (other : Tfpg) (fault : ProbeFault) → GivesGraph shelf graph_name other → probed_node other asked.node ≡ Err fault → ⊥
-  pub few : (other : Tfpg) (count : ℕ) → GivesGraph shelf graph_name other → HasHypotheses other asked.terms count
-      → count ≤ MAX_HYPOTHESES
+-- The graph takes a probe of the node of this name.
+abbrev pub TakesProbe : Tfpg → List ℕ → Type 0
+TakesProbe graph node = (fault : ProbeFault) → probed_node graph node ≡ Err fault → ⊥
 
 -- The files serve what the words mean, and so does the input where it is read.
 abbrev pub CanBeDone : Meaning → World → Type 0
-CanBeDone (Diagnose terms graph) before = CanDiagnose before.shelf terms graph × IsShort before.input
-CanBeDone (Explain graph log) before = CanExplain before.shelf before.input graph log
-CanBeDone (Check graph log) before = CanCheck before.shelf before.input graph log
-CanBeDone (Simulate draw trace graph script) before = CanSimulate before.shelf graph script
+CanBeDone (Diagnose terms file) before = ServesGraph Spells before.shelf file (HasFewHypotheses terms) × IsShort before.input
+CanBeDone (Explain file log) before =
+    ServesGraphAndText before.shelf file log (λ graph text. HasLines before.input (HasMap graph))
+CanBeDone (Check file log) before =
+    ServesGraphAndText before.shelf file log (λ graph text. HasLines before.input (λ lines.
+    (terms : Terms) × (blocks : List Block) × AreReportLines (problem_of graph text) terms blocks lines))
+CanBeDone (Simulate draw trace file script) before =
+    ServesGraphAndText before.shelf file script (λ graph text. (line : ℕ) → IsScriptFault graph (lines_of text) line → ⊥)
 CanBeDone (Generate draw size) before = Unit {0}
-CanBeDone (Convert json graph) before = CanConvert before.shelf json graph
-CanBeDone (Ask terms graph log) before = CanAsk before.shelf terms graph log
-CanBeDone (Fleet terms graph names) before = CanFleet before.shelf (fleet_words terms graph names) × IsShort before.input
-CanBeDone (Predict terms ahead graph log node) before = CanPredict before.shelf (prediction terms ahead node) graph log
+CanBeDone (Convert json file) before = ServesGraph (SpellsFrom json) before.shelf file (λ graph. Unit {0})
+CanBeDone (Ask terms file log) before = ServesGraphAndText before.shelf file log (λ graph text. HasFewHypotheses terms graph)
+CanBeDone (Fleet terms file names) before =
+    ServesGraph Spells before.shelf file (HasFewForFleet (fleet_words terms file names)) × IsShort before.input
+CanBeDone (Predict terms ahead file log node) before =
+    ServesGraphAndText before.shelf file log (λ graph text. TakesProbe graph node × HasFewHypotheses terms graph)
+
+-- A report can be judged, and the lines of the input are not accepted, for this cause at this line.
+abbrev pub CanRefuse : ShelfState → SourceState → List ℕ → List ℕ → ℕ → CheckCause → Type 0
+CanRefuse shelf input graph_name log_name line cause =
+    ServesGraphAndText shelf graph_name log_name (λ graph text. HasLines input (λ lines. IsCause (problem_of graph text) lines line cause))
 
 -- Neither the shelf, nor the input, nor the output failed.
 pub record NothingFails (before now : World) : Type 0 where

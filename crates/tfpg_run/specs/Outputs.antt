@@ -47,13 +47,6 @@ pub record HasOutputOfFirstLines (IsRight : List (List ℕ) → List ℕ → Typ
   pub within : count ≤ length (lines_of (taken ++ rest))
   pub right : IsRight (take count (lines_of (taken ++ rest))) bytes
 
--- The bytes begin what is right for the first lines of the input, where this says of lines, bytes and what is to follow them whether they
--- begin it.
-pub record BeginsOutputOfInput (Begins : List (List ℕ) → List ℕ → List ℕ → Type 0) (input : SourceState)
-    (taken bytes : List ℕ) : Type 0 where
-  pub more : List ℕ
-  pub begins : HasOutputOfFirstLines (λ lines written. Begins lines written more) input taken bytes
-
 -- Why the work with the streams stopped, where these bytes were taken: the input failed, and the output did not; or the
 -- output failed, and the input did not; or the input is too long, or memory ran out, and neither failed.
 abbrev pub IsStreamFault : Streams → Streams → List ℕ → StreamFault → Type 0
@@ -64,39 +57,53 @@ IsStreamFault before now taken WriteFault =
 IsStreamFault before now taken TooMuchInput = (length taken ≡ MAX_BYTES + 1) × CountsUnchanged before now
 IsStreamFault before now taken NoMemory = CountsUnchanged before now
 
--- What was written by then. A failed write alone may cut it.
-abbrev pub IsWrittenBefore : (List (List ℕ) → List ℕ → Type 0) → (List (List ℕ) → List ℕ → List ℕ → Type 0) → SourceState → List ℕ → List ℕ
+-- What was written by then, where this is right to write for lines, and where this begins it. A failed write alone may cut it.
+abbrev pub IsWrittenBefore : (List (List ℕ) → List ℕ → Type 0) → (List (List ℕ) → List ℕ → Type 0) → SourceState → List ℕ → List ℕ
     → StreamFault → Type 0
 -- What is right for the lines that came whole.
 IsWrittenBefore IsRight Begins input taken written ReadFault = IsRight (whole_lines taken) written
 -- What is right for the lines that came whole in the first 2^32 bytes.
 IsWrittenBefore IsRight Begins input taken written TooMuchInput = IsRight (whole_lines (take MAX_BYTES taken)) written
 -- A beginning, up to any byte, of what is right for the first lines.
-IsWrittenBefore IsRight Begins input taken written WriteFault = BeginsOutputOfInput Begins input taken written
+IsWrittenBefore IsRight Begins input taken written WriteFault = HasOutputOfFirstLines Begins input taken written
 -- Nothing, or what is right for the first lines.
 IsWrittenBefore IsRight Begins input taken written NoMemory =
-    ((written ≡ []) × BeginsOutputOfInput Begins input taken written) ⊎ HasOutputOfFirstLines IsRight input taken written
+    ((written ≡ []) × HasOutputOfFirstLines Begins input taken written) ⊎ HasOutputOfFirstLines IsRight input taken written
 
--- Bytes were taken from the input and others written line by line, to the end of the input.
-pub record WorksToEnd (IsRight : List (List ℕ) → List ℕ → Type 0) (before now : Streams) : Type 0 where
+-- How judging what the input spells stops at a fault of the streams, where these bytes were taken. Before all is judged, nothing is written.
+-- Where the input fails or is too long, this holds of the lines that came whole. Where the input fails, the output does not, and where the
+-- output fails, the input does not; where it stops otherwise, neither does.
+abbrev pub StopsJudging : (List (List ℕ) → Type 0) → (List ℕ → Type 0) → Streams → Streams → List ℕ → StreamFault → Type 0
+StopsJudging AreRightSoFar IsRight before now taken ReadFault =
+    Rose before.input.faults now.input.faults × AreRightSoFar (whole_lines taken) × (now.output ≡ before.output)
+StopsJudging AreRightSoFar IsRight before now taken WriteFault =
+    BeginsText IsRight before.output now.output × (now.input.faults ≡ before.input.faults)
+StopsJudging AreRightSoFar IsRight before now taken TooMuchInput =
+    (length taken ≡ MAX_BYTES + 1) × AreRightSoFar (whole_lines (take MAX_BYTES taken)) × (now.output ≡ before.output)
+    × (now.input.faults ≡ before.input.faults)
+StopsJudging AreRightSoFar IsRight before now taken NoMemory =
+    (now.output ≡ before.output) × (now.input.faults ≡ before.input.faults)
+
+-- Bytes were taken from the input and others written, and so it ended, by what both are.
+pub record TakesAndWrites (Ends : List ℕ → List ℕ → Type 0) (before now : Streams) : Type 0 where
   pub taken : List ℕ
   pub takes : Takes before.input now.input taken
   pub written : List ℕ
   pub writes : Puts before.output now.output written
-  pub output : WritesOutput IsRight before now taken written
+  pub ends : Ends taken written
+
+-- Bytes were taken and others written line by line, to the end of the input.
+abbrev pub WorksToEnd : (List (List ℕ) → List ℕ → Type 0) → Streams → Streams → Type 0
+WorksToEnd IsRight before now = TakesAndWrites (WritesOutput IsRight before now) before now
 
 -- How reading and writing line by line ends, where these bytes were taken, and these were written.
-abbrev pub LineByLineEnds : (List (List ℕ) → List ℕ → Type 0) → (List (List ℕ) → List ℕ → List ℕ → Type 0) → Streams → Streams
-    → (List ℕ × List ℕ) → Result (Unit {0}) StreamFault → Type 0
-LineByLineEnds IsRight Begins before now (taken, written) (Ok done) = WritesOutput IsRight before now taken written
-LineByLineEnds IsRight Begins before now (taken, written) (Err fault) =
+abbrev pub LineByLineEnds : (List (List ℕ) → List ℕ → Type 0) → (List (List ℕ) → List ℕ → Type 0) → Streams → Streams
+    → Result (Unit {0}) StreamFault → List ℕ → List ℕ → Type 0
+LineByLineEnds IsRight Begins before now (Ok done) taken written = WritesOutput IsRight before now taken written
+LineByLineEnds IsRight Begins before now (Err fault) taken written =
     IsStreamFault before now taken fault × IsWrittenBefore IsRight Begins now.input taken written fault
 
--- Bytes were taken from the input and others written line by line, with this result: what is right, or what begins it.
-pub record WorksLineByLine (IsRight : List (List ℕ) → List ℕ → Type 0) (Begins : List (List ℕ) → List ℕ → List ℕ → Type 0) (before now : Streams)
-    (result : Result (Unit {0}) StreamFault) : Type 0 where
-  pub taken : List ℕ
-  pub takes : Takes before.input now.input taken
-  pub written : List ℕ
-  pub writes : Puts before.output now.output written
-  pub ends : LineByLineEnds IsRight Begins before now (taken, written) result
+-- Bytes were taken and others written line by line, with this result: what is right, or what begins it.
+abbrev pub WorksLineByLine : (List (List ℕ) → List ℕ → Type 0) → (List (List ℕ) → List ℕ → Type 0) → Streams → Streams
+    → Result (Unit {0}) StreamFault → Type 0
+WorksLineByLine IsRight Begins before now result = TakesAndWrites (LineByLineEnds IsRight Begins before now result) before now

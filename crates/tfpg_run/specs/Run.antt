@@ -19,15 +19,7 @@ use Rattle.tfpg_run.specs.predict.Predicting.{PredictEnds}
 -- No command touches the desk but the one that diagnoses, and words that are refused do not either.
 abbrev pub LeavesDesk : {Desk : Type 0} → Result Meaning UsageCause → Desk → Desk → Type 0
 LeavesDesk (Ok (Diagnose terms graph)) before now = Unit {0}
-LeavesDesk (Ok (Explain graph log)) before now = now ≡ before
-LeavesDesk (Ok (Check graph log)) before now = now ≡ before
-LeavesDesk (Ok (Simulate draw trace graph script)) before now = now ≡ before
-LeavesDesk (Ok (Generate draw size)) before now = now ≡ before
-LeavesDesk (Ok (Convert json graph)) before now = now ≡ before
-LeavesDesk (Ok (Ask terms graph log)) before now = now ≡ before
-LeavesDesk (Ok (Fleet terms graph names)) before now = now ≡ before
-LeavesDesk (Ok (Predict terms ahead graph log node)) before now = now ≡ before
-LeavesDesk (Err cause) before now = now ≡ before
+LeavesDesk meant before now = now ≡ before
 
 -- How a run ends whose words mean this: words that are refused have their cause, and nothing was asked for, taken or
 -- written; and else it goes as the command says.

@@ -4,3 +4,4 @@ pub mod RightReport
 pub mod Diagnosing
 pub mod BlockFindings
 pub mod Work
+pub mod InTime

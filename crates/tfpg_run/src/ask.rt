@@ -1,10 +1,9 @@
 //! The command `ask`: from the names of a graph file and a log file, and the terms, to the questions that would tell most.
 
-ghost use Rattle.std.specs.Prelude.{◌≡◌, ◌≤◌, ◌∷◌, [], IfErr, IfOk, OnOk, Ok, Err, length};
+ghost use Rattle.std.specs.Prelude.{◌≡◌, ◌≤◌, IfErr, IfOk, OnOk, Ok, Err, length};
 ghost use Rattle.tfpg_base.specs.Outside.{SourceState};
 ghost use Rattle.tfpg_base.specs.Terms.{AreReportTerms};
 ghost use Rattle.tfpg_panel.specs.Desk.{DeskState};
-ghost use Rattle.tfpg_run.specs.Fetch.{AsksInOrder};
 ghost use Rattle.tfpg_run.specs.World.{world};
 ghost use Rattle.tfpg_run.specs.ask.Asking.{AskEnds, QuestionsEnd};
 ghost use Rattle.tfpg_run.specs.ask.Questions.{HasQuestions};
@@ -44,8 +43,6 @@ pub(crate) fn ask_by_files<F: Shelf, K: Sink, L: Ledger>(
     ensures stopped { (input : SourceState) (desk : DeskState) → IfErr result (AskEnds terms graph_name.now log_name.now
         (world (F.state shelf.old) input (K.state out.old) desk)
         (world (F.state shelf.new) input (K.state out.new) desk)) }
-    ensures asks { AsksInOrder (graph_name.now ∷ log_name.now ∷ []) (F.state shelf.old).asked
-        (F.state shelf.new).asked }
 {
     let (graph, log) = fetch_graph_and_text(alloc, shelf, graph_name, log_name)?;
     Ok(write_questions(alloc, graph, &log, terms, out, work)?)

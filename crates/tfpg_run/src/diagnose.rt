@@ -3,7 +3,6 @@
 ghost use Rattle.std.specs.Prelude.{◌≡◌, OnOk, IfErr};
 ghost use Rattle.tfpg_base.specs.Terms.{AreReportTerms};
 ghost use Rattle.tfpg_panel.specs.Desk.{seen_by};
-ghost use Rattle.tfpg_run.specs.Fetch.{AsksFor};
 ghost use Rattle.tfpg_run.specs.World.{world};
 ghost use Rattle.tfpg_run.specs.EndsOf.{end_of_result};
 ghost use Rattle.tfpg_run.specs.diagnose.Diagnosing.{DiagnoseEnds};
@@ -50,7 +49,6 @@ pub(crate) fn diagnose_file<F: Shelf, S: Source, K: Sink, P: Panel, L: Ledger>(
     ensures work { end_of_result (λ end. end) result ≡ End.Done → DiagnosesWithin subject.now.terms subject.now.name.now
         (world (F.state shelf.old) (S.state input.old) (K.state out.old) (seen_by P.state desk.old))
         (world (F.state shelf.new) (S.state input.new) (K.state out.new) (seen_by P.state desk.new)) work.old work.new }
-    ensures asks { AsksFor subject.now.name.now (F.state shelf.old).asked (F.state shelf.new).asked }
 {
     desk.always_keeps_its_panels();
     a_desk_is_told_round_by_round();

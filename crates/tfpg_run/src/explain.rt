@@ -1,8 +1,7 @@
 //! The command `explain`: from the names of a graph file and a log file to the verdict on the map of the input.
 
-ghost use Rattle.std.specs.Prelude.{◌∷◌, [], IfErr, OnOk, Ok, Err};
+ghost use Rattle.std.specs.Prelude.{IfErr, OnOk, Ok, Err};
 ghost use Rattle.tfpg_log.specs.Log.{IsLogOf};
-ghost use Rattle.tfpg_run.specs.Fetch.{AsksInOrder};
 ghost use Rattle.tfpg_run.specs.Streams.{streams};
 ghost use Rattle.tfpg_panel.specs.Desk.{DeskState};
 ghost use Rattle.tfpg_run.specs.World.{world};
@@ -37,8 +36,6 @@ pub(crate) fn explain_by_files<F: Shelf, S: Source, K: Sink>(
     ensures stopped { (desk : DeskState) → IfErr result (ExplainEnds graph_name.now log_name.now
         (world (F.state shelf.old) (S.state input.old) (K.state out.old) desk)
         (world (F.state shelf.new) (S.state input.new) (K.state out.new) desk)) }
-    ensures asks { AsksInOrder (graph_name.now ∷ log_name.now ∷ []) (F.state shelf.old).asked
-        (F.state shelf.new).asked }
 {
     let (graph, mut log) = fetch_graph_and_log(alloc, shelf, graph_name, log_name)?;
     Ok(explain_map(alloc, &graph, &mut log, input, out)?)

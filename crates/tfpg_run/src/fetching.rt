@@ -1,13 +1,13 @@
 //! The graph of a file, and the log or the text of another.
 
-ghost use Rattle.std.specs.Prelude.{◌≡◌, ◌∷◌, [], IfOk, IfErr, OnOk, length};
+ghost use Rattle.std.specs.Prelude.{◌≡◌, ◌∷◌, [], IfOk, IfErr, OnOk};
 ghost use Rattle.tfpg_base.specs.Lines.{lines_of};
-ghost use Rattle.tfpg_base.specs.Outside.{NotesName};
 ghost use Rattle.tfpg_graph.specs.Valid.{IsValid};
 ghost use Rattle.tfpg_log.specs.Log.{IsLogOf};
 ghost use Rattle.tfpg_log.specs.LogOfLines.{log_after, log_of_lines};
-ghost use Rattle.tfpg_run.specs.Fetch.{HasFile, GivesGraph, GivesGraphAndLog, GivesGraphAndText, IsFilesFault, AsksFor, AsksInOrder};
+ghost use Rattle.tfpg_run.specs.Fetch.{Fetched, HasFile, GivesGraph, GivesGraphAndText};
 ghost use Rattle.tfpg_run.specs.inside.Faults.{IsFetchFault, IsFileFault};
+ghost use Rattle.tfpg_run.specs.inside.Fetching.{GivesGraphAndLog};
 
 use crate::fault::FetchFault;
 use std::alloc::Global;
@@ -22,9 +22,8 @@ pub(crate) fn fetch_graph<F: Shelf>(
     name: &str,
 ) -> Result<Graph, FetchFault>
     ensures graph { IfOk result (GivesGraph (F.state shelf.old) name.now) }
-    ensures no_fault { OnOk result ((F.state shelf.new).faults ≡ (F.state shelf.old).faults) }
-    ensures fault { IfErr result (IsFetchFault (F.state shelf.old) (F.state shelf.new) name.now) }
-    ensures asks { AsksFor name.now (F.state shelf.old).asked (F.state shelf.new).asked }
+    ensures fetched { OnOk result (Fetched (name.now ∷ []) (F.state shelf.old) (F.state shelf.new)) }
+    ensures fault { IfErr result (IsFetchFault name.now [] (F.state shelf.old) (F.state shelf.new)) }
 {
     let text = fetch_file(alloc, shelf, name)?;
     Ok(read(alloc, &text)?)
@@ -40,11 +39,10 @@ pub(crate) fn fetch_graph_and_log<F: Shelf>(
     ensures given { IfOk result (λ both. GivesGraphAndLog (F.state shelf.old) graph_name.now log_name.now
         both.0 both.1) }
     ensures of_graph { IfOk result (λ both. IsLogOf both.0 both.1) }
-    ensures no_fault { OnOk result ((F.state shelf.new).faults ≡ (F.state shelf.old).faults) }
-    ensures fault { IfErr result (IsFilesFault (F.state shelf.old) (F.state shelf.new) graph_name.now
-        log_name.now) }
-    ensures asks { AsksInOrder (graph_name.now ∷ log_name.now ∷ []) (F.state shelf.old).asked
-        (F.state shelf.new).asked }
+    ensures fetched { OnOk result (Fetched (graph_name.now ∷ log_name.now ∷ []) (F.state shelf.old)
+        (F.state shelf.new)) }
+    ensures fault { IfErr result (IsFetchFault graph_name.now (log_name.now ∷ []) (F.state shelf.old)
+        (F.state shelf.new)) }
 {
     let (graph, log_text) = fetch_graph_and_text(alloc, shelf, graph_name, log_name)?;
     let log = log_of_text(alloc, &graph, &log_text)?;
@@ -60,11 +58,10 @@ pub(crate) fn fetch_graph_and_text<F: Shelf>(
 ) -> Result<(Graph, Vec<u8>), FetchFault>
     ensures given { IfOk result (λ both. GivesGraphAndText (F.state shelf.old) graph_name.now text_name.now
         both.0 both.1.items) }
-    ensures no_fault { OnOk result ((F.state shelf.new).faults ≡ (F.state shelf.old).faults) }
-    ensures fault { IfErr result (IsFilesFault (F.state shelf.old) (F.state shelf.new) graph_name.now
-        text_name.now) }
-    ensures asks { AsksInOrder (graph_name.now ∷ text_name.now ∷ []) (F.state shelf.old).asked
-        (F.state shelf.new).asked }
+    ensures fetched { OnOk result (Fetched (graph_name.now ∷ text_name.now ∷ []) (F.state shelf.old)
+        (F.state shelf.new)) }
+    ensures fault { IfErr result (IsFetchFault graph_name.now (text_name.now ∷ []) (F.state shelf.old)
+        (F.state shelf.new)) }
 {
     let graph_text = fetch_file(alloc, shelf, graph_name)?;
     let text = fetch_file(alloc, shelf, text_name)?;
@@ -79,10 +76,8 @@ pub(crate) fn fetch_file<F: Shelf>(
     name: &str,
 ) -> Result<Vec<u8>, ShelfFault>
     ensures file { IfOk result (λ text. HasFile (F.state shelf.old) name.now text.items) }
-    ensures no_fault { OnOk result ((F.state shelf.new).faults ≡ (F.state shelf.old).faults) }
+    ensures fetched { OnOk result (Fetched (name.now ∷ []) (F.state shelf.old) (F.state shelf.new)) }
     ensures fault { IfErr result (IsFileFault (F.state shelf.old) (F.state shelf.new) name.now) }
-    ensures asked { OnOk result (NotesName (F.state shelf.old) (F.state shelf.new) name.now) }
-    ensures asks { AsksFor name.now (F.state shelf.old).asked (F.state shelf.new).asked }
     ensures same_files { (F.state shelf.new).files ≡ (F.state shelf.old).files }
 {
     let mut text = Vec::new(alloc);

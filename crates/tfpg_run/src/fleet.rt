@@ -1,11 +1,11 @@
 //! The command `fleet`: from the name of a graph file, the terms and the names of vehicles to the answers to the lines of the input.
 
-ghost use Rattle.std.specs.Prelude.{◌≡◌, ◌≤◌, IfErr, IfOk, OnOk, length, map};
+ghost use Rattle.std.specs.Prelude.{◌≡◌, ◌≤◌, ◌∷◌, [], IfErr, IfOk, OnOk, length, map};
 ghost use Rattle.tfpg_base.specs.Terms.{AreReportTerms};
 ghost use Rattle.tfpg_base.specs.Words.{comma_parts};
 ghost use Rattle.tfpg_panel.specs.Desk.{DeskState};
 ghost use Rattle.tfpg_words.specs.Names.{AreNames};
-ghost use Rattle.tfpg_run.specs.Fetch.{AsksFor, GivesGraph};
+ghost use Rattle.tfpg_run.specs.Fetch.{Fetched, GivesGraph};
 ghost use Rattle.tfpg_run.specs.World.{world};
 ghost use Rattle.tfpg_run.specs.fleet.FleetEnds.{FleetEnds};
 ghost use Rattle.tfpg_run.specs.inside.Faults.{IsFetchFault};
@@ -55,7 +55,6 @@ pub(crate) fn fleet_file<F: Shelf, S: Source, K: Sink, L: Ledger>(
     ensures stopped { (desk : DeskState) → IfErr result (FleetEnds (said_by subject.now)
         (world (F.state shelf.old) (S.state input.old) (K.state out.old) desk)
         (world (F.state shelf.new) (S.state input.new) (K.state out.new) desk)) }
-    ensures asks { AsksFor subject.now.file.now (F.state shelf.old).asked (F.state shelf.new).asked }
 {
     let (graph, names) = fetch_graph_and_names(alloc, shelf, subject)?;
     let vehicles = Vehicles {
@@ -75,9 +74,8 @@ fn fetch_graph_and_names<F: Shelf>(
 ) -> Result<(Graph, NameList), FetchFault>
     ensures graph { IfOk result (λ both. GivesGraph (F.state shelf.old) subject.now.file.now both.0) }
     ensures names { IfOk result (λ both. both.1 ≡ comma_parts subject.now.names.now) }
-    ensures no_fault { OnOk result ((F.state shelf.new).faults ≡ (F.state shelf.old).faults) }
-    ensures fault { IfErr result (IsFetchFault (F.state shelf.old) (F.state shelf.new) subject.now.file.now) }
-    ensures asks { AsksFor subject.now.file.now (F.state shelf.old).asked (F.state shelf.new).asked }
+    ensures fetched { OnOk result (Fetched (subject.now.file.now ∷ []) (F.state shelf.old) (F.state shelf.new)) }
+    ensures fault { IfErr result (IsFetchFault subject.now.file.now [] (F.state shelf.old) (F.state shelf.new)) }
 {
     let graph = fetch_graph(alloc, shelf, subject.file)?;
     let names = name_list(alloc, subject.names)?;

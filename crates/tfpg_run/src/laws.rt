@@ -27,6 +27,7 @@ ghost use Rattle.tfpg_run.specs.World.{World};
 ghost use Rattle.tfpg_run.specs.convert.Converting.{ConvertEnds};
 ghost use Rattle.tfpg_fleet.specs.Alone.{RoundsFindTheSame};
 ghost use Rattle.tfpg_fleet.specs.Belonging.{lines_for};
+ghost use Rattle.tfpg_run.specs.diagnose.InTime.{BlocksComeInTime};
 ghost use Rattle.tfpg_run.specs.diagnose.BlockFindings.{HasFindingInBlock, HasSettledRoundInBlock};
 ghost use Rattle.tfpg_run.specs.fleet.Answers.{Answer, blocks_for};
 ghost use Rattle.tfpg_run.specs.fleet.FleetOutput.{AreAnswers, FleetProblem};
@@ -118,6 +119,12 @@ pub fn a_vehicle_is_diagnosed_as_if_alone()
 {
     rounds_of_the_same_lines_find_the_same();
 }
+
+/// Each block is written before the next line is taken. The input may fail whenever it is asked for more. Where it does, a run of `diagnose`
+/// that has a graph has written the whole report of the lines that came whole by then, and told its rounds.
+pub fn each_block_is_written_before_the_next_line_is_taken()
+    ensures { BlocksComeInTime }
+{}
 
 /// What a diagnosis has written that is done is accepted by `check`, with the same graph file, and with a log file that has the lines of the
 /// input that was diagnosed: the check is done, or memory runs out, where neither files, input nor output fail.

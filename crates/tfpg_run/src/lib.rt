@@ -2,8 +2,9 @@
 //!
 //! [`run`] is the call that the program makes. It says how it ended by an [`End`], which has an exit code and a line.
 //! [`laws`] says that lines spell at most one map, that the text of a map spells it, that a simulated set is rejected in no
-//! round, that a rejected hypothesis stays rejected, that what `diagnose` wrote is accepted by `check`, and that a graph that is converted to
-//! JSON and back is the same graph. [`panel_line`] appends the line that a file panel writes for a round.
+//! round, that a rejected hypothesis stays rejected, that `diagnose` writes each block before it takes the next line, that what it wrote is
+//! accepted by `check`, and that a graph that is converted to JSON and back is the same graph. [`panel_line`] appends the line that a file
+//! panel writes for a round.
 //!
 //! For programs that have no files and no streams there are calls over texts in memory: [`diagnose_texts`], [`check_texts`], and a
 //! [`Session`] that takes the lines of a log one by one.
@@ -15,8 +16,7 @@
 //!
 //! # Proved, and by which clause
 //!
-//! - The rows of the program in `docs/promises.md`: `run`, `ends`, `completes`, `refuses`, `rechecks`, `work`, `desk`,
-//!   `asks`.
+//! - The rows of the program in `docs/promises.md`: `run`, `ends`, `completes`, `refuses`, `rechecks`, `work`, `desk`.
 //! - The lines of file panels: `panel_line`.
 //!
 //! # Not proved

@@ -1,12 +1,11 @@
 //! The command `predict`: from the names of a graph file, a log file and a node to when the node becomes active at the earliest.
 
-ghost use Rattle.std.specs.Prelude.{◌≡◌, ◌≤◌, ◌∷◌, [], IfErr, OnOk, Ok, Err};
+ghost use Rattle.std.specs.Prelude.{◌≡◌, ◌≤◌, [], IfErr, OnOk, Ok, Err};
 ghost use Rattle.tfpg_base.specs.Outside.{SourceState};
 ghost use Rattle.tfpg_base.specs.Terms.{AreReportTerms};
 ghost use Rattle.tfpg_base.specs.Lines.{lines_of};
 ghost use Rattle.tfpg_base.specs.declared.limits.TheConstants.{MAX_TIME};
 ghost use Rattle.tfpg_panel.specs.Desk.{DeskState};
-ghost use Rattle.tfpg_run.specs.Fetch.{AsksInOrder};
 ghost use Rattle.tfpg_run.specs.Outputs.{TextEnds};
 ghost use Rattle.tfpg_run.specs.World.{world};
 ghost use Rattle.tfpg_run.specs.predict.Forecasts.{HasForecasts, prediction};
@@ -59,8 +58,6 @@ pub(crate) fn predict_by_files<F: Shelf, K: Sink, L: Ledger>(
         (prediction asked.now.terms asked.now.ahead asked.now.node.now) asked.now.graph.now asked.now.log.now
         (world (F.state shelf.old) input (K.state out.old) desk)
         (world (F.state shelf.new) input (K.state out.new) desk)) }
-    ensures asks { AsksInOrder (asked.now.graph.now ∷ asked.now.log.now ∷ []) (F.state shelf.old).asked
-        (F.state shelf.new).asked }
 {
     let (graph, log_text) = fetch_graph_and_text(alloc, shelf, asked.graph, asked.log)?;
     let node = probed_node(&graph, asked.node)?;

@@ -1,10 +1,9 @@
 //! The command `simulate`: from the names of a graph file and a script file to the log or the map that the script makes.
 
-ghost use Rattle.std.specs.Prelude.{◌≡◌, ◌∷◌, ◌<◌, [], All, IfOk, IfErr, OnOk, Ok, Err, length};
+ghost use Rattle.std.specs.Prelude.{◌≡◌, ◌<◌, All, IfOk, IfErr, OnOk, Ok, Err, length};
 ghost use Rattle.tfpg_base.specs.Outside.{SourceState};
 ghost use Rattle.tfpg_graph.specs.Graph.{AreFailures};
 ghost use Rattle.tfpg_sim.specs.ScriptFaults.{IsSimFault};
-ghost use Rattle.tfpg_run.specs.Fetch.{AsksInOrder};
 ghost use Rattle.tfpg_run.specs.simulate.Simulating.{HasSimulation, SimulateEnds, SimulationEnds, simulated_text};
 ghost use Rattle.tfpg_panel.specs.Desk.{DeskState};
 ghost use Rattle.tfpg_run.specs.World.{world};
@@ -39,8 +38,6 @@ pub(crate) fn simulate_files<F: Shelf, K: Sink>(
         graph_name.now script_name.now
         (world (F.state shelf.old) input (K.state out.old) desk)
         (world (F.state shelf.new) input (K.state out.new) desk)) }
-    ensures asks { AsksInOrder (graph_name.now ∷ script_name.now ∷ []) (F.state shelf.old).asked
-        (F.state shelf.new).asked }
 {
     let (graph, script) = fetch_graph_and_text(alloc, shelf, graph_name, script_name)?;
     Ok(write_simulation(alloc, &graph, &script, draw, trace, out)?)

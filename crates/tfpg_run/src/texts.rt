@@ -3,6 +3,7 @@
 //! [`diagnose_texts`] returns the report of a log, and [`check_texts`] judges one. A [`Session`] takes the lines of a log one by one, and
 //! returns the block of each.
 
+mod call_count;
 mod checking;
 mod fault;
 mod opening;

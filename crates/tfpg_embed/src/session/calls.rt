@@ -1,6 +1,7 @@
 //! The calls of a session.
 
-ghost use Rattle.std.specs.Prelude.{◌≡◌, IfErr, IfOk, IsOkUnless, None, length};
+ghost use Rattle.std.specs.Prelude.{◌≡◌, ◌≢◌, ◌⊎◌, Err, IfErr, IfOk, IsOkUnless, None, length};
+ghost use Rattle.tfpg_run.specs.declared.texts.fault.OpenFault.{OpenFault as WhyNotOpen};
 ghost use Rattle.tfpg_run.specs.texts.Opening.{CanOpen, IsOpenFault};
 ghost use Rattle.tfpg_embed.specs.Sessions.{AnswersLine, AnswersOpen, IsNewlyOpen, answer_of_held, room_after_held};
 ghost use Rattle.tfpg_embed.specs.TextCalls.{terms_of};
@@ -13,6 +14,7 @@ use crate::status::{DONE, ENDED};
 use std::alloc::Global;
 use tfpg_base::Terms;
 use tfpg_graph::laws::a_text_has_at_most_one_first_fault;
+use tfpg_hyp::laws::the_table_is_one;
 use tfpg_run::OpenFault;
 
 /// Opens a session of the graph that the text spells, on these terms. The text of the session is then the first line of its report, and the
@@ -93,8 +95,11 @@ fn boxed_session(alloc: Global, graph: &[u8], terms: Terms) -> Result<Box<OpenSe
     ensures opened { IfOk result (λ opened. IsNewlyOpen graph.now terms opened.value) }
     ensures fault { IfErr result (IsOpenFault graph.now terms) }
     ensures completes { CanOpen graph.now terms → IsOkUnless result OpenFault.NoMemory }
+    ensures refuses { (fault : WhyNotOpen) → fault ≢ OpenFault.NoMemory → IsOpenFault graph.now terms fault →
+        (result ≡ Err fault) ⊎ (result ≡ Err OpenFault.NoMemory) }
 {
     a_text_has_at_most_one_first_fault();
+    the_table_is_one();
     new_session(alloc, graph, terms)
 }
 

@@ -3,8 +3,10 @@
 ghost use Rattle.std.specs.Prelude.{◌≡◌, ◌↔◌, ◌++◌, ◌∷◌, [], ℕ, List, Err, IfErr, IfOk, None, length};
 ghost use Rattle.tfpg_base.specs.declared.terms.Terms.{Terms};
 ghost use Rattle.tfpg_graph.specs.Graph.{Tfpg};
+ghost use Rattle.tfpg_evidence.specs.declared.round.Round.{Round};
+ghost use Rattle.tfpg_engine.specs.EngineState.{EngineRepresents};
 ghost use Rattle.tfpg_run.specs.texts.Opening.{IsOpenFault};
-ghost use Rattle.tfpg_run.specs.texts.Sessions.{SessionRepresents};
+ghost use Rattle.tfpg_run.specs.texts.Sessions.{CountsBlock, SessionRepresents};
 ghost use Rattle.tfpg_embed.specs.Sessions.{IsNewlyOpen};
 
 use std::alloc::Global;
@@ -37,6 +39,8 @@ impl OpenSession {
         ensures block { (graph : Tfpg) (terms : Terms) (lines : List (List ℕ)) (bytes : List ℕ) →
             SessionRepresents graph terms lines bytes self.old.session →
             IfOk result (λ _. SessionRepresents graph terms (lines ++ line.now ∷ []) (bytes ++ self.new.text.items) self.new.session) }
+        ensures work { (rounds : List Round) → EngineRepresents self.old.session.engine rounds →
+            IfOk result (λ _. CountsBlock self.old.session.engine rounds line.now self.new.text.items self.old.session.calls self.new.session.calls) }
         ensures count { IfOk result (λ count. count ≡ length self.new.text.items) }
         ensures ended { (result ≡ Err EventFault.Ended) ↔ (self.old.session.next ≡ None) }
     {

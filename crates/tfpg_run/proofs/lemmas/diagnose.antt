@@ -6,3 +6,4 @@ pub mod StaysRejected
 pub mod ToldBlocks
 pub mod WrittenBlocks
 pub mod LossLines
+pub mod WholeLines

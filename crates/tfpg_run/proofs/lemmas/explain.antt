@@ -1,3 +1,4 @@
 -- How explaining ends.
 pub mod ExplainedMaps
+pub mod ExplainedFiles
 pub mod NamedNodes

@@ -1,5 +1,5 @@
 -- What `ask` does: it diagnoses the lines of a file, and writes which questions would tell most after them.
-use Rattle.std.specs.Prelude.{◌≡◌, ◌⊎◌, ℕ, ◌<◌, List, Result, Ok, Err}
+use Rattle.std.specs.Prelude.{◌≡◌, ℕ, ◌<◌, List, Result, Ok, Err}
 use Rattle.tfpg_base.specs.Outside.{SinkState}
 use Rattle.tfpg_base.specs.declared.terms.Terms.{Terms}
 use Rattle.tfpg_graph.specs.Graph.{Tfpg}
@@ -9,7 +9,7 @@ use Rattle.tfpg_run.specs.declared.end.End.{End}
 use Rattle.tfpg_run.specs.declared.fault.QuestionsFault.{QuestionsFault}
 use Rattle.tfpg_run.specs.declared.fault.QuestionsFault.TheVariants.{TooMany, WriteFault, NoMemory}
 use Rattle.tfpg_run.specs.EndsOf.{EndsBy, end_of_questions_fault}
-use Rattle.tfpg_run.specs.Fetch.{GivesGraphAndText, LacksGraphOrText, WorksByFiles}
+use Rattle.tfpg_run.specs.Fetch.{EndsByFiles}
 use Rattle.tfpg_run.specs.Outputs.{WritesText, BeginsText}
 use Rattle.tfpg_run.specs.World.{World}
 use Rattle.tfpg_run.specs.ask.Questions.{HasQuestions}
@@ -26,7 +26,6 @@ QuestionsEnd terms graph log_text before now (Err NoMemory) = now ≡ before
 -- There is no graph or no log of the files of those names; or the questions were asked by them.
 abbrev pub AskEnds : Terms → List ℕ → List ℕ → World → World → End → Type 0
 AskEnds terms graph_name log_name before now end =
-    LacksGraphOrText graph_name log_name before now end
-    ⊎ WorksByFiles (GivesGraphAndText before.shelf graph_name log_name)
+    EndsByFiles graph_name log_name
     (λ graph log_text. EndsBy (QuestionsEnd terms graph log_text before.output now.output) end_of_questions_fault)
     before now end

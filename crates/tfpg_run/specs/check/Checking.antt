@@ -1,9 +1,9 @@
 -- What `check` does: it reads a graph and a log, judges the report of the input by them, and writes how many rounds it accepted.
-use Rattle.std.specs.Prelude.{◌≡◌, ◌⊎◌, ℕ, ◌+◌, ◌<◌, ◌≤◌, List, [], ◌∷◌, ◌++◌, length, take, flat_map, codes, decimal, slice_get, Some, Result, Ok, Err}
+use Rattle.std.specs.Prelude.{◌≡◌, ℕ, ◌<◌, ◌≤◌, List, [], ◌∷◌, ◌++◌, length, flat_map, codes, decimal, slice_get, Some, Result, Ok, Err}
 use Rattle.tfpg_base.specs.declared.terms.Terms.{Terms}
 use Rattle.tfpg_base.specs.declared.limits.TheConstants.{MAX_BYTES}
-use Rattle.tfpg_base.specs.Lines.{lines_of, whole_lines}
-use Rattle.tfpg_base.specs.Outside.{SourceState, Rose, Takes, IsAtEnd}
+use Rattle.tfpg_base.specs.Lines.{lines_of}
+use Rattle.tfpg_base.specs.Outside.{SourceState, Takes, IsAtEnd}
 use Rattle.tfpg_base.specs.TextLine.{text_line}
 use Rattle.tfpg_graph.specs.Graph.{Tfpg}
 use Rattle.tfpg_hyp.specs.Hypotheses.{HasHypotheses}
@@ -19,10 +19,9 @@ use Rattle.tfpg_check.specs.Causes.{DiagnosisProblem, AreRead, AreRight, AreRepo
 use Rattle.tfpg_run.specs.declared.end.End.{End}
 use Rattle.tfpg_run.specs.declared.fault.CheckFault.{CheckFault}
 use Rattle.tfpg_run.specs.declared.fault.CheckFault.TheVariants.{NotAccepted, TooMany, Stream}
-use Rattle.tfpg_run.specs.declared.fault.StreamFault.TheVariants.{ReadFault, WriteFault, TooMuchInput, NoMemory}
 use Rattle.tfpg_run.specs.EndsOf.{EndsBy, end_of_check_fault}
-use Rattle.tfpg_run.specs.Fetch.{GivesGraphAndText, LacksGraphOrText, WorksByFiles}
-use Rattle.tfpg_run.specs.Outputs.{WritesText, BeginsText}
+use Rattle.tfpg_run.specs.Fetch.{EndsByFiles}
+use Rattle.tfpg_run.specs.Outputs.{StopsJudging, WritesText}
 use Rattle.tfpg_run.specs.Streams.{Streams, HasLeft}
 use Rattle.tfpg_run.specs.World.{World, streams_of}
 
@@ -60,9 +59,7 @@ pub record HasTooManyInHead (problem : DiagnosisProblem) (now : SourceState) (ta
 abbrev pub IsRightSoFar : DiagnosisProblem → List (List ℕ) → Type 0
 IsRightSoFar problem lines = (reads : List ReportLine) × AreRead problem.graph lines reads × AreRight problem reads
 
--- How judging a report ends, where these bytes were taken. Before it is accepted, nothing is written. Where the input fails or is too
--- long, nothing is wrong with the lines that came whole. Where the input fails, the output does not, and where the output fails, the
--- input does not; where it ends otherwise, neither does.
+-- How judging a report ends, where these bytes were taken: it is accepted; or it is not, and nothing is written; or it stops.
 abbrev pub CheckingEnds : DiagnosisProblem → Streams → Streams → List ℕ → Result (Unit {0}) CheckFault → Type 0
 CheckingEnds problem before now taken (Ok done) =
     WritesText (IsAccepted problem now.input taken) before.output now.output × (now.input.faults ≡ before.input.faults)
@@ -70,15 +67,8 @@ CheckingEnds problem before now taken (Err (NotAccepted line cause)) =
     IsRefused problem now.input taken line cause × (now.output ≡ before.output) × (now.input.faults ≡ before.input.faults)
 CheckingEnds problem before now taken (Err (TooMany count)) =
     HasTooManyInHead problem now.input taken count × (now.output ≡ before.output) × (now.input.faults ≡ before.input.faults)
-CheckingEnds problem before now taken (Err (Stream ReadFault)) =
-    Rose before.input.faults now.input.faults × IsRightSoFar problem (whole_lines taken) × (now.output ≡ before.output)
-CheckingEnds problem before now taken (Err (Stream WriteFault)) =
-    BeginsText (IsAccepted problem now.input taken) before.output now.output × (now.input.faults ≡ before.input.faults)
-CheckingEnds problem before now taken (Err (Stream TooMuchInput)) =
-    (length taken ≡ MAX_BYTES + 1) × IsRightSoFar problem (whole_lines (take MAX_BYTES taken)) × (now.output ≡ before.output)
-    × (now.input.faults ≡ before.input.faults)
-CheckingEnds problem before now taken (Err (Stream NoMemory)) =
-    (now.output ≡ before.output) × (now.input.faults ≡ before.input.faults)
+CheckingEnds problem before now taken (Err (Stream fault)) =
+    StopsJudging (IsRightSoFar problem) (IsAccepted problem now.input taken) before now taken fault
 
 -- The report of the input was judged, with this result.
 pub record ChecksReport (problem : DiagnosisProblem) (before now : Streams) (result : Result (Unit {0}) CheckFault) : Type 0 where
@@ -93,7 +83,6 @@ problem_of graph text = record { graph = graph; log_lines = lines_of text }
 -- There is no graph or no log of the files of those names; or a report was judged by them.
 abbrev pub CheckEnds : List ℕ → List ℕ → World → World → End → Type 0
 CheckEnds graph_name log_name before now end =
-    LacksGraphOrText graph_name log_name before now end
-    ⊎ WorksByFiles (GivesGraphAndText before.shelf graph_name log_name)
+    EndsByFiles graph_name log_name
     (λ graph text. EndsBy (ChecksReport (problem_of graph text) (streams_of before) (streams_of now)) end_of_check_fault)
     before now end

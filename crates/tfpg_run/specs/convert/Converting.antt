@@ -1,5 +1,5 @@
 -- What `convert` does: it reads a graph text and writes the graph as JSON, or it reads JSON and writes the graph text.
-use Rattle.std.specs.Prelude.{◌≡◌, ◌⊎◌, ℕ, List, Bool, true, false}
+use Rattle.std.specs.Prelude.{◌≡◌, ◌⊎◌, ℕ, List, [], Bool, true, false}
 use Rattle.tfpg_graph.specs.declared.cause.GraphFault.{GraphFault}
 use Rattle.tfpg_graph.specs.Faults.{IsFirstFault}
 use Rattle.tfpg_graph.specs.Graph.{Tfpg}
@@ -8,7 +8,7 @@ use Rattle.tfpg_json.specs.GraphData.{graph_json}
 use Rattle.tfpg_json.specs.GraphText.{SpellsAsJson, IsJsonFault}
 use Rattle.tfpg_run.specs.declared.end.End.{End}
 use Rattle.tfpg_run.specs.EndsOf.{EndsBy, end_of_output_fault}
-use Rattle.tfpg_run.specs.Fetch.{GivesGraphBy, LacksGraphBy}
+use Rattle.tfpg_run.specs.Fetch.{LacksFilesBy, WorksByGraph}
 use Rattle.tfpg_run.specs.Outputs.{TextEnds}
 use Rattle.tfpg_run.specs.World.{World}
 
@@ -27,14 +27,12 @@ abbrev pub converted_text : Bool → Tfpg → List ℕ
 converted_text true graph = canonical_text graph
 converted_text false graph = graph_json graph
 
--- The file of this name spells the graph, and the writing of what it is converted to ended so.
-pub record ConvertsFile (json : Bool) (name : List ℕ) (before now : World) (end : End) : Type 0 where
-  pub graph : Tfpg
-  pub gives : GivesGraphBy (SpellsFrom json) before.shelf name graph
-  pub no_fault : now.shelf.faults ≡ before.shelf.faults
-  pub ends : EndsBy (TextEnds (λ text. text ≡ converted_text json graph) before.output now.output) end_of_output_fault end
+-- The graph of the file of that name was converted.
+abbrev pub ConvertsFile : Bool → List ℕ → World → World → End → Type 0
+ConvertsFile json name before now = WorksByGraph (SpellsFrom json) name
+    (λ graph. EndsBy (TextEnds (λ text. text ≡ converted_text json graph) before.output now.output) end_of_output_fault) before now
 
--- There is no graph of the file of that name; or it was converted.
+-- There is no graph of it; or it was converted.
 abbrev pub ConvertEnds : Bool → List ℕ → World → World → End → Type 0
 ConvertEnds json name before now end =
-    LacksGraphBy (IsFaultFrom json) name before now end ⊎ ConvertsFile json name before now end
+    LacksFilesBy (IsFaultFrom json) name [] before now end ⊎ ConvertsFile json name before now end

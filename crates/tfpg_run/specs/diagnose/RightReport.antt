@@ -8,7 +8,7 @@ use Rattle.tfpg_hyp.specs.Rounds.{HasNoneOpen}
 use Rattle.tfpg_hyp.specs.Fitting.{SayWhichSetsFit, AreStatusesOfMinimalSets}
 use Rattle.tfpg_search.specs.Enough.{IsEnough}
 use Rattle.tfpg_engine.specs.Earned.{AreEarned}
-use Rattle.tfpg_report.specs.Blocks.{Block, RefusedBlock, RoundBlock}
+use Rattle.tfpg_report.specs.Blocks.{Block, RefusedBlock, RoundBlock, head_text}
 use Rattle.tfpg_check.specs.Report.{Progress, IsReport, progress_of, rounds_of}
 use Rattle.tfpg_base.specs.declared.terms.Terms.{Terms}
 use Rattle.tfpg_run.specs.diagnose.TellsPanels.{Desks, TellsPanels, rounds_in}
@@ -43,9 +43,10 @@ pub record IsRightReport (graph : Tfpg) (terms : Terms) (desk : Desks) (lines : 
   pub say : RoundsSay graph terms lines blocks
   pub tells : TellsPanels (flat_map rounds_of blocks) blocks desk
 
--- The bytes, and what is to follow them, are such a report. The panels were told its rounds whose texts lie whole in the bytes.
-pub record BeginsRightReport (graph : Tfpg) (terms : Terms) (desk : Desks) (lines : List (List ℕ)) (bytes more : List ℕ) : Type 0 where
+-- The bytes begin such a report. The panels were told its rounds up to which its text is written.
+pub record BeginsRightReport (graph : Tfpg) (terms : Terms) (desk : Desks) (lines : List (List ℕ)) (bytes : List ℕ) : Type 0 where
+  pub more : List ℕ
   pub blocks : List Block
   pub report : IsReport graph terms lines blocks (bytes ++ more)
   pub say : RoundsSay graph terms lines blocks
-  pub tells : TellsPanels (rounds_in graph terms bytes blocks) blocks desk
+  pub tells : TellsPanels (rounds_in graph bytes (head_text terms) blocks) blocks desk

@@ -1,13 +1,13 @@
 -- What a diagnosis tells the panels of the desk, and what its report says of those that were lost.
-use Rattle.std.specs.Prelude.{ℕ, ◌-◌, nat_le, List, [], ◌∷◌, length, map, flat_map, if◌then◌else◌}
-use Rattle.tfpg_base.specs.declared.terms.Terms.{Terms}
+use Rattle.std.specs.Prelude.{ℕ, nat_le, List, [], ◌∷◌, ◌++◌, length, map, filter, flat_map, if◌then◌else◌}
 use Rattle.tfpg_graph.specs.Graph.{Tfpg}
 use Rattle.tfpg_evidence.specs.declared.round.Round.{Round}
 use Rattle.tfpg_panel.specs.declared.panel.PanelFault.TheVariants.{Lost, NoMemory}
 use Rattle.tfpg_panel.specs.declared.lost_panel.LostPanel.{LostPanel}
 use Rattle.tfpg_panel.specs.Desk.{DeskState}
 use Rattle.tfpg_panel.specs.ToldRounds.{HasTold}
-use Rattle.tfpg_report.specs.Blocks.{Block, Loss, RefusedBlock, RoundBlock, block_text, head_text, round_text}
+use Rattle.tfpg_report.specs.Blocks.{Block, Loss, RefusedBlock, RoundBlock, block_text, round_text}
+use Rattle.tfpg_check.specs.Report.{rounds_of}
 
 -- the desk before a run, and now
 pub record Desks : Type 0 where
@@ -27,18 +27,12 @@ abbrev pub losses_in : Block → List LostPanel
 losses_in (RefusedBlock line cause) = []
 losses_in (RoundBlock round losses) = map (lost_at round.number) losses
 
--- The rounds of the blocks whose texts lie whole in so many bytes of the blocks.
-abbrev pub whole_rounds : Tfpg → ℕ → List Block → List Round
-whole_rounds graph bytes [] = []
-whole_rounds graph bytes (RefusedBlock line cause ∷ blocks) = whole_rounds graph (bytes - length (block_text graph (RefusedBlock line cause))) blocks
-whole_rounds graph bytes (RoundBlock round losses ∷ blocks) =
-    if nat_le (length (round_text graph round)) bytes
-    then round ∷ whole_rounds graph (bytes - length (block_text graph (RoundBlock round losses))) blocks
-    else []
-
--- The rounds of the blocks of a report whose texts lie whole in these bytes, with which the report begins.
-abbrev pub rounds_in : Tfpg → Terms → List ℕ → List Block → List Round
-rounds_in graph terms bytes blocks = whole_rounds graph (length bytes - length (head_text terms)) blocks
+-- The rounds of the blocks up to which the text of a report is written in these bytes. What stands before the blocks is the text so far.
+abbrev pub rounds_in : Tfpg → List ℕ → List ℕ → List Block → List Round
+rounds_in graph bytes text [] = []
+rounds_in graph bytes text (block ∷ blocks) =
+    filter (λ round. nat_le (length (text ++ round_text graph round)) (length bytes)) (rounds_of block)
+    ++ rounds_in graph bytes (text ++ block_text graph block) blocks
 
 -- The panels of the desk were told these rounds, one after another, and those that were lost are those that the blocks say, each at its
 -- round.

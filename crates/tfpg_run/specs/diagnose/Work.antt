@@ -6,7 +6,7 @@ use Rattle.tfpg_log.specs.LogOfLines.{log_after}
 use Rattle.tfpg_engine.specs.Work.{IsRoundLimit}
 use Rattle.tfpg_report.specs.Blocks.{Block, RefusedBlock, RoundBlock}
 use Rattle.tfpg_check.specs.Report.{Progress, IsReport, progress_of}
-use Rattle.tfpg_words.specs.Meaning.{Meaning, Diagnose, Explain, Check, Simulate, Generate, Convert, Ask, Fleet, Predict}
+use Rattle.tfpg_words.specs.Meaning.{Meaning, Diagnose}
 use Rattle.tfpg_run.specs.Fetch.{GivesGraph}
 use Rattle.tfpg_run.specs.Outputs.{WorksToEnd}
 use Rattle.tfpg_run.specs.World.{World, streams_of}
@@ -47,11 +47,4 @@ pub record DiagnosesWithin (terms : Terms) (name : List ℕ) (before now : World
 -- is said of the other commands.
 abbrev pub RunsWithin : Meaning → World → World → ℕ → ℕ → Type 0
 RunsWithin (Diagnose terms name) before now start end = DiagnosesWithin terms name before now start end
-RunsWithin (Explain name log) before now start end = Unit {0}
-RunsWithin (Check name log) before now start end = Unit {0}
-RunsWithin (Simulate draw trace name script) before now start end = Unit {0}
-RunsWithin (Generate draw size) before now start end = Unit {0}
-RunsWithin (Convert json name) before now start end = Unit {0}
-RunsWithin (Ask terms name log) before now start end = Unit {0}
-RunsWithin (Fleet terms name names) before now start end = Unit {0}
-RunsWithin (Predict terms ahead name log node) before now start end = Unit {0}
+RunsWithin meant before now start end = Unit {0}

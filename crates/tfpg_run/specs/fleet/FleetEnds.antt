@@ -1,17 +1,18 @@
 -- How `fleet` ends: it reads a graph, and answers the lines of the stream one by one.
-use Rattle.std.specs.Prelude.{◌≡◌, ◌⊎◌, ◌++◌, ℕ, List, length, Result, Ok, Err}
+use Rattle.std.specs.Prelude.{◌≡◌, ◌⊎◌, ◌++◌, ℕ, List, [], length, Result, Ok, Err}
 use Rattle.tfpg_base.specs.declared.terms.Terms.{Terms}
 use Rattle.tfpg_base.specs.Lines.{lines_of}
-use Rattle.tfpg_base.specs.Outside.{SourceState, Takes, Puts, IsAtEnd}
+use Rattle.tfpg_base.specs.Outside.{SourceState, IsAtEnd}
 use Rattle.tfpg_graph.specs.Graph.{Tfpg}
+use Rattle.tfpg_graph.specs.Text.{Spells}
 use Rattle.tfpg_fleet.specs.TooMany.{IsTooMany}
 use Rattle.tfpg_run.specs.declared.end.End.{End}
 use Rattle.tfpg_run.specs.declared.end.End.TheVariants as ends
 use Rattle.tfpg_run.specs.declared.fault.StreamFault.{StreamFault}
 use Rattle.tfpg_run.specs.declared.fault.StreamFault.TheVariants.{WriteFault}
 use Rattle.tfpg_run.specs.EndsOf.{EndsBy, end_of_stream_fault}
-use Rattle.tfpg_run.specs.Fetch.{GivesGraph, LacksGraph}
-use Rattle.tfpg_run.specs.Outputs.{BeginsOutputOfInput, IsStreamFault, IsWrittenBefore, WritesOutput}
+use Rattle.tfpg_run.specs.Fetch.{LacksFiles, WorksByGraph}
+use Rattle.tfpg_run.specs.Outputs.{HasOutputOfFirstLines, IsStreamFault, IsWrittenBefore, TakesAndWrites, WritesOutput}
 use Rattle.tfpg_run.specs.Streams.{Streams}
 use Rattle.tfpg_run.specs.World.{World, streams_of, watched_of}
 use Rattle.tfpg_run.specs.fleet.FleetOutput.{FleetProblem, BeginsFleetOutput, IsFleetOutput, IsFleetOutputSoFar, fleet_problem}
@@ -20,7 +21,7 @@ use Rattle.tfpg_run.specs.fleet.FleetOutput.{FleetProblem, BeginsFleetOutput, Is
 -- no line of a failure mode is written before that end.
 abbrev pub IsCutOutput : FleetProblem → SourceState → List ℕ → List ℕ → Type 0
 IsCutOutput fleet input taken written =
-    BeginsOutputOfInput (BeginsFleetOutput fleet) input taken written
+    HasOutputOfFirstLines (BeginsFleetOutput fleet) input taken written
     ⊎ (IsAtEnd input × (more : List ℕ) × IsFleetOutput fleet (lines_of taken) (written ++ more))
 
 -- What was written by then. A failed write alone may cut it; else it is what is right so far, or, without memory, nothing.
@@ -31,18 +32,14 @@ IsAnsweredBefore fleet input taken written fault =
 
 -- How it ends where these bytes were taken, and these were written: with the whole output for the whole input; or with its cause, and
 -- what was written by then.
-abbrev pub AnsweringEnds : FleetProblem → Streams → Streams → (List ℕ × List ℕ) → Result (Unit {0}) StreamFault → Type 0
-AnsweringEnds fleet before now (taken, written) (Ok done) = WritesOutput (IsFleetOutput fleet) before now taken written
-AnsweringEnds fleet before now (taken, written) (Err fault) =
+abbrev pub AnsweringEnds : FleetProblem → Streams → Streams → Result (Unit {0}) StreamFault → List ℕ → List ℕ → Type 0
+AnsweringEnds fleet before now (Ok done) taken written = WritesOutput (IsFleetOutput fleet) before now taken written
+AnsweringEnds fleet before now (Err fault) taken written =
     IsStreamFault before now taken fault × IsAnsweredBefore fleet now.input taken written fault
 
 -- A diagnosis of the fleet took bytes from the input and wrote its answers, with this result.
-pub record AnswersStream (fleet : FleetProblem) (before now : Streams) (result : Result (Unit {0}) StreamFault) : Type 0 where
-  pub taken : List ℕ
-  pub takes : Takes before.input now.input taken
-  pub written : List ℕ
-  pub writes : Puts before.output now.output written
-  pub ends : AnsweringEnds fleet before now (taken, written) result
+abbrev pub AnswersStream : FleetProblem → Streams → Streams → Result (Unit {0}) StreamFault → Type 0
+AnswersStream fleet before now result = TakesAndWrites (AnsweringEnds fleet before now result) before now
 
 -- What the words say of a fleet: its terms, the name of the graph file, and the names of the vehicles.
 pub record FleetWords : Type 0 where
@@ -54,25 +51,25 @@ pub record FleetWords : Type 0 where
 abbrev pub fleet_words : Terms → List ℕ → List (List ℕ) → FleetWords
 fleet_words terms file names = record { terms = terms; file = file; names = names }
 
--- The graph of the file has too many hypotheses for the vehicles, as this number says, and all but the shelf is untouched.
-pub record HasTooManyForFleet (said : FleetWords) (before now : World) (end : End) : Type 0 where
-  pub graph : Tfpg
-  pub gives : GivesGraph before.shelf said.file graph
-  pub no_fault : now.shelf.faults ≡ before.shelf.faults
+-- The graph has not too many hypotheses for the vehicles.
+abbrev pub HasFewForFleet : FleetWords → Tfpg → Type 0
+HasFewForFleet said graph = (count : ℕ) → IsTooMany graph said.terms (length said.names) count → ⊥
+
+-- It has too many, as this number says, and all but the shelf is untouched.
+pub record EndsWithTooManyForFleet (said : FleetWords) (graph : Tfpg) (before now : World) (end : End) : Type 0 where
   pub count : ℕ
   pub too_many : IsTooMany graph said.terms (length said.names) count
   pub end_is : end ≡ ends.TooManyHypotheses count
   pub untouched : watched_of now ≡ watched_of before
 
--- The vehicles of the graph of the file were diagnosed. There are not too many hypotheses for them.
-pub record DiagnosesFleet (said : FleetWords) (before now : World) (end : End) : Type 0 where
-  pub graph : Tfpg
-  pub gives : GivesGraph before.shelf said.file graph
-  pub no_fault : now.shelf.faults ≡ before.shelf.faults
-  pub not_too_many : (count : ℕ) → IsTooMany graph said.terms (length said.names) count → ⊥
-  pub ends : EndsBy (AnswersStream (fleet_problem graph said.terms said.names) (streams_of before) (streams_of now)) end_of_stream_fault end
+-- How a diagnosis of the vehicles of a graph ends: it has too many hypotheses for them; or it has not, and they were diagnosed.
+abbrev pub FleetDiagnosisEnds : FleetWords → World → World → Tfpg → End → Type 0
+FleetDiagnosisEnds said before now graph end =
+    EndsWithTooManyForFleet said graph before now end
+    ⊎ (HasFewForFleet said graph
+    × EndsBy (AnswersStream (fleet_problem graph said.terms said.names) (streams_of before) (streams_of now)) end_of_stream_fault end)
 
--- There is no graph of the file; or it has too many hypotheses; or the vehicles were diagnosed.
+-- There is no graph of the file; or the diagnosis of the vehicles ended so.
 abbrev pub FleetEnds : FleetWords → World → World → End → Type 0
 FleetEnds said before now end =
-    LacksGraph said.file before now end ⊎ (HasTooManyForFleet said before now end ⊎ DiagnosesFleet said before now end)
+    LacksFiles said.file [] before now end ⊎ WorksByGraph Spells said.file (FleetDiagnosisEnds said before now) before now end

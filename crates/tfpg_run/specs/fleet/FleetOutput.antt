@@ -65,6 +65,6 @@ pub record IsFleetOutputSoFar (fleet : FleetProblem) (lines : List (List ℕ)) (
   pub are : AreAnswers fleet lines answers
   pub text : bytes ≡ answered_text fleet answers
 
--- The bytes, and what is to follow them, are what it has written after these lines.
-abbrev pub BeginsFleetOutput : FleetProblem → List (List ℕ) → List ℕ → List ℕ → Type 0
-BeginsFleetOutput fleet lines bytes more = IsFleetOutputSoFar fleet lines (bytes ++ more)
+-- The bytes begin what it has written after these lines.
+abbrev pub BeginsFleetOutput : FleetProblem → List (List ℕ) → List ℕ → Type 0
+BeginsFleetOutput fleet lines bytes = (more : List ℕ) × IsFleetOutputSoFar fleet lines (bytes ++ more)

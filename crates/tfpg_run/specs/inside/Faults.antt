@@ -86,13 +86,13 @@ abbrev pub simulate_fault_of_sim : SimFault → SimulateFault
 simulate_fault_of_sim (sim.BadScript line) = simulate.BadScript line
 simulate_fault_of_sim sim.NoMemory = simulate.NoMemory
 
--- Why the file of this name was not fetched: the shelf was asked for it, and failed; or it did not fail, and the file has
--- more than 2^24 bytes, or memory ran out.
+-- Why the file of this name was not fetched: the shelf was asked for it, and failed; or it was asked and did not fail, and the file has
+-- more than 2^24 bytes; or memory ran out, and it was not asked.
 abbrev pub IsFileFault : ShelfState → ShelfState → List ℕ → ShelfFault → Type 0
 IsFileFault before now name shelf.Failed = Rose before.faults now.faults × NotesName before now name
-IsFileFault before now name shelf.TooLong = IsTooLong before name × (now.faults ≡ before.faults)
-IsFileFault before now name shelf.NoMemory = now.faults ≡ before.faults
+IsFileFault before now name shelf.TooLong = IsTooLong before name × (now.faults ≡ before.faults) × NotesName before now name
+IsFileFault before now name shelf.NoMemory = (now.faults ≡ before.faults) × (now.asked ≡ before.asked)
 
--- Why there is no graph of the file of this name that is read as a graph text.
-abbrev pub IsFetchFault : ShelfState → ShelfState → List ℕ → FetchFault → Type 0
+-- Why there is no graph that is read as a graph text, or no text of the other files.
+abbrev pub IsFetchFault : List ℕ → List (List ℕ) → ShelfState → ShelfState → FetchFault → Type 0
 IsFetchFault = IsFetchFaultBy IsFirstFault

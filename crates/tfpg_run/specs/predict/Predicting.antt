@@ -1,16 +1,14 @@
 -- What `predict` does: it reads a graph and a log, diagnoses the log, and writes when at the earliest a node becomes active.
-use Rattle.std.specs.Prelude.{◌≡◌, ◌⊎◌, ℕ, ◌≤◌, List, Ok, Err}
+use Rattle.std.specs.Prelude.{◌≡◌, ◌⊎◌, ℕ, List, Ok, Err}
 use Rattle.tfpg_base.specs.Lines.{lines_of}
 use Rattle.tfpg_graph.specs.Graph.{Tfpg}
-use Rattle.tfpg_hyp.specs.Hypotheses.{HasHypotheses}
-use Rattle.tfpg_hyp.specs.declared.limits.TheConstants.{MAX_HYPOTHESES}
 use Rattle.tfpg_run.specs.declared.end.End.{End}
 use Rattle.tfpg_run.specs.declared.fault.ProbeFault.{ProbeFault}
 use Rattle.tfpg_run.specs.EndsOf.{EndsBy, end_of_output_fault, end_of_probe_fault}
-use Rattle.tfpg_run.specs.Fetch.{GivesGraphAndText, LacksGraphOrText, WorksByFiles}
+use Rattle.tfpg_run.specs.Fetch.{EndsByFiles}
 use Rattle.tfpg_run.specs.Outputs.{TextEnds}
 use Rattle.tfpg_run.specs.World.{World, watched_of}
-use Rattle.tfpg_run.specs.diagnosis.TooMany.{EndsWithTooMany}
+use Rattle.tfpg_run.specs.diagnosis.TooMany.{EndsWithTooMany, HasFewHypotheses}
 use Rattle.tfpg_run.specs.predict.Forecasts.{Prediction, HasForecasts}
 use Rattle.tfpg_run.specs.predict.Probing.{probed_node}
 
@@ -23,7 +21,7 @@ pub record TakesNoProbe (graph : Tfpg) (name : List ℕ) (before now : World) (e
 
 -- The graph has at most 4,096 hypotheses, and the forecasts of the node by the lines of the log were written.
 pub record WritesForecasts (graph : Tfpg) (asked : Prediction) (log_text : List ℕ) (before now : World) (end : End) : Type 0 where
-  pub not_too_many : (count : ℕ) → HasHypotheses graph asked.terms count → count ≤ MAX_HYPOTHESES
+  pub not_too_many : HasFewHypotheses asked.terms graph
   pub node : ℕ
   pub node_is : probed_node graph asked.node ≡ Ok node
   pub ends : EndsBy (TextEnds (HasForecasts graph asked node (lines_of log_text)) before.output now.output) end_of_output_fault end
@@ -39,5 +37,4 @@ PredictionEnds asked before now graph log_text end =
 -- There is no graph or no log of the files of those names; or a prediction was made by them.
 abbrev pub PredictEnds : Prediction → List ℕ → List ℕ → World → World → End → Type 0
 PredictEnds asked graph_name log_name before now end =
-    LacksGraphOrText graph_name log_name before now end
-    ⊎ WorksByFiles (GivesGraphAndText before.shelf graph_name log_name) (PredictionEnds asked before now) before now end
+    EndsByFiles graph_name log_name (PredictionEnds asked before now) before now end

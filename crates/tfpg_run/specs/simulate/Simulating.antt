@@ -1,5 +1,5 @@
 -- What `simulate` does: it writes the log that a script makes, or the map of what happened.
-use Rattle.std.specs.Prelude.{◌≡◌, ◌⊎◌, ℕ, List, Bool, true, false, IsTrue, Result, Ok, Err}
+use Rattle.std.specs.Prelude.{◌≡◌, ℕ, List, Bool, true, false, IsTrue, Result, Ok, Err}
 use Rattle.tfpg_base.specs.Hypothesis.{believing}
 use Rattle.tfpg_base.specs.Lines.{lines_of}
 use Rattle.tfpg_base.specs.Outside.{SinkState}
@@ -14,7 +14,7 @@ use Rattle.tfpg_run.specs.declared.end.End.{End}
 use Rattle.tfpg_run.specs.declared.fault.SimulateFault.{SimulateFault}
 use Rattle.tfpg_run.specs.declared.fault.SimulateFault.TheVariants.{BadScript, WriteFault, NoMemory}
 use Rattle.tfpg_run.specs.EndsOf.{EndsBy, end_of_simulate_fault}
-use Rattle.tfpg_run.specs.Fetch.{GivesGraphAndText, LacksGraphOrText, WorksByFiles}
+use Rattle.tfpg_run.specs.Fetch.{EndsByFiles}
 use Rattle.tfpg_run.specs.map.Spelling.{SpellsMap}
 use Rattle.tfpg_run.specs.map.MapText.{map_text}
 use Rattle.tfpg_run.specs.Outputs.{WritesText, BeginsText}
@@ -48,7 +48,6 @@ SimulationEnds IsRight graph script before now (Err NoMemory) = now ≡ before
 -- There is no graph or no script of the files of those names; or the one was simulated on the other.
 abbrev pub SimulateEnds : (Tfpg → List ℕ → List ℕ → Type 0) → List ℕ → List ℕ → World → World → End → Type 0
 SimulateEnds IsRight graph_name script_name before now end =
-    LacksGraphOrText graph_name script_name before now end
-    ⊎ WorksByFiles (GivesGraphAndText before.shelf graph_name script_name)
+    EndsByFiles graph_name script_name
     (λ graph script. EndsBy (SimulationEnds IsRight graph script before.output now.output) end_of_simulate_fault)
     before now end

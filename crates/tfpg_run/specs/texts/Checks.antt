@@ -52,13 +52,23 @@ IsAcceptedText texts rounds = HoldsOfTexts texts (λ problem lines. AreAcceptedL
 abbrev pub IsRefusedText : CheckedTexts → ℕ → CheckCause → Type 0
 IsRefusedText texts line cause = HoldsOfTexts texts (λ problem lines. IsCause problem lines line cause)
 
--- Why a report is not accepted: this is the first fault of the graph's text; or the cause at this line; or the first line gives too many
--- hypotheses; or the log has more than 2^24 bytes, or the report more than 2^32; or memory ran out.
+-- The first line of the report gives too many hypotheses, exactly this many.
+abbrev pub HasTooManyInText : CheckedTexts → ℕ → Type 0
+HasTooManyInText texts count = HoldsOfTexts texts (λ problem lines. HaveTooManyInFirst problem lines count)
+
+-- The log is short enough to be read.
+abbrev pub HasShortLog : CheckedTexts → Type 0
+HasShortLog texts = length texts.log ≤ LONGEST_FILE
+
+-- Why a report is not accepted, the first of these that holds: the log has more than 2^24 bytes; or this is the first fault of the graph's
+-- text; or, of the report, this is the cause at this line, or its first line gives too many hypotheses, or it has more than 2^32 bytes. Or
+-- memory ran out.
 abbrev pub IsCheckTextsFault : CheckedTexts → CheckTextsFault → Type 0
-IsCheckTextsFault texts (Graph fault) = IsFirstFault texts.graph fault
-IsCheckTextsFault texts (NotAccepted line cause) = IsRefusedText texts line cause
-IsCheckTextsFault texts (TooManyHypotheses count) = HoldsOfTexts texts (λ problem lines. HaveTooManyInFirst problem lines count)
-IsCheckTextsFault texts TooMuchInput = (LONGEST_FILE < length texts.log) ⊎ (MAX_BYTES < length texts.report)
+IsCheckTextsFault texts (Graph fault) = HasShortLog texts × IsFirstFault texts.graph fault
+IsCheckTextsFault texts (NotAccepted line cause) = HasShortLog texts × IsRefusedText texts line cause
+IsCheckTextsFault texts (TooManyHypotheses count) = HasShortLog texts × HasTooManyInText texts count
+IsCheckTextsFault texts TooMuchInput =
+    (LONGEST_FILE < length texts.log) ⊎ (HasShortLog texts × HoldsOfTexts texts (λ problem lines. MAX_BYTES < length texts.report))
 IsCheckTextsFault texts NoMemory = Unit {0}
 
 -- The texts are short enough to be judged.
@@ -72,7 +82,10 @@ pub record CanAccept (texts : CheckedTexts) : Type 0 where
   pub rounds : ℕ
   pub accepted : IsAcceptedText texts rounds
 
--- Nothing but memory stands in the way of refusing the report, for this cause at this line.
-pub record CanRefuseText (texts : CheckedTexts) (line : ℕ) (cause : CheckCause) : Type 0 where
-  pub short : AreShort texts
-  pub refused : IsRefusedText texts line cause
+-- Nothing but memory stands in the way of this fault. Of a report of more than 2^32 bytes it is left open which one is found.
+abbrev pub CanRefuseText : CheckedTexts → CheckTextsFault → Type 0
+CanRefuseText texts (Graph fault) = HasShortLog texts × IsFirstFault texts.graph fault
+CanRefuseText texts (NotAccepted line cause) = AreShort texts × IsRefusedText texts line cause
+CanRefuseText texts (TooManyHypotheses count) = AreShort texts × HasTooManyInText texts count
+CanRefuseText texts TooMuchInput = LONGEST_FILE < length texts.log
+CanRefuseText texts NoMemory = ⊥

@@ -23,12 +23,12 @@ pub record GivesTooMany (text : List ℕ) (terms : Terms) (count : ℕ) : Type 0
   pub too_many : MAX_HYPOTHESES < count
   pub counted : HasHypotheses graph terms count
 
--- Why there is no diagnosis of the graph of a text on these terms: a number of the terms is out of its range; or this is the first fault
--- of the text; or the graph has too many hypotheses; or memory ran out.
+-- Why there is no diagnosis of the graph of a text on these terms, the first of these that holds: a number of the terms is out of its
+-- range; or this is the first fault of the text; or the graph has too many hypotheses. Or memory ran out.
 abbrev pub IsOpenFault : List ℕ → Terms → OpenFault → Type 0
 IsOpenFault text terms OutOfRange = AreReportTerms terms → ⊥
-IsOpenFault text terms (Graph fault) = IsFirstFault text fault
-IsOpenFault text terms (TooManyHypotheses count) = GivesTooMany text terms count
+IsOpenFault text terms (Graph fault) = AreReportTerms terms × IsFirstFault text fault
+IsOpenFault text terms (TooManyHypotheses count) = AreReportTerms terms × GivesTooMany text terms count
 IsOpenFault text terms NoMemory = Unit {0}
 
 -- Nothing but memory stands in the way of a diagnosis of the graph of this text on these terms.

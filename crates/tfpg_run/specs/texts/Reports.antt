@@ -28,12 +28,13 @@ pub record IsReportOfTexts (graph_text : List ℕ) (terms : Terms) (log_text byt
   pub gives : GivesGraphOf graph_text graph
   pub report : IsPlainReport graph terms (lines_of log_text) bytes
 
--- Why there is no report: there is no diagnosis; or the log has more than 2^32 bytes; or memory ran out.
+-- Why there is no report, the first of these that holds: there is no diagnosis, as `IsOpenFault` says; or the log has more than 2^32
+-- bytes. Or memory ran out.
 abbrev pub IsReportFault : List ℕ → Terms → List ℕ → ReportFault → Type 0
 IsReportFault graph_text terms log_text OutOfRange = AreReportTerms terms → ⊥
-IsReportFault graph_text terms log_text (Graph fault) = IsFirstFault graph_text fault
-IsReportFault graph_text terms log_text (TooManyHypotheses count) = GivesTooMany graph_text terms count
-IsReportFault graph_text terms log_text TooMuchInput = MAX_BYTES < length log_text
+IsReportFault graph_text terms log_text (Graph fault) = AreReportTerms terms × IsFirstFault graph_text fault
+IsReportFault graph_text terms log_text (TooManyHypotheses count) = AreReportTerms terms × GivesTooMany graph_text terms count
+IsReportFault graph_text terms log_text TooMuchInput = CanOpen graph_text terms × (MAX_BYTES < length log_text)
 IsReportFault graph_text terms log_text NoMemory = Unit {0}
 
 -- Nothing but memory stands in the way of a report of these texts.

@@ -1,13 +1,15 @@
 //! The report of a log, where graph and log are texts.
 
-ghost use Rattle.std.specs.Prelude.{◌≡◌, ◌⊎◌, ◌≢◌, ◌<◌, [], IfErr, IfOk, IsOkUnless, OnOk};
+ghost use Rattle.std.specs.Prelude.{◌≡◌, ◌⊎◌, ◌≢◌, ◌<◌, ◌≤◌, [], Err, IfErr, IfOk, IsOkUnless, OnOk, length};
 ghost use Rattle.tfpg_base.specs.Lines.{lines_of};
 ghost use Rattle.tfpg_graph.specs.Valid.{IsValid};
 ghost use Rattle.tfpg_log.specs.LogOfLines.{new_log};
 ghost use Rattle.tfpg_engine.specs.EngineState.{EngineRepresents};
 ghost use Rattle.tfpg_panel.specs.Desk.{new_desk, seen_by};
 ghost use Rattle.tfpg_check.specs.Report.{HasReports};
-ghost use Rattle.tfpg_run.specs.inside.texts.Faults.{IsWritingFault};
+ghost use Rattle.tfpg_base.specs.declared.limits.TheConstants.{MAX_BYTES};
+ghost use Rattle.tfpg_run.specs.declared.texts.fault.ReportFault.{ReportFault as WhyNoReport};
+ghost use Rattle.tfpg_run.specs.inside.texts.Faults.{IsWritingFault, report_fault_of_stream};
 ghost use Rattle.tfpg_run.specs.texts.Reports.{CanReport, IsPlainReport, IsReportFault, IsReportOfTexts};
 
 use super::fault::ReportFault;
@@ -20,6 +22,7 @@ use std::sync::ledger::{Blank, Ledger};
 use tfpg_base::{MemorySink, NoMemory, SteadySource, Steps, Terms};
 use tfpg_engine::Engine;
 use tfpg_graph::laws::a_text_has_at_most_one_first_fault;
+use tfpg_hyp::laws::the_table_is_one;
 use tfpg_panel::{Desk, MemoryPanel, Panel};
 
 /// The report of the lines of the log, for the graph that the text spells, on these terms.
@@ -35,8 +38,12 @@ pub fn diagnose_texts(
     ensures fault { IfErr result (IsReportFault graph_text.now terms log_text.now) }
     // Where the texts and the terms are right, there is a report, or memory ran out.
     ensures completes { CanReport graph_text.now terms log_text.now → IsOkUnless result ReportFault.NoMemory }
+    // Where a fault stands in the way, it is the fault, or memory ran out.
+    ensures refuses { (fault : WhyNoReport) → fault ≢ ReportFault.NoMemory → IsReportFault graph_text.now terms log_text.now fault →
+        (result ≡ Err fault) ⊎ (result ≡ Err ReportFault.NoMemory) }
 {
     a_text_has_at_most_one_first_fault();
+    the_table_is_one();
     report_of_texts(alloc, graph_text, log_text, terms)
 }
 
@@ -48,6 +55,7 @@ fn report_of_texts(
     terms: Terms,
 ) -> Result<Vec<u8>, ReportFault>
     ensures report { IfOk result (λ report. IsReportOfTexts graph_text.now terms log_text.now report.items) }
+    ensures can { OnOk result (CanReport graph_text.now terms log_text.now) }
     ensures fault { IfErr result (IsReportFault graph_text.now terms log_text.now) }
 {
     let mut engine = open_engine(alloc, graph_text, terms)?;
@@ -61,6 +69,7 @@ fn report_by(alloc: Global, engine: &mut Engine, log_text: &[u8]) -> Result<Vec<
     requires new { EngineRepresents engine.old [] }
     requires has_reports { HasReports engine.old.graph engine.old.terms }
     ensures report { IfOk result (λ report. IsPlainReport engine.old.graph engine.old.terms (lines_of log_text.now) report.items) }
+    ensures few { OnOk result (length log_text.now ≤ MAX_BYTES) }
     ensures fault { IfErr result (IsWritingFault log_text.now) }
 {
     report_counted::<Brand>(alloc, engine, log_text, Blank::new(1))
@@ -81,6 +90,7 @@ fn report_counted<L: Ledger>(
     requires new { EngineRepresents engine.old [] }
     requires has_reports { HasReports engine.old.graph engine.old.terms }
     ensures report { IfOk result (λ report. IsPlainReport engine.old.graph engine.old.terms (lines_of log_text.now) report.items) }
+    ensures few { OnOk result (length log_text.now ≤ MAX_BYTES) }
     ensures fault { IfErr result (IsWritingFault log_text.now) }
 {
     let mut work = Steps::<L>::new(blank);
@@ -113,6 +123,7 @@ fn write_to_memory<L: Ledger>(
     requires empty { out.old.holds ≡ [] }
     requires no_panel { seen_by ⟦<MemoryPanel as Panel>⟧.state desk.old ≡ new_desk [] }
     ensures done { OnOk result (IsPlainReport engine.old.graph engine.old.terms (lines_of log_text.now) out.new.holds) }
+    ensures few { OnOk result (length log_text.now ≤ MAX_BYTES) }
     ensures fault { IfErr result (IsWritingFault log_text.now) }
 {
     let mut input = SteadySource::new(log_text);
@@ -125,7 +136,7 @@ fn write_to_memory<L: Ledger>(
 /// Why a report was not written whose input never fails, and whose output fails only where memory runs out.
 fn fault_in_memory(fault: StreamFault) -> ReportFault
     requires { fault ≢ StreamFault.ReadFault }
-    ensures { (result ≡ ReportFault.NoMemory) ⊎ ((result ≡ ReportFault.TooMuchInput) × (fault ≡ StreamFault.TooMuchInput)) }
+    ensures { result ≡ report_fault_of_stream fault }
 {
     match fault {
         StreamFault::ReadFault => unreachable!(),

@@ -1,6 +1,8 @@
 //! A diagnosis that takes the lines of a log one by one, and returns the block of each.
 
 ghost use Rattle.std.specs.Prelude.{◌≡◌, ◌↔◌, ◌<◌, ◌+◌, ◌++◌, ◌∷◌, [], ℕ, List, Err, IfErr, IfOk, None, OnErr, OnOk};
+ghost use Rattle.tfpg_evidence.specs.declared.round.Round.{Round};
+ghost use Rattle.tfpg_engine.specs.EngineState.{EngineRepresents};
 ghost use Rattle.tfpg_base.specs.declared.limits.TheConstants.{MAX_LINE_NUMBER};
 ghost use Rattle.tfpg_base.specs.declared.terms.Terms.{Terms};
 ghost use Rattle.tfpg_graph.specs.Graph.{Tfpg};
@@ -9,8 +11,9 @@ ghost use Rattle.tfpg_check.specs.Report.{Progress};
 ghost use Rattle.tfpg_run.specs.inside.diagnose.LineBlocks.{EngineReports, IsEngineReady, numbered};
 ghost use Rattle.tfpg_run.specs.inside.texts.SessionKeeps.{HasPlainBlock};
 ghost use Rattle.tfpg_run.specs.texts.Opening.{IsOpenFault};
-ghost use Rattle.tfpg_run.specs.texts.Sessions.{IsNewSession, SessionRepresents};
+ghost use Rattle.tfpg_run.specs.texts.Sessions.{CountsBlock, IsNewSession, SessionRepresents};
 
+use super::call_count::CallCount;
 use super::fault::OpenFault;
 use super::opening::open_engine;
 use crate::diagnose::line_blocks::{LineBlock, line_block, refused_block};
@@ -25,12 +28,13 @@ use tfpg_report::head;
 /// An engine, and the number of its next line.
 ///
 /// The first line of a report, which [`Session::head`] returns, and the blocks that [`Session::line`] returns, one after the other, are a
-/// report of the lines that it took. No panel is told.
+/// report of the lines that it took. No panel is told. Contracts see how many counted calls it made for them.
 #[derive(Drop)]
 pub struct Session {
     engine: Engine,
     /// The number of the next line. There is none once memory has run out.
     next: Option<u64>,
+    calls: CallCount,
 }
 
 impl Model for Session {
@@ -39,7 +43,7 @@ impl Model for Session {
 
     ghost Value = { SessionState };
 
-    ghost view = { λ session. record { engine = session.engine; next = session.next } };
+    ghost view = { λ session. record { engine = session.engine; next = session.next; calls = session.calls.count } };
 
     ghost invariant = { λ session. IsSession session.engine session.next };
 }
@@ -51,9 +55,11 @@ impl Session {
         ensures fault { IfErr result (IsOpenFault graph_text.now terms) }
     {
         let engine = open_engine(alloc, graph_text, terms)?;
+        let calls = CallCount::none();
         Ok(Session {
             engine,
             next: Some(1),
+            calls,
         })
     }
 
@@ -75,12 +81,15 @@ impl Session {
         ensures block { (graph : Tfpg) (terms : Terms) (lines : List (List ℕ)) (bytes : List ℕ) →
             SessionRepresents graph terms lines bytes self.old →
             IfOk result (λ block. SessionRepresents graph terms (lines ++ text.now ∷ []) (bytes ++ block.items) self.new) }
+        // A round keeps within the limit of its counted calls, and a refused line costs none.
+        ensures work { (rounds : List Round) → EngineRepresents self.old.engine rounds →
+            IfOk result (λ block. CountsBlock self.old.engine rounds text.now block.items self.old.calls self.new.calls) }
         ensures ended { (result ≡ Err EventFault.Ended) ↔ (self.old.next ≡ None) }
         ensures ends { OnErr result (self.new.next ≡ None) }
     {
         let number = self.next.take().ok_or(EventFault::Ended)?;
         let next = number_after(number)?;
-        let block = block_of_line(alloc, &mut self.engine, number, text)?;
+        let block = block_of_line(alloc, &mut self.engine, &mut self.calls, number, text)?;
         self.next = Some(next);
         Ok(block)
     }
@@ -102,6 +111,7 @@ fn number_after(number: u64) -> Result<u64, NoMemory>
 fn block_of_line(
     alloc: Global,
     engine: &mut Engine,
+    calls: &mut CallCount,
     number: u64,
     text: &[u8],
 ) -> Result<Vec<u8>, NoMemory>
@@ -109,14 +119,17 @@ fn block_of_line(
     ensures ready { OnOk result (IsEngineReady engine.new) }
     ensures block { (graph : Tfpg) (terms : Terms) (before : Progress) → EngineReports graph terms engine.old before →
         IfOk result (λ block. HasPlainBlock graph terms before (numbered number text.now) block.items engine.new) }
+    ensures work { (rounds : List Round) → EngineRepresents engine.old rounds →
+        IfOk result (λ block. CountsBlock engine.old rounds text.now block.items calls.old.count calls.new.count) }
 {
-    block_counted::<Brand>(alloc, engine, number, text, Blank::new(1))
+    block_counted::<Brand>(alloc, engine, calls, number, text, Blank::new(1))
 }
 
 /// The same with a new counter of steps, which costs nothing.
 fn block_counted<L: Ledger>(
     alloc: Global,
     engine: &mut Engine,
+    calls: &mut CallCount,
     number: u64,
     text: &[u8],
     blank: Blank,
@@ -128,9 +141,14 @@ fn block_counted<L: Ledger>(
     ensures ready { OnOk result (IsEngineReady engine.new) }
     ensures block { (graph : Tfpg) (terms : Terms) (before : Progress) → EngineReports graph terms engine.old before →
         IfOk result (λ block. HasPlainBlock graph terms before (numbered number text.now) block.items engine.new) }
+    ensures work { (rounds : List Round) → EngineRepresents engine.old rounds →
+        IfOk result (λ block. CountsBlock engine.old rounds text.now block.items calls.old.count calls.new.count) }
 {
     let mut work = Steps::<L>::new(blank);
-    Ok(text_of(next_block(alloc, engine, number, text, &mut work)?))
+    let block = next_block(alloc, engine, number, text, &mut work)?;
+    let sum = calls.with(&work);
+    *calls = sum;
+    Ok(text_of(block))
 }
 
 /// The block of a line of this number and text, also of one that is too long.
@@ -145,6 +163,8 @@ fn next_block<L: Ledger>(
     ensures ready { OnOk result (IsEngineReady engine.new) }
     ensures block { (graph : Tfpg) (terms : Terms) (before : Progress) → EngineReports graph terms engine.old before →
         IfOk result (λ block. HasPlainBlock graph terms before (numbered number text.now) block.text.items engine.new) }
+    ensures work { (rounds : List Round) → EngineRepresents engine.old rounds →
+        IfOk result (λ block. CountsBlock engine.old rounds text.now block.text.items work.old work.new) }
 {
     if is_too_long(text) {
         return refused_block(alloc, number, RefusedLine::TooLong);

@@ -15,11 +15,11 @@ use Rattle.tfpg_run.specs.declared.fault.StreamFault.{StreamFault}
 use Rattle.tfpg_run.specs.Completeness.{CanBeDone}
 use Rattle.tfpg_run.specs.EndsOf.{end_of_result, end_of_stream_fault}
 use Rattle.tfpg_run.specs.Fetch.{GivesGraph}
-use Rattle.tfpg_run.specs.Outputs.{LineByLineEnds}
 use Rattle.tfpg_run.specs.Run.{RunEnds}
-use Rattle.tfpg_run.specs.World.{World, streams_of}
+use Rattle.tfpg_run.specs.World.{World, watched_of}
 use Rattle.tfpg_run.specs.check.AfterDiagnosis.{FollowsDiagnosis}
-use Rattle.tfpg_run.specs.diagnose.RightReport.{IsRightReport, BeginsRightReport}
+use Rattle.tfpg_run.specs.diagnose.Diagnosing.{Diagnoses, DiagnosisEnds}
+use Rattle.tfpg_run.specs.diagnose.RightReport.{IsRightReport}
 use Rattle.tfpg_run.specs.diagnose.TellsPanels.{desks}
 use Rattle.tfpg_run.proofs.Completing.{all_taken, gives_is}
 use Rattle.tfpg_run.proofs.Stops.{fetch_not_done, stream_not_done}
@@ -39,24 +39,25 @@ record WroteReport (terms : Terms) (name : List ℕ) (before now : World) : Type
 
 wrote_report : (terms : Terms) (name : List ℕ) (before now : World) → RunEnds (Ok (Diagnose terms name)) before now Done → WroteReport terms name before now
 wrote_report terms name before now (inl (inl lacks)) = absurd (fetch_not_done lacks.fault (sym lacks.end_is))
-wrote_report terms name before now (inl (inr (inl many))) = let is : Done ≡ TooManyHypotheses many.ends.count = many.ends.end_is in absurd cc
-wrote_report terms name before now (inl (inr (inr file))) = by file.ends.result file.ends.works.ends file.ends.end_is
+wrote_report terms name before now (inl (inr file)) = of_works file.works
   where
-    by : (result : Result (Unit {0}) StreamFault)
-        → LineByLineEnds (IsRightReport file.graph terms (desks before.desk now.desk)) (BeginsRightReport file.graph terms (desks before.desk now.desk)) (streams_of before) (streams_of now)
-        (file.ends.works.taken, file.ends.works.written) result
-        → Done ≡ end_of_result end_of_stream_fault result → WroteReport terms name before now
-    by (Ok done) writes is = record {
+    by : (result : Result (Unit {0}) StreamFault) → Diagnoses file.graph terms (watched_of before) (watched_of now) result → Done ≡ end_of_result end_of_stream_fault result
+        → WroteReport terms name before now
+    by (Ok done) works is = record {
       graph = file.graph;
       gives = file.gives;
-      taken = file.ends.works.taken;
-      takes = file.ends.works.takes;
-      at_end = writes.at_end;
-      written = file.ends.works.written;
-      writes = file.ends.works.writes;
-      right = writes.right;
+      taken = works.taken;
+      takes = works.takes;
+      at_end = works.ends.at_end;
+      written = works.written;
+      writes = works.writes;
+      right = works.ends.right;
     }
-    by (Err fault) stopped is = absurd (stream_not_done fault (sym is))
+    by (Err fault) works is = absurd (stream_not_done fault (sym is))
+
+    of_works : DiagnosisEnds terms before now file.graph Done → WroteReport terms name before now
+    of_works (inl many) = let is : Done ≡ TooManyHypotheses many.count = many.end_is in absurd cc
+    of_works (inr few) = by few.1.result few.1.works few.1.end_is
 wrote_report terms name before now (inr none) = let is : Done ≡ NoMemory = none.1 in absurd cc
 
 -- ---- what is known is what was taken, written and spelled
@@ -102,24 +103,26 @@ module _ (terms : Terms) (diagnosed graph log : List ℕ) (before now later : Wo
   -- What was written can be checked.
   pub can_check : CanBeDone (Check graph log) later
   can_check = record {
-    judges = record {
-      files = follows.files;
-      known = follows.files_are;
-      graph = wrote.graph;
-      log_text = follows.log_text;
-      gives = record {
-        of_graph = gives_graph;
-        file = record { gives = is_given later.shelf follows.files log follows.log_text follows.files_are follows.log_is; small = follows.log_small };
-      };
-      short = record { known = follows.run.written; left = follows.input_is; few = follows.few };
+    files = follows.files;
+    known = follows.files_are;
+    graph = wrote.graph;
+    text = follows.log_text;
+    gives = record {
+      of_graph = gives_graph;
+      file = record { gives = is_given later.shelf follows.files log follows.log_text follows.files_are follows.log_is; small = follows.log_small };
     };
-    terms = terms;
-    blocks = wrote.right.blocks;
-    report = record {
-      bytes = follows.run.written;
-      report = subst₂ (λ (lines : List (List ℕ)) (bytes : List ℕ). IsReport wrote.graph terms lines wrote.right.blocks bytes) same_lines same_bytes wrote.right.report;
-      lines_are = inl refl;
-    };
+    hold = (
+      record { known = follows.run.written; left = follows.input_is; few = follows.few },
+      (
+        terms,
+        wrote.right.blocks,
+        record {
+          bytes = follows.run.written;
+          report = subst₂ (λ (lines : List (List ℕ)) (bytes : List ℕ). IsReport wrote.graph terms lines wrote.right.blocks bytes) same_lines same_bytes wrote.right.report;
+          lines_are = inl refl;
+        },
+      ),
+    );
   }
 
 -- So it is where a run ended so whose words meant the diagnosis.

@@ -30,7 +30,7 @@ use Rattle.tfpg_run.specs.declared.fault.StreamFault.TheVariants as faults
 use Rattle.tfpg_run.specs.inside.Faults.{stream_fault_of_lines}
 use Rattle.tfpg_run.specs.diagnose.TellsPanels.{Desks, TellsPanels, desks, rounds_in}
 use Rattle.tfpg_run.specs.diagnose.RightReport.{BlockSays, RoundsSay, IsRightReport, BeginsRightReport}
-use Rattle.tfpg_run.specs.Outputs.{HasOutputOfFirstLines, BeginsOutputOfInput, LineByLineEnds, WorksToEnd}
+use Rattle.tfpg_run.specs.Outputs.{HasOutputOfFirstLines, LineByLineEnds, WorksToEnd}
 use Rattle.tfpg_run.specs.diagnose.Diagnosing.{Diagnoses}
 use Rattle.tfpg_run.specs.diagnose.Work.{IsBlockLimit, AreBlocksWithin, IsReportWithin}
 use Rattle.std.proofs.lemmas.List.Sums.{sum_by_push}
@@ -140,20 +140,18 @@ right_for_first graph terms desk input taken given blocks front has_reports few 
 -- a front of such a text begins what is right, where the panels were told the rounds that lie whole in it
 begins : (graph : Tfpg) (terms : Terms) (desk : Desks) (input : SourceState) (taken : List ℕ) (given : List (List ℕ)) (blocks : List Block) → take (length given) (lines_of (taken ++ rest_of input)) ≡ given
     → HasReports graph terms → length given ≤ MAX_LINE_NUMBER → AreBlocks graph terms given blocks → RoundsSay graph terms given blocks → (written rest : List ℕ) → report_text graph terms blocks ≡ written ++ rest
-    → TellsPanels (rounds_in graph terms written blocks) blocks desk → BeginsOutputOfInput (BeginsRightReport graph terms desk) input taken written
+    → TellsPanels (rounds_in graph written (head_text terms) blocks) blocks desk → HasOutputOfFirstLines (BeginsRightReport graph terms desk) input taken written
 begins graph terms desk input taken given blocks front has_reports few are say written rest e tells = record {
-  more = rest;
-  begins = record {
-    rest = rest_of input;
-    left = rest_is_left input;
-    count = length given;
-    within = front_is_within (lines_of (taken ++ rest_of input)) given front;
-    right = record {
-      blocks = blocks;
-      report = record { has_reports = has_reports; few_lines = subst (λ (ls : List (List ℕ)). length ls ≤ MAX_LINE_NUMBER) (sym front) few; are_blocks = subst (λ (ls : List (List ℕ)). AreBlocks graph terms ls blocks) (sym front) are; text = sym e };
-      say = subst (λ (ls : List (List ℕ)). RoundsSay graph terms ls blocks) (sym front) say;
-      tells = tells;
-    };
+  rest = rest_of input;
+  left = rest_is_left input;
+  count = length given;
+  within = front_is_within (lines_of (taken ++ rest_of input)) given front;
+  right = record {
+    more = rest;
+    blocks = blocks;
+    report = record { has_reports = has_reports; few_lines = subst (λ (ls : List (List ℕ)). length ls ≤ MAX_LINE_NUMBER) (sym front) few; are_blocks = subst (λ (ls : List (List ℕ)). AreBlocks graph terms ls blocks) (sym front) are; text = sym e };
+    say = subst (λ (ls : List (List ℕ)). RoundsSay graph terms ls blocks) (sym front) say;
+    tells = tells;
   };
 }
 
@@ -196,7 +194,7 @@ asked now input = record { input = input; output = now.output; desk = now.desk }
 -- a diagnosis ends in this way where so much more was taken and nothing more was written
 ended_with : (graph : Tfpg) (terms : Terms) (before now : Watched) (lines : LinesState) (engine : EngineState) (input : SourceState) (under : IsDiagnosing graph terms before (diagnosis_at now lines engine)) (more : List ℕ)
     → Takes now.input input more → (result : Result (Unit {0}) StreamFault)
-    → LineByLineEnds (IsRightReport graph terms (desks before.desk now.desk)) (BeginsRightReport graph terms (desks before.desk now.desk)) (streams_in before) (streams_in (asked now input)) (under.reading.taken ++ more, report_text graph terms under.blocks) result → Diagnoses graph terms before (asked now input) result
+    → LineByLineEnds (IsRightReport graph terms (desks before.desk now.desk)) (BeginsRightReport graph terms (desks before.desk now.desk)) (streams_in before) (streams_in (asked now input)) result (under.reading.taken ++ more) (report_text graph terms under.blocks) → Diagnoses graph terms before (asked now input) result
 ended_with graph terms before now lines engine input under more takes result ends = record {
   taken = under.reading.taken ++ more;
   takes = Takes-append before.input now.input input under.reading.taken more under.takes takes;
@@ -249,7 +247,7 @@ done_within graph terms before now lines engine input lines' under l continues e
       takes = Takes-append before.input now.input input reading.taken end.more under.takes end.takes;
       written = report_text graph terms under.blocks;
       writes = under.writes;
-      output = record {
+      ends = record {
         right = record {
           blocks = under.blocks;
           report = record {
@@ -346,7 +344,7 @@ module _ (graph : Tfpg) (terms : Terms) (before now : Watched) (lines : LinesSta
 
     -- where only a front of the block is written, the diagnosis ends with what begins the report
     pub gave_front : (front rest : List ℕ) → bytes ≡ front ++ rest → Puts now.output output front → Rose now.output.faults output.faults
-        → TellsPanels (rounds_in graph terms (report_text graph terms under.blocks ++ front) all_blocks) all_blocks (desks before.desk desk)
+        → TellsPanels (rounds_in graph (report_text graph terms under.blocks ++ front) (head_text terms) all_blocks) all_blocks (desks before.desk desk)
         → Diagnoses graph terms before (record { input = input; output = output; desk = desk }) (Err faults.WriteFault)
     gave_front front rest parts puts rose tells =
         let reading = under.reading in

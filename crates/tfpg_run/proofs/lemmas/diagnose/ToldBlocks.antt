@@ -1,5 +1,5 @@
 -- Blocks whose rounds the desk was told, with the panels that were lost.
-use Rattle.std.proofs.Common.{◌≡◌, ℕ, ◌+◌, ◌-◌, ◌<◌, ◌≤◌, List, [], ◌∷◌, ◌++◌, length, map, flat_map, drop, All, true, false, Option, Some, None, Result, Ok, Err, refl, sym, ap, subst, subst₂, ◌∙◌, arith}
+use Rattle.std.proofs.Common.{◌≡◌, ℕ, ◌+◌, ◌<◌, ◌≤◌, List, [], ◌∷◌, ◌++◌, length, map, flat_map, drop, All, true, false, Option, Some, None, Result, Ok, Err, refl, sym, ap, subst, subst₂, ◌∙◌, arith, append_assoc}
 use Rattle.std.specs.Prelude.{nat_le, if◌then◌else◌}
 use Rattle.std.proofs.lemmas.Bool.{lt-leb, le-leb}
 use Rattle.std.proofs.lemmas.List.{append-nil, length-append, drop_at}
@@ -27,7 +27,7 @@ use Rattle.tfpg_report.specs.inside.Texts.{written_round}
 use Rattle.tfpg_report.proofs.WrittenLines.{written_losses, written_rounds}
 use Rattle.tfpg_check.specs.Report.{Progress, AreLosses, IsBlockOf, event_of_line, progress_after, report_text, rounds_of}
 use Rattle.tfpg_run.specs.diagnose.RightReport.{BlockSays}
-use Rattle.tfpg_run.specs.diagnose.TellsPanels.{TellsPanels, desks, losses_in, lost_at, rounds_in, whole_rounds}
+use Rattle.tfpg_run.specs.diagnose.TellsPanels.{TellsPanels, desks, losses_in, lost_at, rounds_in}
 use Rattle.tfpg_run.specs.inside.diagnose.LineBlocks.{EngineReports, HasBlock, IsBlockWithin, IsUntold, numbered}
 use Rattle.tfpg_run.specs.inside.diagnose.Telling.{TellsIf, is_memory, losses_text, new_lines, said_loss}
 
@@ -169,33 +169,36 @@ round_fits graph round losses =
     omega (arith, ap length (written_losses graph round losses), ap length (written_rounds graph round), length-append (written_round graph round) (flat_map lost_text losses))
 
 -- all of those of the blocks that were written whole do
-whole-append : (graph : Tfpg) (blocks more : List Block) (bytes : ℕ) → whole_rounds graph (length (flat_map (block_text graph) blocks) + bytes) (blocks ++ more) ≡ flat_map rounds_of blocks ++ whole_rounds graph bytes more
-whole-append graph [] more bytes = let e : 0 + bytes ≡ bytes = omega arith in ap (λ (n : ℕ). whole_rounds graph n more) e
-whole-append graph (RefusedBlock line cause ∷ blocks) more bytes =
+whole-append : (graph : Tfpg) (bytes text : List ℕ) (blocks more : List Block) → length (text ++ flat_map (block_text graph) blocks) ≤ length bytes
+    → rounds_in graph bytes text (blocks ++ more) ≡ flat_map rounds_of blocks ++ rounds_in graph bytes (text ++ flat_map (block_text graph) blocks) more
+whole-append graph bytes text [] more fits = ap (λ (t : List ℕ). rounds_in graph bytes t more) (sym (append-nil text))
+whole-append graph bytes text (RefusedBlock line cause ∷ blocks) more fits =
     let own = block_text graph (RefusedBlock line cause) in
-    let texts = flat_map (block_text graph) blocks in
-    let e : length (own ++ texts) + bytes - length own ≡ length texts + bytes = omega (arith, length-append own texts) in
-    ap (λ (n : ℕ). whole_rounds graph n (blocks ++ more)) e ∙ whole-append graph blocks more bytes
-whole-append graph (RoundBlock round losses ∷ blocks) more bytes =
+    let joined = append_assoc text own (flat_map (block_text graph) blocks) in
+    whole-append graph bytes (text ++ own) blocks more (subst (λ (t : List ℕ). length t ≤ length bytes) (sym joined) fits)
+    ∙ ap (λ (t : List ℕ). flat_map rounds_of blocks ++ rounds_in graph bytes t more) joined
+whole-append graph bytes text (RoundBlock round losses ∷ blocks) more fits =
     let own = block_text graph (RoundBlock round losses) in
     let texts = flat_map (block_text graph) blocks in
-    let e : length (own ++ texts) + bytes - length own ≡ length texts + bytes = omega (arith, length-append own texts) in
-    let fits : nat_le (length (round_text graph round)) (length (own ++ texts) + bytes) ≡ true = le-leb _ _ (omega (arith, round_fits graph round losses, length-append own texts)) in
-    rw fits (ap (λ (n : ℕ). round ∷ whole_rounds graph n (blocks ++ more)) e ∙ ap (λ (rs : List Round). round ∷ rs) (whole-append graph blocks more bytes))
+    let joined = append_assoc text own texts in
+    let written : nat_le (length (text ++ round_text graph round)) (length bytes) ≡ true =
+    le-leb _ _ (omega (arith, fits, round_fits graph round losses, length-append text (round_text graph round), length-append text (own ++ texts), length-append own texts)) in
+    rw written
+    (ap (λ (rs : List Round). round ∷ rs)
+    (whole-append graph bytes (text ++ own) blocks more (subst (λ (t : List ℕ). length t ≤ length bytes) (sym joined) fits)
+    ∙ ap (λ (t : List ℕ). flat_map rounds_of blocks ++ rounds_in graph bytes t more) joined))
 
 -- so those of a report's front are those of the blocks before, and those of the last block
 rounds_of_front : (graph : Tfpg) (terms : Terms) (blocks : List Block) (last : Block) (front : List ℕ)
-    → rounds_in graph terms (report_text graph terms blocks ++ front) (blocks ++ last ∷ []) ≡ flat_map rounds_of blocks ++ whole_rounds graph (length front) (last ∷ [])
+    → rounds_in graph (report_text graph terms blocks ++ front) (head_text terms) (blocks ++ last ∷ [])
+    ≡ flat_map rounds_of blocks ++ rounds_in graph (report_text graph terms blocks ++ front) (report_text graph terms blocks) (last ∷ [])
 rounds_of_front graph terms blocks last front =
-    let texts = flat_map (block_text graph) blocks in
-    let e : length ((head_text terms ++ texts) ++ front) - length (head_text terms) ≡ length texts + length front =
-    omega (arith, length-append (head_text terms ++ texts) front, length-append (head_text terms) texts) in
-    ap (λ (n : ℕ). whole_rounds graph n (blocks ++ last ∷ [])) e ∙ whole-append graph blocks (last ∷ []) (length front)
+    whole-append graph (report_text graph terms blocks ++ front) (head_text terms) blocks (last ∷ []) (omega (arith, length-append (report_text graph terms blocks) front))
 
 -- a block whose text was cut, and whose round was not told
 pub cut_block : (graph : Tfpg) (terms : Terms) (blocks : List Block) (round : Option Round) (last : Block) (old later : EngineState) (bytes front rest : List ℕ) (first mid : DeskState) → IsUntold round last old later
     → bytes ≡ block_text graph last → bytes ≡ front ++ rest → 0 < length rest → TellsPanels (flat_map rounds_of blocks) blocks (desks first mid)
-    → TellsPanels (rounds_in graph terms (report_text graph terms blocks ++ front) (blocks ++ last ∷ [])) (blocks ++ last ∷ []) (desks first mid)
+    → TellsPanels (rounds_in graph (report_text graph terms blocks ++ front) (head_text terms) (blocks ++ last ∷ [])) (blocks ++ last ∷ []) (desks first mid)
 cut_block graph terms blocks round last old later bytes front rest first mid untold text parts left tells =
     subst₂ (λ (rs : List Round) (ls : List LostPanel). HasTold rs ls first mid)
     (sym (rounds_of_front graph terms blocks last front ∙ ap (λ (rs : List Round). flat_map rounds_of blocks ++ rs) (none_whole round last untold text) ∙ append-nil (flat_map rounds_of blocks)))
@@ -205,26 +208,28 @@ cut_block graph terms blocks round last old later bytes front rest first mid unt
     none_said None last (no_round, no_loss, same) = no_loss
     none_said (Some round) last (is, after, at) = ap losses_in is
 
-    none_whole : (round : Option Round) (last : Block) → IsUntold round last old later → bytes ≡ block_text graph last → whole_rounds graph (length front) (last ∷ []) ≡ []
+    none_whole : (round : Option Round) (last : Block) → IsUntold round last old later → bytes ≡ block_text graph last → rounds_in graph (report_text graph terms blocks ++ front) (report_text graph terms blocks) (last ∷ []) ≡ []
     none_whole None (RefusedBlock line cause) untold text = refl
     none_whole None (RoundBlock other losses) (no_round, no_loss, same) text = absurd cc
     none_whole (Some round) last (is, after, at) text =
         let long : length front < length (round_text graph round) = omega (arith, left, ap length parts, length-append front rest, ap length (text ∙ ap (block_text graph) is ∙ alone_text graph round)) in
-        let cut : nat_le (length (round_text graph round)) (length front) ≡ false = lt-leb _ _ long in
-        ap (λ (b : Block). whole_rounds graph (length front) (b ∷ [])) is ∙ rw cut refl
+        let cut : nat_le (length (report_text graph terms blocks ++ round_text graph round)) (length (report_text graph terms blocks ++ front)) ≡ false =
+        lt-leb _ _ (omega (arith, long, length-append (report_text graph terms blocks) front, length-append (report_text graph terms blocks) (round_text graph round))) in
+        ap (λ (b : Block). rounds_in graph (report_text graph terms blocks ++ front) (report_text graph terms blocks) (b ∷ [])) is ∙ rw cut refl
 
 -- a block whose text was written, whose round was told, and the lines of whose losses were cut
 pub cut_losses : (graph : Tfpg) (terms : Terms) (blocks : List Block) (round : Option Round) (untold last : Block) (old later : EngineState) (bytes front : List ℕ) (first mid now : DeskState) → IsUntold round untold old later
     → bytes ≡ block_text graph untold → rounds_of last ≡ rounds_of untold → TellsPanels (flat_map rounds_of (blocks ++ last ∷ [])) (blocks ++ last ∷ []) (desks first now)
-    → TellsPanels (rounds_in graph terms (report_text graph terms blocks ++ (bytes ++ front)) (blocks ++ last ∷ [])) (blocks ++ last ∷ []) (desks first now)
+    → TellsPanels (rounds_in graph (report_text graph terms blocks ++ (bytes ++ front)) (head_text terms) (blocks ++ last ∷ [])) (blocks ++ last ∷ []) (desks first now)
 cut_losses graph terms blocks round untold last old later bytes front first mid now is text same tells =
     subst (λ (rs : List Round). TellsPanels rs (blocks ++ last ∷ []) (desks first now))
-    (flat_map-push rounds_of blocks last (whole_rounds graph (length (bytes ++ front)) (last ∷ [])) (sym (all_whole last same)) ∙ sym (rounds_of_front graph terms blocks last (bytes ++ front))) tells
+    (flat_map-push rounds_of blocks last (rounds_in graph (report_text graph terms blocks ++ (bytes ++ front)) (report_text graph terms blocks) (last ∷ [])) (sym (all_whole last same)) ∙ sym (rounds_of_front graph terms blocks last (bytes ++ front))) tells
   where
-    all_whole : (last : Block) → rounds_of last ≡ rounds_of untold → whole_rounds graph (length (bytes ++ front)) (last ∷ []) ≡ rounds_of last
+    all_whole : (last : Block) → rounds_of last ≡ rounds_of untold → rounds_in graph (report_text graph terms blocks ++ (bytes ++ front)) (report_text graph terms blocks) (last ∷ []) ≡ rounds_of last
     all_whole (RefusedBlock line cause) same = refl
     all_whole (RoundBlock other losses) same =
-        let fits : nat_le (length (round_text graph other)) (length (bytes ++ front)) ≡ true = le-leb _ _ (omega (arith, fitting untold text same, length-append bytes front)) in
+        let fits : nat_le (length (report_text graph terms blocks ++ round_text graph other)) (length (report_text graph terms blocks ++ (bytes ++ front))) ≡ true =
+        le-leb _ _ (omega (arith, fitting untold text same, length-append bytes front, length-append (report_text graph terms blocks) (bytes ++ front), length-append (report_text graph terms blocks) (round_text graph other))) in
         rw fits refl
       where
         fitting : (block : Block) → bytes ≡ block_text graph block → other ∷ [] ≡ rounds_of block → length (round_text graph other) ≤ length bytes

@@ -22,7 +22,7 @@ use Rattle.tfpg_run.specs.declared.fault.StreamFault.TheVariants as faults
 use Rattle.tfpg_run.specs.declared.fleet.stream.NextAnswer.{NextAnswer}
 use Rattle.tfpg_run.specs.declared.fleet.watch.Watch.{Watch}
 use Rattle.tfpg_run.specs.inside.Faults.{stream_fault_of_lines, stream_fault_of_output}
-use Rattle.tfpg_run.specs.Outputs.{BeginsOutputOfInput, HasOutputOfFirstLines, TextEnds}
+use Rattle.tfpg_run.specs.Outputs.{HasOutputOfFirstLines, TextEnds}
 use Rattle.tfpg_run.specs.Streams.{Streams, streams}
 use Rattle.tfpg_run.specs.fleet.Answers.{Answer, answer_text, answers_text, blocks_for, opening_text, vehicle_of}
 use Rattle.tfpg_run.specs.fleet.FleetOutput.{AreAnswers, BeginsFleetOutput, FleetProblem, IsFleetOutputSoFar, answered_text, counts_text}
@@ -106,16 +106,13 @@ module _ (fleet : FleetProblem) where
 
   -- a front of what is right so far for the first lines
   begins_first : (input : SourceState) (taken : List ℕ) (given : List (List ℕ)) (answers : List Answer) (written more : List ℕ) → take (length given) (lines_of (taken ++ rest_of input)) ≡ given → AreAnswers fleet given answers
-      → written ++ more ≡ answered_text fleet answers → BeginsOutputOfInput (BeginsFleetOutput fleet) input taken written
+      → written ++ more ≡ answered_text fleet answers → HasOutputOfFirstLines (BeginsFleetOutput fleet) input taken written
   begins_first input taken given answers written more front are parts = record {
-    more = more;
-    begins = record {
-      rest = rest_of input;
-      left = rest_is_left input;
-      count = length given;
-      within = front_is_within (lines_of (taken ++ rest_of input)) given front;
-      right = record { answers = answers; are = subst (λ (ls : List (List ℕ)). AreAnswers fleet ls answers) (sym front) are; text = parts };
-    };
+    rest = rest_of input;
+    left = rest_is_left input;
+    count = length given;
+    within = front_is_within (lines_of (taken ++ rest_of input)) given front;
+    right = (more, record { answers = answers; are = subst (λ (ls : List (List ℕ)). AreAnswers fleet ls answers) (sym front) are; text = parts });
   }
 
   -- ---- ends before an answer

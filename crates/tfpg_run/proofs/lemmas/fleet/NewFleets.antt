@@ -1,5 +1,5 @@
 -- When there are too many hypotheses for a fleet, and how a run of it ends.
-use Rattle.std.proofs.Common.{◌≡◌, ◌↔◌, ℕ, List, length, Result, Ok, Err, refl, sym, ap, subst, ◌∙◌, inl, inr}
+use Rattle.std.proofs.Common.{◌≡◌, ◌↔◌, ℕ, List, [], ◌∷◌, length, Result, Ok, Err, refl, sym, ap, subst, ◌∙◌, inl, inr}
 use Rattle.std.specs.Prelude.{IsErrAnd, IfErr, OnOk}
 use Rattle.tfpg_base.specs.declared.terms.Terms.{Terms}
 use Rattle.tfpg_base.specs.Terms.{AreReportTerms}
@@ -18,7 +18,7 @@ use Rattle.tfpg_run.specs.declared.fault.StreamFault.{StreamFault}
 use Rattle.tfpg_run.specs.declared.fault.StreamFault.TheVariants as faults
 use Rattle.tfpg_run.specs.EndsOf.{end_of_fetch_fault, end_of_stream_fault}
 use Rattle.tfpg_run.specs.inside.Faults.{IsFetchFault, end_of_table_fault}
-use Rattle.tfpg_run.specs.Fetch.{GivesGraph}
+use Rattle.tfpg_run.specs.Fetch.{Fetched, GivesGraph}
 use Rattle.tfpg_run.specs.Streams.{Streams}
 use Rattle.tfpg_run.specs.World.{Watched, World, streams_in, streams_of, watched_of}
 use Rattle.tfpg_run.specs.fleet.FleetOutput.{fleet_problem}
@@ -76,53 +76,52 @@ module _ {T : Type 0} (said : FleetWords) (before now : World) (result : Result 
   ends_by end err ends = IfErr-from (FleetEnds said before now) result end err ends
 
   -- there is no graph
-  pub stops_without_graph : (fault : FetchFault) → IsFetchFault before.shelf now.shelf said.file fault → watched_of now ≡ watched_of before → IsErrAnd result (λ end. end ≡ end_of_fetch_fault fault)
+  pub stops_without_graph : (fault : FetchFault) → IsFetchFault said.file [] before.shelf now.shelf fault → watched_of now ≡ watched_of before → IsErrAnd result (λ end. end ≡ end_of_fetch_fault fault)
       → IfErr result (FleetEnds said before now)
   stops_without_graph fault is untouched err =
       ends_by (end_of_fetch_fault fault) err (inl (record { fault = fault; is_fault = is; end_is = refl; untouched = untouched }))
 
-  module _ (graph : Tfpg) (gives : GivesGraph before.shelf said.file graph) (no_fault : now.shelf.faults ≡ before.shelf.faults) where
+  module _ (graph : Tfpg) (gives : GivesGraph before.shelf said.file graph) (fetched : Fetched (said.file ∷ []) before.shelf now.shelf) where
     -- there is no fleet
     pub stops_without_fleet : {X : Type 0} (fault : TableFault) → AreReportTerms said.terms → CountsTooMany {X = X} graph said.terms (length said.names) (Err fault)
         → watched_of now ≡ watched_of before → IsErrAnd result (λ end. end ≡ end_of_table_fault fault) → IfErr result (FleetEnds said before now)
     stops_without_fleet (TooMany count) within exact untouched err =
-        ends_by (ends.TooManyHypotheses count) err (inr (inl (record {
+        ends_by (ends.TooManyHypotheses count) err (inr (record {
           graph = graph;
           gives = gives;
-          no_fault = no_fault;
-          count = count;
-          too_many = (exact count).0 refl;
-          end_is = refl;
-          untouched = untouched;
-        })))
+          fetched = fetched;
+          works = inl (record { count = count; too_many = (exact count).0 refl; end_is = refl; untouched = untouched });
+        }))
     stops_without_fleet NoMemory within exact untouched err =
         let none = without_memory graph said.terms (length said.names) exact in
-        ends_by ends.NoMemory err (inr (inr (record {
+        ends_by ends.NoMemory err (inr (record {
           graph = graph;
           gives = gives;
-          no_fault = no_fault;
-          not_too_many = none;
-          ends = record {
-            result = Err faults.NoMemory;
-            works = subst (λ (w : Watched). AnswersStream (fleet_problem graph said.terms said.names) (streams_of before) (streams_in w) (Err faults.NoMemory)) (sym untouched)
-                (begins_without_memory (fleet_problem graph said.terms said.names) (streams_of before) (has_reports graph said.terms (length said.names) none within));
-            end_is = refl;
-          };
-        })))
+          fetched = fetched;
+          works = inr (
+            none,
+            record {
+              result = Err faults.NoMemory;
+              works = subst (λ (w : Watched). AnswersStream (fleet_problem graph said.terms said.names) (streams_of before) (streams_in w) (Err faults.NoMemory)) (sym untouched)
+                  (begins_without_memory (fleet_problem graph said.terms said.names) (streams_of before) (has_reports graph said.terms (length said.names) none within));
+              end_is = refl;
+            },
+          );
+        }))
 
     -- the answering was stopped
     pub stops_answering : ((count : ℕ) → IsTooMany graph said.terms (length said.names) count → ⊥) → (fault : StreamFault)
         → AnswersStream (fleet_problem graph said.terms said.names) (streams_of before) (streams_of now) (Err fault) → IsErrAnd result (λ end. end ≡ end_of_stream_fault fault)
         → IfErr result (FleetEnds said before now)
     stops_answering none fault answers err = ends_by (end_of_stream_fault fault) err
-        (inr (inr (record { graph = graph; gives = gives; no_fault = no_fault; not_too_many = none; ends = record { result = Err fault; works = answers; end_is = refl } })))
+        (inr (record { graph = graph; gives = gives; fetched = fetched; works = inr (none, record { result = Err fault; works = answers; end_is = refl }) }))
 
 -- all lines were answered
-pub stops_when_answered : (said : FleetWords) (before now : World) (graph : Tfpg) → GivesGraph before.shelf said.file graph → now.shelf.faults ≡ before.shelf.faults
+pub stops_when_answered : (said : FleetWords) (before now : World) (graph : Tfpg) → GivesGraph before.shelf said.file graph → Fetched (said.file ∷ []) before.shelf now.shelf
     → ((count : ℕ) → IsTooMany graph said.terms (length said.names) count → ⊥) → AnswersStream (fleet_problem graph said.terms said.names) (streams_of before) (streams_of now) (Ok tt)
     → FleetEnds said before now ends.Done
-stops_when_answered said before now graph gives no_fault none answers =
-    inr (inr (record { graph = graph; gives = gives; no_fault = no_fault; not_too_many = none; ends = record { result = Ok tt; works = answers; end_is = refl } }))
+stops_when_answered said before now graph gives fetched none answers =
+    inr (record { graph = graph; gives = gives; fetched = fetched; works = inr (none, record { result = Ok tt; works = answers; end_is = refl }) })
 
 -- for the names that the words have
 pub for_names : (graph : Tfpg) (terms : Terms) (names said : List (List ℕ)) (before now : Streams) (result : Result (Unit {0}) StreamFault) → names ≡ said

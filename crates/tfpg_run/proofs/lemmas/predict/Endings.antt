@@ -1,5 +1,5 @@
 -- How a prediction ends.
-use Rattle.std.proofs.Common.{◌≡◌, ℕ, ◌≤◌, List, Result, Ok, Err, refl, sym, subst, subst₂, inl, inr}
+use Rattle.std.proofs.Common.{◌≡◌, ℕ, ◌≤◌, List, [], ◌∷◌, Result, Ok, Err, refl, sym, subst, subst₂, inl, inr}
 use Rattle.std.specs.Prelude.{IsErrAnd, IfErr, OnOk}
 use Rattle.std.proofs.lemmas.Result.{IfErr-weaker, on_ok_weaker}
 use Rattle.tfpg_base.specs.declared.terms.Terms.{Terms}
@@ -18,7 +18,7 @@ use Rattle.tfpg_run.specs.declared.fault.OutputFault.{OutputFault}
 use Rattle.tfpg_run.specs.declared.fault.OutputFault.TheVariants as output
 use Rattle.tfpg_run.specs.declared.fault.ProbeFault.{ProbeFault}
 use Rattle.tfpg_run.specs.EndsOf.{end_of_output_fault, end_of_probe_fault}
-use Rattle.tfpg_run.specs.Fetch.{GivesGraphAndText}
+use Rattle.tfpg_run.specs.Fetch.{Fetched, GivesGraphAndText}
 use Rattle.tfpg_run.specs.Outputs.{TextEnds}
 use Rattle.tfpg_run.specs.Run.{CommandEnds}
 use Rattle.tfpg_run.specs.World.{World, watched_of}
@@ -29,10 +29,10 @@ use Rattle.tfpg_run.specs.predict.Probing.{probed_node}
 use Rattle.tfpg_run.proofs.Stops.{CountsHypotheses, IfErr-with, OnOk-with, without_memory}
 
 module _ (asked : Prediction) (graph_name log_name : List ℕ) (before now : World) (graph : Tfpg) (log_text : List ℕ) (gives : GivesGraphAndText before.shelf graph_name log_name graph log_text)
-    (no_fault : now.shelf.faults ≡ before.shelf.faults) where
+    (fetched : Fetched (graph_name ∷ log_name ∷ []) before.shelf now.shelf) where
   -- by the files
   by_files : (end : End) → PredictionEnds asked before now graph log_text end → PredictEnds asked graph_name log_name before now end
-  by_files end is = inr (record { graph = graph; other = log_text; gives = gives; no_fault = no_fault; works = is })
+  by_files end is = inr (record { graph = graph; text = log_text; gives = gives; fetched = fetched; works = is })
 
   module _ {T : Type 0} (result : Result T End) where
     ends_by : (end : End) → IsErrAnd result (λ e. e ≡ end) → PredictionEnds asked before now graph log_text end → IfErr result (PredictEnds asked graph_name log_name before now)

@@ -10,21 +10,23 @@ use Rattle.tfpg_graph.specs.Valid.{IsValid}
 use Rattle.tfpg_evidence.specs.declared.round.Round.{Round}
 use Rattle.tfpg_engine.specs.EngineState.{EngineState}
 use Rattle.tfpg_log.specs.declared.refused_line.RefusedLine.TheVariants.{TooLong}
-use Rattle.tfpg_report.specs.Blocks.{Block, block_text, head_text, refused_text}
+use Rattle.tfpg_report.specs.Blocks.{Block, RefusedBlock, block_text, head_text, refused_text}
 use Rattle.tfpg_panel.specs.declared.lost_panel.LostPanel.{LostPanel}
 use Rattle.tfpg_check.specs.Report.{HasReports, Progress, progress_of, report_text, rounds_of}
 use Rattle.tfpg_check.proofs.Progressing.{progress_of-push}
+use Rattle.tfpg_report.proofs.WrittenLines.{written_refusal}
 use Rattle.tfpg_run.specs.diagnose.TellsPanels.{losses_in}
-use Rattle.tfpg_run.specs.inside.diagnose.LineBlocks.{EngineReports, HasBlock, IsEngineReady, IsUntold, numbered}
+use Rattle.tfpg_run.specs.inside.diagnose.LineBlocks.{EngineReports, HasBlock, IsBlockWithin, IsEngineReady, IsUntold, numbered}
 use Rattle.tfpg_run.specs.inside.texts.Opened.{IsNewEngineOf}
 use Rattle.tfpg_run.specs.inside.texts.SessionKeeps.{HasPlainBlock}
-use Rattle.tfpg_run.specs.texts.Sessions.{IsNewSession, SessionRepresents, SessionState}
+use Rattle.tfpg_run.specs.texts.Sessions.{CountsBlock, IsNewSession, SessionRepresents, SessionState}
 use Rattle.tfpg_run.proofs.lemmas.diagnose.LineBlocks.{block_of_long_line}
 use Rattle.tfpg_run.proofs.lemmas.diagnose.NextBlocks.{AreBlocks-none, AreBlocks-push, RoundsSay-none, RoundsSay-push, report_text-push}
 
 -- a session of a new engine has returned the first line
-pub new_session : (graph_text : List ℕ) (terms : Terms) (engine : EngineState) → IsNewEngineOf graph_text terms engine → IsNewSession graph_text terms (record { engine = engine; next = Some 1 })
-new_session graph_text terms engine new = record {
+pub new_session : (graph_text : List ℕ) (terms : Terms) (engine : EngineState) → IsNewEngineOf graph_text terms engine → (calls : ℕ) → calls ≡ 0
+    → IsNewSession graph_text terms (record { engine = engine; next = Some 1; calls = calls })
+new_session graph_text terms engine new calls none = record {
   graph = engine.graph;
   gives = new.gives;
   represents = record {
@@ -45,6 +47,7 @@ new_session graph_text terms engine new = record {
     log_is = new.log_is;
     represents = new.represents;
   };
+  no_calls = none;
 }
 
 -- ---- one line more
@@ -62,8 +65,8 @@ module _ (graph : Tfpg) (terms : Terms) (lines : List (List ℕ)) (bytes : List 
     number_is : number ≡ 1 + length lines
     number_is = let same : Some number ≡ Some (length lines + 1) = sym at ∙ so_far.next_is in let e : number ≡ length lines + 1 = cc in omega (arith, e)
 
-    pub session_with_line : (next : ℕ) → next ≡ number + 1 → SessionRepresents graph terms (lines ++ line ∷ []) (bytes ++ block) (record { engine = engine; next = Some next })
-    session_with_line next next_is =
+    pub session_with_line : (next calls : ℕ) → next ≡ number + 1 → SessionRepresents graph terms (lines ++ line ∷ []) (bytes ++ block) (record { engine = engine; next = Some next; calls = calls })
+    session_with_line next calls next_is =
         let step = progress_of-push graph lines Blocks line is.has.block in
         let reports = subst (EngineReports graph terms engine) (sym step) is.has.reports in
         let so_far_is = so_far.report.report in
@@ -115,3 +118,23 @@ module _ (old : EngineState) (ready : IsEngineReady old) where
 pub ready_after : (old new : EngineState) (ready : IsEngineReady old) (number : ℕ) (line bytes : List ℕ) → HasBlock old.graph old.terms (own_progress old ready) (numbered number line) bytes new → IsEngineReady new
 ready_after old new ready number line bytes has =
     record { valid = subst IsValid (sym has.reports.graph_is) ready.valid; rounds = _; represents = has.reports.represents }
+
+-- ---- how many calls it takes
+
+-- one that is too long takes none
+pub long_counts : (engine : EngineState) (rounds : List Round) (number : ℕ) (line bytes : List ℕ) (start : ℕ) → bytes ≡ refused_text number TooLong → CountsBlock engine rounds line bytes start start
+long_counts engine rounds number line bytes start text =
+    record { block = RefusedBlock number TooLong; text = text ∙ sym (written_refusal engine.graph number TooLong); limit = 0; is_limit = refl; within = omega arith }
+
+-- another one keeps within the limit of its block
+pub block_counts : (old new : EngineState) (rounds : List Round) (number : ℕ) (line bytes : List ℕ) (start end : ℕ)
+    (has : HasBlock old.graph old.terms (record { rounds = rounds; log = old.log }) (numbered number line) bytes new)
+    → IsBlockWithin old.graph (record { rounds = rounds; log = old.log }) line has.block start end → CountsBlock old rounds line bytes start end
+block_counts old new rounds number line bytes start end has within = record { block = has.block; text = has.text; limit = within.0; is_limit = within.1; within = within.2 }
+
+-- a counter that began at 0 is added to what was counted before
+pub counted_later : (engine : EngineState) (rounds : List Round) (line bytes : List ℕ) (start end before after : ℕ) → start ≡ 0 → after ≡ before + end → CountsBlock engine rounds line bytes start end
+    → CountsBlock engine rounds line bytes before after
+counted_later engine rounds line bytes start end before after new adds counts =
+    let within = counts.within in
+    record { block = counts.block; text = counts.text; limit = counts.limit; is_limit = counts.is_limit; within = omega (arith, new, adds, within) }

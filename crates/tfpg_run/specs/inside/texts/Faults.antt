@@ -7,6 +7,7 @@ use Rattle.tfpg_hyp.specs.declared.table.TableFault.{TableFault}
 use Rattle.tfpg_hyp.specs.declared.table.TableFault.TheVariants as table
 use Rattle.tfpg_run.specs.declared.fault.CheckFault.{CheckFault}
 use Rattle.tfpg_run.specs.declared.fault.CheckFault.TheVariants as checking
+use Rattle.tfpg_run.specs.declared.fault.StreamFault.{StreamFault}
 use Rattle.tfpg_run.specs.declared.fault.StreamFault.TheVariants as streams
 use Rattle.tfpg_run.specs.declared.texts.fault.OpenFault.{OpenFault}
 use Rattle.tfpg_run.specs.declared.texts.fault.OpenFault.TheVariants as opening
@@ -31,6 +32,13 @@ report_fault_of_open opening.OutOfRange = reporting.OutOfRange
 report_fault_of_open (opening.Graph fault) = reporting.Graph fault
 report_fault_of_open (opening.TooManyHypotheses count) = reporting.TooManyHypotheses count
 report_fault_of_open opening.NoMemory = reporting.NoMemory
+
+-- why a report is not written in memory, where no read fails and a write fails only if memory runs out
+abbrev pub report_fault_of_stream : StreamFault → ReportFault
+report_fault_of_stream streams.TooMuchInput = reporting.TooMuchInput
+report_fault_of_stream streams.ReadFault = reporting.NoMemory
+report_fault_of_stream streams.WriteFault = reporting.NoMemory
+report_fault_of_stream streams.NoMemory = reporting.NoMemory
 
 -- why a report is not judged where there is no graph
 abbrev pub check_texts_fault_of_refusal : GraphRefusal → CheckTextsFault

@@ -33,6 +33,12 @@ loop-opening-init g c =
     c.in_ok-lines.ensures.unread c.requires.new
     (Puts-same (g.K.Sink.state c.args.out.now) (g.K.Sink.state c.write_all.new.out) _ _ (c.deref.ensures.value ∙ c.in_ok-opening.ensures) c.in_ok-write_all.ensures.put) c.in_ok-write_all.ensures.no_fault
 
+pub returns-in_err-write_next_answer-clause-stopped : goal.returns-in_err-write_next_answer-clause-stopped
+returns-in_err-write_next_answer-clause-stopped g c =
+    let before = streams (g.S.Source.state c.args.input.now) (g.K.Sink.state c.args.out.now) in
+    IfErr-from _ c.from_residual-in_err-write_next_answer.result c.in_err-write_next_answer.field-0.0 c.from_residual-in_err-write_next_answer.ensures.1
+    (c.in_err-write_next_answer.ensures.stopped before c.loop-opening.invariant)
+
 -- the fleet is watched for the next answer
 pub write_next_answer-requires : goal.write_next_answer-requires
 write_next_answer-requires g c = record {
