@@ -21,14 +21,14 @@ typedef struct {
 /* The lines of a graph, and the cause that it has. */
 typedef struct {
     const char *name;
-    uint32_t cause;
+    enum tfpg_graph_cause cause;
     lines text[6];
 } graph_case;
 
 /* A report, as the right one in which these lines are replaced, and the cause that it has. */
 typedef struct {
     const char *name;
-    uint32_t cause;
+    enum tfpg_report_cause cause;
     int first, last;
     const char *in_place;
 } report_case;

@@ -19,7 +19,7 @@ static int wrong;
 #define TEXT(text) (const uint8_t *)(text), sizeof(text) - 1
 
 /* An answer is to have this status, and what the status says: a cause, a line, and a count. */
-static void expect(const char *what, tfpg_answer answer, uint32_t status, uint32_t cause, uint64_t line, uint64_t count) {
+static void expect(const char *what, tfpg_answer answer, enum tfpg_status status, uint32_t cause, uint64_t line, uint64_t count) {
     if (answer.status == status && answer.cause == cause && answer.line == line && answer.count == count && !answer.count_high) return;
     printf("%s: status %u, cause %u, line %llu, count %llu\n", what, answer.status, answer.cause, (unsigned long long)answer.line,
            (unsigned long long)answer.count);

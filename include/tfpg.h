@@ -3,16 +3,26 @@
  * Texts are bytes, given by a pointer and their number. `docs/formats.md` has the text of a graph, of a log and of a report. Times in
  * them are milliseconds. A text needs no byte 0 at its end. A pointer is never NULL, also where the number is 0.
  *
- * Memory: a call reads the texts that it is given only while it runs, and keeps no pointer to them. Rooms and sessions are the caller's,
- * and a call writes nothing else of the caller's. A room overlaps no text and no session of the same call, and nothing else reads or
- * writes them while the call runs. A call may need some 100 KB of stack. The library takes memory of its own by `malloc` and `realloc`,
- * gives it back by `free`, and says so if there is none. `tfpg_report` and `tfpg_check` give all of it back before they return. An open
- * session has memory until it is closed.
+ * Memory: a call reads the texts that it is given only while it runs, and keeps no pointer to them; nothing writes them meanwhile. Rooms
+ * and sessions are the caller's, and a call writes nothing else of the caller's. A room overlaps no text and no session of the same call,
+ * and nothing else reads or writes them while the call runs. A call may need some 100 KB of stack.
  *
- * Threads: calls may run at the same time, each with a room and a session of its own. A session may go from one thread to another between
- * two calls, if the program orders these by a lock, or by starting or joining a thread. No call may be made from a signal handler.
+ * The library takes memory of its own, and says so if there is none. `tfpg_report` and `tfpg_check` give all of it back before they return.
+ * An open session has memory until it is closed. What is in this memory is the library's: a program reads, writes and calls nothing of it.
+ * The library asks for it by three functions, `rattle_alloc`, `rattle_realloc` and `rattle_dealloc`. The program links one of these:
+ *
+ * - The toolchain's archive `liblibc_c.a`, which defines them over `malloc`, `realloc` and `free`. These have to be of one allocator, and a
+ *   block has to be aligned to each power of two up to 16 that divides its size, as to 8 for 24 bytes.
+ * - Functions of its own, as `examples/pool.c` has them. `examples/pool.h` says what they have to do. They call nothing of this header.
+ *
+ * Threads: calls may run at the same time, each with a room and a session of its own. The three functions then have to bear it, as those of
+ * the archive do. A session may go from one thread to another between two calls, if the program orders these by a lock, by an atomic that
+ * is sequentially consistent, or by starting or joining a thread. No call may be made from a signal handler, nor from the forked child of a
+ * process with threads.
  *
  * Nothing checks what a C program passes. The library's statements hold for texts, rooms and sessions that are there.
+ *
+ * The library is built for x86-64 and its System V calling convention, as Linux has it. The header is C99 and later, and C++11 and later.
  */
 #ifndef TFPG_H
 #define TFPG_H
@@ -25,11 +35,14 @@
 extern "C" {
 #endif
 
+/* The version of this header. It rises with each change of a declaration or a number in it. The library does not say which one it has. */
+#define TFPG_HEADER_VERSION 1
+
 /* How a call ended. Where more than one cause holds, the first one is said, in the order of the program: a number out of its range, a fault
  * of the graph, too many hypotheses, a log that is too long. `tfpg_check` says first that a log is too long, then a fault of the graph, and
  * then what is wrong with the report. Memory may run out before any of these is found. The numbers up to 8 are those with which the program
  * ends; 5 and 6, a failed read and a failed write, are not of a call. */
-enum {
+enum tfpg_status {
     /* It is done. */
     TFPG_DONE = 0,
     /* The report is not accepted: `line` and `cause` are those of the first test that it fails. A block is tested once all its lines are
@@ -53,7 +66,7 @@ enum {
 };
 
 /* What is wrong with a graph, in the words of `docs/formats.md`. */
-enum {
+enum tfpg_graph_cause {
     TFPG_GRAPH_BAD_HEADER = 1,
     TFPG_GRAPH_BAD_LINE = 2,
     TFPG_GRAPH_BAD_NAME = 3,
@@ -78,7 +91,7 @@ enum {
 };
 
 /* Why a report is not accepted, in the words of `docs/formats.md`. */
-enum {
+enum tfpg_report_cause {
     TFPG_REPORT_AFTER_CLOSED = 1,
     TFPG_REPORT_NOT_REUSABLE = 2,
     TFPG_REPORT_NOT_A_CLAUSE = 3,
@@ -101,8 +114,8 @@ enum {
 
 /* What a call answers. What a status says nothing of is 0. */
 typedef struct {
-    uint32_t status;     /* one of the first list above */
-    uint32_t cause;      /* why a graph or a report is refused */
+    uint32_t status;     /* a `tfpg_status` */
+    uint32_t cause;      /* why a graph or a report is refused: a `tfpg_graph_cause` or a `tfpg_report_cause` */
     uint64_t line;       /* at which line, counted from 1 */
     uint64_t count;      /* how many bytes a text has, or how many rounds, or the last 64 bits of a number of hypotheses */
     uint64_t count_high; /* the first 64 bits of that number */
@@ -149,10 +162,14 @@ tfpg_answer tfpg_open(tfpg_session *session, const uint8_t *graph, size_t graph_
 /* Takes the next line of the log, without its line end. The text of the session is then the block of this line, and `count` is the
  * number of its bytes. The first line of the report, and then the blocks, one after the other, are the report of the lines so far.
  *
- * A line that the log refuses is done too: its block is `refused LINE CAUSE`, where LINE counts the calls from 1. So is a line of more
- * than 4,096 bytes, an empty one, and one with a line end inside, which is one line here and more in a text. After 65,536 accepted
- * lines, of which 1,024 may change the mode, each further one is refused, with the cause `LogFull` or `ModesFull`: then open the session
- * anew.
+ * A line that the log refuses is done too, and the status does not say so: its block is `refused LINE CAUSE`, where LINE counts the calls
+ * from 1, and for the cause `TimeBack` there is a fourth word, the time of the last event. Always refused are a line of more than 4,096
+ * bytes, as `TooLong`, an empty one, and one with a line end inside, which is one line here and more in a text. So leave out the line end
+ * that `fgets` keeps.
+ *
+ * Once 65,536 lines are accepted, each further one is refused: as `LogFull`, if it has no other cause. Once 1,024 of them change the mode,
+ * each further change of the mode is refused: as `ModesFull`, if it has no other cause. Lines of the other kinds are then taken as before,
+ * and judged by the mode before that change. `docs/c.md` says what to do.
  *
  * If memory runs out, the session is closed. A session takes 2^63 - 2 lines at most, and then memory runs out.
  *
@@ -160,7 +177,8 @@ tfpg_answer tfpg_open(tfpg_session *session, const uint8_t *graph, size_t graph_
 tfpg_answer tfpg_line(tfpg_session *session, const uint8_t *line, size_t line_count);
 
 /* Writes the text of the session to the front of the room: the block of the last line, or before any line the first line of the report.
- * `count` is the number of its bytes, also if the room is too small. A program may ask for it any number of times.
+ * `count` is the number of its bytes, also if the room is too small. A program may ask for it any number of times. The session is the same
+ * after the call. It is not `const`, since the call takes it out of its place and puts it back, and so writes there.
  *
  * TFPG_DONE, TFPG_ROOM_TOO_SMALL, TFPG_ENDED */
 tfpg_answer tfpg_block(tfpg_session *session, uint8_t *room, size_t room_count);

@@ -1,0 +1,60 @@
+#!/usr/bin/env bash
+# Compiles the header and the C programs of `examples` in C99, C11, C17 and C++11 to C++20, and those of `bench` in C99 and C17, by gcc and by
+# clang, where they are there. Each warning counts as an error. Then tries `examples/pool.c` by itself, under the sanitizers. It needs no
+# library and no toolchain but these compilers. Ends with status 1 where something differs.
+set -eu
+
+top=$(dirname "$(dirname "$(readlink -f "${BASH_SOURCE[0]}")")")
+made=$(mktemp -d)
+trap 'rm -r "$made"' EXIT
+status=0
+strict=(-O2 -Wall -Wextra -Wpedantic -Wconversion -Wshadow -Werror)
+
+differs() {
+    printf 'differs: %s\n' "$1"
+    status=1
+}
+
+# The header by itself, included twice. The places of the members are those that the library has.
+cat > "$made/header.c" << 'END'
+#include "tfpg.h"
+#include "tfpg.h"
+typedef char answer_is_as_in_the_library[sizeof(tfpg_answer) == 32 && offsetof(tfpg_answer, cause) == 4 && offsetof(tfpg_answer, line) == 8
+    && offsetof(tfpg_answer, count) == 16 && offsetof(tfpg_answer, count_high) == 24 ? 1 : -1];
+typedef char session_is_as_in_the_library[sizeof(tfpg_session) == 16 && offsetof(tfpg_session, held) == 8 ? 1 : -1];
+extern tfpg_session kept;
+tfpg_session kept = TFPG_SESSION;
+END
+
+# Compiles these files by this compiler in this language.
+compile() {
+    local file
+    for file in "${@:3}"; do
+        "$1" -x "${2%%[0-9]*}" "-std=$2" "${strict[@]}" -I "$top/include" -c -o "$made/object" "$file" || differs "$1 $2 $(basename "$file")"
+    done
+}
+
+mine=("$top/bench/statuses.c" "$top/bench/causes.c" "$top/bench/pool_test.c")
+for compiler in gcc clang; do
+    if ! command -v "$compiler" > /dev/null; then
+        printf '%s is not there, and is left out\n' "$compiler"
+        continue
+    fi
+    for language in c99 c11 c17; do
+        compile "$compiler" "$language" "$made/header.c" "$top"/examples/*.c
+    done
+    for language in c99 c17; do
+        compile "$compiler" "$language" "${mine[@]}"
+    done
+    for language in c++11 c++14 c++17 c++20; do
+        compile "${compiler/#gcc/g++}" "$language" "$made/header.c" "$top"/examples/*.c
+    done
+    # Pools of 1 KB, 64 KB and 4 MB.
+    for bits in 10 16 22; do
+        "$compiler" -std=c99 -g -O1 -fsanitize=address,undefined -fno-sanitize-recover=all -DPOOL_BITS=$bits -o "$made/pool" \
+            "$top/examples/pool.c" "$top/bench/pool_test.c"
+        "$made/pool" 200000 "$bits" || differs "the pool of 2^$bits bytes, by $compiler"
+    done
+done
+
+exit "$status"
