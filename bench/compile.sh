@@ -1,7 +1,7 @@
 #!/usr/bin/env bash
 # Compiles the header and the C programs of `examples` in C99, C11, C17 and C++11 to C++20, and those of `bench` in C99 and C17, by gcc and by
-# clang, where they are there. Each warning counts as an error. Then tries `examples/pool.c` by itself, under the sanitizers. It needs no
-# library and no toolchain but these compilers. Ends with status 1 where something differs.
+# clang, where they are there. Each warning counts as an error. Then tries `examples/pool.c` by itself, under the sanitizers, and which lines
+# `examples/renew.c` keeps. It needs no library and no toolchain but these compilers. Ends with status 1 where something differs.
 set -eu
 
 top=$(dirname "$(dirname "$(readlink -f "${BASH_SOURCE[0]}")")")
@@ -34,7 +34,7 @@ compile() {
     done
 }
 
-mine=("$top/bench/statuses.c" "$top/bench/causes.c" "$top/bench/pool_test.c")
+mine=("$top/bench/statuses.c" "$top/bench/causes.c" "$top/bench/pool_test.c" "$top/bench/measure.c" "$top/bench/renew_test.c")
 for compiler in gcc clang; do
     if ! command -v "$compiler" > /dev/null; then
         printf '%s is not there, and is left out\n' "$compiler"
@@ -55,6 +55,8 @@ for compiler in gcc clang; do
             "$top/examples/pool.c" "$top/bench/pool_test.c"
         "$made/pool" 200000 "$bits" || differs "the pool of 2^$bits bytes, by $compiler"
     done
+    "$compiler" -std=c99 -g -O1 -fsanitize=address,undefined -fno-sanitize-recover=all -I "$top/include" -o "$made/renew" "$top/bench/renew_test.c"
+    "$made/renew" 1000 1 || differs "what is kept of a log, by $compiler"
 done
 
 exit "$status"
