@@ -1,0 +1,253 @@
+/* What a session takes: memory, calls for it, time and stack:
+ *
+ *   measure NAME GRAPH K LOG
+ *
+ * Opens a session of the graph with this k, gives it each line of the log and asks for each block. Then makes the report of the same log at
+ * once, of its first 1,000 lines at most, and judges it. Prints two lines of fields between bars, in which NAME stands first:
+ *
+ * - `memory`: the bytes that the library has once the session is open, and after 1,000, 16,384 and 65,536 accepted lines, or `-`; the most
+ *   that it had at once, where a block that is made larger counts as two; the same where each block takes the least power of two that holds
+ *   it, as in `examples/pool.c`; and the calls of the three functions for memory for a line and its block, on average.
+ * - `time`: the lines; the microseconds of `tfpg_line`, on average, of the 99th of 100, and at worst; those of `tfpg_block`, on average; the
+ *   microseconds of `tfpg_open`; and the bytes of stack of the calls of the session, and of `tfpg_report` and `tfpg_check`. It is time of
+ *   the processor, so it leaves out what other programs took meanwhile.
+ *
+ * It defines the three functions itself, over `malloc`. So it is linked with the library alone. The calls run in threads whose stacks are
+ * painted before. What is counted as stack has some 200 bytes of this program.
+ */
+#define _POSIX_C_SOURCE 200809L
+#include "tfpg.h"
+
+#include "../examples/pool.h"
+
+#include <pthread.h>
+#include <stdio.h>
+#include <stdlib.h>
+#include <string.h>
+#include <time.h>
+
+#define HEAD 16      /* bytes before each block, which have its size */
+#define PAINT 0xa5
+#define STACK (4U << 20)
+#define MOST_LINES 100000
+
+typedef struct {
+    uint8_t *bytes;
+    size_t count;
+} text;
+
+/* Bytes that are taken, the most of them so far, and the same of a pool of powers of two. */
+static size_t taken, most, pool_taken, most_of_pool;
+static unsigned long calls;
+
+static text graph, history;
+static uint32_t k;
+static const char *name;
+static uint8_t room[1 << 26];
+static uint64_t times[MOST_LINES];
+
+static size_t in_pool(size_t size) {
+    size_t power = 32;
+    while (power < size) power *= 2;
+    return power;
+}
+
+static size_t size_of(const void *p) {
+    size_t size;
+    memcpy(&size, (const uint8_t *)p - HEAD, sizeof size);
+    return size;
+}
+
+/* Notes that a block of `size` bytes comes and one of `old` goes, or none where the number is 0. Both are there for a moment. */
+static void note(size_t size, size_t old) {
+    taken += size;
+    pool_taken += size ? in_pool(size) : 0;
+    if (taken > most) most = taken;
+    if (pool_taken > most_of_pool) most_of_pool = pool_taken;
+    taken -= old;
+    pool_taken -= old ? in_pool(old) : 0;
+    calls++;
+}
+
+/* A block that `malloc` or `realloc` gave. Where there is none, the address is any but NULL. */
+static heap_answer answer_of(uint8_t *given, size_t size, size_t old) {
+    heap_answer answer = {false, room};
+    if (given) {
+        memcpy(given, &size, sizeof size);
+        answer.ok = true;
+        answer.p = given + HEAD;
+        note(size, old);
+    }
+    return answer;
+}
+
+heap_answer rattle_alloc(size_t size, size_t align) {
+    if (size == 0) size = align;
+    return answer_of((uint8_t *)malloc(size + HEAD), size, 0);
+}
+
+heap_answer rattle_realloc(void *p, size_t kept, size_t size, size_t align) {
+    size_t old = size_of(p);
+    (void)kept;
+    if (size == 0) size = align;
+    return answer_of((uint8_t *)realloc((uint8_t *)p - HEAD, size + HEAD), size, old);
+}
+
+void rattle_dealloc(void *p) {
+    note(0, size_of(p));
+    free((uint8_t *)p - HEAD);
+}
+
+static void give_up(const char *what) {
+    perror(what);
+    exit(70);
+}
+
+static text text_of(const char *file_name) {
+    text read = {NULL, 0};
+    size_t more;
+    FILE *file = fopen(file_name, "rb");
+    if (!file) give_up(file_name);
+    do {
+        read.bytes = (uint8_t *)realloc(read.bytes, read.count + 65536);
+        if (!read.bytes) give_up("memory");
+        more = fread(read.bytes + read.count, 1, 65536, file);
+        read.count += more;
+    } while (more > 0);
+    if (ferror(file)) give_up(file_name);
+    fclose(file);
+    return read;
+}
+
+static uint64_t nanoseconds(void) {
+    struct timespec now;
+    clock_gettime(CLOCK_THREAD_CPUTIME_ID, &now);
+    return (uint64_t)now.tv_sec * 1000000000U + (uint64_t)now.tv_nsec;
+}
+
+static int by_number(const void *left, const void *right) {
+    uint64_t one = *(const uint64_t *)left, other = *(const uint64_t *)right;
+    return (one > other) - (one < other);
+}
+
+static void expect_done(const char *what, tfpg_answer answer) {
+    if (answer.status == TFPG_DONE) return;
+    fprintf(stderr, "%s: %s: status %u\n", name, what, answer.status);
+    exit((int)answer.status);
+}
+
+/* Where the line ends that begins here. */
+static size_t end_of_line(size_t begin) {
+    while (begin < history.count && history.bytes[begin] != '\n') begin++;
+    return begin;
+}
+
+/* What was found. The bytes that the library has are noted when the session is open, and after so many accepted lines. */
+static const size_t accepted_wanted[] = {0, 1000, 16384, 65536};
+static size_t taken_then[4], lines, most_of_session, most_of_its_pool, left, stack_of_session, stack_of_report;
+static unsigned long calls_of_lines;
+static uint64_t block_time, open_time;
+
+/* Where the stack of the thread began. */
+static const uint8_t *stack_begin;
+
+static void *run_session(void *unused) {
+    uint8_t here = 0;
+    tfpg_session session = TFPG_SESSION;
+    size_t accepted = 0, found = 1;
+    uint64_t begun = nanoseconds();
+    stack_begin = &here;
+    expect_done("open", tfpg_open(&session, graph.bytes, graph.count, k, 0, 1000));
+    open_time = nanoseconds() - begun;
+    taken_then[0] = taken;
+    calls = 0;
+    for (size_t begin = 0; begin < history.count && lines < MOST_LINES; lines++) {
+        size_t end = end_of_line(begin);
+        begun = nanoseconds();
+        expect_done("line", tfpg_line(&session, history.bytes + begin, end - begin));
+        times[lines] = nanoseconds() - begun;
+        expect_done("block", tfpg_block(&session, room, sizeof room));
+        block_time += nanoseconds() - begun - times[lines];
+        begin = end + 1;
+        if (room[1] == 'o') accepted++;
+        if (found < 4 && accepted == accepted_wanted[found]) taken_then[found++] = taken;
+    }
+    calls_of_lines = calls;
+    most_of_session = most;
+    most_of_its_pool = most_of_pool;
+    tfpg_close(&session);
+    left = taken;
+    return unused;
+}
+
+static void *run_report(void *unused) {
+    uint8_t here = 0;
+    size_t end = 0;
+    tfpg_answer answer;
+    stack_begin = &here;
+    for (int line = 0; line < 1000 && end < history.count; line++) end = end_of_line(end) + 1;
+    if (end > history.count) end = history.count;
+    answer = tfpg_report(graph.bytes, graph.count, history.bytes, end, k, 0, 1000, room, sizeof room);
+    expect_done("report", answer);
+    expect_done("check", tfpg_check(graph.bytes, graph.count, history.bytes, end, room, answer.count));
+    return unused;
+}
+
+/* Runs this function on a painted stack, and returns how many bytes of it were used. */
+static size_t stack_used(void *(*run)(void *)) {
+    pthread_attr_t with;
+    pthread_t thread;
+    size_t clean = 0;
+    void *stack = NULL;
+    if (posix_memalign(&stack, 4096, STACK)) give_up("stack");
+    memset(stack, PAINT, STACK);
+    if (pthread_attr_init(&with) || pthread_attr_setstack(&with, stack, STACK)) give_up("stack");
+    if (pthread_create(&thread, &with, run, NULL) == 0) {
+        pthread_join(thread, NULL);
+    } else {
+        give_up("thread");
+    }
+    pthread_attr_destroy(&with);
+    while (((uint8_t *)stack)[clean] == PAINT) clean++;
+    clean = (size_t)(stack_begin - ((uint8_t *)stack + clean));
+    free(stack);
+    return clean;
+}
+
+static void print_memory(void) {
+    printf("memory | %s |", name);
+    for (int then = 0; then < 4; then++) {
+        if (taken_then[then]) {
+            printf(" %zu |", taken_then[then]);
+        } else {
+            printf(" - |");
+        }
+    }
+    printf(" %zu | %zu | %.1f |\n", most_of_session, most_of_its_pool, (double)calls_of_lines / (double)lines);
+    if (left != 0) printf("%s: %zu bytes are left after the end\n", name, left);
+}
+
+static void print_time(void) {
+    uint64_t all = 0;
+    for (size_t line = 0; line < lines; line++) all += times[line];
+    qsort(times, lines, sizeof *times, by_number);
+    printf("time | %s | %zu | %.1f | %.1f | %.1f | %.1f | %.0f | %zu | %zu |\n", name, lines, (double)all / (double)lines / 1e3,
+           (double)times[lines * 99 / 100] / 1e3, (double)times[lines - 1] / 1e3, (double)block_time / (double)lines / 1e3,
+           (double)open_time / 1e3, stack_of_session, stack_of_report);
+}
+
+int main(int count, char **words) {
+    if (count != 5) return TFPG_OUT_OF_RANGE;
+    name = words[1];
+    graph = text_of(words[2]);
+    k = (uint32_t)strtoul(words[3], NULL, 10);
+    history = text_of(words[4]);
+    stack_of_session = stack_used(run_session);
+    stack_of_report = stack_used(run_report);
+    if (lines == 0) return TFPG_OUT_OF_RANGE;
+    print_memory();
+    print_time();
+    free(graph.bytes);
+    free(history.bytes);
+    return left != 0;
+}
