@@ -1,10 +1,12 @@
 #!/usr/bin/env bash
 # Builds the diagnoser as a static library, and links the C programs of `examples` with it under the sanitizers. Runs them on each example
-# log, and compares what they write with what the program writes, byte for byte. Compares the numbers of the header with those of the library,
-# and tries the calls where they do not end well. Finds each cause that the header names in a small text, and compares it and its line with
-# those that the program says. Then prints the size of the library, the time of a line and the memory of a session. Ends with status 1 where
-# something differs. With the word `alone` the program is not built: the one C program is compared with the other, and each cause only with
-# its name in the header.
+# log, and compares what they write with what the program writes, byte for byte. Does so once more with `examples/pool.c` in place of
+# `malloc`, and with pools that are too small. Fills sessions, and compares what `examples/renew.c` says in the end with what is said of the
+# same log without that. Cuts logs by reads that fail. Compares the numbers of the header with those of the library, and tries the calls where
+# they do not end well. Finds each cause that the header names in a small text, and compares it and its line with those that the program says.
+# Then prints the size of the library, the time of a line and the memory of a session. Ends with status 1 where something differs. With the
+# word `alone` the program is not built: the one C program is compared with the other, and each cause only with its name in the header.
+# `bench/compile.sh` says whether the C programs can be compiled at all.
 set -eu
 
 top=$(dirname "$(dirname "$(readlink -f "${BASH_SOURCE[0]}")")")
@@ -25,6 +27,12 @@ link_with() {
     cc -std=c11 -Wall -Wextra -Werror -I "$top/include" -o "$made/$2" "$top/$1" "$library" "$heap" "${@:3}"
 }
 
+# The same with a pool of 2^N bytes in place of `malloc`, for this N.
+link_with_pool() {
+    cc -std=c99 -Wall -Wextra -Werror -g -fsanitize=address,undefined -DPOOL_BITS="$3" -I "$top/include" -o "$made/$2" "$top/$1" \
+        "$top/examples/pool.c" "$library"
+}
+
 # The report of this log that the C programs have to write.
 wanted() {
     if [ "$alone" ]; then
@@ -37,22 +45,107 @@ wanted() {
 "$top/build" library
 link_with examples/report.c report -g -fsanitize=address,undefined
 link_with examples/embed.c embed -g -fsanitize=address,undefined
+link_with examples/renew.c renew -g -fsanitize=address,undefined
+link_with_pool examples/report.c report_pool 24
+link_with_pool examples/embed.c embed_pool 24
+link_with_pool bench/statuses.c statuses_pool 24
 link_with bench/statuses.c statuses -g -fsanitize=address,undefined
 link_with bench/causes.c causes -g -fsanitize=address,undefined
 link_with examples/report.c plain -O2
-link_with bench/session.c session -O2 -D_GNU_SOURCE
+link_with bench/measure.c measure -O2 -pthread
+
+# What the last round of a report ranks and leaves open, and its counts.
+last_round() {
+    awk '/^round / { said = "" } /^(ranked|open|counts) / { said = said $0 "\n" } END { printf "%s", said }' "$1"
+}
+
+# The graph of this log.
+graph_of() {
+    local name
+    name=$(basename "$1" .log)
+    if [ -e "$top/examples/${name%%-*}.tfpg" ]; then echo "$top/examples/${name%%-*}.tfpg"; else echo "$top/examples/pump.tfpg"; fi
+}
 
 for log in "$top"/examples/*.log; do
     name=$(basename "$log" .log)
-    graph=$top/examples/${name%%-*}.tfpg
-    [ -e "$graph" ] || graph=$top/examples/pump.tfpg
+    graph=$(graph_of "$log")
     wanted "$graph" "$log" > "$made/wanted"
     "$made/report" "$graph" "$log" 2> "$made/judged" | cmp -s - "$made/wanted" || differs "$name"
     "$made/embed" "$graph" < "$log" | cmp -s - "$made/wanted" || differs "$name, line by line"
     cmp -s "$made/judged" <(echo "accepted $(grep -c '^counts ' "$made/wanted")") || differs "$name, judged"
+    "$made/report_pool" "$graph" "$log" 2> "$made/judged" | cmp -s - "$made/wanted" || differs "$name, by a pool"
+    "$made/embed_pool" "$graph" < "$log" | cmp -s - "$made/wanted" || differs "$name, line by line and by a pool"
+    for events in 1 3 5; do
+        "$made/renew" "$graph" "$events" < "$log" > "$made/renewed"
+        diff <(last_round "$made/wanted") <(last_round "$made/renewed") || differs "$name, opened anew after $events events"
+    done
 done
 
 "$made/statuses" || differs statuses
+"$made/statuses_pool" || differs 'statuses, by a pool'
+
+# A pool that is too small: a run ends well, or with the status of no memory after whole blocks.
+graph=$top/examples/satellite.tfpg
+log=$top/examples/satellite-relay.log
+wanted "$graph" "$log" > "$made/wanted"
+for bits in 10 12 13 14 15 16 17; do
+    link_with_pool examples/embed.c embed_small "$bits"
+    ended=0
+    "$made/embed_small" "$graph" < "$log" > "$made/text" || ended=$?
+    if [ "$ended" != 0 ] && [ "$ended" != 8 ]; then differs "a pool of 2^$bits bytes: status $ended"; fi
+    cmp -s "$made/text" <(head -c "$(stat -c %s "$made/text")" "$made/wanted") || differs "a pool of 2^$bits bytes: the report"
+    case $ended,$(tail -n 1 "$made/text") in
+        8,report* | 8,counts* | 8,refused* | 8, | 0,*) ;;
+        *) differs "a pool of 2^$bits bytes: the last block" ;;
+    esac
+done
+
+# A full log. The pump's own, with 70,000 ticks after its third line, is said to be the same in the end. So is one with 2,000 changes to
+# the mode that is already there. Where 1,100 changes matter, the run ends with 7, and with a line that is refused.
+graph=$top/examples/pump.tfpg
+awk '{ print } NR == 3 { for (tick = 1; tick <= 70000; tick++) print 2715000 + tick, "tick" }' "$top/examples/pump.log" > "$made/long"
+wanted "$graph" "$top/examples/pump.log" > "$made/wanted"
+"$made/renew" "$graph" < "$made/long" > "$made/renewed" || differs 'a full log: the status'
+diff <(last_round "$made/wanted") <(last_round "$made/renewed") || differs 'a full log'
+[ "$(grep -c '^report ' "$made/renewed")" = 2 ] || differs 'a full log: how often it was opened'
+[ "$(grep -c ' LogFull$' "$made/renewed")" = 1 ] || differs 'a full log: what was refused'
+graph=$top/examples/satellite.tfpg
+mode_log() {
+    awk -v names="$1" -v lines="$2" 'BEGIN { split(names, name, " "); for (line = 1; line <= lines; line++) print line * 1000, "mode", name[line % 2 + 1] }'
+}
+mode_log 'Sun Sun' 2000 | "$made/renew" "$graph" > "$made/renewed" || differs 'changes to the same mode: the status'
+[ "$(grep -c ' ModesFull$' "$made/renewed")" = 1 ] || differs 'changes to the same mode: what was refused'
+ended=0
+mode_log 'Sun Eclipse' 1100 | "$made/renew" "$graph" > "$made/renewed" || ended=$?
+[ "$ended" = 7 ] || differs "changes that matter: status $ended"
+[ "$(tail -n 1 "$made/renewed")" = 'refused 1025 ModesFull' ] || differs 'changes that matter: the last block'
+
+# A read that fails: at once, where the log is a folder, and after so many bytes, where it is a terminal that is gone.
+graph=$top/examples/pump.tfpg
+fails() {
+    local ended=0
+    "${@:2}" > "$made/text" 2> "$made/said" || ended=$?
+    [ "$ended" = 70 ] || differs "$1: status $ended"
+}
+cut_after() {
+    python3 -c '
+import os, pty, subprocess, sys, tty
+reader, writer = pty.openpty()
+tty.setraw(writer)
+os.write(writer, open(sys.argv[1], "rb").read(int(sys.argv[2])))
+os.close(writer)
+sys.exit(subprocess.run(sys.argv[3:], stdin=reader).returncode)' "$@"
+}
+fails 'a folder as log, whole' "$made/report" "$graph" "$top/examples"
+[ ! -s "$made/text" ] || differs 'a folder as log, whole: a report'
+fails 'a folder as log, line by line' "$made/embed" "$graph" < "$top/examples"
+fails 'a folder as graph, line by line' "$made/embed" "$top/examples" < "$top/examples/pump.log"
+head -n 2 "$top/examples/pump.log" > "$made/log"
+wanted "$graph" "$made/log" > "$made/wanted"
+for program in embed renew; do
+    fails "a cut log, by $program" cut_after "$top/examples/pump.log" 39 "$made/$program" "$graph"
+    cmp -s "$made/text" "$made/wanted" || differs "a cut log, by $program: the report"
+done
 
 # The names of the header for the causes of a graph, or of a report.
 causes_of() {
@@ -117,9 +210,8 @@ few=$(time_of 0)
 many=$(time_of 20000)
 printf 'a line of the pump, diagnosed twice and judged: %d microseconds\n' $(((many - few) / 20000))
 
-# The C library counts what it keeps for the thread as taken, so it keeps nothing here.
-export GLIBC_TUNABLES=glibc.malloc.tcache_count=0
-"$made/session" "$top/examples/pump.tfpg" 20000 < "$made/log"
-"$made/session" "$top/examples/satellite.tfpg" 1000 < "$top/examples/satellite-relay.log"
+# What the columns are stands at the top of `measure.c`.
+"$made/measure" 'pump, 20,000 ticks' "$top/examples/pump.tfpg" 2 "$made/log" || differs 'memory is left'
+"$made/measure" 'satellite' "$top/examples/satellite.tfpg" 2 "$top/examples/satellite-relay.log" || differs 'memory is left'
 
 exit "$status"
