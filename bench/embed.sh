@@ -78,6 +78,7 @@ for log in "$top"/examples/*.log; do
     for events in 1 3 5; do
         "$made/renew" "$graph" "$events" < "$log" > "$made/renewed"
         diff <(last_round "$made/wanted") <(last_round "$made/renewed") || differs "$name, opened anew after $events events"
+        diff <(grep -c '^refused ' "$made/wanted") <(grep -c '^refused ' "$made/renewed") || differs "$name, refused after $events events"
     done
 done
 
@@ -111,7 +112,8 @@ diff <(last_round "$made/wanted") <(last_round "$made/renewed") || differs 'a fu
 [ "$(grep -c ' LogFull$' "$made/renewed")" = 1 ] || differs 'a full log: what was refused'
 graph=$top/examples/satellite.tfpg
 mode_log() {
-    awk -v names="$1" -v lines="$2" 'BEGIN { split(names, name, " "); for (line = 1; line <= lines; line++) print line * 1000, "mode", name[line % 2 + 1] }'
+    awk -v names="$1" -v lines="$2" '
+        BEGIN { split(names, name, " "); for (line = 1; line <= lines; line++) print line * 1000, "mode", name[line % 2 + 1] }'
 }
 mode_log 'Sun Sun' 2000 | "$made/renew" "$graph" > "$made/renewed" || differs 'changes to the same mode: the status'
 [ "$(grep -c ' ModesFull$' "$made/renewed")" = 1 ] || differs 'changes to the same mode: what was refused'
@@ -191,8 +193,17 @@ numbers_in_header() {
 diff <(numbers_of Graph) <(numbers_in_header GRAPH) || differs 'the numbers of the causes of a graph'
 diff <(numbers_of Check | grep -v 'BAD_MAP\|BAD_SCRIPT') <(numbers_in_header REPORT) || differs 'the numbers of the causes of a report'
 
+# The library asks for memory by the three functions, and for what compilers ask for. No instruction needs a newer processor than others.
+nm "$library" 2> "$made/said" | awk 'NF == 2 && $1 == "U" { print $2 }' | LC_ALL=C sort -u > "$made/wanted"
+nm "$library" 2> "$made/said" | awk 'NF == 3 { print $3 }' | LC_ALL=C sort -u | LC_ALL=C comm -23 "$made/wanted" - > "$made/asked"
+[ "$(grep -cxE 'rattle_(alloc|realloc|dealloc)' "$made/asked")" = 3 ] || differs 'how the library asks for memory'
+if grep -vxE 'rattle_(alloc|realloc|dealloc)|mem(cpy|move|set|cmp)|_GLOBAL_OFFSET_TABLE_' "$made/asked"; then
+    differs 'what else the library asks for'
+fi
+if objdump -d "$library" | grep '%[yz]mm' > "$made/text"; then differs 'the instructions of the library'; fi
+
 strip -g -o "$made/small.a" "$library"
-printf 'library: %s bytes\n' "$(stat -c %s "$made/small.a")"
+printf 'library: %s bytes, asks for %s\n' "$(stat -c %s "$made/small.a")" "$(tr '\n' ' ' < "$made/asked")"
 
 # A log of the pump of so many lines.
 pump_log() {
