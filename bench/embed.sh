@@ -1,12 +1,17 @@
 #!/usr/bin/env bash
-# Builds the diagnoser as a static library, and links the C programs of `examples` with it under the sanitizers. Runs them on each example
-# log, and compares what they write with what the program writes, byte for byte. Does so once more with `examples/pool.c` in place of
-# `malloc`, and with pools that are too small. Fills sessions, and compares what `examples/renew.c` says in the end with what is said of the
-# same log without that. Cuts logs by reads that fail. Compares the numbers of the header with those of the library, and tries the calls where
-# they do not end well. Finds each cause that the header names in a small text, and compares it and its line with those that the program says.
-# Then prints the size of the library, the time of a line and the memory of a session. Ends with status 1 where something differs. With the
-# word `alone` the program is not built: the one C program is compared with the other, and each cause only with its name in the header.
-# `bench/compile.sh` says whether the C programs can be compiled at all.
+# Builds the diagnoser as a static library, and links the C programs of `examples` with it under the sanitizers:
+#
+# - Runs them on each example log, and compares what they write with what the program writes, byte for byte.
+# - Does so once more with `examples/pool.c` in place of `malloc`, and with pools that are too small.
+# - Fills sessions, and compares what `examples/renew.c` says in the end with what is said of the same log without that. Compares what looser
+#   graphs reject with what is rejected.
+# - Lets reads fail, at once and in a line.
+# - Compares the numbers of the header with those of the library, and tries the calls where they do not end well.
+# - Finds each cause that the header names in a small text, and compares it and its line with those that the program says.
+# - Looks at what the library asks for. Prints its size, the time of a line, and what two sessions take.
+#
+# Ends with status 1 where something differs. With the word `alone` the program is not built: the one C program is compared with the other, and
+# each cause only with its name in the header. `bench/compile.sh` says whether the C programs can be compiled at all.
 set -eu
 
 top=$(dirname "$(dirname "$(readlink -f "${BASH_SOURCE[0]}")")")
@@ -59,6 +64,11 @@ last_round() {
     awk '/^round / { said = "" } /^(ranked|open|counts) / { said = said $0 "\n" } END { printf "%s", said }' "$1"
 }
 
+# The numbers of the hypotheses that a report rejects.
+rejected() {
+    awk '/^rejected / { print $2 }' "$1" | LC_ALL=C sort -u
+}
+
 # The graph of this log.
 graph_of() {
     local name
@@ -80,6 +90,10 @@ for log in "$top"/examples/*.log; do
         diff <(last_round "$made/wanted") <(last_round "$made/renewed") || differs "$name, opened anew after $events events"
         diff <(grep -c '^refused ' "$made/wanted") <(grep -c '^refused ' "$made/renewed") || differs "$name, refused after $events events"
     done
+    # The looser graph of `docs/c.md`, which is told no mode, rejects nothing that the graph does not reject.
+    awk '$1 == "edge" { $5 = "inf"; $6 = "*" } { print }' "$graph" > "$made/loose.tfpg"
+    grep -v ' mode ' "$log" | "$made/embed" "$made/loose.tfpg" > "$made/text" || differs "$name, by a looser graph: the status"
+    if LC_ALL=C comm -23 <(rejected "$made/text") <(rejected "$made/wanted") | grep .; then differs "$name, by a looser graph"; fi
 done
 
 "$made/statuses" || differs statuses
