@@ -4,7 +4,6 @@ ghost use Rattle.std.specs.Prelude.{◌≡◌, ◌<◌, ◌+◌, ℕ, pos, lengt
 ghost use Rattle.tfpg_base.specs.declared.constraint.Constraint.{Constraint};
 ghost use Rattle.tfpg_base.specs.Constraint.{Meets};
 ghost use Rattle.tfpg_evidence.specs.declared.reason.Reason.{Reason};
-ghost use Rattle.tfpg_log.specs.Log.{IsLogOf};
 ghost use Rattle.tfpg_base.specs.Bounds.{at_most, at_least};
 ghost use Rattle.tfpg_clause.specs.Case.{case_of};
 ghost use Rattle.tfpg_clause.specs.Facts.{fact};
@@ -17,7 +16,6 @@ ghost use Rattle.tfpg_search.specs.inside.KeptReasons.{low_reason, high_reason};
 ghost use Rattle.tfpg_search.specs.inside.LeafCalls.{AddsFact, AddsFacts};
 
 use crate::add_fault::AddFault;
-use crate::clause_laws::clause_laws;
 use crate::fact_bounds::{HighBound, LowBound, high, low};
 use crate::leaf_system::LeafSystem;
 use std::sync::ledger::Ledger;
@@ -35,7 +33,6 @@ impl LeafSystem {
         reach: &NodeSet,
         work: &mut Steps<L>,
     ) -> Result<(), AddFault>
-        requires of { IsLogOf graph.now log.now }
         requires nodes { length self.old.demands.bounds ≡ length graph.now.nodes }
         ensures adds { AddsFacts (fact (case_of graph.now log.now reach.now)) self.old self.new result }
         ensures picks { self.new.demands.picks ≡ self.old.demands.picks }
@@ -45,7 +42,6 @@ impl LeafSystem {
             CountsFacts bounds self.old self.new work.old work.new result }
         ensures counted { CountsAlike self.old self.new work.old work.new }
     {
-        clause_laws();
         for node in 0..graph.node_count() {
             self.raise_to(node, low(graph, log, reach, node), work)?;
             self.lower_to(node, high(graph, log, node), work)?;

@@ -121,7 +121,7 @@ impl Search {
     }
 
     /// Continues the search, for a log that goes on from that of the last round. Appends the steps of this round, with
-    /// at most as many splits as the budget says.
+    /// at most as many splits as the budget says. It goes over the facts of the log once, and once more for each leaf that they close.
     ///
     /// The counter counts the calls that add to the system, and no others: what the system itself counted rose by as much. They are at
     /// most one for each bound of a node that the log changed since the last round, and four for each step and once more.
@@ -152,7 +152,8 @@ impl Search {
         self.search_on(graph, log, budget, steps, work)
     }
 
-    /// Looks at one leaf after the other, and splits where the latest solution violates a clause.
+    /// Looks at one leaf after the other, and splits where the latest solution violates a clause. The facts of the log are gone over
+    /// once, and once more for each leaf that they close: where a leaf was loaded, the system has them for the rest of the round.
     fn search_on<L: Ledger>(
         &mut self,
         graph: &Graph,
@@ -171,12 +172,14 @@ impl Search {
         ensures counted { CountsAlike self.old.leaf self.new.leaf work.old work.new }
     {
         let mut spent = 0;
+        let mut has_facts = false;
         loop {
-            match self.look(graph, log, steps, work) {
+            match self.look(graph, log, has_facts, steps, work) {
                 Err(NoMemory) => return Err(NoMemory),
                 Ok(None) => return Ok(Found::Closed),
                 Ok(Some(Look::Shown(trace))) => return Ok(Found::Shown(trace)),
                 Ok(Some(Look::Violated(name))) => {
+                    has_facts = true;
                     if spent == budget {
                         return Ok(Found::Spent);
                     }

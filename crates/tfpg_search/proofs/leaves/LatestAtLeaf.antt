@@ -7,7 +7,7 @@ use Rattle.std.proofs.lemmas.Option.{slice_get_within, slice_get-get_or}
 use Rattle.tfpg_base.specs.declared.constraint.Constraint.{Constraint}
 use Rattle.tfpg_base.specs.Constraint.{Meets}
 use Rattle.tfpg_graph.specs.Graph.{Tfpg}
-use Rattle.tfpg_log.specs.Log.{Logbook}
+use Rattle.tfpg_log.specs.Log.{Logbook, IsLogOf}
 use Rattle.tfpg_evidence.specs.declared.reason.Reason.{Reason}
 use Rattle.tfpg_evidence.specs.declared.reason.Reason.TheVariants.{Zero, Top, Unreached, From, Upto, Quiet, Pick}
 use Rattle.tfpg_base.specs.Bounds.{at_most, at_least}
@@ -25,6 +25,8 @@ use Rattle.tfpg_search.specs.inside.AtItsLeaf.{IsAtItsLeaf}
 use Rattle.tfpg_search.specs.inside.Moves.{IsLoaded}
 use Rattle.tfpg_base.proofs.lists.Choices.{option_and_then-some}
 use Rattle.tfpg_base.proofs.lists.Elements.{All-from_indexes}
+use Rattle.tfpg_search.proofs.facts.FactsAdded.{facts_met}
+use Rattle.tfpg_search.proofs.work.BoundsGiven.{given_says}
 use Rattle.tfpg_search.proofs.leaves.PicksOfPath.{picks_have}
 use Rattle.tfpg_clause.specs.Trees.{picked, stated}
 use Rattle.tfpg_clause.specs.Case.{case_of}
@@ -36,7 +38,7 @@ named_fact facts reasons (Floor node) c is = (Zero node, is)
 named_fact facts reasons (Ceiling node) c is = (Top node, is)
 named_fact facts reasons (Given tag) c is = let found = option_and_then-some facts (slice_get reasons tag) c is in (found.0, found.2)
 
-module _ (laws : ClauseLaws) (graph : Tfpg) (log : Logbook) (search : SearchState) (at : IsAtItsLeaf graph log search) (loaded : IsLoaded graph log search)
+module _ (laws : ClauseLaws) (graph : Tfpg) (log : Logbook) (of : IsLogOf graph log) (search : SearchState) (at : IsAtItsLeaf graph log search) (loaded : IsLoaded graph log search)
     (as_many : length search.leaf.demands.picks ≡ length (pick_reasons search.leaf)) where
   abbrev states : Reason → Option Constraint
   states = stated (case_of graph log search.reach) search.path
@@ -68,7 +70,13 @@ module _ (laws : ClauseLaws) (graph : Tfpg) (log : Logbook) (search : SearchStat
         pick_met have.0 (suc k) number c there is
 
     solves : SolvesAt (case_of graph log search.reach) search.path times
-    solves = record { one_each = solution.complete ∙ at.variables; facts = loaded.facts times solution; picks = picks_met }
+    solves = record {
+      one_each = solution.complete ∙ at.variables;
+      facts = λ reason constraint is.
+          facts_met graph log of laws search.reach search.leaf.demands at.variables
+          (λ node within. given_says (case_of graph log search.reach) search.leaf loaded.bounds node) reason constraint is times solution;
+      picks = picks_met;
+    }
 
   module _ (times : List ℕ) (solves : SolvesAt (case_of graph log search.reach) search.path times) where
     met_by_reason : (r : Reason) (c : Constraint) → states r ≡ Some c → Meets times c

@@ -14,8 +14,6 @@ use Rattle.tfpg_search.specs.declared.add_fault.AddFault.{AddFault}
 use Rattle.tfpg_search.specs.inside.Closing.{Closes, IsSimpleCycle}
 use Rattle.tfpg_clause.specs.Paths.{next_leaf, above_last, MovesTo, IsReusable}
 use Rattle.tfpg_clause.specs.declared.path.PathSplit.{PathSplit}
-use Rattle.tfpg_diff.specs.Solution.{IsSolution}
-use Rattle.tfpg_base.specs.Constraint.{Meets}
 use Rattle.tfpg_search.specs.inside.Leaf.{Leaf, pick_reasons, IsStated}
 use Rattle.tfpg_search.specs.inside.Picks.{picks_from}
 use Rattle.tfpg_search.specs.inside.Leaving.{constraint_count_at, Leaves, Pushing}
@@ -172,13 +170,12 @@ module _ (graph : Tfpg) (log : Logbook) (old : SearchState) (at : IsAtItsLeaf gr
 -- All facts are added where all alternatives were entered: the leaf is loaded.
 pub add_loaded : (graph : Tfpg) (log : Logbook) (middle new : SearchState) → new ≡ record middle { leaf = new.leaf } → HasEnteredAll middle → IsAtItsLeaf graph log new → (result : Result (Unit {0}) AddFault)
     → OnOk result ((node : ℕ) → node < length graph.nodes → AreFactsIn (fact (case_of graph log middle.reach)) new.leaf.demands node)
-    → OnOk result ((reason : Reason) (constraint : Constraint) → fact (case_of graph log middle.reach) reason ≡ Some constraint → (times : List ℕ) → IsSolution new.leaf.demands times → Meets times constraint)
     → OnOk result (IsLoaded graph log new)
-add_loaded graph log middle new same all at (Ok done) inside facts =
+add_loaded graph log middle new same all at (Ok done) inside =
     let there : IsAtItsLeaf graph log (record middle { leaf = new.leaf }) = subst (IsAtItsLeaf graph log) same at in
     subst (λ (s : SearchState). IsLoaded graph log s) (sym same)
-    (record { all_entered = all; bounds = system_given (case_of graph log middle.reach) new.leaf there.variables there.stated.bounds inside; facts = λ times solution reason constraint is. facts reason constraint is times solution })
-add_loaded graph log middle new same all at (Err fault) inside facts = tt
+    (record { all_entered = all; bounds = system_given (case_of graph log middle.reach) new.leaf there.variables there.stated.bounds inside })
+add_loaded graph log middle new same all at (Err fault) inside = tt
 
 pub add_closes : (graph : Tfpg) (log : Logbook) (old middle : SearchState) → KeepsSet old middle → middle.path ≡ old.path → (result : Result (Unit {0}) AddFault)
     → IfErr result (Closes (stated (case_of graph log middle.reach) middle.path)) → IfErr result (Closes (stated (case_of graph log old.reach) old.path))

@@ -113,6 +113,13 @@ module _ (case : Case) (leaf : Leaf) (variables : length leaf.demands.bounds ≡
         (record { reason = named.0; stated = named.1; least = (facts node found.0).ceilings found.1.0 found.1.1 });
   }
 
+-- bounds that the facts give say all facts
+pub given_says : (case : Case) (leaf : Leaf) → AreFactBounds case (bounds_in leaf) → (node : ℕ) → AreFactsIn (fact case) leaf.demands node
+given_says case leaf given node = record {
+  floors = λ bounds at. (given.low node bounds.floor (slice_get-map (λ (b : VariableBounds). b.floor) leaf.demands.bounds node ∙ ap (option_map (λ (b : VariableBounds). b.floor)) at)).greatest;
+  ceilings = λ bounds at. (given.high node bounds.ceiling (slice_get-map (λ (b : VariableBounds). b.ceiling) leaf.demands.bounds node ∙ ap (option_map (λ (b : VariableBounds). b.ceiling)) at)).least;
+}
+
 widest_lows : (first count : ℕ) → map (λ (b : VariableBounds). b.floor) (unbounded_from first count) ≡ replicate count 0
 widest_lows first zero = refl
 widest_lows first (suc count) = ap (λ (ns : List ℕ). 0 ∷ ns) (widest_lows (first + 1) count)

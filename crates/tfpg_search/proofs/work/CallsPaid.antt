@@ -1,15 +1,17 @@
 -- What the calls of a search count, from one leaf to the next.
-use Rattle.std.proofs.Common.{◌≡◌, ℕ, ◌+◌, ◌*◌, ◌-◌, ◌≤◌, List, length, sym, ap, subst, arith}
+use Rattle.std.proofs.Common.{◌≡◌, ℕ, ◌+◌, ◌*◌, ◌-◌, ◌≤◌, List, [], length, sym, ap, subst, arith}
 use Rattle.std.specs.Prelude.{map}
 use Rattle.tfpg_graph.specs.Graph.{Tfpg}
 use Rattle.tfpg_log.specs.Log.{Logbook}
 use Rattle.tfpg_clause.specs.Case.{case_of}
 use Rattle.tfpg_diff.specs.VariableBounds.{VariableBounds}
+use Rattle.tfpg_diff.specs.Demands.{demands_of}
 use Rattle.tfpg_search.specs.SearchState.{SearchState, case_of_search}
 use Rattle.tfpg_search.specs.Work.{NodeBounds, AreFactBounds, differing}
 use Rattle.tfpg_search.specs.inside.AtItsLeaf.{IsAtItsLeaf}
-use Rattle.tfpg_search.specs.inside.Leaf.{Leaf}
+use Rattle.tfpg_search.specs.inside.Leaf.{Leaf, bounds_in}
 use Rattle.tfpg_search.specs.inside.Counted.{unset}
+use Rattle.tfpg_search.specs.inside.Moves.{KeepsSet, HasFactBounds}
 
 -- where the bounds are kept, as many of them are not set
 pub unset_kept : (bounds : NodeBounds) (old new : Leaf) → new.demands.bounds ≡ old.demands.bounds → unset bounds new ≡ unset bounds old
@@ -20,6 +22,13 @@ unset_kept bounds old new same =
 pub given_at : (graph : Tfpg) (log : Logbook) (old new : SearchState) → new.reach ≡ old.reach → (bounds : NodeBounds) → AreFactBounds (case_of_search graph log old) bounds
     → AreFactBounds (case_of_search graph log new) bounds
 given_at graph log old new reach bounds given = subst (λ (r : List ℕ). AreFactBounds (case_of graph log r) bounds) (sym reach) given
+
+-- where the bounds are kept, they are still those that the facts give
+pub given_kept : (graph : Tfpg) (log : Logbook) (old new : SearchState) → KeepsSet old new → new.leaf.demands.bounds ≡ old.leaf.demands.bounds → HasFactBounds graph log old
+    → HasFactBounds graph log new
+given_kept graph log old new keeps same given =
+    given_at graph log old new keeps.reach (bounds_in new.leaf)
+    (subst (λ (bs : List VariableBounds). AreFactBounds (case_of_search graph log old) (bounds_in (record old.leaf { demands = demands_of bs [] }))) (sym same) given)
 
 -- at most one alternative on the path is not entered
 pub one_left : (graph : Tfpg) (log : Logbook) (search : SearchState) → IsAtItsLeaf graph log search → length search.path - length search.entered ≤ 1

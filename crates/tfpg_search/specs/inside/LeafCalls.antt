@@ -1,9 +1,7 @@
 -- What calls on the system of a leaf come to, whatever the facts are and whatever is stated.
-use Rattle.std.specs.Prelude.{◌≡◌, ℕ, List, [], ◌∷◌, ◌++◌, length, Option, Some, Result, OnOk, OnErr, IfErr}
+use Rattle.std.specs.Prelude.{◌≡◌, [], ◌∷◌, ◌++◌, length, Option, Some, Result, OnOk, OnErr, IfErr}
 use Rattle.tfpg_base.specs.declared.constraint.Constraint.{Constraint}
-use Rattle.tfpg_base.specs.Constraint.{Meets}
 use Rattle.tfpg_evidence.specs.declared.reason.Reason.{Reason}
-use Rattle.tfpg_diff.specs.Solution.{IsSolution}
 use Rattle.tfpg_search.specs.declared.add_fault.AddFault.{AddFault}
 use Rattle.tfpg_search.specs.inside.Closing.{Closes}
 use Rattle.tfpg_search.specs.inside.Leaf.{Leaf, pick_reasons, IsStated}
@@ -33,12 +31,9 @@ pub record AddsPick (reason : Reason) (constraint : Constraint) (old new : Leaf)
   pub stated : (fact states : Reason → Option Constraint) → IsStated fact states old → states reason ≡ Some constraint
       → IsStatedAfter fact states new result
 
--- All facts were added, or some at a fault. What was stated before is so afterwards, and after Ok each solution meets each
--- fact.
+-- All facts were added, or some at a fault. What was stated before is so afterwards.
 pub record AddsFacts (fact : Reason → Option Constraint) (old new : Leaf) (result : Result (Unit {0}) AddFault) : Type 0 where
   pub entered : new.entered ≡ old.entered
   pub nodes : length new.demands.bounds ≡ length old.demands.bounds
   pub reasons : pick_reasons new ≡ pick_reasons old
   pub stated : (states : Reason → Option Constraint) → IsStated fact states old → IsStatedAfter fact states new result
-  pub met : OnOk result ((reason : Reason) (constraint : Constraint) → fact reason ≡ Some constraint →
-      (times : List ℕ) → IsSolution new.demands times → Meets times constraint)

@@ -1,21 +1,16 @@
 -- What the steps of a search do to its path.
 use Rattle.std.specs.Prelude.{◌≡◌, ℕ, ◌<◌, ◌+◌, ◌-◌, ◌≤◌, List, [], ◌∷◌, ◌++◌, All, Bool, true, false, Option, Some, None, Result, Ok, Err}
-use Rattle.tfpg_base.specs.declared.constraint.Constraint.{Constraint}
-use Rattle.tfpg_base.specs.Constraint.{Meets}
 use Rattle.tfpg_graph.specs.Graph.{Tfpg}
 use Rattle.tfpg_log.specs.Log.{Logbook}
 use Rattle.tfpg_evidence.specs.declared.clause_name.ClauseName.{ClauseName}
-use Rattle.tfpg_evidence.specs.declared.reason.Reason.{Reason}
 use Rattle.tfpg_evidence.specs.declared.step.Step.{Step}
 use Rattle.tfpg_evidence.specs.declared.step.Step.TheVariants.{Split, Cycle, Again}
 use Rattle.tfpg_clause.specs.Case.{Case}
-use Rattle.tfpg_clause.specs.Facts.{fact}
 use Rattle.tfpg_clause.specs.Trees.{Judged, IsRefutation, IsPresentLeaf, split_count}
 use Rattle.tfpg_clause.specs.Paths.{MovesTo, IsReusable}
 use Rattle.tfpg_clause.specs.declared.path.PathSplit.{PathSplit}
 use Rattle.tfpg_base.specs.declared.no_memory.NoMemory.{NoMemory}
 use Rattle.tfpg_log.specs.Explains.{Explains}
-use Rattle.tfpg_diff.specs.Solution.{IsSolution}
 use Rattle.tfpg_search.specs.Live.{IsLiveAt, IsSimpleAt, HasNoNameTwice}
 use Rattle.tfpg_search.specs.Work.{AreFactBounds}
 use Rattle.tfpg_search.specs.inside.Leaf.{bounds_in}
@@ -69,13 +64,15 @@ pub record KeepsSet (old new : SearchState) : Type 0 where
   pub reach : new.reach ≡ old.reach
   pub seen : new.seen ≡ old.seen
 
--- The system has all constraints of the leaf: each alternative on the path was entered, its bounds are those that the facts
--- give, and its solutions meet each fact.
+-- The bounds of the system are those that the facts give.
+abbrev pub HasFactBounds : Tfpg → Logbook → SearchState → Type 0
+HasFactBounds graph log search = AreFactBounds (case_of_search graph log search) (bounds_in search.leaf)
+
+-- The system has all constraints of the leaf: each alternative on the path was entered, and its bounds are those that the facts
+-- give.
 pub record IsLoaded (graph : Tfpg) (log : Logbook) (search : SearchState) : Type 0 where
   pub all_entered : HasEnteredAll search
-  pub bounds : AreFactBounds (case_of_search graph log search) (bounds_in search.leaf)
-  pub facts : (times : List ℕ) → IsSolution search.leaf.demands times →
-      (reason : Reason) (constraint : Constraint) → fact (case_of_search graph log search) reason ≡ Some constraint → Meets times constraint
+  pub bounds : HasFactBounds graph log search
 
 -- how many alternatives on a path were not taken yet
 abbrev pub untaken : List PathSplit → ℕ

@@ -20,7 +20,7 @@ ghost use Rattle.tfpg_search.specs.inside.Facts.{AreFactsIn};
 ghost use Rattle.tfpg_search.specs.Searched.{call_of};
 ghost use Rattle.tfpg_search.specs.inside.Closing.{IsSimpleCycle, Closes};
 ghost use Rattle.tfpg_search.specs.inside.LeafCalls.{AddsFacts};
-ghost use Rattle.tfpg_search.specs.inside.Moves.{KeepsSet, IsLoaded, Closing, Loading, Sees, Looking, Splitting};
+ghost use Rattle.tfpg_search.specs.inside.Moves.{KeepsSet, HasFactBounds, IsLoaded, Closing, Loading, Sees, Looking, Splitting};
 
 use crate::add_fault::AddFault;
 use crate::clause_laws::clause_laws;
@@ -41,18 +41,20 @@ impl Search {
         &mut self,
         graph: &Graph,
         log: &Log,
+        has_facts: bool,
         steps: &mut StepList,
         work: &mut Steps<L>,
     ) -> Result<Option<Look>, NoMemory>
         requires of { IsLogOf graph.now log.now }
         requires stands { IsAtItsLeaf graph.now log.now self.old }
+        requires facts { IsTrue has_facts → HasFactBounds graph.now log.now self.old }
         ensures keeps { KeepsSet self.old self.new }
         ensures looking { Looking graph.now log.now (call_of self.old self.new steps.old steps.new) result }
         ensures counts { (bounds : NodeBounds) → AreFactBounds (case_of_search graph.now log.now self.old) bounds →
             IsPaid bounds (call_of self.old self.new steps.old steps.new) work.old work.new }
         ensures counted { CountsAlike self.old.leaf self.new.leaf work.old work.new }
     {
-        match self.load(graph, log, steps, work) {
+        match self.load(graph, log, has_facts, steps, work) {
             Ok(true) => {}
             Ok(false) => return Ok(None),
             Err(NoMemory) => return Err(NoMemory),
@@ -83,16 +85,18 @@ impl Search {
     }
 
     /// Brings all that holds at the present leaf into the system. Where a subtree is reusable at the leaf, or no times meet what
-    /// holds there, the leaf is closed and the next one taken. Returns whether there is a leaf left.
+    /// holds there, the leaf is closed and the next one taken. Returns whether there is a leaf left. Facts that the system lacks are
+    /// gone over once, and once more for each leaf that they close.
     fn load<L: Ledger>(
         &mut self,
         graph: &Graph,
         log: &Log,
+        has_facts: bool,
         steps: &mut StepList,
         work: &mut Steps<L>,
     ) -> Result<bool, NoMemory>
-        requires of { IsLogOf graph.now log.now }
         requires stands { IsAtItsLeaf graph.now log.now self.old }
+        requires facts { IsTrue has_facts → HasFactBounds graph.now log.now self.old }
         ensures keeps { KeepsSet self.old self.new }
         ensures loading { Loading graph.now log.now (call_of self.old self.new steps.old steps.new) result }
         ensures counts { (bounds : NodeBounds) → AreFactBounds (case_of_search graph.now log.now self.old) bounds →
@@ -107,7 +111,7 @@ impl Search {
                     Err(NoMemory) => return Err(NoMemory),
                 }
             }
-            match self.add_all(graph, log, work) {
+            match self.add_all(graph, log, has_facts, work) {
                 Ok(()) => return Ok(true),
                 Err(AddFault::NoMemory) => return Err(NoMemory),
                 Err(AddFault::Conflict(reasons)) => match self.close(graph, log, reasons, steps) {
@@ -119,19 +123,21 @@ impl Search {
         }
     }
 
-    /// Adds the alternative that is not yet entered, and the facts of the log.
+    /// Adds the alternative that is not yet entered, and the facts of the log, unless the system has them.
     fn add_all<L: Ledger>(
         &mut self,
         graph: &Graph,
         log: &Log,
+        has_facts: bool,
         work: &mut Steps<L>,
     ) -> Result<(), AddFault>
-        requires of { IsLogOf graph.now log.now }
         requires stands { IsAtItsLeaf graph.now log.now self.old }
+        requires facts { IsTrue has_facts → HasFactBounds graph.now log.now self.old }
         ensures stands { IsAtItsLeaf graph.now log.now self.new }
         ensures keeps { KeepsSet self.old self.new }
         ensures path { self.new.path ≡ self.old.path }
         ensures loaded { OnOk result (IsLoaded graph.now log.now self.new) }
+        ensures bounds { IsTrue has_facts → self.new.leaf.demands.bounds ≡ self.old.leaf.demands.bounds }
         ensures counts { (bounds : NodeBounds) → AreFactBounds (case_of_search graph.now log.now self.old) bounds →
             work.new + unset bounds self.new.leaf ≤ work.old + due bounds self.old + 1 }
         ensures counted { CountsAlike self.old.leaf self.new.leaf work.old work.new }
@@ -139,6 +145,9 @@ impl Search {
             (Closes (stated (case_of_search graph.now log.now self.old) self.old.path)) }
     {
         self.enter(graph, log, work)?;
+        if has_facts {
+            return Ok(());
+        }
         self.add_facts(graph, log, work)
     }
 
@@ -149,7 +158,6 @@ impl Search {
         log: &Log,
         work: &mut Steps<L>,
     ) -> Result<(), AddFault>
-        requires of { IsLogOf graph.now log.now }
         requires variables { length self.old.leaf.demands.bounds ≡ length graph.now.nodes }
         ensures same { self.new ≡ record self.old { leaf = self.new.leaf } }
         ensures adds { AddsFacts (fact (case_of_search graph.now log.now self.old)) self.old.leaf self.new.leaf

@@ -8,7 +8,7 @@ use Rattle.tfpg_search.specs.inside.Closing.{Closes}
 use Rattle.tfpg_search.specs.inside.Facts.{AreFactsIn}
 use Rattle.tfpg_search.specs.inside.KeptReasons.{low_reason, high_reason}
 use Rattle.tfpg_search.proofs.work.BoundsGiven.{low_there, high_there}
-use Rattle.tfpg_search.proofs.facts.FactsAdded.{facts_met, facts-tightened, facts-kept}
+use Rattle.tfpg_search.proofs.facts.FactsAdded.{facts-tightened, facts-kept}
 use Rattle.tfpg_search.proofs.leaf_system.LeafSystem.add_facts.Goals as goal
 use Rattle.tfpg_clause.specs.Case.{case_of}
 
@@ -28,7 +28,6 @@ returns-in_err-raise_to-clause-adds g c =
             still = (added.stated F stated still c.low.ensures.stated).still;
             closes = subst (Closes stated) (sym error.2) (c.in_err-raise_to.ensures.adds.stated F stated still c.low.ensures.stated).closes;
           };
-      met = tt;
     })
 
 pub returns-in_err-lower_to-clause-adds : goal.returns-in_err-lower_to-clause-adds
@@ -48,7 +47,6 @@ returns-in_err-lower_to-clause-adds g c =
             still = (added.stated F stated still (c.high.ensures.stated c.args.reach.now)).still;
             closes = subst (Closes stated) (sym error.2) (c.in_err-lower_to.ensures.adds.stated F stated still (c.high.ensures.stated c.args.reach.now)).closes;
           };
-      met = tt;
     })
 
 pub loop-node-preserved : goal.loop-node-preserved
@@ -83,18 +81,12 @@ loop-node-preserved g c =
     }
 
 pub returns-clause-adds : goal.returns-clause-adds
-returns-clause-adds g c =
-    let count = c.node_count-node-end.ensures.count in
-    let ended = c.loop-node-test.false in
-    record {
-      entered = c.loop-node.invariant.entered;
-      nodes = c.loop-node.invariant.nodes;
-      reasons = c.loop-node.invariant.reasons;
-      stated = λ stated begun. record { still = c.loop-node.invariant.stated stated begun; closes = tt };
-      met = facts_met c.args.graph.now c.args.log.now c.requires.of c.clause_laws.ensures c.args.reach.now c.loop-node.self.demands
-          (c.loop-node.invariant.nodes ∙ c.requires.nodes)
-          (λ node within. c.loop-node.invariant.facts node (omega arith));
-    }
+returns-clause-adds g c = record {
+  entered = c.loop-node.invariant.entered;
+  nodes = c.loop-node.invariant.nodes;
+  reasons = c.loop-node.invariant.reasons;
+  stated = λ stated begun. record { still = c.loop-node.invariant.stated stated begun; closes = tt };
+}
 
 pub returns-clause-facts : goal.returns-clause-facts
 returns-clause-facts g c node within =

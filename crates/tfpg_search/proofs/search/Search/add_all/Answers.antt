@@ -1,6 +1,6 @@
 use Rattle.std.proofs.Common.{length, ◌-◌}
 use Rattle.tfpg_search.specs.inside.Counted.{unset}
-use Rattle.tfpg_search.proofs.work.CallsPaid.{unset_kept, given_at, added_counts, entered_only}
+use Rattle.tfpg_search.proofs.work.CallsPaid.{unset_kept, given_at, given_kept, added_counts, entered_only}
 use Rattle.tfpg_search.proofs.leaves.MovesStayAtLeaf.{facts_stand, add_loaded, add_closes}
 use Rattle.tfpg_search.proofs.search.Search.add_all.Goals as goal
 use Rattle.tfpg_clause.specs.Trees.{stated}
@@ -11,12 +11,18 @@ returns-clause-stands g c =
     (facts_stand c.args.graph.now c.args.log.now c.enter.new.self c.enter.ensures.stands c.add_facts.new.self c.add_facts.ensures.same c.add_facts.ensures.adds.nodes c.add_facts.ensures.adds.reasons
     (λ stated before. (c.add_facts.ensures.adds.stated stated before).still)).0
 
+pub returns-then-has_facts-clause-loaded : goal.returns-then-has_facts-clause-loaded
+returns-then-has_facts-clause-loaded g c = record {
+  all_entered = c.in_ok-enter.ensures.entered;
+  bounds = given_kept c.args.graph.now c.args.log.now c.args.self.now c.enter.new.self c.enter.ensures.keeps c.enter.ensures.bounds (c.requires.facts c.if-has_facts.true);
+}
+
 pub returns-clause-loaded : goal.returns-clause-loaded
 returns-clause-loaded g c =
     add_loaded c.args.graph.now c.args.log.now c.enter.new.self c.add_facts.new.self c.add_facts.ensures.same c.in_ok-enter.ensures.entered
     (facts_stand c.args.graph.now c.args.log.now c.enter.new.self c.enter.ensures.stands c.add_facts.new.self c.add_facts.ensures.same c.add_facts.ensures.adds.nodes c.add_facts.ensures.adds.reasons
     (λ stated before. (c.add_facts.ensures.adds.stated stated before).still)).0
-    c.add_facts.result c.add_facts.ensures.facts c.add_facts.ensures.adds.met
+    c.add_facts.result c.add_facts.ensures.facts
 
 pub returns-clause-closes : goal.returns-clause-closes
 returns-clause-closes g c =
@@ -25,6 +31,11 @@ returns-clause-closes g c =
 
 pub returns-in_err-enter-clause-counts : goal.returns-in_err-enter-clause-counts
 returns-in_err-enter-clause-counts g c bounds given =
+    entered_only c.args.work.now c.enter.new.work (unset bounds c.args.self.now.leaf) (unset bounds c.enter.new.self.leaf) (length c.args.self.now.path - length c.args.self.now.entered)
+    c.enter.ensures.counts (unset_kept bounds c.args.self.now.leaf c.enter.new.self.leaf c.enter.ensures.bounds)
+
+pub returns-then-has_facts-clause-counts : goal.returns-then-has_facts-clause-counts
+returns-then-has_facts-clause-counts g c bounds given =
     entered_only c.args.work.now c.enter.new.work (unset bounds c.args.self.now.leaf) (unset bounds c.enter.new.self.leaf) (length c.args.self.now.path - length c.args.self.now.entered)
     c.enter.ensures.counts (unset_kept bounds c.args.self.now.leaf c.enter.new.self.leaf c.enter.ensures.bounds)
 

@@ -11,7 +11,7 @@ pub returns-in_ok-cut-in-None : goal.returns-in_ok-cut-in-None
 returns-in_ok-cut-in-None c =
     let leaf = ap (λ (s : SearchState). s.leaf) c.self.view_is in
     let latest =
-    latest_here c.clause_laws.ensures c.args.graph.now c.args.log.now c.args.self.now c.requires.stands c.requires.loaded
+    latest_here c.clause_laws.ensures c.args.graph.now c.args.log.now c.requires.of c.args.self.now c.requires.stands c.requires.loaded
     (subst (λ (l : Leaf). length l.demands.picks ≡ length (pick_reasons l)) leaf c.has_a_reason_for_each_pick.ensures) c.solution-times.result.now
     (subst (λ (l : Leaf). IsLatest l.demands c.solution-times.result.now) leaf c.solution-times.ensures.latest) in
     subst (Explains c.args.graph.now c.args.log.now c.args.self.now.set) (sym (c.in_ok-cut-in-None.ensures ∙ ap (λ (n : ℕ). cut n c.solution-times.result.now) c.now.ensures))
@@ -25,7 +25,7 @@ returns-in-Some c =
     record {
       times = c.solution-times.result.now;
       latest =
-          latest_here c.clause_laws.ensures c.args.graph.now c.args.log.now c.args.self.now c.requires.stands c.requires.loaded
+          latest_here c.clause_laws.ensures c.args.graph.now c.args.log.now c.requires.of c.args.self.now c.requires.stands c.requires.loaded
           (subst (λ (l : Leaf). length l.demands.picks ≡ length (pick_reasons l)) leaf c.has_a_reason_for_each_pick.ensures) c.solution-times.result.now
           (subst (λ (l : Leaf). IsLatest l.demands c.solution-times.result.now) leaf c.solution-times.ensures.latest);
       first = c.in-Some.ensures.first;

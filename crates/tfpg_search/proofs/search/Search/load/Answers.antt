@@ -1,9 +1,9 @@
-use Rattle.std.proofs.Common.{refl, subst, arith, Bool, Some, None, length, ◌+◌, ◌-◌}
+use Rattle.std.proofs.Common.{refl, subst, ◌∙◌, arith, Bool, Some, None, length, ◌+◌, ◌-◌}
 use Rattle.std.specs.Prelude.{Ok}
 use Rattle.tfpg_search.specs.inside.Moves.{Closing}
 use Rattle.tfpg_search.proofs.calls.FoundInTurn.{keeps_on}
 use Rattle.tfpg_search.specs.inside.Counted.{unset, due}
-use Rattle.tfpg_search.proofs.work.CallsPaid.{unset_kept, given_at, one_left, then_loaded, then_none, step_pays, none_left}
+use Rattle.tfpg_search.proofs.work.CallsPaid.{unset_kept, given_at, given_kept, one_left, then_loaded, then_none, step_pays, none_left}
 use Rattle.tfpg_search.proofs.steps.StepsAppended.{grows_on}
 use Rattle.tfpg_search.specs.Searched.{call_of}
 use Rattle.tfpg_search.proofs.search.Search.load.Goals as goal
@@ -14,6 +14,7 @@ loop-self-preserved-in-Ok-true g c =
     subst (λ (b : Bool). Closing c.args.graph.now c.args.log.now (call_of c.loop-self.self c.reuse.new.self c.loop-self.steps c.reuse.new.steps) (Ok b)) c.in-Ok-true.field-0-test c.in-Ok-true.ensures.closing in
     record {
       stands = closing.0;
+      facts = λ has. given_kept c.args.graph.now c.args.log.now c.loop-self.self c.reuse.new.self c.reuse.ensures.keeps c.reuse.ensures.bounds (c.loop-self.invariant.facts has);
       keeps = keeps_on c.args.self.now c.loop-self.self c.reuse.new.self c.loop-self.invariant.keeps c.reuse.ensures.keeps;
       grows =
           grows_on c.args.graph.now c.args.log.now c.args.self.now c.loop-self.self c.loop-self.self c.reuse.new.self c.args.steps.now c.loop-self.steps c.reuse.new.steps 0 0 (Some c.reuse.new.self.path)
@@ -50,6 +51,9 @@ loop-self-preserved g c =
     c.in-Ok-true-close.ensures.closing in
     record {
       stands = closing.0;
+      facts = λ has.
+          given_kept c.args.graph.now c.args.log.now c.loop-self.self c.close.new.self (keeps_on c.loop-self.self c.add_all.new.self c.close.new.self c.add_all.ensures.keeps c.close.ensures.keeps)
+          (c.close.ensures.bounds ∙ c.add_all.ensures.bounds has) (c.loop-self.invariant.facts has);
       keeps = keeps_on c.args.self.now c.add_all.new.self c.close.new.self keeps c.close.ensures.keeps;
       grows =
           grows_on c.args.graph.now c.args.log.now c.args.self.now c.loop-self.self c.add_all.new.self c.close.new.self c.args.steps.now c.loop-self.steps c.close.new.steps 0 0

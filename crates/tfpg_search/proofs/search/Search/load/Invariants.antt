@@ -1,15 +1,17 @@
 use Rattle.std.proofs.Common.{Some, ◌+◌, ◌*◌, ◌≤◌, length}
+use Rattle.std.specs.Prelude.{IsTrue}
 use Rattle.tfpg_search.specs.SearchState.{case_of_search}
 use Rattle.tfpg_search.specs.Work.{NodeBounds, AreFactBounds}
 use Rattle.tfpg_search.specs.inside.Counted.{due, CountsAlike}
 use Rattle.tfpg_search.specs.inside.AtItsLeaf.{IsAtItsLeaf}
 use Rattle.tfpg_search.specs.Searched.{call_of}
-use Rattle.tfpg_search.specs.inside.Moves.{KeepsSet, Grows, untaken}
+use Rattle.tfpg_search.specs.inside.Moves.{KeepsSet, HasFactBounds, Grows, untaken}
 use Rattle.tfpg_search.proofs.search.Search.load.Given as goal
 
 abbrev pub invariant-loop-self : goal.invariant-loop-self
 invariant-loop-self g l = record {
   stands : IsAtItsLeaf l.graph l.log l.self;
+  facts : IsTrue l.has_facts → HasFactBounds l.graph l.log l.self;
   keeps : KeepsSet l.initial.self l.self;
   grows : Grows l.graph l.log (call_of l.initial.self l.self l.initial.steps l.steps) 0 (Some l.self.path);
   counted : CountsAlike l.initial.self.leaf l.self.leaf l.initial.work l.work;

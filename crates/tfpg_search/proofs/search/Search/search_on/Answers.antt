@@ -6,7 +6,7 @@ use Rattle.tfpg_search.specs.inside.Moves.{Looking, Sees}
 use Rattle.tfpg_search.proofs.calls.FoundInTurn.{keeps_on, grows_still, found_on}
 use Rattle.tfpg_search.specs.inside.Counted.{unset, due}
 use Rattle.tfpg_search.specs.inside.Leaf.{Leaf}
-use Rattle.tfpg_search.proofs.work.CallsPaid.{given_at, one_left, then_looked, step_pays, none_left}
+use Rattle.tfpg_search.proofs.work.CallsPaid.{given_at, given_kept, one_left, then_looked, step_pays, none_left}
 use Rattle.tfpg_search.proofs.steps.StepsAppended.{grows_on}
 use Rattle.tfpg_search.specs.Searched.{call_of}
 use Rattle.tfpg_search.proofs.search.Search.search_on.Goals as goal
@@ -46,6 +46,7 @@ loop-trace-preserved g c =
     subst (λ (o : Option Look). Looking c.args.graph.now c.args.log.now (call_of c.loop-trace.self c.look.new.self c.loop-trace.steps c.look.new.steps) (Ok o)) c.in-Ok-Some-Violated.field-0-is c.in-Ok-Some-Violated.ensures.looking in
     record {
       stands = c.in-Ok.ensures.splitting.0;
+      facts = λ _. given_kept c.args.graph.now c.args.log.now c.look.new.self c.split.new.self c.split.ensures.keeps (ap (λ (leaf : Leaf). leaf.demands.bounds) c.split.ensures.leaf) looking.1.bounds;
       keeps = keeps_on c.args.self.now c.look.new.self c.split.new.self (keeps_on c.args.self.now c.loop-trace.self c.look.new.self c.loop-trace.invariant.keeps c.look.ensures.keeps) c.split.ensures.keeps;
       grows = grows_on c.args.graph.now c.args.log.now c.args.self.now c.look.new.self c.look.new.self c.split.new.self c.args.steps.now c.look.new.steps c.split.new.steps c.loop-trace.spent 1 (Some c.split.new.self.path) (keeps_on c.args.self.now c.loop-trace.self c.look.new.self c.loop-trace.invariant.keeps c.look.ensures.keeps) refl (grows_still c.args.graph.now c.args.log.now c.args.self.now c.loop-trace.self c.loop-trace.self c.look.new.self c.args.steps.now c.loop-trace.steps c.look.new.steps c.loop-trace.spent (Some c.look.new.self.path) c.loop-trace.invariant.keeps refl c.loop-trace.invariant.grows looking.3) c.in-Ok.ensures.splitting.1;
       counted = (let so_far = c.loop-trace.invariant.counted in let looked = c.look.ensures.counted in let same = ap (λ (leaf : Leaf). leaf.calls) c.split.ensures.leaf in omega arith);
