@@ -26,7 +26,7 @@
 //!
 //! # Not proved
 //!
-//! - What one call of the system costs.
+//! - What one call of the system costs, and how often a round goes over the facts of the log.
 #![tactic(auto)]
 
 mod add_facts;
