@@ -15,6 +15,11 @@ use tfpg_evidence::StepList;
 use tfpg_log::{Event, Log};
 use tfpg_search::{Found, Search};
 
+/// How many splits the copy of a search makes at most. What fits needs fewer: of the 66 outcomes of `bench/ask.py` that a copy of one of the
+/// ten searches shows to fit, 27 need no split and none more than 295. A copy that finds no trace by then spent its whole budget of
+/// 1,000 there, and a new search has to be made all the same.
+const MAX_COPY_SPLITS: u64 = 400;
+
 /// The outcomes at the log of the hypotheses that are asked about, in order. The log may be left ignoring some monitors.
 pub(crate) fn outcomes_at<L: Ledger>(
     alloc: Global,
@@ -123,8 +128,23 @@ fn continued<L: Ledger>(
     let mut copy = search.copy()?;
     // The steps of the rounds before are not at hand, so these alone are no evidence.
     let mut steps = StepList::new(alloc);
-    let found = copy.round(subject.graph, subject.log, subject.budget, &mut steps, work)?;
+    let found = copy.round(
+        subject.graph,
+        subject.log,
+        copy_budget(subject.budget),
+        &mut steps,
+        work,
+    )?;
     Ok(trace_found(found))
+}
+
+/// The budget of a copy, where this is that of a new search.
+fn copy_budget(budget: u64) -> u64
+    requires { 1 ≤ budget }
+    ensures some { 1 ≤ result }
+    ensures within { result ≤ budget }
+{
+    budget.min(MAX_COPY_SPLITS)
 }
 
 /// The trace that was found, where one was.

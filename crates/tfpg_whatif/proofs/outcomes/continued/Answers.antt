@@ -8,6 +8,6 @@ use Rattle.tfpg_whatif.proofs.outcomes.continued.Goals as goal
 pub returns : goal.returns
 returns g c =
     subst (λ found. IfSome found (λ trace. Explains c.args.subject.now.graph.now c.args.subject.now.log.now c.args.subject.now.hypothesis.set trace)) (sym c.trace_found.ensures)
-    (continues c.args.subject.now.graph.now c.args.subject.now.log.now c.args.subject.now.hypothesis.set c.args.subject.now.budget c.in-Some.search.now c.in_ok-copy.copy c.round.new.self c.new-steps.result c.round.new.steps c.in_ok-found.found
+    (continues c.args.subject.now.graph.now c.args.subject.now.log.now c.args.subject.now.hypothesis.set c.copy_budget.result c.in-Some.search.now c.in_ok-copy.copy c.round.new.self c.new-steps.result c.round.new.steps c.in_ok-found.found
     (subst (λ kept. IfSome kept (λ search. CanContinue c.args.subject.now.graph.now c.args.subject.now.log.now c.args.subject.now.hypothesis.set search.now)) c.in-Some.is c.requires.kept) c.in_ok-copy.ensures c.round.ensures.set
     c.in_ok-found.ensures.searched)
