@@ -1,4 +1,7 @@
-//! Alarms that come too early: before the failure can have reached the node, by the least delays from what the log says is not active.
+//! Alarms that come too early: before the failure can have reached the node, by what the log says is not active. The bounds of nodes follow
+//! forwards by the least delays, since a node becomes active only when the failure arrives (may clauses), and backwards by the greatest,
+//! since it was not on its way where it would be due and is not there (must clauses). The event may also be a silence that comes too late,
+//! which shows that an alarm before it came too early.
 //!
 //! [`proposed`](steps::proposed) makes the steps of a refutation, and promises nothing of them. The checker of refutations judges them, and
 //! only where it closes their tree they are an outcome.
@@ -12,6 +15,11 @@ ghost use Rattle.tfpg_whatif.specs.inside.Asking.{IsSubject, case_asked};
 ghost use Rattle.tfpg_whatif.specs.inside.Early.{HasTaken};
 
 mod bounds;
+mod closing;
+mod due;
+mod facts;
+mod may;
+mod needs;
 mod steps;
 
 use crate::asking::Subject;
@@ -21,25 +29,27 @@ use tfpg_base::NoMemory;
 use tfpg_evidence::{Step, StepList};
 use tfpg_graph::Graph;
 use tfpg_kernel::{Checker, Taken};
-use tfpg_log::{Event, Log};
+use tfpg_log::Log;
 
 /// How often at most the nodes are gone through for what follows from the bounds of others, for what has to be shown, and for what can be
-/// shown. Once is enough where each edge goes to a later node.
+/// shown, and over how many must clauses in a row a bound is looked up. Once is enough for the least delays where each edge goes to a
+/// later node.
 const PASSES: u32 = 8;
 
-/// The refutation by an alarm that comes too early, where the event is one and some steps show it within the budget. It costs some
-/// passes over the nodes and the edges, and what the steps cost the checker: a split and a cycle for each span in which a node is
-/// shown not to be active, and a cycle for each edge by which the failure could arrive there.
+/// The refutation by an alarm that came too early, where there is one and some steps show it within the budget. It costs at most four
+/// times [`PASSES`] passes over the nodes and the edges, with a look at the window of an edge where that could raise a bound, and what the
+/// steps cost the checker: a split and a cycle for each span in which a node is shown not to be active, and for each edge by which the
+/// failure could arrive there a cycle, or a split on a must clause with what closes its three alternatives. No more splits than the budget
+/// are proposed.
 pub(crate) fn refuted_early(
     alloc: Global,
     subject: &Subject<'_>,
-    event: Event,
 ) -> Result<Option<StepList>, NoMemory>
     requires { IsSubject subject.now }
     ensures { IfOk result (λ found. IfSome found (λ steps.
         HasOutcomeEvidence (case_asked subject.now) subject.now.hypothesis.set subject.now.budget (Out steps))) }
 {
-    match proposed(alloc, subject, event)? {
+    match proposed(alloc, subject)? {
         Some(steps) => judged(alloc, subject, steps),
         None => Ok(None),
     }

@@ -12,7 +12,7 @@ use std::alloc::Global;
 use std::sync::ledger::Ledger;
 use tfpg_base::{NoMemory, Steps, Trace};
 use tfpg_evidence::StepList;
-use tfpg_log::{Event, Log};
+use tfpg_log::Log;
 use tfpg_search::{Found, Search};
 
 /// How many splits the copy of a search makes at most. What fits needs fewer: of the 66 outcomes of `bench/ask.py` that a copy of one of the
@@ -76,22 +76,21 @@ fn outcome_of<L: Ledger>(
                 kept: asking.engine.search(number),
                 budget: asking.budget,
             };
-            find_outcome(alloc, &subject, last.event, work)
+            find_outcome(alloc, &subject, work)
         }
     }
 }
 
-/// The outcome by the log alone: by the last event, where that is an alarm which comes too early, and else of a search.
+/// The outcome by the log alone: by an alarm that came too early, where the bounds of nodes show one, and else of a search.
 fn find_outcome<L: Ledger>(
     alloc: Global,
     subject: &Subject<'_>,
-    last: Event,
     work: &mut Steps<L>,
 ) -> Result<Outcome, NoMemory>
     requires { IsSubject subject.now }
     ensures { IfOk result (IsShown (case_asked subject.now) subject.now.hypothesis.set subject.now.budget) }
 {
-    match refuted_early(alloc, subject, last)? {
+    match refuted_early(alloc, subject)? {
         Some(steps) => Ok(Outcome::Out(steps)),
         None => search(alloc, subject, work),
     }

@@ -1,6 +1,8 @@
 //! Lower bounds of the times of nodes.
 
 use super::PASSES;
+use super::due::{DueBound, due_bound};
+use super::facts::{from_zero, stated_by_facts};
 use std::alloc::Global;
 use tfpg_base::{NEVER, NoMemory};
 use tfpg_evidence::Reason;
@@ -19,10 +21,19 @@ pub(super) struct LowBound {
 pub(super) struct NodeBounds {
     /// The greatest lower bound that is stated so far.
     pub(super) stated: LowBound,
-    /// A lower bound that follows from those that the facts state, by the least delays.
+    /// A lower bound that follows from those that the facts state.
     pub(super) least: u64,
+    /// The greatest one that follows by a node which would be due, where some does.
+    pub(super) due: Option<DueBound>,
     /// Up to when it has to be shown not to be active, where it has to.
     pub(super) needed: Option<u64>,
+}
+
+impl NodeBounds {
+    /// Which node would be due if this one were active by the instant, where that shows that it is not.
+    pub(super) fn due_by(&self, instant: u64) -> Option<DueBound> {
+        self.due.filter(|due| due.time > instant)
+    }
 }
 
 /// The bounds of all nodes.
@@ -45,11 +56,12 @@ impl AllBounds {
             nodes.push(NodeBounds {
                 stated,
                 least: stated.time,
+                due: None,
                 needed: None,
             })?;
         }
         let mut bounds = AllBounds { nodes };
-        bounds.follow(graph);
+        bounds.follow(graph, log);
         Ok(bounds)
     }
 
@@ -60,6 +72,7 @@ impl AllBounds {
             None => NodeBounds {
                 stated: from_zero(node),
                 least: 0,
+                due: None,
                 needed: None,
             },
         }
@@ -96,17 +109,19 @@ impl AllBounds {
         true
     }
 
-    /// Brings in what follows by the least delays.
-    fn follow(&mut self, graph: &Graph) {
+    /// Brings in what follows, forwards by the least delays and backwards by the greatest.
+    fn follow(&mut self, graph: &Graph, log: &Log) {
         for _ in 0..PASSES {
-            if !self.follow_once(graph) {
+            let forwards = self.follow_arrivals(graph);
+            let backwards = self.follow_dues(graph, log);
+            if !forwards && !backwards {
                 return;
             }
         }
     }
 
-    /// Goes through the nodes once. Returns whether a bound was raised.
-    fn follow_once(&mut self, graph: &Graph) -> bool {
+    /// Goes through the nodes once, for the arrivals of the failure. Returns whether a bound was raised.
+    fn follow_arrivals(&mut self, graph: &Graph) -> bool {
         let mut raised = false;
         for node in 0..graph.node_count() {
             let least = self.by_edges(graph, node);
@@ -155,10 +170,65 @@ impl AllBounds {
         self.at(source).least.saturating_add(delay)
     }
 
-    /// The first instant at which the failure can arrive by the edge, by what is stated.
-    pub(super) fn stated_arrival(&self, graph: &Graph, edge: u32) -> u64 {
+    /// Goes through the OR nodes once, from the last on, for what would be due. Returns whether a bound was raised.
+    fn follow_dues(&mut self, graph: &Graph, log: &Log) -> bool {
+        let mut raised = false;
+        for node in (0..graph.node_count()).rev() {
+            if graph.is_or(node) {
+                raised = self.follow_dues_of(graph, log, node) || raised;
+            }
+        }
+        raised
+    }
+
+    /// Raises the bounds of the nodes by which this one would be due. Returns whether one was raised.
+    fn follow_dues_of(&mut self, graph: &Graph, log: &Log, node: u32) -> bool {
+        let mut raised = false;
+        for edge in edges_into(graph, node) {
+            let (source, _) = source_and_delay(graph, *edge);
+            let bounds = self.at(source);
+            let least = self.at(node).least;
+            if let Some(due) = due_bound(graph, log, *edge, least, bounds.least) {
+                self.set(
+                    source,
+                    NodeBounds {
+                        least: due.time,
+                        due: Some(due),
+                        ..bounds
+                    },
+                );
+                raised = true;
+            }
+        }
+        raised
+    }
+
+    /// Whether what is stated shows that the node is not active up to the instant: of the node itself, or of one that would be due
+    /// then, or would be by one that is.
+    pub(super) fn is_shown(&self, node: u32, until: u64) -> bool {
+        let mut node = node;
+        let mut until = until;
+        for _ in 0..PASSES {
+            let bounds = self.at(node);
+            if bounds.stated.time > until {
+                return true;
+            }
+            let Some(due) = bounds.due_by(until) else {
+                return false;
+            };
+            node = due.target;
+            until = due.active_by(until);
+        }
+        false
+    }
+
+    /// Whether what is stated shows that the failure does not arrive by the edge up to the instant.
+    pub(super) fn is_late(&self, graph: &Graph, edge: u32, until: u64) -> bool {
         let (source, delay) = source_and_delay(graph, edge);
-        self.at(source).stated.time.saturating_add(delay)
+        match until.checked_sub(delay) {
+            Some(until) => self.is_shown(source, until),
+            None => true,
+        }
     }
 }
 
@@ -177,51 +247,4 @@ pub(super) fn source_and_delay(graph: &Graph, edge: u32) -> (u32, u64) {
         return (propagation.source, propagation.tmin);
     }
     (0, 0)
-}
-
-/// The greatest lower bound that the facts of the log state of a node, where the set reaches these nodes.
-fn stated_by_facts(graph: &Graph, log: &Log, reach: &NodeSet, node: u32) -> LowBound {
-    if !reach.has(node) {
-        let horizon = log.now();
-        return LowBound {
-            time: horizon.saturating_add(1),
-            reason: Reason::Unreached { node, horizon },
-        };
-    }
-    let by_alarm = after_alarm(graph, log, node).unwrap_or(from_zero(node));
-    let by_silence = after_silence(graph, log, node).unwrap_or(from_zero(node));
-    if by_alarm.time < by_silence.time {
-        by_silence
-    } else {
-        by_alarm
-    }
-}
-
-/// The lower bound that the last alarm of a node states.
-fn after_alarm(graph: &Graph, log: &Log, node: u32) -> Option<LowBound> {
-    let event = log.last_alarm(node)?;
-    let time = log.find_event(event)?.time();
-    let interval = log.alarm_interval(graph, node, time)?;
-    Some(LowBound {
-        time: interval.earliest,
-        reason: Reason::From { event },
-    })
-}
-
-/// The lower bound that the last silence of a node states.
-fn after_silence(graph: &Graph, log: &Log, node: u32) -> Option<LowBound> {
-    let event = log.last_quiet(graph, node)?;
-    let until = log.quiet_at(graph, event, node)?;
-    Some(LowBound {
-        time: until.saturating_add(1),
-        reason: Reason::Quiet { event, node },
-    })
-}
-
-/// No time is before 0.
-fn from_zero(node: u32) -> LowBound {
-    LowBound {
-        time: 0,
-        reason: Reason::Zero { node },
-    }
 }

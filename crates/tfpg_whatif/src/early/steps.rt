@@ -3,18 +3,22 @@
 //! The steps split on the may clause of one node after the other, sources first, each with the horizon up to which the node has to be
 //! shown not to be active. Of its alternatives the first, before the span, is closed by the bound of the node so far. In the second the
 //! node becomes active after the span: that is its new bound, and the next split stands there. In each other one the failure arrives
-//! within the span by some edge, which the bound of the source closes. In the deepest leaf the bound of the alarm's node is past the
-//! alarm.
+//! within the span by some edge, which the bound of the source refutes ([`closing`](super::closing)). In the deepest leaf some node was
+//! active by an alarm of it, which its bound refutes too.
 
 use super::PASSES;
-use super::bounds::{AllBounds, LowBound, edges_into, source_and_delay};
+use super::bounds::{AllBounds, LowBound};
+use super::closing::OpenLeaf;
+use super::facts::{AlarmBound, upto_alarm};
+use super::may::{may_clause, shown_by};
+use super::needs::find_needs;
 use crate::asking::Subject;
 use std::alloc::Global;
 use tfpg_base::NoMemory;
 use tfpg_clause::{constraint, count};
 use tfpg_evidence::{ClauseName, Reason, Reasons, Step, StepList};
 use tfpg_graph::Graph;
-use tfpg_log::{Event, Log, Span};
+use tfpg_log::{Log, Span};
 
 /// The one constraint of the first two alternatives of a may clause: the node becomes active before the span, or after it.
 const OUTSIDE_SPAN: u32 = 1;
@@ -28,51 +32,34 @@ const AFTER_SOURCE: u32 = 1;
 /// The constraint of such an alternative that the node becomes active by the end of the span.
 const BY_THE_END: u32 = 3;
 
-/// Which may clauses show of a node that it is not active.
-#[derive(Clone, Copy)]
-enum May {
-    /// Those of an OR node.
-    Or,
-    /// Those of an AND node by this edge.
-    And(u32),
-}
-
 /// The steps so far: those down to the present leaf, and those that close what stands beside the path, the last first.
 #[derive(Drop)]
-struct Proposal<'a> {
-    alloc: Global,
-    graph: &'a Graph,
-    log: &'a Log,
-    bounds: AllBounds,
+pub(super) struct Proposal<'a> {
+    pub(super) alloc: Global,
+    pub(super) graph: &'a Graph,
+    pub(super) log: &'a Log,
+    pub(super) bounds: AllBounds,
     down: Vec<Step>,
     beside: Vec<Step>,
+    /// How many splits stand on the path to the present leaf.
+    depth: u64,
     /// How many of the steps are splits.
-    splits: u64,
+    pub(super) splits: u64,
     /// At most this many are.
     budget: u64,
 }
 
-/// Steps that refute the log, if its last event is an alarm that comes too early. Nothing is promised of them. There are none where the
-/// least delays show nothing, or where the budget does not suffice.
-pub(super) fn proposed(
-    alloc: Global,
-    subject: &Subject<'_>,
-    event: Event,
-) -> Result<Option<StepList>, NoMemory> {
+/// Steps that refute the log, where some node was active by an alarm of it, and cannot have been. Nothing is promised of them. There are
+/// none where the delays show nothing, or where the budget does not suffice.
+pub(super) fn proposed(alloc: Global, subject: &Subject<'_>) -> Result<Option<StepList>, NoMemory> {
     let graph = subject.graph;
     let log = subject.log;
-    let Event::Alarm { time, node } = event else {
-        return Ok(None);
-    };
-    let Some(interval) = log.alarm_interval(graph, node, time) else {
-        return Ok(None);
-    };
     let mut bounds = AllBounds::new(alloc, graph, log, &subject.reach)?;
-    if bounds.at(node).least <= interval.latest {
+    let Some(alarm) = early_alarm(graph, log, &bounds) else {
         return Ok(None);
-    }
-    bounds.need(node, interval.latest);
-    need_sources(graph, &mut bounds);
+    };
+    bounds.need(alarm.node, alarm.time);
+    find_needs(graph, &mut bounds);
     let mut proposal = Proposal {
         alloc,
         graph,
@@ -80,97 +67,40 @@ pub(super) fn proposed(
         bounds,
         down: Vec::new(alloc),
         beside: Vec::new(alloc),
+        depth: 0,
         splits: 0,
         budget: subject.budget,
     };
-    proposal.show_all(node)?;
-    let shown = proposal.bounds.at(node).stated;
-    if shown.time <= interval.latest {
+    proposal.show_all(&alarm)?;
+    if !proposal.bounds.is_shown(alarm.node, alarm.time) {
         return Ok(None);
     }
-    let upto = Reason::Upto { event: log.len() };
-    let last = proposal.cycle(&[shown.reason, upto])?;
-    proposal.down.push(last)?;
+    proposal.close_last(&alarm)?;
     let steps = proposal.into_steps()?;
     Ok(Some(steps))
 }
 
-/// Finds up to when each node has to be shown not to be active.
-fn need_sources(graph: &Graph, bounds: &mut AllBounds) {
-    for _ in 0..PASSES {
-        if !need_sources_once(graph, bounds) {
-            return;
+/// The first alarm by which a node was active before what follows allows, in the order of nodes.
+fn early_alarm(graph: &Graph, log: &Log, bounds: &AllBounds) -> Option<AlarmBound> {
+    for node in 0..graph.node_count() {
+        if let Some(alarm) = upto_alarm(graph, log, node)
+            && bounds.at(node).least > alarm.time
+        {
+            return Some(alarm);
         }
     }
-}
-
-/// Goes through the nodes once, from the last on. Returns whether something new is needed.
-fn need_sources_once(graph: &Graph, bounds: &mut AllBounds) -> bool {
-    let mut new = false;
-    for node in (0..graph.node_count()).rev() {
-        if let Some(until) = unstated(bounds, node) {
-            new = need_sources_of(graph, bounds, node, until) || new;
-        }
-    }
-    new
-}
-
-/// Up to when the node has to be shown not to be active, where its bound does not state that yet.
-fn unstated(bounds: &AllBounds, node: u32) -> Option<u64> {
-    let known = bounds.at(node);
-    known.needed.filter(|until| known.stated.time <= *until)
-}
-
-/// What a node needs of the sources of its edges, so that the failure arrives by none up to the instant: of all, and for an AND node of
-/// one. Returns whether that is new.
-fn need_sources_of(graph: &Graph, bounds: &mut AllBounds, node: u32, until: u64) -> bool {
-    if graph.is_and(node) {
-        return match late_edge(graph, bounds, node, until) {
-            Some(edge) => need_source(graph, bounds, edge, until),
-            None => false,
-        };
-    }
-    let mut new = false;
-    for edge in edges_into(graph, node) {
-        new = need_source(graph, bounds, *edge, until) || new;
-    }
-    new
-}
-
-/// What is needed of the source of an edge, so that the failure does not arrive by it up to the instant.
-fn need_source(graph: &Graph, bounds: &mut AllBounds, edge: u32, until: u64) -> bool {
-    let (source, delay) = source_and_delay(graph, edge);
-    match until.checked_sub(delay) {
-        Some(until) => bounds.need(source, until),
-        None => false,
-    }
-}
-
-/// An edge into an AND node by which the failure cannot arrive up to the instant: by what is stated, if there is one, and else by what
-/// follows.
-fn late_edge(graph: &Graph, bounds: &AllBounds, node: u32, until: u64) -> Option<u32> {
-    let edges = edges_into(graph, node);
-    let stated = edges
-        .iter()
-        .find(|edge| bounds.stated_arrival(graph, **edge) > until);
-    match stated {
-        Some(edge) => Some(*edge),
-        None => edges
-            .iter()
-            .find(|edge| bounds.arrival(graph, **edge) > until)
-            .copied(),
-    }
+    None
 }
 
 impl Proposal<'_> {
     /// Shows of one node after the other that it is not active as long as is needed, until that is shown of the node of the alarm or the
     /// budget is spent.
-    fn show_all(&mut self, last: u32) -> Result<(), NoMemory> {
+    fn show_all(&mut self, last: &AlarmBound) -> Result<(), NoMemory> {
         for _ in 0..PASSES {
-            self.show_once()?;
-            if self.is_spent() || unstated(&self.bounds, last).is_none() {
+            if self.is_spent() || self.bounds.is_shown(last.node, last.time) {
                 return Ok(());
             }
+            self.show_once()?;
         }
         Ok(())
     }
@@ -181,20 +111,29 @@ impl Proposal<'_> {
             if self.is_spent() {
                 return Ok(());
             }
-            if let Some(until) = unstated(&self.bounds, node) {
+            if let Some(until) = self.not_shown(node) {
                 self.show(node, until)?;
             }
         }
         Ok(())
     }
 
+    /// Up to when the node has to be shown not to be active, where what is stated does not show that yet.
+    fn not_shown(&self, node: u32) -> Option<u64> {
+        let until = self.bounds.at(node).needed?;
+        if self.bounds.is_shown(node, until) {
+            return None;
+        }
+        Some(until)
+    }
+
     /// Whether no further split is within the budget.
-    fn is_spent(&self) -> bool {
+    pub(super) fn is_spent(&self) -> bool {
         self.splits >= self.budget
     }
 
-    /// Shows that a node is not active up to an instant, span by span, if what is stated of the sources of its edges suffices. It ends at
-    /// the first span without a split.
+    /// Shows that a node is not active up to an instant, span by span, if what is stated suffices. It ends at the first span without a
+    /// split.
     fn show(&mut self, node: u32, until: u64) -> Result<(), NoMemory> {
         let Some(may) = shown_by(self.graph, &self.bounds, node, until) else {
             return Ok(());
@@ -226,11 +165,12 @@ impl Proposal<'_> {
             return Ok(false);
         };
         self.splits = self.splits.saturating_add(1);
+        self.depth = self.depth.saturating_add(1);
         let outside = self.pick(OUTSIDE_SPAN);
         let before = self.cycle(&[self.bounds.at(node).stated.reason, outside])?;
         self.down.push(Step::Split(name))?;
         self.down.push(before)?;
-        self.close_arrivals(name, alternatives)?;
+        self.close_arrivals(name, alternatives, span.hi)?;
         self.bounds.state(
             node,
             LowBound {
@@ -241,10 +181,13 @@ impl Proposal<'_> {
         Ok(true)
     }
 
-    /// Closes each alternative of the last split by which the failure arrives, by the bound of its source.
-    fn close_arrivals(&mut self, name: ClauseName, alternatives: u32) -> Result<(), NoMemory> {
-        let after_source = self.pick(AFTER_SOURCE);
-        let by_the_end = self.pick(BY_THE_END);
+    /// Closes each alternative of the last split by which the failure arrives up to the end of the span.
+    fn close_arrivals(
+        &mut self,
+        name: ClauseName,
+        alternatives: u32,
+        end: u64,
+    ) -> Result<(), NoMemory> {
         for alternative in (FIRST_ARRIVAL..=alternatives).rev() {
             if let Ok(Some(arrives)) = constraint(
                 self.graph,
@@ -253,29 +196,67 @@ impl Proposal<'_> {
                 alternative,
                 AFTER_SOURCE,
             ) {
-                let source = self.bounds.at(arrives.left.saturating_sub(1));
-                let closed = self.cycle(&[source.stated.reason, after_source, by_the_end])?;
-                self.beside.push(closed)?;
+                let source = arrives.left.saturating_sub(1);
+                let until = end.saturating_sub(arrives.most.unsigned_abs());
+                let reasons = self.reasons(&[self.pick(AFTER_SOURCE), self.pick(BY_THE_END)])?;
+                self.close_beside(source, until, reasons)?;
             }
         }
         Ok(())
     }
 
-    /// The constraint at this place in the alternative that is taken at the last split.
+    /// Closes the leaf beside the path at which the node is active by the instant.
+    fn close_beside(&mut self, node: u32, until: u64, reasons: Reasons) -> Result<(), NoMemory> {
+        let leaf = OpenLeaf {
+            node,
+            until,
+            reasons,
+            depth: self.depth,
+        };
+        let mut steps = self.close(leaf)?;
+        for _ in 0..steps.len() {
+            if let Some(step) = steps.pop() {
+                self.beside.push(step)?;
+            }
+        }
+        Ok(())
+    }
+
+    /// Closes the present leaf, at which the alarm says that its node was active.
+    fn close_last(&mut self, alarm: &AlarmBound) -> Result<(), NoMemory> {
+        let reasons = self.reasons(&[Reason::Upto { event: alarm.event }])?;
+        let leaf = OpenLeaf {
+            node: alarm.node,
+            until: alarm.time,
+            reasons,
+            depth: self.depth,
+        };
+        for step in self.close(leaf)? {
+            self.down.push(step)?;
+        }
+        Ok(())
+    }
+
+    /// The constraint at this place in the alternative that is taken at the last split of the path.
     fn pick(&self, place: u32) -> Reason {
         Reason::Pick {
-            split: self.splits,
+            split: self.depth,
             place,
         }
     }
 
     /// The cycle of these reasons.
     fn cycle(&self, of: &[Reason]) -> Result<Step, NoMemory> {
+        Ok(Step::Cycle(self.reasons(of)?))
+    }
+
+    /// These reasons.
+    fn reasons(&self, of: &[Reason]) -> Result<Reasons, NoMemory> {
         let mut reasons = Reasons::new(self.alloc);
         for reason in of {
             reasons.push(*reason)?;
         }
-        Ok(Step::Cycle(reasons))
+        Ok(reasons)
     }
 
     /// All steps, in their order.
@@ -291,36 +272,5 @@ impl Proposal<'_> {
             }
         }
         Ok(StepList::from_vec(down))
-    }
-}
-
-/// By which may clauses a node is shown not to be active up to the instant, if what is stated of the sources of its edges suffices.
-fn shown_by(graph: &Graph, bounds: &AllBounds, node: u32, until: u64) -> Option<May> {
-    let edges = edges_into(graph, node);
-    if graph.is_and(node) {
-        let late = edges
-            .iter()
-            .find(|edge| bounds.stated_arrival(graph, **edge) > until)?;
-        return Some(May::And(*late));
-    }
-    let suffices = edges
-        .iter()
-        .all(|edge| bounds.stated_arrival(graph, *edge) > until);
-    (graph.is_or(node) && suffices).then_some(May::Or)
-}
-
-/// The may clause of a node for the span of this number, up to a horizon.
-fn may_clause(may: &May, node: u32, span: u32, horizon: u64) -> ClauseName {
-    match may {
-        May::Or => ClauseName::OrMay {
-            node,
-            span,
-            horizon,
-        },
-        May::And(edge) => ClauseName::AndMay {
-            edge: *edge,
-            span,
-            horizon,
-        },
     }
 }
