@@ -3,7 +3,6 @@ pub mod SameStatuses
 pub mod RoundsOfReports
 pub mod EqualSayings
 pub mod passing
-pub mod FewLines
 pub mod completeness
 pub mod readable
 pub mod going_on

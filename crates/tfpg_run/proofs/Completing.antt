@@ -1,5 +1,5 @@
 -- A run ends well where nothing stands in its way.
-use Rattle.std.proofs.Common.{◌≡◌, ℕ, ◌+◌, ◌<◌, ◌≤◌, Bool, true, false, List, [], ◌∷◌, ◌++◌, length, take, drop, Option, Some, IfSome, Result, Ok, Err, refl, sym, ap, subst, subst₂, ◌∙◌, inl, inr, arith, append-nil}
+use Rattle.std.proofs.Common.{◌≡◌, ℕ, ◌+◌, ◌<◌, ◌≤◌, Bool, true, false, List, [], ◌∷◌, ◌++◌, length, take, drop, Option, Some, IfSome, Result, Ok, Err, refl, sym, ap, subst, subst₂, ◌∙◌, inl, inr, arith}
 use Rattle.std.specs.Prelude.{All, OnOk, IfErr}
 use Rattle.std.proofs.lemmas.List.Elements.{All-cons, All-nil}
 use Rattle.tfpg_base.proofs.lists.Elements.{All-at}
@@ -7,7 +7,7 @@ use Rattle.std.proofs.lemmas.List.{length-append, take-append-drop}
 use Rattle.std.proofs.lemmas.Option.{same_Some}
 use Rattle.tfpg_base.specs.declared.terms.Terms.{Terms}
 use Rattle.tfpg_base.specs.declared.limits.TheConstants.{MAX_BYTES, LONGEST_FILE}
-use Rattle.tfpg_base.specs.Outside.{SourceState, ShelfState, Rose, Gives, IsAtEnd, Takes, file_of}
+use Rattle.tfpg_base.specs.Outside.{SourceState, ShelfState, Rose, Gives, Takes, file_of}
 use Rattle.tfpg_base.specs.Lines.{lines_of}
 use Rattle.tfpg_graph.specs.declared.cause.GraphFault.{GraphFault}
 use Rattle.tfpg_graph.specs.Declares.{declared_by}
@@ -31,16 +31,16 @@ use Rattle.tfpg_run.specs.declared.end.End.{End}
 use Rattle.tfpg_run.specs.declared.end.End.TheVariants as ends
 use Rattle.tfpg_run.specs.declared.fault.FetchFault.{FetchFault}
 use Rattle.tfpg_run.specs.declared.fault.FetchFault.TheVariants.{Failed, TooLong, Graph, NoMemory}
-use Rattle.tfpg_run.specs.declared.fault.StreamFault.{StreamFault}
-use Rattle.tfpg_run.specs.declared.fault.StreamFault.TheVariants as streams
+use Rattle.tfpg_streams.specs.declared.fault.StreamFault.{StreamFault}
+use Rattle.tfpg_streams.specs.declared.fault.StreamFault.TheVariants as streams
 use Rattle.tfpg_run.specs.declared.fault.ExplainFault.{ExplainFault}
 use Rattle.tfpg_run.specs.declared.fault.ExplainFault.TheVariants as explain
 use Rattle.tfpg_run.specs.declared.fault.CheckFault.{CheckFault}
 use Rattle.tfpg_run.specs.declared.fault.CheckFault.TheVariants as check
 use Rattle.tfpg_run.specs.declared.fault.SimulateFault.{SimulateFault}
 use Rattle.tfpg_run.specs.declared.fault.SimulateFault.TheVariants as simulate
-use Rattle.tfpg_run.specs.declared.fault.OutputFault.{OutputFault}
-use Rattle.tfpg_run.specs.declared.fault.OutputFault.TheVariants as output
+use Rattle.tfpg_streams.specs.declared.fault.OutputFault.{OutputFault}
+use Rattle.tfpg_streams.specs.declared.fault.OutputFault.TheVariants as output
 use Rattle.tfpg_run.specs.declared.fault.QuestionsFault.{QuestionsFault}
 use Rattle.tfpg_run.specs.declared.fault.QuestionsFault.TheVariants as questions
 use Rattle.tfpg_run.specs.Completeness.{CanBeDone, CanRefuse, HasLines, IsCompleted, IsRefusedFor, IsShort, NothingFails, ServesGraph, ServesGraphAndText, TakesProbe}
@@ -51,8 +51,8 @@ use Rattle.tfpg_run.specs.ask.Asking.{AskEnds, QuestionsEnd}
 use Rattle.tfpg_run.specs.convert.Converting.{ConvertEnds, IsFaultFrom, SpellsFrom, converted_text}
 use Rattle.tfpg_run.specs.check.Checking.{CheckEnds, CheckingEnds, HasTooManyInHead, IsAccepted, problem_of}
 use Rattle.tfpg_run.specs.explain.Explaining.{ExplainEnds, ExplainingEnds}
-use Rattle.tfpg_run.specs.map.Spelling.{HasMap, BeginsMap, IsMapFault}
-use Rattle.tfpg_run.specs.Outputs.{IsStreamFault, TextEnds}
+use Rattle.tfpg_map.specs.Spelling.{HasMap, BeginsMap, IsMapFault}
+use Rattle.tfpg_streams.specs.Outputs.{IsStreamFault, TextEnds}
 use Rattle.tfpg_run.specs.Run.{CommandEnds, RunEnds}
 use Rattle.tfpg_run.specs.fleet.FleetEnds.{AnswersStream, FleetDiagnosisEnds, FleetEnds, FleetWords, HasFewForFleet, fleet_words}
 use Rattle.tfpg_run.specs.fleet.FleetOutput.{fleet_problem}
@@ -61,8 +61,9 @@ use Rattle.tfpg_run.specs.simulate.Simulating.{HasSimulation, SimulateEnds, Simu
 use Rattle.tfpg_run.specs.diagnosis.TooMany.{HasFewHypotheses}
 use Rattle.tfpg_run.specs.predict.Forecasts.{HasForecasts, Prediction, prediction}
 use Rattle.tfpg_run.specs.predict.Predicting.{PredictEnds, PredictionEnds}
-use Rattle.tfpg_run.specs.Streams.{HasLeft}
+use Rattle.tfpg_streams.specs.Streams.{HasLeft}
 use Rattle.tfpg_run.specs.World.{World, streams_of, watched_of}
+use Rattle.tfpg_streams.proofs.lemmas.InputLines.{all_taken}
 
 -- no text of a valid graph has a fault, for any notions of both
 abbrev NoFaultBy : (List ℕ → Tfpg → Type 0) → (List ℕ → GraphFault → Type 0) → Type 0
@@ -160,13 +161,6 @@ all_of_input before now known taken rest left takes has =
     let there = subst (λ (l : Option (List ℕ)). IfSome l (λ had. (more : List ℕ) × (now.left ≡ Some more) × (had ≡ taken ++ more))) left takes in
     let same : rest ≡ there.0 = subst (λ (l : Option (List ℕ)). IfSome l (λ more. rest ≡ more)) there.1 has in
     there.2 ∙ ap (λ (more : List ℕ). taken ++ more) (sym same)
-
--- where it has come to its end, it had what was taken
-pub all_taken : (before now : SourceState) (known taken : List ℕ) → before.left ≡ Some known → Takes before now taken → IsAtEnd now → known ≡ taken
-all_taken before now known taken left takes end =
-    let there = subst (λ (l : Option (List ℕ)). IfSome l (λ had. (rest : List ℕ) × (now.left ≡ Some rest) × (had ≡ taken ++ rest))) left takes in
-    let none : there.0 ≡ [] = subst (λ (l : Option (List ℕ)). IfSome l (λ rest. rest ≡ [])) there.1 end.left in
-    there.2 ∙ ap (λ (rest : List ℕ). taken ++ rest) none ∙ append-nil taken
 
 -- ---- lines that spell a map
 

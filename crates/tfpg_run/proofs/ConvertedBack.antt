@@ -9,11 +9,11 @@ use Rattle.tfpg_graph.proofs.lemmas.reading.faults.NoFault.{Spells-clean}
 use Rattle.tfpg_json.specs.GraphData.{graph_json}
 use Rattle.tfpg_json.specs.GraphText.{SpellsAsJson}
 use Rattle.tfpg_run.specs.declared.end.End.TheVariants.{Done}
-use Rattle.tfpg_run.specs.declared.fault.OutputFault.{OutputFault}
-use Rattle.tfpg_run.specs.declared.fault.OutputFault.TheVariants as output
+use Rattle.tfpg_streams.specs.declared.fault.OutputFault.{OutputFault}
+use Rattle.tfpg_streams.specs.declared.fault.OutputFault.TheVariants as output
 use Rattle.tfpg_run.specs.EndsOf.{end_of_output_fault, end_of_result}
 use Rattle.tfpg_run.specs.Fetch.{GivesGraph}
-use Rattle.tfpg_run.specs.Outputs.{TextEnds, WritesText}
+use Rattle.tfpg_streams.specs.Outputs.{TextEnds, WritesText}
 use Rattle.tfpg_run.specs.World.{World}
 use Rattle.tfpg_run.specs.convert.Converting.{ConvertEnds, ConvertsFile, converted_text}
 use Rattle.tfpg_run.proofs.Completing.{gives_is}

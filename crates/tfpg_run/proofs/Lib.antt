@@ -1,8 +1,6 @@
 -- Lemmas that several commands need.
 pub mod Refused
 pub mod LogTexts
-pub mod Putting
-pub mod InputLines
 pub mod Stops
 pub mod PlannedNumbers
 pub mod Completing

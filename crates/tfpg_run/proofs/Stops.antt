@@ -14,15 +14,15 @@ use Rattle.tfpg_run.specs.declared.end.End.{End}
 use Rattle.tfpg_run.specs.declared.end.End.TheVariants as ends
 use Rattle.tfpg_run.specs.declared.end.End.TheVariants.{Done}
 use Rattle.tfpg_run.specs.declared.fault.FetchFault.{FetchFault}
-use Rattle.tfpg_run.specs.declared.fault.StreamFault.{StreamFault}
-use Rattle.tfpg_run.specs.declared.fault.StreamFault.TheVariants as faults
+use Rattle.tfpg_streams.specs.declared.fault.StreamFault.{StreamFault}
+use Rattle.tfpg_streams.specs.declared.fault.StreamFault.TheVariants as faults
 use Rattle.tfpg_run.specs.inside.Faults.{IsFetchFault, end_of_table_fault}
 use Rattle.tfpg_base.proofs.lists.Choices.{IfErr-from}
 use Rattle.tfpg_run.proofs.lemmas.diagnose.NextBlocks.{begins_without_memory}
 use Rattle.tfpg_base.proofs.lists.Sequences.{not_above}
 use Rattle.tfpg_run.specs.EndsOf.{end_of_fetch_fault, end_of_stream_fault, end_of_result}
 use Rattle.tfpg_run.specs.declared.fault.FetchFault.TheVariants as fetch
-use Rattle.tfpg_run.specs.Outputs.{WorksToEnd}
+use Rattle.tfpg_streams.specs.Outputs.{WorksToEnd}
 use Rattle.tfpg_run.specs.diagnose.Work.{IsReportWithin, RunsWithin}
 use Rattle.tfpg_words.specs.declared.usage_cause.UsageCause.{UsageCause}
 use Rattle.tfpg_run.specs.Fetch.{Fetched, GivesGraph}
@@ -33,7 +33,7 @@ use Rattle.tfpg_run.specs.check.Checking.{CheckEnds}
 use Rattle.tfpg_run.specs.simulate.Simulating.{HasSimulation, SimulateEnds}
 use Rattle.tfpg_run.specs.convert.Converting.{ConvertEnds}
 use Rattle.tfpg_run.specs.ask.Asking.{AskEnds}
-use Rattle.tfpg_run.specs.Streams.{Streams}
+use Rattle.tfpg_streams.specs.Streams.{Streams}
 use Rattle.tfpg_run.specs.World.{World, Watched, watched_of}
 use Rattle.tfpg_panel.specs.ToldRounds.{HasTold}
 

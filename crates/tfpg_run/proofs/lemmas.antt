@@ -1,9 +1,9 @@
--- The lemmas on maps and of each command, in folders named like those of the source.
-pub mod map
+-- The lemmas of each command, in folders named like those of the source.
 pub mod diagnose
 pub mod explain
 pub mod check
 pub mod diagnosis
+pub mod simulate
 pub mod generate
 pub mod ask
 pub mod fleet

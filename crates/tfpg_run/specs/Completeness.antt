@@ -16,7 +16,7 @@ use Rattle.tfpg_run.specs.declared.end.End.TheVariants.{Done, NoMemory, NotAccep
 use Rattle.tfpg_run.specs.Fetch.{GivesGraphBy, GivesGraphAndText}
 use Rattle.tfpg_run.specs.check.Checking.{problem_of}
 use Rattle.tfpg_run.specs.convert.Converting.{SpellsFrom}
-use Rattle.tfpg_run.specs.map.Spelling.{HasMap}
+use Rattle.tfpg_map.specs.Spelling.{HasMap}
 use Rattle.tfpg_run.specs.fleet.FleetEnds.{HasFewForFleet, fleet_words}
 use Rattle.tfpg_run.specs.diagnosis.TooMany.{HasFewHypotheses}
 use Rattle.tfpg_run.specs.declared.fault.ProbeFault.{ProbeFault}

@@ -2,16 +2,16 @@
 use Rattle.std.specs.Prelude.{◌≡◌, Result, Ok, Err}
 use Rattle.tfpg_run.specs.declared.fault.FetchFault.{FetchFault}
 use Rattle.tfpg_run.specs.declared.fault.FetchFault.TheVariants as fetch
-use Rattle.tfpg_run.specs.declared.fault.StreamFault.{StreamFault}
-use Rattle.tfpg_run.specs.declared.fault.StreamFault.TheVariants as streams
+use Rattle.tfpg_streams.specs.declared.fault.StreamFault.{StreamFault}
+use Rattle.tfpg_streams.specs.declared.fault.StreamFault.TheVariants as streams
 use Rattle.tfpg_run.specs.declared.fault.ExplainFault.{ExplainFault}
 use Rattle.tfpg_run.specs.declared.fault.ExplainFault.TheVariants as explain
 use Rattle.tfpg_run.specs.declared.fault.CheckFault.{CheckFault}
 use Rattle.tfpg_run.specs.declared.fault.CheckFault.TheVariants as check
 use Rattle.tfpg_run.specs.declared.fault.SimulateFault.{SimulateFault}
 use Rattle.tfpg_run.specs.declared.fault.SimulateFault.TheVariants as simulate
-use Rattle.tfpg_run.specs.declared.fault.OutputFault.{OutputFault}
-use Rattle.tfpg_run.specs.declared.fault.OutputFault.TheVariants as output
+use Rattle.tfpg_streams.specs.declared.fault.OutputFault.{OutputFault}
+use Rattle.tfpg_streams.specs.declared.fault.OutputFault.TheVariants as output
 use Rattle.tfpg_run.specs.declared.fault.QuestionsFault.{QuestionsFault}
 use Rattle.tfpg_run.specs.declared.fault.QuestionsFault.TheVariants as questions
 use Rattle.tfpg_run.specs.declared.fault.ProbeFault.{ProbeFault}

@@ -1,7 +1,5 @@
 -- What the public contracts say of every command.
 pub mod World
-pub mod Streams
-pub mod Outputs
 pub mod Fetch
 pub mod Ends
 pub mod EndsOf
@@ -9,8 +7,7 @@ pub mod Run
 pub mod Completeness
 -- What they say of the lines of file panels.
 pub mod PanelLines
--- What they say of maps, of a diagnosis in memory, and of each command, in folders named like those of the source.
-pub mod map
+-- What they say of a diagnosis in memory, and of each command, in folders named like those of the source.
 pub mod diagnose
 pub mod explain
 pub mod check

@@ -1,7 +1,7 @@
 -- What a run works on: all of the outside, at one moment.
 use Rattle.tfpg_base.specs.Outside.{SourceState, SinkState, ShelfState}
 use Rattle.tfpg_panel.specs.Desk.{DeskState}
-use Rattle.tfpg_run.specs.Streams.{Streams, streams}
+use Rattle.tfpg_streams.specs.Streams.{Streams, streams}
 
 -- the states of the shelf, the input, the output and the desk
 pub record World : Type 0 where

@@ -2,7 +2,6 @@
 pub mod Faults
 pub mod Fetching
 pub mod Plans
-pub mod map
 pub mod diagnose
 pub mod explain
 pub mod check
@@ -13,4 +12,3 @@ pub mod convert
 pub mod fleet
 pub mod predict
 pub mod texts
-pub mod Writing

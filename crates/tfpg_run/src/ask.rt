@@ -16,7 +16,6 @@ use crate::diagnosis::Diagnosis;
 use crate::end::End;
 use crate::fault::QuestionsFault;
 use crate::fetching::fetch_graph_and_text;
-use crate::output::write_all;
 use among::numbers_left;
 use answer::{append_answer, append_first_line};
 use std::alloc::Global;
@@ -25,6 +24,7 @@ use tfpg_base::{NoMemory, Shelf, Sink, Steps, Terms};
 use tfpg_graph::Graph;
 use tfpg_hyp::TableFault;
 use tfpg_hyp::laws::the_table_is_one;
+use tfpg_streams::write_all;
 
 /// Diagnoses the log of the one file on the graph of the other, and writes which questions would tell most after it.
 pub(crate) fn ask_by_files<F: Shelf, K: Sink, L: Ledger>(

@@ -3,7 +3,7 @@
 ghost use Rattle.std.specs.Prelude.{◌≡◌, ◌≤◌, ◌∷◌, [], IfErr, IfOk, OnOk, Ok, Err, codes, decimal, length};
 ghost use Rattle.tfpg_base.specs.TextLine.{text_line};
 ghost use Rattle.tfpg_base.specs.declared.limits.TheConstants.{LONGEST_FILE};
-ghost use Rattle.tfpg_run.specs.Streams.{streams};
+ghost use Rattle.tfpg_streams.specs.Streams.{streams};
 ghost use Rattle.tfpg_panel.specs.Desk.{DeskState};
 ghost use Rattle.tfpg_run.specs.World.{world};
 ghost use Rattle.tfpg_run.specs.check.Checking.{CheckEnds, ChecksReport, problem_of};
@@ -14,13 +14,13 @@ mod report_lines;
 use crate::end::End;
 use crate::fault::CheckFault;
 use crate::fetching::fetch_graph_and_text;
-use crate::output::write_all;
 use itoa::Buffer;
 use report_lines::judge_lines;
 use std::alloc::Global;
 use tfpg_base::{NoMemory, Shelf, Sink, Source, append_line};
 use tfpg_check::{Judge, LogText};
 use tfpg_graph::Graph;
+use tfpg_streams::write_all;
 
 /// Judges the report of the input by the graph and the log of the files of these names.
 pub(crate) fn check_by_files<F: Shelf, S: Source, K: Sink>(

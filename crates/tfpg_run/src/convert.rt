@@ -5,19 +5,19 @@ ghost use Rattle.tfpg_base.specs.Outside.{SourceState};
 ghost use Rattle.tfpg_graph.specs.Valid.{IsValid};
 ghost use Rattle.tfpg_panel.specs.Desk.{DeskState};
 ghost use Rattle.tfpg_run.specs.Fetch.{Fetched, GivesGraphBy, IsFetchFaultBy};
-ghost use Rattle.tfpg_run.specs.Outputs.{TextEnds};
+ghost use Rattle.tfpg_streams.specs.Outputs.{TextEnds};
 ghost use Rattle.tfpg_run.specs.World.{world};
 ghost use Rattle.tfpg_run.specs.convert.Converting.{ConvertEnds, IsFaultFrom, SpellsFrom, converted_text};
 ghost use Rattle.tfpg_run.specs.inside.convert.Refusals.{IsRefusalFrom};
 
 use crate::end::End;
-use crate::fault::{FetchFault, OutputFault};
+use crate::fault::FetchFault;
 use crate::fetching::fetch_file;
-use crate::output::write_all;
 use std::alloc::Global;
 use tfpg_base::{NoMemory, Shelf, Sink};
 use tfpg_graph::{Graph, GraphRefusal, read, write};
 use tfpg_json::{read_graph, write_graph};
+use tfpg_streams::{OutputFault, write_all};
 
 /// Reads the graph of the file of this name, and writes it as JSON; or, where the file has JSON, reads that, and writes the
 /// canonical graph text.

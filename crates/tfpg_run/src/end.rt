@@ -9,8 +9,7 @@ ghost use Rattle.tfpg_run.specs.EndsOf.{end_of_check_fault, end_of_explain_fault
 ghost use Rattle.tfpg_run.specs.inside.Faults.{end_of_plan_fault, end_of_table_fault};
 
 use crate::fault::{
-    CheckFault, ExplainFault, FetchFault, OutputFault, ProbeFault, QuestionsFault, SimulateFault,
-    StreamFault,
+    CheckFault, ExplainFault, FetchFault, ProbeFault, QuestionsFault, SimulateFault,
 };
 use itoa::Buffer;
 use std::process::ExitCode;
@@ -18,6 +17,7 @@ use tfpg_base::{NoMemory, append_words};
 use tfpg_check::CheckCause;
 use tfpg_graph::GraphCause;
 use tfpg_hyp::TableFault;
+use tfpg_streams::{OutputFault, StreamFault};
 use tfpg_words::{PlanFault, UsageCause};
 
 /// How a run ends. Of several that would hold, the first in the order of the work decides: the words, the files in their order,

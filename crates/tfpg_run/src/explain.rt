@@ -2,7 +2,7 @@
 
 ghost use Rattle.std.specs.Prelude.{IfErr, OnOk, Ok, Err};
 ghost use Rattle.tfpg_log.specs.Log.{IsLogOf};
-ghost use Rattle.tfpg_run.specs.Streams.{streams};
+ghost use Rattle.tfpg_streams.specs.Streams.{streams};
 ghost use Rattle.tfpg_panel.specs.Desk.{DeskState};
 ghost use Rattle.tfpg_run.specs.World.{world};
 ghost use Rattle.tfpg_run.specs.explain.Explaining.{ExplainEnds, ExplainsMap};
@@ -12,12 +12,12 @@ mod verdicts;
 use crate::end::End;
 use crate::fault::ExplainFault;
 use crate::fetching::fetch_graph_and_log;
-use crate::map::read_map;
-use crate::output::write_all;
 use std::alloc::Global;
 use tfpg_base::{Shelf, Sink, Source};
 use tfpg_graph::Graph;
 use tfpg_log::Log;
+use tfpg_map::read_map;
+use tfpg_streams::write_all;
 use tfpg_trace::explains;
 use verdicts::verdict_line;
 

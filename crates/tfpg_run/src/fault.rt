@@ -1,22 +1,22 @@
-//! What ends the parts of a run early: fetching files, reading the input, writing the output, and the work of each command.
+//! What ends the parts of a run early: fetching files, and the work of each command.
 
 ghost use Rattle.std.specs.Prelude.{◌≡◌};
-ghost use Rattle.tfpg_run.specs.inside.Faults.{check_fault_of_judge, check_fault_of_lines, explain_fault_of_no_map, fetch_fault_of_refusal, fetch_fault_of_shelf, simulate_fault_of_sim, stream_fault_of_lines, stream_fault_of_output};
+ghost use Rattle.tfpg_run.specs.inside.Faults.{check_fault_of_judge, check_fault_of_lines, explain_fault_of_no_map, fetch_fault_of_refusal, fetch_fault_of_shelf, simulate_fault_of_sim};
 ghost use Rattle.tfpg_run.specs.declared.fault.FetchFault.TheVariants as fetch;
-ghost use Rattle.tfpg_run.specs.declared.fault.StreamFault.TheVariants as streams;
+ghost use Rattle.tfpg_streams.specs.declared.fault.StreamFault.TheVariants as streams;
 ghost use Rattle.tfpg_run.specs.declared.fault.ExplainFault.TheVariants as explain;
 ghost use Rattle.tfpg_run.specs.declared.fault.CheckFault.TheVariants as check;
 ghost use Rattle.tfpg_run.specs.declared.fault.SimulateFault.TheVariants as simulate;
-ghost use Rattle.tfpg_run.specs.declared.fault.OutputFault.TheVariants as output;
 ghost use Rattle.tfpg_run.specs.declared.fault.QuestionsFault.TheVariants as asking;
 ghost use Rattle.tfpg_run.specs.inside.ask.Asked.{questions_fault_of_table};
 
-use crate::map::NoMap;
 use tfpg_base::{Failed, LineFault, NoMemory, ShelfFault};
 use tfpg_check::{CheckCause, JudgeFault};
 use tfpg_graph::{GraphFault, GraphRefusal};
 use tfpg_hyp::TableFault;
+use tfpg_map::NoMap;
 use tfpg_sim::SimFault;
+use tfpg_streams::StreamFault;
 
 /// Why there is no graph of a file.
 #[derive(Clone, Copy, Debug, PartialEq, Eq)]
@@ -59,57 +59,6 @@ impl From<NoMemory> for FetchFault {
 
     fn from(_e: NoMemory) -> FetchFault {
         FetchFault::NoMemory
-    }
-}
-
-/// Why the input was not read to its end, or the output not written.
-#[derive(Clone, Copy, Debug, PartialEq, Eq)]
-pub(crate) enum StreamFault {
-    /// The input failed.
-    ReadFault,
-    /// The output failed.
-    WriteFault,
-    /// The input has more than [`MAX_BYTES`](tfpg_base::MAX_BYTES) bytes.
-    TooMuchInput,
-    /// Out of memory.
-    NoMemory,
-}
-
-impl From<LineFault> for StreamFault {
-    ghost from_gives = { λ fault e. e ≡ stream_fault_of_lines fault };
-
-    fn from(fault: LineFault) -> StreamFault {
-        match fault {
-            LineFault::ReadFault => StreamFault::ReadFault,
-            LineFault::TooMuchInput => StreamFault::TooMuchInput,
-        }
-    }
-}
-
-impl From<NoMemory> for StreamFault {
-    ghost from_gives = { λ _ e. e ≡ streams.NoMemory };
-
-    fn from(_e: NoMemory) -> StreamFault {
-        StreamFault::NoMemory
-    }
-}
-
-impl From<Failed> for StreamFault {
-    ghost from_gives = { λ _ e. e ≡ streams.WriteFault };
-
-    fn from(_e: Failed) -> StreamFault {
-        StreamFault::WriteFault
-    }
-}
-
-impl From<OutputFault> for StreamFault {
-    ghost from_gives = { λ fault e. e ≡ stream_fault_of_output fault };
-
-    fn from(fault: OutputFault) -> StreamFault {
-        match fault {
-            OutputFault::WriteFault => StreamFault::WriteFault,
-            OutputFault::NoMemory => StreamFault::NoMemory,
-        }
     }
 }
 
@@ -224,31 +173,6 @@ impl From<Failed> for SimulateFault {
 
     fn from(_e: Failed) -> SimulateFault {
         SimulateFault::WriteFault
-    }
-}
-
-/// Why a text was not written.
-#[derive(Clone, Copy, Debug, PartialEq, Eq)]
-pub(crate) enum OutputFault {
-    /// The output failed.
-    WriteFault,
-    /// Out of memory.
-    NoMemory,
-}
-
-impl From<NoMemory> for OutputFault {
-    ghost from_gives = { λ _ e. e ≡ output.NoMemory };
-
-    fn from(_e: NoMemory) -> OutputFault {
-        OutputFault::NoMemory
-    }
-}
-
-impl From<Failed> for OutputFault {
-    ghost from_gives = { λ _ e. e ≡ output.WriteFault };
-
-    fn from(_e: Failed) -> OutputFault {
-        OutputFault::WriteFault
     }
 }
 

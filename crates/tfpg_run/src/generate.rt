@@ -5,7 +5,7 @@ ghost use Rattle.tfpg_base.specs.declared.limits.TheConstants.{MAX_CASE_SIZE};
 ghost use Rattle.tfpg_graph.specs.Graph.{failures};
 ghost use Rattle.tfpg_sim.specs.declared.limits.TheConstants.{FAILURE_COUNT};
 ghost use Rattle.tfpg_run.specs.EndsOf.{EndsBy, end_of_output_fault};
-ghost use Rattle.tfpg_run.specs.Outputs.{TextEnds};
+ghost use Rattle.tfpg_streams.specs.Outputs.{TextEnds};
 ghost use Rattle.tfpg_run.specs.generate.Generating.{HasSummary};
 ghost use Rattle.tfpg_run.specs.generate.Terms.{generated_terms};
 ghost use Rattle.tfpg_run.specs.inside.diagnosis.Diagnosed.{HasDiagnosed};
@@ -15,9 +15,7 @@ mod summary;
 
 use crate::diagnosis::Diagnosis;
 use crate::end::End;
-use crate::fault::OutputFault;
 use crate::limits::{GENERATED_BUDGET, GENERATED_K};
-use crate::output::write_all;
 use std::alloc::Global;
 use std::sync::ledger::Ledger;
 use summary::summary_of;
@@ -27,6 +25,7 @@ use tfpg_hyp::TableFault;
 use tfpg_hyp::laws::rounds_say_which_sets_fit;
 use tfpg_sim::laws::a_generated_script_is_right;
 use tfpg_sim::{Generated, SimFault, Simulated, generate, simulate};
+use tfpg_streams::{OutputFault, write_all};
 
 /// A drawn graph, and the simulation of the script that was drawn with it.
 #[derive(Drop)]

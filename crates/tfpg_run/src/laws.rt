@@ -1,14 +1,11 @@
-//! What the definitions of maps, of reports, of fleets, of runs and of conversions come to, as functions that do nothing: each says its
+//! What the definitions of reports, of fleets, of runs and of conversions come to, as functions that do nothing: each says its
 //! laws in its clauses.
 
-ghost use Rattle.std.specs.Prelude.{◌≡◌, ◌<◌, ◌≤◌, ℕ, List, length, [], All, Contains, Some, Ok, true, false, slice_get};
-ghost use Rattle.tfpg_base.specs.declared.activation.Activation.{Activation};
+ghost use Rattle.std.specs.Prelude.{◌≡◌, ◌<◌, ℕ, List, [], Contains, Some, Ok, true, false, slice_get};
 ghost use Rattle.tfpg_base.specs.declared.terms.Terms.{Terms};
-ghost use Rattle.tfpg_base.specs.Hypothesis.{Hypothesis, believing};
-ghost use Rattle.tfpg_base.specs.declared.limits.TheConstants.{LONGEST_LINE};
+ghost use Rattle.tfpg_base.specs.Hypothesis.{believing};
 ghost use Rattle.tfpg_base.specs.Lines.{lines_of};
-ghost use Rattle.tfpg_base.specs.Trace.{IsRisingByNode};
-ghost use Rattle.tfpg_graph.specs.Graph.{Tfpg, IsSetOf};
+ghost use Rattle.tfpg_graph.specs.Graph.{Tfpg};
 ghost use Rattle.tfpg_graph.specs.Valid.{IsValid};
 ghost use Rattle.tfpg_evidence.specs.declared.finding.Finding.{Finding};
 ghost use Rattle.tfpg_evidence.specs.declared.finding.Status.TheVariants.{Rejected};
@@ -31,15 +28,10 @@ ghost use Rattle.tfpg_run.specs.diagnose.InTime.{BlocksComeInTime};
 ghost use Rattle.tfpg_run.specs.diagnose.BlockFindings.{HasFindingInBlock, HasSettledRoundInBlock};
 ghost use Rattle.tfpg_run.specs.fleet.Answers.{Answer, blocks_for};
 ghost use Rattle.tfpg_run.specs.fleet.FleetOutput.{AreAnswers, FleetProblem};
-ghost use Rattle.tfpg_report.specs.SetText.{IsHypothesisOf};
-ghost use Rattle.tfpg_run.specs.map.Spelling.{IsActivationOf, SpellsMap, set_line};
-ghost use Rattle.tfpg_run.specs.map.MapText.{map_text};
 ghost use Rattle.tfpg_words.specs.Meaning.{Check, Diagnose};
 ghost use Rattle.tfpg_run.specs.declared.end.End.{End};
-ghost use Rattle.tfpg_run.specs.declared.end.End.TheVariants.{Done};
 ghost use Rattle.tfpg_run.specs.Completeness.{CanBeDone, IsCompleted, NothingFails};
 ghost use Rattle.tfpg_run.specs.Run.{RunEnds};
-ghost use Rattle.tfpg_run.specs.World.{World};
 ghost use Rattle.tfpg_run.specs.check.AfterDiagnosis.{FollowsDiagnosis};
 
 use tfpg_check::laws::lines_have_at_most_one_cause;
@@ -52,26 +44,6 @@ use tfpg_graph::laws::a_text_has_at_most_one_first_fault;
 use tfpg_json::laws::{a_text_has_at_most_one_first_fault_as_json, a_written_graph_is_read_back};
 use tfpg_report::laws::a_report_line_says_one_thing;
 use tfpg_sim::laws::a_simulated_log_is_accepted_and_explained;
-
-/// Lines spell at most one map of a valid graph. So a verdict on a map that they spell is the verdict on theirs.
-pub fn lines_spell_at_most_one_map()
-    ensures { (graph : Tfpg) (lines : List (List ℕ)) (hypothesis other : Hypothesis)
-        (trace more : List Activation) →
-        IsValid graph → SpellsMap graph lines hypothesis trace → SpellsMap graph lines other more →
-        (hypothesis ≡ other) × (trace ≡ more) }
-{}
-
-/// The text of a map spells it, where the line of its set is not too long. It never is where no monitor is ignored, and so
-/// what `simulate` writes with `--trace` is a map that `explain` reads.
-pub fn the_text_of_a_map_spells_it()
-    ensures short { (graph : Tfpg) (hypothesis : Hypothesis) (trace : List Activation) →
-        IsValid graph → IsHypothesisOf graph hypothesis → All (IsActivationOf graph) trace →
-        IsRisingByNode trace → length (set_line graph hypothesis) ≤ LONGEST_LINE →
-        SpellsMap graph (lines_of (map_text graph hypothesis trace)) hypothesis trace }
-    ensures believing { (graph : Tfpg) (set : List ℕ) (trace : List Activation) →
-        IsValid graph → IsSetOf graph set → All (IsActivationOf graph) trace → IsRisingByNode trace →
-        SpellsMap graph (lines_of (map_text graph (believing set) trace)) (believing set) trace }
-{}
 
 /// In the blocks of a diagnosis of a simulated log, on any terms, no round rejects the simulated set.
 pub fn a_simulated_set_is_rejected_in_no_round()

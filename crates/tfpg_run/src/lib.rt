@@ -1,10 +1,9 @@
 //! A run of the diagnoser, from the words of the command line to its end, over any shelf of files, input and output.
 //!
-//! [`run`] is the call that the program makes. It says how it ended by an [`End`], which has an exit code and a line.
-//! [`laws`] says that lines spell at most one map, that the text of a map spells it, that a simulated set is rejected in no
-//! round, that a rejected hypothesis stays rejected, that `diagnose` writes each block before it takes the next line, that what it wrote is
-//! accepted by `check`, and that a graph that is converted to JSON and back is the same graph. [`panel_line`] appends the line that a file
-//! panel writes for a round.
+//! [`run`] is the call that the program makes. It says how it ended by an [`End`], which has an exit code and a line. [`laws`] says that a
+//! simulated set is rejected in no round, that a rejected hypothesis stays rejected, that `diagnose` writes each block before it takes the
+//! next line, that what it wrote is accepted by `check`, and that a graph that is converted to JSON and back is the same graph.
+//! [`panel_line`] appends the line that a file panel writes for a round.
 //!
 //! For programs that have no files and no streams there are calls over texts in memory: [`diagnose_texts`], [`check_texts`], and a
 //! [`Session`] that takes the lines of a log one by one.
@@ -38,8 +37,6 @@ mod fleet;
 mod generate;
 pub mod laws;
 mod limits;
-mod map;
-mod output;
 mod panel_lines;
 mod predict;
 mod simulate;

@@ -6,7 +6,7 @@ ghost use Rattle.tfpg_base.specs.Terms.{AreReportTerms};
 ghost use Rattle.tfpg_base.specs.Lines.{lines_of};
 ghost use Rattle.tfpg_base.specs.declared.limits.TheConstants.{MAX_TIME};
 ghost use Rattle.tfpg_panel.specs.Desk.{DeskState};
-ghost use Rattle.tfpg_run.specs.Outputs.{TextEnds};
+ghost use Rattle.tfpg_streams.specs.Outputs.{TextEnds};
 ghost use Rattle.tfpg_run.specs.World.{world};
 ghost use Rattle.tfpg_run.specs.predict.Forecasts.{HasForecasts, prediction};
 ghost use Rattle.tfpg_run.specs.predict.Predicting.{PredictEnds};
@@ -20,14 +20,14 @@ mod query;
 
 use crate::diagnosis::Diagnosis;
 use crate::end::End;
-use crate::fault::{OutputFault, ProbeFault};
+use crate::fault::ProbeFault;
 use crate::fetching::fetch_graph_and_text;
-use crate::output::write_all;
 use forecasts::{Aim, forecasts_text};
 use std::alloc::Global;
 use std::sync::ledger::Ledger;
 use tfpg_base::{Shelf, Sink, Steps, Terms};
 use tfpg_graph::{Graph, MAX_EDGES, MAX_NODES};
+use tfpg_streams::{OutputFault, write_all};
 
 /// What is asked: the graph and the log of the files of these names, the name of the node, on which terms, and how many
 /// milliseconds past the last event.

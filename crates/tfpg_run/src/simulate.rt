@@ -11,13 +11,13 @@ ghost use Rattle.tfpg_run.specs.World.{world};
 use crate::end::End;
 use crate::fault::SimulateFault;
 use crate::fetching::fetch_graph_and_text;
-use crate::map::map_text;
-use crate::output::write_all;
 use std::alloc::Global;
 use tfpg_base::{NoMemory, Shelf, Sink};
 use tfpg_graph::Graph;
 use tfpg_log::laws::a_log_of_lines_is_of_its_graph;
+use tfpg_map::map_text;
 use tfpg_sim::{SimFault, Simulated, simulate};
+use tfpg_streams::write_all;
 
 /// Simulates the script of the one file on the graph of the other, with delays and latenesses drawn by the number, and
 /// writes the log; or, where the trace is asked for, the map of the set and the trace.

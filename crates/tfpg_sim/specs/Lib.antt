@@ -1,5 +1,4 @@
 -- What the public contracts say.
-pub mod FaultyLine
 pub mod Script
 pub mod ScriptFaults
 pub mod Draws

@@ -2,7 +2,7 @@
 use Rattle.std.specs.Prelude.{◌≡◌, ◌⊎◌, ℕ, ◌+◌, ◌<◌, ◌≤◌, List, [], ◌∷◌, length, map, All, AllPairs, count_by, Bool, true, false, ◌==◌, IsTrue, codes, decimal}
 use Rattle.std.specs.Option.{option_map_or}
 use Rattle.tfpg_base.specs.Choice.{last_of}
-use Rattle.tfpg_sim.specs.FaultyLine.{IsFaultyLine}
+use Rattle.tfpg_streams.specs.FaultyLine.{IsFaultyLine}
 use Rattle.tfpg_base.specs.Words.{line_of}
 use Rattle.tfpg_base.specs.declared.limits.TheConstants.{MAX_TIME}
 use Rattle.tfpg_graph.specs.Graph.{Tfpg, is_kind_at, is_failure, name_word}

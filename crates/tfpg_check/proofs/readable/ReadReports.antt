@@ -20,7 +20,7 @@ use Rattle.tfpg_report.specs.ReportLines.{Says, written_line}
 use Rattle.tfpg_report.specs.Stands.{may_begin_block, stand_of}
 use Rattle.tfpg_check.specs.RightReports.{LinesOfReportsCanBeRead, ShortReportsHaveNoCause}
 use Rattle.tfpg_check.proofs.EqualSayings.{RoundsAreOfTheirGraph}
-use Rattle.tfpg_check.proofs.FewLines.{few_lines}
+use Rattle.tfpg_streams.proofs.lemmas.FewLines.{few_lines}
 use Rattle.tfpg_check.proofs.FirstLines.{OneLine}
 use Rattle.tfpg_check.proofs.completeness.ReportsRead.{has_lines, reports_have_no_cause}
 use Rattle.tfpg_check.proofs.completeness.NamedLines.{NamesOfGraph, blocks_named}

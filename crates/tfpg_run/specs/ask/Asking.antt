@@ -10,7 +10,7 @@ use Rattle.tfpg_run.specs.declared.fault.QuestionsFault.{QuestionsFault}
 use Rattle.tfpg_run.specs.declared.fault.QuestionsFault.TheVariants.{TooMany, WriteFault, NoMemory}
 use Rattle.tfpg_run.specs.EndsOf.{EndsBy, end_of_questions_fault}
 use Rattle.tfpg_run.specs.Fetch.{EndsByFiles}
-use Rattle.tfpg_run.specs.Outputs.{WritesText, BeginsText}
+use Rattle.tfpg_streams.specs.Outputs.{WritesText, BeginsText}
 use Rattle.tfpg_run.specs.World.{World}
 use Rattle.tfpg_run.specs.ask.Questions.{HasQuestions}
 

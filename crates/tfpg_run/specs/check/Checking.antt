@@ -21,8 +21,8 @@ use Rattle.tfpg_run.specs.declared.fault.CheckFault.{CheckFault}
 use Rattle.tfpg_run.specs.declared.fault.CheckFault.TheVariants.{NotAccepted, TooMany, Stream}
 use Rattle.tfpg_run.specs.EndsOf.{EndsBy, end_of_check_fault}
 use Rattle.tfpg_run.specs.Fetch.{EndsByFiles}
-use Rattle.tfpg_run.specs.Outputs.{StopsJudging, WritesText}
-use Rattle.tfpg_run.specs.Streams.{Streams, HasLeft}
+use Rattle.tfpg_streams.specs.Outputs.{StopsJudging, WritesText}
+use Rattle.tfpg_streams.specs.Streams.{Streams, HasLeft}
 use Rattle.tfpg_run.specs.World.{World, streams_of}
 
 -- The whole input was taken, its lines are those of a report of the graph and the log, and the text says how many rounds it has.

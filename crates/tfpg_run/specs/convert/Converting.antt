@@ -9,7 +9,7 @@ use Rattle.tfpg_json.specs.GraphText.{SpellsAsJson, IsJsonFault}
 use Rattle.tfpg_run.specs.declared.end.End.{End}
 use Rattle.tfpg_run.specs.EndsOf.{EndsBy, end_of_output_fault}
 use Rattle.tfpg_run.specs.Fetch.{LacksFilesBy, WorksByGraph}
-use Rattle.tfpg_run.specs.Outputs.{TextEnds}
+use Rattle.tfpg_streams.specs.Outputs.{TextEnds}
 use Rattle.tfpg_run.specs.World.{World}
 
 -- which text spells which graph: JSON where JSON is read, and else graph texts

@@ -4,10 +4,10 @@ use Rattle.tfpg_graph.specs.Graph.{Tfpg}
 use Rattle.tfpg_graph.specs.Text.{Spells}
 use Rattle.tfpg_base.specs.declared.terms.Terms.{Terms}
 use Rattle.tfpg_run.specs.declared.end.End.{End}
-use Rattle.tfpg_run.specs.declared.fault.StreamFault.{StreamFault}
+use Rattle.tfpg_streams.specs.declared.fault.StreamFault.{StreamFault}
 use Rattle.tfpg_run.specs.EndsOf.{EndsBy, end_of_stream_fault}
 use Rattle.tfpg_run.specs.Fetch.{LacksFiles, WorksByGraph}
-use Rattle.tfpg_run.specs.Outputs.{WorksLineByLine}
+use Rattle.tfpg_streams.specs.Outputs.{WorksLineByLine}
 use Rattle.tfpg_run.specs.World.{World, Watched, streams_in, watched_of}
 use Rattle.tfpg_run.specs.diagnosis.TooMany.{EndsWithTooMany, HasFewHypotheses}
 use Rattle.tfpg_run.specs.diagnose.RightReport.{IsRightReport, BeginsRightReport}

@@ -6,7 +6,7 @@ use Rattle.tfpg_graph.specs.Graph.{Tfpg}
 use Rattle.tfpg_words.specs.Meaning.{Diagnose}
 use Rattle.tfpg_run.specs.declared.end.End.TheVariants.{ReadFault}
 use Rattle.tfpg_run.specs.Fetch.{GivesGraph, LacksFiles}
-use Rattle.tfpg_run.specs.Outputs.{TakesAndWrites}
+use Rattle.tfpg_streams.specs.Outputs.{TakesAndWrites}
 use Rattle.tfpg_run.specs.Run.{RunEnds}
 use Rattle.tfpg_run.specs.World.{World, streams_of}
 use Rattle.tfpg_run.specs.diagnose.RightReport.{IsRightReport}

@@ -8,7 +8,7 @@ use Rattle.tfpg_report.specs.Blocks.{Block, RefusedBlock, RoundBlock}
 use Rattle.tfpg_check.specs.Report.{Progress, IsReport, progress_of}
 use Rattle.tfpg_words.specs.Meaning.{Meaning, Diagnose}
 use Rattle.tfpg_run.specs.Fetch.{GivesGraph}
-use Rattle.tfpg_run.specs.Outputs.{WorksToEnd}
+use Rattle.tfpg_streams.specs.Outputs.{WorksToEnd}
 use Rattle.tfpg_run.specs.World.{World, streams_of}
 
 -- The limit for the block of a line, after the rounds and the log so far: that of its round. A refused line costs no call.

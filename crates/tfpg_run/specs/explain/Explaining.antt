@@ -14,11 +14,11 @@ use Rattle.tfpg_run.specs.declared.fault.ExplainFault.{ExplainFault}
 use Rattle.tfpg_run.specs.declared.fault.ExplainFault.TheVariants.{BadMap, Stream}
 use Rattle.tfpg_run.specs.EndsOf.{EndsBy, end_of_explain_fault}
 use Rattle.tfpg_run.specs.Fetch.{EndsByFiles}
-use Rattle.tfpg_run.specs.Outputs.{StopsJudging, WritesText}
-use Rattle.tfpg_run.specs.Streams.{Streams}
+use Rattle.tfpg_streams.specs.Outputs.{StopsJudging, WritesText}
+use Rattle.tfpg_streams.specs.Streams.{Streams}
 use Rattle.tfpg_run.specs.World.{World, streams_of}
-use Rattle.tfpg_run.specs.map.InputMap.{GivesMap, RefusesMap}
-use Rattle.tfpg_run.specs.map.Spelling.{BeginsMap}
+use Rattle.tfpg_map.specs.InputMap.{GivesMap, RefusesMap}
+use Rattle.tfpg_map.specs.Spelling.{BeginsMap}
 use Rattle.tfpg_run.specs.explain.Verdicts.{verdict_text}
 
 -- The whole input was taken, its lines spell a map, and the text is the verdict on it, by the log that ignores the

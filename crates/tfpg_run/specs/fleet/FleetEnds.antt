@@ -8,12 +8,12 @@ use Rattle.tfpg_graph.specs.Text.{Spells}
 use Rattle.tfpg_fleet.specs.TooMany.{IsTooMany}
 use Rattle.tfpg_run.specs.declared.end.End.{End}
 use Rattle.tfpg_run.specs.declared.end.End.TheVariants as ends
-use Rattle.tfpg_run.specs.declared.fault.StreamFault.{StreamFault}
-use Rattle.tfpg_run.specs.declared.fault.StreamFault.TheVariants.{WriteFault}
+use Rattle.tfpg_streams.specs.declared.fault.StreamFault.{StreamFault}
+use Rattle.tfpg_streams.specs.declared.fault.StreamFault.TheVariants.{WriteFault}
 use Rattle.tfpg_run.specs.EndsOf.{EndsBy, end_of_stream_fault}
 use Rattle.tfpg_run.specs.Fetch.{LacksFiles, WorksByGraph}
-use Rattle.tfpg_run.specs.Outputs.{HasOutputOfFirstLines, IsStreamFault, IsWrittenBefore, TakesAndWrites, WritesOutput}
-use Rattle.tfpg_run.specs.Streams.{Streams}
+use Rattle.tfpg_streams.specs.Outputs.{HasOutputOfFirstLines, IsStreamFault, IsWrittenBefore, TakesAndWrites, WritesOutput}
+use Rattle.tfpg_streams.specs.Streams.{Streams}
 use Rattle.tfpg_run.specs.World.{World, streams_of, watched_of}
 use Rattle.tfpg_run.specs.fleet.FleetOutput.{FleetProblem, BeginsFleetOutput, IsFleetOutput, IsFleetOutputSoFar, fleet_problem}
 

@@ -1,8 +1,7 @@
--- How the faults of the layers below become those of fetching, of the streams and of a run.
+-- How the faults of the layers below become those of fetching, of the work of a command and of a run.
 use Rattle.std.specs.Prelude.{◌≡◌, ℕ, List}
 use Rattle.tfpg_base.specs.Outside.{ShelfState, Rose, NotesName}
 use Rattle.tfpg_base.specs.declared.line.LineFault.{LineFault}
-use Rattle.tfpg_base.specs.declared.line.LineFault.TheVariants as lines
 use Rattle.tfpg_base.specs.declared.outside.ShelfFault.{ShelfFault}
 use Rattle.tfpg_base.specs.declared.outside.ShelfFault.TheVariants as shelf
 use Rattle.tfpg_graph.specs.declared.cause.GraphRefusal.{GraphRefusal}
@@ -14,10 +13,7 @@ use Rattle.tfpg_hyp.specs.declared.table.TableFault.{TableFault}
 use Rattle.tfpg_hyp.specs.declared.table.TableFault.TheVariants as table
 use Rattle.tfpg_run.specs.declared.fault.FetchFault.{FetchFault}
 use Rattle.tfpg_run.specs.declared.fault.FetchFault.TheVariants as fetch
-use Rattle.tfpg_run.specs.declared.fault.StreamFault.{StreamFault}
-use Rattle.tfpg_run.specs.declared.fault.StreamFault.TheVariants as streams
-use Rattle.tfpg_run.specs.declared.fault.OutputFault.{OutputFault}
-use Rattle.tfpg_run.specs.declared.fault.OutputFault.TheVariants as output
+use Rattle.tfpg_streams.specs.declared.fault.StreamFault.TheVariants as streams
 use Rattle.tfpg_run.specs.Fetch.{IsFetchFaultBy, IsTooLong}
 use Rattle.tfpg_sim.specs.declared.fault.SimFault.{SimFault}
 use Rattle.tfpg_sim.specs.declared.fault.SimFault.TheVariants as sim
@@ -31,8 +27,9 @@ use Rattle.tfpg_run.specs.declared.fault.SimulateFault.{SimulateFault}
 use Rattle.tfpg_run.specs.declared.fault.SimulateFault.TheVariants as simulate
 use Rattle.tfpg_run.specs.declared.end.End.{End}
 use Rattle.tfpg_run.specs.declared.end.End.TheVariants as ends
-use Rattle.tfpg_run.specs.declared.map.NoMap.{NoMap}
-use Rattle.tfpg_run.specs.declared.map.NoMap.TheVariants as maps
+use Rattle.tfpg_map.specs.declared.map.NoMap.{NoMap}
+use Rattle.tfpg_map.specs.declared.map.NoMap.TheVariants as maps
+use Rattle.tfpg_streams.specs.Faults.{stream_fault_of_lines}
 
 -- the fault of fetching that a fault of the shelf is
 abbrev pub fetch_fault_of_shelf : ShelfFault → FetchFault
@@ -44,16 +41,6 @@ fetch_fault_of_shelf shelf.NoMemory = fetch.NoMemory
 abbrev pub fetch_fault_of_refusal : GraphRefusal → FetchFault
 fetch_fault_of_refusal (refusal.Fault fault) = fetch.Graph fault
 fetch_fault_of_refusal refusal.NoMemory = fetch.NoMemory
-
--- the fault of the streams that a fault of the reader of lines is
-abbrev pub stream_fault_of_lines : LineFault → StreamFault
-stream_fault_of_lines lines.ReadFault = streams.ReadFault
-stream_fault_of_lines lines.TooMuchInput = streams.TooMuchInput
-
--- the fault of the streams that a fault of the output is
-abbrev pub stream_fault_of_output : OutputFault → StreamFault
-stream_fault_of_output output.WriteFault = streams.WriteFault
-stream_fault_of_output output.NoMemory = streams.NoMemory
 
 -- why a map is not judged whose input gives none
 abbrev pub explain_fault_of_no_map : NoMap → ExplainFault

@@ -6,7 +6,7 @@ use Rattle.tfpg_run.specs.declared.end.End.{End}
 use Rattle.tfpg_run.specs.declared.fault.ProbeFault.{ProbeFault}
 use Rattle.tfpg_run.specs.EndsOf.{EndsBy, end_of_output_fault, end_of_probe_fault}
 use Rattle.tfpg_run.specs.Fetch.{EndsByFiles}
-use Rattle.tfpg_run.specs.Outputs.{TextEnds}
+use Rattle.tfpg_streams.specs.Outputs.{TextEnds}
 use Rattle.tfpg_run.specs.World.{World, watched_of}
 use Rattle.tfpg_run.specs.diagnosis.TooMany.{EndsWithTooMany, HasFewHypotheses}
 use Rattle.tfpg_run.specs.predict.Forecasts.{Prediction, HasForecasts}

@@ -15,9 +15,9 @@ use Rattle.tfpg_run.specs.declared.fault.SimulateFault.{SimulateFault}
 use Rattle.tfpg_run.specs.declared.fault.SimulateFault.TheVariants.{BadScript, WriteFault, NoMemory}
 use Rattle.tfpg_run.specs.EndsOf.{EndsBy, end_of_simulate_fault}
 use Rattle.tfpg_run.specs.Fetch.{EndsByFiles}
-use Rattle.tfpg_run.specs.map.Spelling.{SpellsMap}
-use Rattle.tfpg_run.specs.map.MapText.{map_text}
-use Rattle.tfpg_run.specs.Outputs.{WritesText, BeginsText}
+use Rattle.tfpg_map.specs.Spelling.{SpellsMap}
+use Rattle.tfpg_map.specs.MapText.{map_text}
+use Rattle.tfpg_streams.specs.Outputs.{WritesText, BeginsText}
 use Rattle.tfpg_run.specs.World.{World}
 
 -- what is written of a simulation: the map of its set and its trace where the trace is asked for, else its log

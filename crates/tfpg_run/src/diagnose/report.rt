@@ -11,16 +11,14 @@ ghost use Rattle.tfpg_report.specs.Blocks.{head_text};
 ghost use Rattle.tfpg_check.specs.Report.{HasReports};
 ghost use Rattle.tfpg_run.specs.diagnose.Diagnosing.{Diagnoses};
 ghost use Rattle.tfpg_run.specs.diagnose.Work.{IsReportWithin};
-ghost use Rattle.tfpg_run.specs.Outputs.{WorksToEnd};
-ghost use Rattle.tfpg_run.specs.Streams.{streams};
+ghost use Rattle.tfpg_streams.specs.Outputs.{WorksToEnd};
+ghost use Rattle.tfpg_streams.specs.Streams.{streams};
 ghost use Rattle.tfpg_run.specs.World.{Watched, watched};
 ghost use Rattle.tfpg_run.specs.inside.diagnose.LineBlocks.{IsEngineReady};
 ghost use Rattle.tfpg_run.specs.inside.diagnose.UnderWay.{IsDiagnosing, IsDiagnosingWithin, ComesTo, ComesToWithin, diagnosis_at};
 
 use super::line_blocks::{line_block, refused_block};
 use super::telling::write_and_tell;
-use crate::fault::StreamFault;
-use crate::output::write_all;
 use std::alloc::Global;
 use std::sync::ledger::Ledger;
 use tfpg_base::{Line, Lines, NoMemory, Sink, Source, Steps, Terms};
@@ -29,6 +27,7 @@ use tfpg_engine::Engine;
 use tfpg_panel::laws::{a_desk_is_told_round_by_round, the_losses_of_a_round_rise};
 use tfpg_panel::{Desk, Panel};
 use tfpg_report::{RefusedLine, head};
+use tfpg_streams::{StreamFault, write_all};
 
 /// Whether the block of one more line is written, or the input has ended.
 #[derive(Clone, Copy)]

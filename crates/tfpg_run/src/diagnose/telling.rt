@@ -4,18 +4,17 @@ ghost use Rattle.std.specs.Prelude.{◌≡◌, length, drop, IfSome, Ok, Err};
 ghost use Rattle.tfpg_evidence.specs.RoundOf.{IsRoundOf};
 ghost use Rattle.tfpg_graph.specs.Graph.{sizes_of};
 ghost use Rattle.tfpg_panel.specs.Desk.{IsTold, seen_by};
-ghost use Rattle.tfpg_run.specs.inside.Writing.{Writes};
+ghost use Rattle.tfpg_streams.specs.Writing.{Writes};
 ghost use Rattle.tfpg_run.specs.inside.diagnose.Telling.{WritesBlock, end_of_loss, loss_text, losses_text, outgoing};
 
 use super::line_blocks::LineBlock;
 use super::report::NextBlock;
-use crate::fault::StreamFault;
-use crate::output::write_all;
 use itoa::Buffer;
 use tfpg_base::{Failed, Sink};
 use tfpg_evidence::Round;
 use tfpg_graph::Graph;
 use tfpg_panel::{Desk, LostPanel, Panel, PanelFault};
+use tfpg_streams::{StreamFault, write_all};
 
 /// Writes the block of a line whole, and then tells the desk its round.
 pub(super) fn write_and_tell<K: Sink, P: Panel>(

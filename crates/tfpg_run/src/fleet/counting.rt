@@ -3,17 +3,16 @@
 ghost use Rattle.std.specs.Prelude.{◌≡◌, ◌<◌, [], IfErr, IfOk, OnOk, Err, Ok, length, slice_index_or};
 ghost use Rattle.tfpg_base.specs.Append.{Appends};
 ghost use Rattle.tfpg_graph.specs.Graph.{failures, failure_word};
-ghost use Rattle.tfpg_run.specs.Outputs.{TextEnds};
+ghost use Rattle.tfpg_streams.specs.Outputs.{TextEnds};
 ghost use Rattle.tfpg_run.specs.fleet.Counting.{is_in, mode_text, vehicles_that};
 ghost use Rattle.tfpg_run.specs.inside.fleet.UnderWay.{kept_text};
 
 use super::watch::is_in;
-use crate::fault::OutputFault;
-use crate::output::write_all;
 use itoa::Buffer;
 use std::alloc::Global;
 use tfpg_base::{NoMemory, Set, Sink, append_line};
 use tfpg_graph::Graph;
+use tfpg_streams::{OutputFault, write_all};
 
 /// Writes a line for each failure mode: how many vehicles have it among what their last round ranks, by what is kept of them.
 pub(super) fn write_counts<K: Sink>(

@@ -3,7 +3,7 @@
 ghost use Rattle.std.specs.Prelude.{◌≡◌, [], IfErr, IfOk, OnOk, Err, Ok, ℕ};
 ghost use Rattle.tfpg_base.specs.Outside.{Puts, Rose};
 ghost use Rattle.tfpg_check.specs.Report.{HasReports};
-ghost use Rattle.tfpg_run.specs.Streams.{Streams, streams};
+ghost use Rattle.tfpg_streams.specs.Streams.{Streams, streams};
 ghost use Rattle.tfpg_run.specs.fleet.FleetEnds.{AnswersStream};
 ghost use Rattle.tfpg_run.specs.fleet.FleetOutput.{FleetProblem};
 ghost use Rattle.tfpg_run.specs.inside.fleet.UnderWay.{ComesTo, HasAnswered, IsAnswering, IsWatching, WritesAnswer, answering_at, problem_in};
@@ -12,11 +12,10 @@ use super::answering::{answer_line, stray_answer};
 use super::counting::write_counts;
 use super::opening::opening_of;
 use super::watch::{Vehicles, Watch};
-use crate::fault::StreamFault;
-use crate::output::write_all;
 use std::alloc::Global;
 use std::sync::ledger::Ledger;
 use tfpg_base::{Failed, Line, Lines, Sink, Source, Steps};
+use tfpg_streams::{StreamFault, write_all};
 
 /// Whether the answer to one more line is written, or the input has ended.
 #[derive(Clone, Copy)]

@@ -12,7 +12,7 @@ ghost use Rattle.tfpg_run.specs.texts.Checks.{AreShort, CanAccept, CanRefuseText
 
 use super::fault::CheckTextsFault;
 use crate::check::judge_report;
-use crate::fault::{CheckFault, StreamFault};
+use crate::fault::CheckFault;
 use std::alloc::Global;
 use tfpg_base::{LONGEST_FILE, SteadySource};
 use tfpg_check::laws::lines_have_at_most_one_cause;
@@ -20,6 +20,7 @@ use tfpg_graph::laws::a_text_has_at_most_one_first_fault;
 use tfpg_graph::{Graph, read};
 use tfpg_hyp::laws::the_table_is_one;
 use tfpg_report::laws::a_report_line_says_one_thing;
+use tfpg_streams::StreamFault;
 
 /// Judges the report by the graph that the text spells and the lines of the log, and returns how many rounds it has.
 ///

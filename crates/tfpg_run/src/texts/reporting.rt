@@ -15,7 +15,6 @@ ghost use Rattle.tfpg_run.specs.texts.Reports.{CanReport, IsPlainReport, IsRepor
 use super::fault::ReportFault;
 use super::opening::open_engine;
 use crate::diagnose::report::write_report;
-use crate::fault::StreamFault;
 use std::alloc::Global;
 use std::marker::Brand;
 use std::sync::ledger::{Blank, Ledger};
@@ -24,6 +23,7 @@ use tfpg_engine::Engine;
 use tfpg_graph::laws::a_text_has_at_most_one_first_fault;
 use tfpg_hyp::laws::the_table_is_one;
 use tfpg_panel::{Desk, MemoryPanel, Panel};
+use tfpg_streams::StreamFault;
 
 /// The report of the lines of the log, for the graph that the text spells, on these terms.
 ///

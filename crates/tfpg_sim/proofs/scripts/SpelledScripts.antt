@@ -9,7 +9,7 @@ use Rattle.std.proofs.lemmas.List.{append-nil, map-append, take_all, take-map, g
 use Rattle.std.proofs.lemmas.List.Sums.{sum_by_push, sum_by_more_le}
 use Rattle.std.proofs.lemmas.Option.{slice_get-get_or, slice_get_within, get_or_from_slice_get}
 use Rattle.tfpg_base.specs.Choice.{last_of}
-use Rattle.tfpg_sim.specs.FaultyLine.{IsFaultyLine}
+use Rattle.tfpg_streams.specs.FaultyLine.{IsFaultyLine}
 use Rattle.tfpg_base.specs.Lines.{lines_of}
 use Rattle.tfpg_base.proofs.lists.Choices.{option_and_then-some, then_some-true}
 use Rattle.tfpg_base.proofs.lists.Cuts.{take-item, take-next}

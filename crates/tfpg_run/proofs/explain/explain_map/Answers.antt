@@ -1,10 +1,10 @@
 use Rattle.std.proofs.Common.{Err, ap, sym, ◌∙◌}
 use Rattle.tfpg_run.specs.declared.fault.ExplainFault.{ExplainFault}
 use Rattle.tfpg_run.specs.declared.fault.ExplainFault.TheVariants.{Stream}
-use Rattle.tfpg_run.specs.declared.fault.StreamFault.TheVariants.{WriteFault}
+use Rattle.tfpg_streams.specs.declared.fault.StreamFault.TheVariants.{WriteFault}
 use Rattle.tfpg_run.specs.explain.Explaining.{ExplainsMap}
 use Rattle.tfpg_log.specs.Log.{ignoring}
-use Rattle.tfpg_run.specs.Streams.{streams}
+use Rattle.tfpg_streams.specs.Streams.{streams}
 use Rattle.tfpg_base.proofs.lists.Choices.{IfErr-from}
 use Rattle.tfpg_run.proofs.lemmas.explain.ExplainedMaps.{ignoring_of, explains_well, explains_badly}
 use Rattle.tfpg_run.proofs.lemmas.explain.NamedNodes.{names_node}

@@ -11,7 +11,7 @@ use Rattle.tfpg_words.specs.declared.usage_cause.UsageCause.{UsageCause}
 use Rattle.tfpg_words.specs.Meaning.{Meaning, Check, Diagnose}
 use Rattle.tfpg_run.specs.declared.end.End.{End}
 use Rattle.tfpg_run.specs.declared.end.End.TheVariants.{Done, NoMemory, TooManyHypotheses}
-use Rattle.tfpg_run.specs.declared.fault.StreamFault.{StreamFault}
+use Rattle.tfpg_streams.specs.declared.fault.StreamFault.{StreamFault}
 use Rattle.tfpg_run.specs.Completeness.{CanBeDone}
 use Rattle.tfpg_run.specs.EndsOf.{end_of_result, end_of_stream_fault}
 use Rattle.tfpg_run.specs.Fetch.{GivesGraph}
@@ -21,7 +21,8 @@ use Rattle.tfpg_run.specs.check.AfterDiagnosis.{FollowsDiagnosis}
 use Rattle.tfpg_run.specs.diagnose.Diagnosing.{Diagnoses, DiagnosisEnds}
 use Rattle.tfpg_run.specs.diagnose.RightReport.{IsRightReport}
 use Rattle.tfpg_run.specs.diagnose.TellsPanels.{desks}
-use Rattle.tfpg_run.proofs.Completing.{all_taken, gives_is}
+use Rattle.tfpg_streams.proofs.lemmas.InputLines.{all_taken}
+use Rattle.tfpg_run.proofs.Completing.{gives_is}
 use Rattle.tfpg_run.proofs.Stops.{fetch_not_done, stream_not_done}
 
 -- ---- what a diagnosis has done

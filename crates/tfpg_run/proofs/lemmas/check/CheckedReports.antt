@@ -11,11 +11,11 @@ use Rattle.tfpg_check.specs.Causes.{DiagnosisProblem}
 use Rattle.tfpg_check.specs.JudgeState.{JudgeRepresents, JudgeState}
 use Rattle.tfpg_run.specs.declared.fault.CheckFault.{CheckFault}
 use Rattle.tfpg_run.specs.declared.fault.CheckFault.TheVariants.{NotAccepted, TooMany, Stream}
-use Rattle.tfpg_run.specs.declared.fault.StreamFault.TheVariants.{ReadFault, WriteFault, TooMuchInput, NoMemory}
-use Rattle.tfpg_run.specs.Streams.{streams}
+use Rattle.tfpg_streams.specs.declared.fault.StreamFault.TheVariants.{ReadFault, WriteFault, TooMuchInput, NoMemory}
+use Rattle.tfpg_streams.specs.Streams.{streams}
 use Rattle.tfpg_run.specs.check.Checking.{ChecksReport, IsAccepted, problem_of}
 use Rattle.tfpg_run.specs.inside.check.UnderWay.{AcceptsReport, IsNewJudge, LacksReport}
-use Rattle.tfpg_run.proofs.InputLines.{few_lines}
+use Rattle.tfpg_streams.proofs.lemmas.FewLines.{few_lines}
 
 -- a log of a file has not too many lines
 few_log_lines : (text : List ℕ) → length text ≤ LONGEST_FILE → length (lines_of text) ≤ MAX_LINE_NUMBER

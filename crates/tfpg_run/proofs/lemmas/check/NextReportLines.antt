@@ -27,11 +27,12 @@ use Rattle.tfpg_check.specs.JudgeState.{GoesOnTo, JudgeState}
 use Rattle.tfpg_check.specs.RightReports.{WholeLinesAreThoseOfReports}
 use Rattle.tfpg_run.specs.declared.fault.CheckFault.{CheckFault}
 use Rattle.tfpg_run.specs.declared.fault.CheckFault.TheVariants as check
-use Rattle.tfpg_run.specs.declared.fault.StreamFault.TheVariants as streams
+use Rattle.tfpg_streams.specs.declared.fault.StreamFault.TheVariants as streams
 use Rattle.tfpg_run.specs.check.Checking.{IsRightSoFar}
 use Rattle.tfpg_run.specs.inside.Faults.{check_fault_of_judge, check_fault_of_lines}
 use Rattle.tfpg_run.specs.inside.check.UnderWay.{AcceptsReport, HasJudgedAll, IsChecking, IsJudging, IsNewJudge, IsReadingLines, IsReadingOn, LacksReport, checking_at}
-use Rattle.tfpg_run.proofs.InputLines.{rest_of, rest_is_left, rest_at_end, front_of_input, came_to_end, few_lines}
+use Rattle.tfpg_streams.proofs.lemmas.InputLines.{rest_of, rest_is_left, rest_at_end, front_of_input, came_to_end}
+use Rattle.tfpg_streams.proofs.lemmas.FewLines.{few_lines}
 use Rattle.tfpg_check.proofs.EarlyEnds.{line_never_early}
 
 -- ---- the lines so far

@@ -12,11 +12,11 @@ use Rattle.tfpg_panel.specs.declared.lost_panel.LostPanel.{LostPanel}
 use Rattle.tfpg_panel.specs.Desk.{DeskState, IsTold}
 use Rattle.tfpg_report.specs.Blocks.{lost_text}
 use Rattle.tfpg_run.specs.declared.diagnose.report.NextBlock.TheVariants.{Written}
-use Rattle.tfpg_run.specs.declared.fault.StreamFault.{StreamFault}
-use Rattle.tfpg_run.specs.declared.fault.StreamFault.TheVariants.{WriteFault}
-use Rattle.tfpg_run.specs.inside.Writing.{Cuts, Writes}
+use Rattle.tfpg_streams.specs.declared.fault.StreamFault.{StreamFault}
+use Rattle.tfpg_streams.specs.declared.fault.StreamFault.TheVariants.{WriteFault}
+use Rattle.tfpg_streams.specs.Writing.{Cuts, Writes}
 use Rattle.tfpg_run.specs.inside.diagnose.Telling.{Outgoing, WritesBlock, end_of_loss, is_memory, loss_text, losses_text, new_lines, outgoing}
-use Rattle.tfpg_run.proofs.Putting.{Puts-append, Puts-same, Writes-then, cut_first, cut_second}
+use Rattle.tfpg_streams.proofs.lemmas.Putting.{Puts-append, Puts-same, Writes-then, cut_first, cut_second}
 use Rattle.tfpg_run.proofs.lemmas.diagnose.ToldBlocks.{none_came}
 
 -- the line of a lost panel in its three pieces

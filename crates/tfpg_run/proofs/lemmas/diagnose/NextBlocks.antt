@@ -25,12 +25,12 @@ use Rattle.tfpg_engine.specs.EngineState.{EngineState}
 use Rattle.tfpg_evidence.specs.declared.round.Round.{Round}
 use Rattle.tfpg_panel.specs.Desk.{DeskState}
 use Rattle.tfpg_panel.specs.ToldRounds.{HasTold}
-use Rattle.tfpg_run.specs.declared.fault.StreamFault.{StreamFault}
-use Rattle.tfpg_run.specs.declared.fault.StreamFault.TheVariants as faults
-use Rattle.tfpg_run.specs.inside.Faults.{stream_fault_of_lines}
+use Rattle.tfpg_streams.specs.declared.fault.StreamFault.{StreamFault}
+use Rattle.tfpg_streams.specs.declared.fault.StreamFault.TheVariants as faults
+use Rattle.tfpg_streams.specs.Faults.{stream_fault_of_lines}
 use Rattle.tfpg_run.specs.diagnose.TellsPanels.{Desks, TellsPanels, desks, rounds_in}
 use Rattle.tfpg_run.specs.diagnose.RightReport.{BlockSays, RoundsSay, IsRightReport, BeginsRightReport}
-use Rattle.tfpg_run.specs.Outputs.{HasOutputOfFirstLines, LineByLineEnds, WorksToEnd}
+use Rattle.tfpg_streams.specs.Outputs.{HasOutputOfFirstLines, LineByLineEnds, WorksToEnd}
 use Rattle.tfpg_run.specs.diagnose.Diagnosing.{Diagnoses}
 use Rattle.tfpg_run.specs.diagnose.Work.{IsBlockLimit, AreBlocksWithin, IsReportWithin}
 use Rattle.std.proofs.lemmas.List.Sums.{sum_by_push}
@@ -39,8 +39,9 @@ use Rattle.tfpg_run.specs.inside.diagnose.LineBlocks.{EngineReports, HasBlock, I
 use Rattle.tfpg_run.specs.inside.diagnose.UnderWay.{IsDiagnosing, IsDiagnosingWithin, diagnosis_at}
 use Rattle.tfpg_run.proofs.lemmas.diagnose.LineBlocks.{block_of_long_line}
 use Rattle.tfpg_base.proofs.lists.Cuts.{front_is_within, front_before, front_with}
-use Rattle.tfpg_run.proofs.InputLines.{rest_of, rest_is_left, front_of_input, came_to_end, few_lines}
-use Rattle.tfpg_run.proofs.Putting.{Puts-append, Puts-same_held}
+use Rattle.tfpg_streams.proofs.lemmas.InputLines.{rest_of, rest_is_left, front_of_input, came_to_end}
+use Rattle.tfpg_streams.proofs.lemmas.FewLines.{few_lines}
+use Rattle.tfpg_streams.proofs.lemmas.Putting.{Puts-append, Puts-same_held}
 
 -- ---- one block more
 

@@ -4,8 +4,8 @@ use Rattle.tfpg_base.specs.declared.terms.Terms.{Terms}
 use Rattle.tfpg_graph.specs.Text.{Spells}
 use Rattle.tfpg_words.specs.Meaning.{Diagnose}
 use Rattle.tfpg_run.specs.declared.end.End.TheVariants as ends
-use Rattle.tfpg_run.specs.declared.fault.StreamFault.{StreamFault}
-use Rattle.tfpg_run.specs.declared.fault.StreamFault.TheVariants as streams
+use Rattle.tfpg_streams.specs.declared.fault.StreamFault.{StreamFault}
+use Rattle.tfpg_streams.specs.declared.fault.StreamFault.TheVariants as streams
 use Rattle.tfpg_run.specs.EndsOf.{end_of_result, end_of_stream_fault}
 use Rattle.tfpg_run.specs.Fetch.{LacksFiles, WorksByGraph}
 use Rattle.tfpg_run.specs.Run.{RunEnds}

@@ -11,15 +11,15 @@ use Rattle.tfpg_engine.specs.EngineState.{EngineState}
 use Rattle.tfpg_panel.specs.Desk.{DeskState}
 use Rattle.tfpg_check.specs.Report.{progress_of}
 use Rattle.tfpg_run.specs.declared.diagnose.report.NextBlock.{NextBlock}
-use Rattle.tfpg_run.specs.declared.fault.StreamFault.{StreamFault}
-use Rattle.tfpg_run.specs.declared.fault.StreamFault.TheVariants.{WriteFault}
+use Rattle.tfpg_streams.specs.declared.fault.StreamFault.{StreamFault}
+use Rattle.tfpg_streams.specs.declared.fault.StreamFault.TheVariants.{WriteFault}
 use Rattle.tfpg_run.specs.World.{Watched, watched}
 use Rattle.tfpg_run.specs.diagnose.Diagnosing.{Diagnoses}
 use Rattle.tfpg_run.specs.diagnose.Work.{AreBlocksWithin}
 use Rattle.tfpg_run.specs.inside.diagnose.LineBlocks.{HasBlock, IsBlockWithin, IsUntold, numbered}
 use Rattle.tfpg_run.specs.inside.diagnose.Telling.{TellsIf, WritesBlock, new_lines, outgoing}
 use Rattle.tfpg_run.specs.inside.diagnose.UnderWay.{IsDiagnosing, ComesTo, ComesToWithin, diagnosis_at}
-use Rattle.tfpg_run.proofs.Putting.{Puts-append}
+use Rattle.tfpg_streams.proofs.lemmas.Putting.{Puts-append}
 use Rattle.tfpg_run.proofs.lemmas.diagnose.NextBlocks.{GoesOnByBlocks, gave_block, gave_front, gave_one_more, gave_within}
 use Rattle.tfpg_run.proofs.lemmas.diagnose.ToldBlocks.{DeskLaws, IsToldBlock, cut_block, cut_losses, told_block}
 

@@ -6,12 +6,12 @@ use Rattle.tfpg_log.specs.Log.{Logbook, IsLogOf, ignoring}
 use Rattle.tfpg_trace.specs.declared.verdict.Verdict.{Verdict}
 use Rattle.tfpg_trace.specs.FirstFault.{IsVerdict}
 use Rattle.tfpg_run.specs.declared.fault.ExplainFault.TheVariants.{Stream}
-use Rattle.tfpg_run.specs.declared.fault.StreamFault.TheVariants.{WriteFault}
-use Rattle.tfpg_run.specs.declared.map.Map.{Map}
+use Rattle.tfpg_streams.specs.declared.fault.StreamFault.TheVariants.{WriteFault}
+use Rattle.tfpg_map.specs.declared.map.Map.{Map}
 use Rattle.tfpg_run.specs.explain.Explaining.{HasVerdict, ExplainsMap}
-use Rattle.tfpg_run.specs.Streams.{Streams, streams}
+use Rattle.tfpg_streams.specs.Streams.{Streams, streams}
 use Rattle.tfpg_run.specs.explain.Verdicts.{verdict_text}
-use Rattle.tfpg_run.specs.inside.map.Reading.{ReadsMap}
+use Rattle.tfpg_map.specs.InputMap.{ReadsMap}
 
 module _ (graph : Tfpg) (log : Logbook) (before : Streams) (input : SourceState) (map : Map) (reads : ReadsMap graph before.input input map)
     (v : Verdict) (right : IsVerdict graph (ignoring log map.hypothesis.doubts) map.hypothesis.set map.trace v) where

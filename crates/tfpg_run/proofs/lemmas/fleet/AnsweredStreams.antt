@@ -15,21 +15,22 @@ use Rattle.tfpg_base.proofs.lists.Passing.{length-filter_map}
 use Rattle.tfpg_graph.specs.Graph.{Tfpg}
 use Rattle.tfpg_check.specs.Report.{HasReports}
 use Rattle.tfpg_fleet.specs.Belonging.{addressee, line_for, lines_for}
-use Rattle.tfpg_run.specs.declared.fault.OutputFault.{OutputFault}
-use Rattle.tfpg_run.specs.declared.fault.OutputFault.TheVariants as output_fault
-use Rattle.tfpg_run.specs.declared.fault.StreamFault.{StreamFault}
-use Rattle.tfpg_run.specs.declared.fault.StreamFault.TheVariants as faults
+use Rattle.tfpg_streams.specs.declared.fault.OutputFault.{OutputFault}
+use Rattle.tfpg_streams.specs.declared.fault.OutputFault.TheVariants as output_fault
+use Rattle.tfpg_streams.specs.declared.fault.StreamFault.{StreamFault}
+use Rattle.tfpg_streams.specs.declared.fault.StreamFault.TheVariants as faults
 use Rattle.tfpg_run.specs.declared.fleet.stream.NextAnswer.{NextAnswer}
 use Rattle.tfpg_run.specs.declared.fleet.watch.Watch.{Watch}
-use Rattle.tfpg_run.specs.inside.Faults.{stream_fault_of_lines, stream_fault_of_output}
-use Rattle.tfpg_run.specs.Outputs.{HasOutputOfFirstLines, TextEnds}
-use Rattle.tfpg_run.specs.Streams.{Streams, streams}
+use Rattle.tfpg_streams.specs.Faults.{stream_fault_of_lines, stream_fault_of_output}
+use Rattle.tfpg_streams.specs.Outputs.{HasOutputOfFirstLines, TextEnds}
+use Rattle.tfpg_streams.specs.Streams.{Streams, streams}
 use Rattle.tfpg_run.specs.fleet.Answers.{Answer, answer_text, answers_text, blocks_for, opening_text, vehicle_of}
 use Rattle.tfpg_run.specs.fleet.FleetOutput.{AreAnswers, BeginsFleetOutput, FleetProblem, IsFleetOutputSoFar, answered_text, counts_text}
 use Rattle.tfpg_run.specs.fleet.FleetEnds.{AnswersStream}
 use Rattle.tfpg_run.specs.inside.fleet.UnderWay.{Answers, AreOwnBlocks, ComesTo, HasAnswered, HasAnsweredAll, IsAnswering, WritesAnswer, answering_at, kept_text}
-use Rattle.tfpg_run.proofs.InputLines.{came_to_end, few_lines, front_of_input, rest_at_end, rest_is_left, rest_of}
-use Rattle.tfpg_run.proofs.Putting.{Puts-append, Puts-same_held}
+use Rattle.tfpg_streams.proofs.lemmas.InputLines.{came_to_end, front_of_input, rest_at_end, rest_is_left, rest_of}
+use Rattle.tfpg_streams.proofs.lemmas.FewLines.{few_lines}
+use Rattle.tfpg_streams.proofs.lemmas.Putting.{Puts-append, Puts-same_held}
 use Rattle.tfpg_run.proofs.lemmas.diagnose.NextBlocks.{few_numbered}
 use Rattle.tfpg_run.proofs.lemmas.fleet.Counts.{kept_counts}
 use Rattle.tfpg_run.proofs.lemmas.fleet.NextAnswers.{no_own_blocks}

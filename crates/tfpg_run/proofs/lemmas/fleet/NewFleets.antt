@@ -14,12 +14,12 @@ use Rattle.tfpg_check.specs.Report.{HasReports}
 use Rattle.tfpg_run.specs.declared.end.End.{End}
 use Rattle.tfpg_run.specs.declared.end.End.TheVariants as ends
 use Rattle.tfpg_run.specs.declared.fault.FetchFault.{FetchFault}
-use Rattle.tfpg_run.specs.declared.fault.StreamFault.{StreamFault}
-use Rattle.tfpg_run.specs.declared.fault.StreamFault.TheVariants as faults
+use Rattle.tfpg_streams.specs.declared.fault.StreamFault.{StreamFault}
+use Rattle.tfpg_streams.specs.declared.fault.StreamFault.TheVariants as faults
 use Rattle.tfpg_run.specs.EndsOf.{end_of_fetch_fault, end_of_stream_fault}
 use Rattle.tfpg_run.specs.inside.Faults.{IsFetchFault, end_of_table_fault}
 use Rattle.tfpg_run.specs.Fetch.{Fetched, GivesGraph}
-use Rattle.tfpg_run.specs.Streams.{Streams}
+use Rattle.tfpg_streams.specs.Streams.{Streams}
 use Rattle.tfpg_run.specs.World.{Watched, World, streams_in, streams_of, watched_of}
 use Rattle.tfpg_run.specs.fleet.FleetOutput.{fleet_problem}
 use Rattle.tfpg_run.specs.fleet.FleetEnds.{AnswersStream, FleetEnds, FleetWords, fleet_words}

@@ -14,12 +14,12 @@ use Rattle.tfpg_hyp.specs.declared.table.TableFault.TheVariants.{TooMany, NoMemo
 use Rattle.tfpg_words.specs.Meaning.{Meaning, Predict}
 use Rattle.tfpg_run.specs.declared.end.End.{End}
 use Rattle.tfpg_run.specs.declared.end.End.TheVariants as ends
-use Rattle.tfpg_run.specs.declared.fault.OutputFault.{OutputFault}
-use Rattle.tfpg_run.specs.declared.fault.OutputFault.TheVariants as output
+use Rattle.tfpg_streams.specs.declared.fault.OutputFault.{OutputFault}
+use Rattle.tfpg_streams.specs.declared.fault.OutputFault.TheVariants as output
 use Rattle.tfpg_run.specs.declared.fault.ProbeFault.{ProbeFault}
 use Rattle.tfpg_run.specs.EndsOf.{end_of_output_fault, end_of_probe_fault}
 use Rattle.tfpg_run.specs.Fetch.{Fetched, GivesGraphAndText}
-use Rattle.tfpg_run.specs.Outputs.{TextEnds}
+use Rattle.tfpg_streams.specs.Outputs.{TextEnds}
 use Rattle.tfpg_run.specs.Run.{CommandEnds}
 use Rattle.tfpg_run.specs.World.{World, watched_of}
 use Rattle.tfpg_run.specs.inside.Faults.{end_of_table_fault}

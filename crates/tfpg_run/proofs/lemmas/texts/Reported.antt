@@ -18,13 +18,13 @@ use Rattle.tfpg_panel.specs.ToldRounds.{HasTold}
 use Rattle.tfpg_report.specs.Blocks.{Block}
 use Rattle.tfpg_check.specs.Report.{IsReport, rounds_of}
 use Rattle.tfpg_engine.specs.EngineState.{EngineState}
-use Rattle.tfpg_run.specs.declared.fault.StreamFault.{StreamFault}
-use Rattle.tfpg_run.specs.declared.fault.StreamFault.TheVariants as streams
+use Rattle.tfpg_streams.specs.declared.fault.StreamFault.{StreamFault}
+use Rattle.tfpg_streams.specs.declared.fault.StreamFault.TheVariants as streams
 use Rattle.tfpg_run.specs.declared.texts.fault.OpenFault.{OpenFault}
 use Rattle.tfpg_run.specs.declared.texts.fault.OpenFault.TheVariants as opening
 use Rattle.tfpg_run.specs.declared.texts.fault.ReportFault.{ReportFault}
 use Rattle.tfpg_run.specs.declared.texts.fault.ReportFault.TheVariants.{OutOfRange, Graph, TooManyHypotheses, TooMuchInput, NoMemory}
-use Rattle.tfpg_run.specs.Outputs.{IsStreamFault}
+use Rattle.tfpg_streams.specs.Outputs.{IsStreamFault}
 use Rattle.tfpg_run.specs.World.{Watched, streams_in, watched}
 use Rattle.tfpg_run.specs.diagnose.Diagnosing.{Diagnoses}
 use Rattle.tfpg_run.specs.diagnose.RightReport.{RoundsSay}
@@ -33,7 +33,7 @@ use Rattle.tfpg_run.specs.texts.Opening.{CanOpen, IsOpenFault}
 use Rattle.tfpg_run.specs.texts.Reports.{CanReport, IsPlainReport, IsReportFault, IsReportOfTexts}
 use Rattle.tfpg_run.specs.inside.texts.Faults.{IsWritingFault, report_fault_of_open, report_fault_of_stream}
 use Rattle.tfpg_run.specs.inside.texts.Opened.{IsNewEngineOf}
-use Rattle.tfpg_run.proofs.Completing.{all_taken}
+use Rattle.tfpg_streams.proofs.lemmas.InputLines.{all_taken}
 use Rattle.tfpg_run.proofs.lemmas.texts.Opened.{OpenLaws, no_fault_of_many, not_too_many, one_number}
 
 -- a desk without panels loses none

@@ -1,7 +1,7 @@
 use Rattle.tfpg_base.specs.Lines.{lines_of}
 use Rattle.tfpg_log.specs.LogOfLines.{log_of_lines}
 use Rattle.tfpg_sim.proofs.simulations.SimulatedSets.{simulated_members}
-use Rattle.tfpg_run.proofs.lemmas.map.WrittenMaps.{simulation_spells}
+use Rattle.tfpg_run.proofs.lemmas.simulate.SimulatedMaps.{simulation_spells}
 use Rattle.tfpg_run.proofs.simulate.simulation_text.Goals as goal
 
 pub text_of-requires-clause-members : goal.text_of-requires-clause-members

@@ -13,7 +13,7 @@ use Rattle.tfpg_check.specs.Causes.{DiagnosisProblem, AreRead, AreRight, AreRepo
 use Rattle.tfpg_check.specs.JudgeState.{JudgeState, JudgeRepresents}
 use Rattle.tfpg_run.specs.declared.fault.CheckFault.{CheckFault}
 use Rattle.tfpg_run.specs.declared.fault.CheckFault.TheVariants.{NotAccepted, TooMany, Stream}
-use Rattle.tfpg_run.specs.declared.fault.StreamFault.TheVariants.{ReadFault, WriteFault, TooMuchInput, NoMemory}
+use Rattle.tfpg_streams.specs.declared.fault.StreamFault.TheVariants.{ReadFault, WriteFault, TooMuchInput, NoMemory}
 use Rattle.tfpg_run.specs.declared.check.report_lines.NextReportLine.{NextReportLine}
 use Rattle.tfpg_run.specs.declared.check.report_lines.NextReportLine.TheVariants.{Right, Ended}
 use Rattle.tfpg_run.specs.check.Checking.{IsRefused, HasTooManyInHead, IsRightSoFar}

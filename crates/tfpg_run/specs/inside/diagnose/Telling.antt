@@ -1,7 +1,7 @@
 -- Telling the desk a round once its text is written, and the lines of the panels that are lost.
 use Rattle.std.specs.Prelude.{◌≡◌, ◌⊎◌, ℕ, List, ◌++◌, length, drop, flat_map, codes, Bool, true, false, Option, Some, None, Result, Ok, Err}
 use Rattle.tfpg_base.specs.Outside.{SinkState, Puts}
-use Rattle.tfpg_run.specs.inside.Writing.{Cuts}
+use Rattle.tfpg_streams.specs.Writing.{Cuts}
 use Rattle.tfpg_evidence.specs.declared.round.Round.{Round}
 use Rattle.tfpg_panel.specs.declared.panel.PanelFault.{PanelFault}
 use Rattle.tfpg_panel.specs.declared.panel.PanelFault.TheVariants.{Lost, NoMemory}
@@ -10,8 +10,8 @@ use Rattle.tfpg_panel.specs.Desk.{DeskState, IsTold}
 use Rattle.tfpg_report.specs.Blocks.{Loss, lost_text}
 use Rattle.tfpg_run.specs.declared.diagnose.report.NextBlock.{NextBlock}
 use Rattle.tfpg_run.specs.declared.diagnose.report.NextBlock.TheVariants.{Written}
-use Rattle.tfpg_run.specs.declared.fault.StreamFault.{StreamFault}
-use Rattle.tfpg_run.specs.declared.fault.StreamFault.TheVariants.{WriteFault}
+use Rattle.tfpg_streams.specs.declared.fault.StreamFault.{StreamFault}
+use Rattle.tfpg_streams.specs.declared.fault.StreamFault.TheVariants.{WriteFault}
 
 -- whether memory ran out for the panel
 abbrev pub is_memory : PanelFault → Bool

@@ -16,8 +16,8 @@ use Rattle.tfpg_run.specs.diagnose.RightReport.{RoundsSay}
 use Rattle.tfpg_run.specs.inside.diagnose.LineBlocks.{EngineReports}
 use Rattle.tfpg_run.specs.diagnose.Diagnosing.{Diagnoses}
 use Rattle.tfpg_run.specs.diagnose.Work.{AreBlocksWithin, IsReportWithin}
-use Rattle.tfpg_run.specs.Outputs.{WorksToEnd}
-use Rattle.tfpg_run.specs.Streams.{CountsUnchanged}
+use Rattle.tfpg_streams.specs.Outputs.{WorksToEnd}
+use Rattle.tfpg_streams.specs.Streams.{CountsUnchanged}
 use Rattle.tfpg_run.specs.World.{Watched, streams_in}
 
 -- a diagnosis at one moment: the streams with the desk, the reader of lines and the engine

@@ -16,21 +16,21 @@ use Rattle.tfpg_fleet.specs.FleetState.{FleetRepresents, names_of}
 use Rattle.tfpg_log.specs.declared.refused_line.RefusedLine.TheVariants.{Offer}
 use Rattle.tfpg_report.specs.Blocks.{Block, refused_text, round_text}
 use Rattle.tfpg_check.specs.Report.{AreBlocks, HasReports}
-use Rattle.tfpg_run.specs.declared.fault.StreamFault.{StreamFault}
-use Rattle.tfpg_run.specs.declared.fault.StreamFault.TheVariants.{WriteFault}
+use Rattle.tfpg_streams.specs.declared.fault.StreamFault.{StreamFault}
+use Rattle.tfpg_streams.specs.declared.fault.StreamFault.TheVariants.{WriteFault}
 use Rattle.tfpg_run.specs.declared.fleet.FleetSubject.{FleetSubject}
 use Rattle.tfpg_run.specs.declared.fleet.stream.NextAnswer.{NextAnswer}
 use Rattle.tfpg_run.specs.declared.fleet.stream.NextAnswer.TheVariants.{Written, Ended}
 use Rattle.tfpg_run.specs.declared.fleet.watch.Vehicles.{Vehicles}
 use Rattle.tfpg_run.specs.declared.fleet.watch.Watch.{Watch}
-use Rattle.tfpg_run.specs.Streams.{Streams, CountsUnchanged}
+use Rattle.tfpg_streams.specs.Streams.{Streams, CountsUnchanged}
 use Rattle.tfpg_run.specs.diagnose.RightReport.{RoundsSay}
 use Rattle.tfpg_run.specs.diagnose.TellsPanels.{losses_in}
 use Rattle.tfpg_run.specs.fleet.Answers.{Answer, answer_text, blocks_for, vehicle_of}
 use Rattle.tfpg_run.specs.fleet.Counting.{is_in, last_ranks, modes_text, ranks, vehicles_that}
 use Rattle.tfpg_run.specs.fleet.FleetEnds.{FleetWords, fleet_words}
 use Rattle.tfpg_run.specs.fleet.FleetOutput.{FleetProblem, answered_text, fleet_problem, rounds_for}
-use Rattle.tfpg_run.specs.inside.Writing.{Cuts}
+use Rattle.tfpg_streams.specs.Writing.{Cuts}
 
 -- what the words say, as the code has it
 abbrev pub said_by : FleetSubject → FleetWords

@@ -2,7 +2,7 @@ use Rattle.std.proofs.Common.{subst}
 use Rattle.tfpg_base.proofs.lists.Choices.{IfErr-from}
 use Rattle.tfpg_run.specs.inside.Faults.{check_fault_of_judge}
 use Rattle.tfpg_run.specs.inside.check.UnderWay.{ChecksOn, LacksReport, ReadsOn, checking_at}
-use Rattle.tfpg_run.proofs.InputLines.{falls_short}
+use Rattle.tfpg_streams.proofs.lemmas.InputLines.{falls_short}
 use Rattle.tfpg_run.proofs.lemmas.check.NextReportLines.{accepts_at_end, begins_judging, few_read, lacks_at_end}
 use Rattle.tfpg_run.proofs.check.report_lines.judge_lines.Goals as goal
 

@@ -1,5 +1,5 @@
-use Rattle.tfpg_run.specs.declared.fault.StreamFault.TheVariants as faults
-use Rattle.tfpg_run.specs.inside.Faults.{stream_fault_of_lines}
+use Rattle.tfpg_streams.specs.declared.fault.StreamFault.TheVariants as faults
+use Rattle.tfpg_streams.specs.Faults.{stream_fault_of_lines}
 use Rattle.tfpg_base.proofs.lists.Choices.{IfErr-from}
 use Rattle.tfpg_run.proofs.lemmas.diagnose.NextBlocks.{ends_by_fault, met_end, met_text, met_long, gave_without_memory, done_within, long_within, text_within}
 use Rattle.tfpg_run.proofs.lemmas.diagnose.WrittenBlocks.{wrote, wrote_within, stopped}

@@ -1,12 +1,12 @@
 use Rattle.std.proofs.Common.{refl, sym, subst, ◌∙◌}
-use Rattle.tfpg_run.specs.declared.fault.StreamFault.TheVariants as faults
+use Rattle.tfpg_streams.specs.declared.fault.StreamFault.TheVariants as faults
 use Rattle.tfpg_graph.specs.Valid.{IsValid}
 use Rattle.tfpg_run.specs.World.{watched}
 use Rattle.tfpg_run.specs.diagnose.Diagnosing.{Diagnoses}
 use Rattle.tfpg_run.specs.inside.diagnose.UnderWay.{ComesTo, ComesToWithin, diagnosis_at}
 use Rattle.tfpg_base.proofs.lists.Choices.{Err-from}
-use Rattle.tfpg_run.proofs.Putting.{Puts-same}
-use Rattle.tfpg_run.proofs.InputLines.{falls_short}
+use Rattle.tfpg_streams.proofs.lemmas.Putting.{Puts-same}
+use Rattle.tfpg_streams.proofs.lemmas.InputLines.{falls_short}
 use Rattle.tfpg_run.proofs.lemmas.diagnose.NextBlocks.{few_given, head_as, begins_within, begins_without_memory, begins_badly}
 use Rattle.tfpg_panel.specs.Desk.{seen_by}
 use Rattle.tfpg_run.proofs.diagnose.report.write_report.Goals as goal

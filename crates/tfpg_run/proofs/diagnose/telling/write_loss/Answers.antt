@@ -1,6 +1,6 @@
 use Rattle.std.proofs.Common.{List, ℕ, subst, ◌∙◌}
-use Rattle.tfpg_run.specs.inside.Writing.{Cuts}
-use Rattle.tfpg_run.proofs.Putting.{Puts-same, Writes-failed, Writes-same, Writes-then, cut_first}
+use Rattle.tfpg_streams.specs.Writing.{Cuts}
+use Rattle.tfpg_streams.proofs.lemmas.Putting.{Puts-same, Writes-failed, Writes-same, Writes-then, cut_first}
 use Rattle.tfpg_run.proofs.lemmas.diagnose.LossLines.{after_first, first_cut}
 use Rattle.tfpg_run.specs.inside.diagnose.Telling.{end_of_loss}
 use Rattle.tfpg_run.proofs.diagnose.telling.write_loss.Goals as goal

@@ -1,6 +1,6 @@
 use Rattle.tfpg_panel.specs.declared.panel.PanelFault.TheVariants.{Lost}
 use Rattle.tfpg_panel.specs.declared.lost_panel.LostPanel.{LostPanel}
-use Rattle.tfpg_run.proofs.Putting.{Writes-failed}
+use Rattle.tfpg_streams.proofs.lemmas.Putting.{Writes-failed}
 use Rattle.tfpg_run.proofs.lemmas.diagnose.LossLines.{lines_all, lines_end, lines_more}
 use Rattle.tfpg_run.proofs.diagnose.telling.write_losses.Goals as goal
 

@@ -1,5 +1,5 @@
 use Rattle.std.proofs.Common.{take, Ok}
-use Rattle.tfpg_run.specs.inside.Writing.{Writes}
+use Rattle.tfpg_streams.specs.Writing.{Writes}
 use Rattle.tfpg_run.specs.inside.diagnose.Telling.{losses_text}
 use Rattle.tfpg_run.proofs.diagnose.telling.write_losses.Given as goal
 

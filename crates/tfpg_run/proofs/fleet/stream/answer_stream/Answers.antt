@@ -1,13 +1,12 @@
-use Rattle.std.proofs.Common.{subst, ◌∙◌}
-use Rattle.tfpg_run.specs.declared.fault.StreamFault.TheVariants as faults
-use Rattle.tfpg_run.specs.Streams.{streams}
+use Rattle.std.proofs.Common.{subst, ◌∙◌, Ok, Err}
+use Rattle.tfpg_streams.specs.declared.fault.StreamFault.TheVariants as faults
+use Rattle.tfpg_streams.specs.Streams.{streams}
 use Rattle.tfpg_run.specs.inside.fleet.UnderWay.{ComesTo, answering_at, problem_in}
 use Rattle.tfpg_base.proofs.lists.Choices.{IfErr-from}
-use Rattle.tfpg_run.proofs.Putting.{Puts-same}
-use Rattle.tfpg_run.proofs.InputLines.{falls_short}
+use Rattle.tfpg_streams.proofs.lemmas.Putting.{Puts-same}
+use Rattle.tfpg_streams.proofs.lemmas.InputLines.{falls_short}
 use Rattle.tfpg_run.proofs.lemmas.fleet.AnsweredStreams.{begins_answering, begins_badly, begins_without_memory, counted, few_read, kept_same, not_counted}
-use Rattle.tfpg_run.specs.inside.Faults.{stream_fault_of_output}
-use Rattle.std.proofs.Common.{Ok, Err}
+use Rattle.tfpg_streams.specs.Faults.{stream_fault_of_output}
 use Rattle.tfpg_run.proofs.fleet.stream.answer_stream.Goals as goal
 
 pub returns-in_err-lines-clause-stopped : goal.returns-in_err-lines-clause-stopped

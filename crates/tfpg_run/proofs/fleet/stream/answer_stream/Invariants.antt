@@ -1,6 +1,6 @@
 use Rattle.std.proofs.Common.{◌-◌, ◌+◌}
 use Rattle.tfpg_base.specs.declared.limits.TheConstants.{MAX_BYTES}
-use Rattle.tfpg_run.specs.Streams.{streams}
+use Rattle.tfpg_streams.specs.Streams.{streams}
 use Rattle.tfpg_run.specs.inside.fleet.UnderWay.{IsAnswering, answering_at, problem_in}
 use Rattle.tfpg_run.proofs.fleet.stream.answer_stream.Given as goal
 

@@ -1,0 +1,2 @@
+-- Lemmas on maps.
+pub mod lemmas

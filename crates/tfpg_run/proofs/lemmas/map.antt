@@ -1,6 +1,0 @@
--- Maps: their lines and words, reading them, and that each text spells at most one.
-pub mod LineWords
-pub mod Lines
-pub mod NextLines
-pub mod OneMap
-pub mod WrittenMaps

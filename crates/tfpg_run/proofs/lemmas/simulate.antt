@@ -1,0 +1,2 @@
+-- The map of what was simulated.
+pub mod SimulatedMaps

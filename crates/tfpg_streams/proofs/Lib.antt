@@ -1,0 +1,2 @@
+-- Lemmas that whoever reads line by line, or writes piece by piece, needs.
+pub mod lemmas
