@@ -8,10 +8,10 @@ use Rattle.tfpg_evidence.specs.declared.round.Round.{Round}
 use Rattle.tfpg_engine.specs.EngineState.{EngineState, EngineRepresents}
 use Rattle.tfpg_engine.specs.declared.told.EventFault.{EventFault}
 use Rattle.tfpg_engine.specs.declared.told.EventFault.TheVariants as event
-use Rattle.tfpg_run.specs.declared.texts.fault.OpenFault.{OpenFault}
-use Rattle.tfpg_run.specs.declared.texts.fault.OpenFault.TheVariants as opening
-use Rattle.tfpg_run.specs.texts.Opening.{CanOpen, IsOpenFault}
-use Rattle.tfpg_run.specs.texts.Sessions.{CountsBlock, SessionRepresents}
+use Rattle.tfpg_diagnose.specs.declared.texts.fault.OpenFault.{OpenFault}
+use Rattle.tfpg_diagnose.specs.declared.texts.fault.OpenFault.TheVariants as opening
+use Rattle.tfpg_diagnose.specs.texts.Opening.{CanOpen, IsOpenFault}
+use Rattle.tfpg_diagnose.specs.texts.Sessions.{CountsBlock, SessionRepresents}
 use Rattle.tfpg_embed.specs.declared.answer.TfpgAnswer.{TfpgAnswer}
 use Rattle.tfpg_embed.specs.declared.session.open_session.OpenSession.{OpenSession}
 use Rattle.tfpg_embed.specs.declared.status.TheConstants.{DONE, ENDED}

@@ -5,9 +5,9 @@ use Rattle.tfpg_base.specs.Lines.{HasNoLineEnd, lines_of, with_line_end}
 use Rattle.tfpg_base.specs.declared.terms.Terms.{Terms}
 use Rattle.tfpg_base.proofs.LinesOf.{lines_again}
 use Rattle.tfpg_graph.specs.Graph.{Tfpg}
-use Rattle.tfpg_run.specs.texts.Opening.{GivesGraphOf}
-use Rattle.tfpg_run.specs.texts.Reports.{IsPlainReport, IsReportOfTexts}
-use Rattle.tfpg_run.specs.texts.Sessions.{SessionRepresents, SessionState}
+use Rattle.tfpg_diagnose.specs.texts.Opening.{GivesGraphOf}
+use Rattle.tfpg_diagnose.specs.texts.Reports.{IsPlainReport, IsReportOfTexts}
+use Rattle.tfpg_diagnose.specs.texts.Sessions.{SessionRepresents, SessionState}
 
 pub report_of_lines : (graph_text : List ℕ) (graph : Tfpg) (terms : Terms) (lines : List (List ℕ)) (bytes : List ℕ) (session : SessionState) → GivesGraphOf graph_text graph
     → SessionRepresents graph terms lines bytes session → All HasNoLineEnd lines → IsReportOfTexts graph_text terms (flat_map with_line_end lines) bytes

@@ -4,12 +4,12 @@ use Rattle.tfpg_graph.specs.declared.cause.GraphFault.{GraphFault}
 use Rattle.tfpg_check.specs.declared.cause.CheckCause.{CheckCause}
 use Rattle.tfpg_engine.specs.declared.told.EventFault.{EventFault}
 use Rattle.tfpg_engine.specs.declared.told.EventFault.TheVariants as event
-use Rattle.tfpg_run.specs.declared.texts.fault.OpenFault.{OpenFault}
-use Rattle.tfpg_run.specs.declared.texts.fault.OpenFault.TheVariants as opening
-use Rattle.tfpg_run.specs.declared.texts.fault.ReportFault.{ReportFault}
-use Rattle.tfpg_run.specs.declared.texts.fault.ReportFault.TheVariants as reporting
-use Rattle.tfpg_run.specs.declared.texts.fault.CheckTextsFault.{CheckTextsFault}
-use Rattle.tfpg_run.specs.declared.texts.fault.CheckTextsFault.TheVariants as checking
+use Rattle.tfpg_diagnose.specs.declared.texts.fault.OpenFault.{OpenFault}
+use Rattle.tfpg_diagnose.specs.declared.texts.fault.OpenFault.TheVariants as opening
+use Rattle.tfpg_diagnose.specs.declared.texts.fault.ReportFault.{ReportFault}
+use Rattle.tfpg_diagnose.specs.declared.texts.fault.ReportFault.TheVariants as reporting
+use Rattle.tfpg_diagnose.specs.declared.texts.fault.CheckTextsFault.{CheckTextsFault}
+use Rattle.tfpg_diagnose.specs.declared.texts.fault.CheckTextsFault.TheVariants as checking
 use Rattle.tfpg_embed.specs.declared.answer.TfpgAnswer.{TfpgAnswer}
 use Rattle.tfpg_embed.specs.declared.status.TheConstants.{DONE, NOT_ACCEPTED, OUT_OF_RANGE, BAD_GRAPH, TOO_MANY_HYPOTHESES, TOO_MUCH_INPUT, NO_MEMORY, ROOM_TOO_SMALL, ENDED}
 use Rattle.tfpg_embed.specs.Causes.{check_cause_number, graph_cause_number}

@@ -1,12 +1,12 @@
 -- What the calls over whole texts come to.
 use Rattle.std.specs.Prelude.{◌≡◌, ◌≢◌, ◌⊎◌, ℕ, List, length, Result, Ok, Err, IfErr, IfOk, IsOkUnless, OnOk}
 use Rattle.tfpg_base.specs.declared.terms.Terms.{Terms}
-use Rattle.tfpg_run.specs.declared.texts.fault.ReportFault.{ReportFault}
-use Rattle.tfpg_run.specs.declared.texts.fault.ReportFault.TheVariants as reporting
-use Rattle.tfpg_run.specs.declared.texts.fault.CheckTextsFault.{CheckTextsFault}
-use Rattle.tfpg_run.specs.declared.texts.fault.CheckTextsFault.TheVariants as checking
-use Rattle.tfpg_run.specs.texts.Reports.{CanReport, IsReportFault, IsReportOfTexts}
-use Rattle.tfpg_run.specs.texts.Checks.{AreShort, CanAccept, CanRefuseText, CheckedTexts, IsAcceptedText, IsCheckTextsFault}
+use Rattle.tfpg_diagnose.specs.declared.texts.fault.ReportFault.{ReportFault}
+use Rattle.tfpg_diagnose.specs.declared.texts.fault.ReportFault.TheVariants as reporting
+use Rattle.tfpg_diagnose.specs.declared.texts.fault.CheckTextsFault.{CheckTextsFault}
+use Rattle.tfpg_diagnose.specs.declared.texts.fault.CheckTextsFault.TheVariants as checking
+use Rattle.tfpg_diagnose.specs.texts.Reports.{CanReport, IsReportFault, IsReportOfTexts}
+use Rattle.tfpg_diagnose.specs.texts.Checks.{AreShort, CanAccept, CanRefuseText, CheckedTexts, IsAcceptedText, IsCheckTextsFault}
 use Rattle.tfpg_embed.specs.declared.answer.TfpgAnswer.{TfpgAnswer}
 use Rattle.tfpg_embed.specs.declared.status.TheConstants.{DONE}
 use Rattle.tfpg_embed.specs.Answers.{answer_of, answer_of_check_fault, answer_of_report_fault, answer_of_text, counted}

@@ -8,9 +8,9 @@ use crate::status::{
     BAD_GRAPH, ENDED, NO_MEMORY, NOT_ACCEPTED, OUT_OF_RANGE, TOO_MANY_HYPOTHESES, TOO_MUCH_INPUT,
 };
 use tfpg_check::CheckCause;
+use tfpg_diagnose::{CheckTextsFault, OpenFault, ReportFault};
 use tfpg_engine::EventFault;
 use tfpg_graph::{GraphCause, GraphFault};
-use tfpg_run::{CheckTextsFault, OpenFault, ReportFault};
 
 /// How a call ended, and what there is to say of it. What a status says nothing of is 0.
 #[repr(C)]

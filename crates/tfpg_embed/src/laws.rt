@@ -6,9 +6,9 @@ ghost use Rattle.tfpg_base.specs.declared.terms.Terms.{Terms};
 ghost use Rattle.tfpg_graph.specs.Graph.{Tfpg};
 ghost use Rattle.tfpg_graph.specs.declared.cause.GraphCause.{GraphCause};
 ghost use Rattle.tfpg_check.specs.declared.cause.CheckCause.{CheckCause};
-ghost use Rattle.tfpg_run.specs.texts.Opening.{GivesGraphOf};
-ghost use Rattle.tfpg_run.specs.texts.Reports.{IsReportOfTexts};
-ghost use Rattle.tfpg_run.specs.texts.Sessions.{SessionRepresents, SessionState};
+ghost use Rattle.tfpg_diagnose.specs.texts.Opening.{GivesGraphOf};
+ghost use Rattle.tfpg_diagnose.specs.texts.Reports.{IsReportOfTexts};
+ghost use Rattle.tfpg_diagnose.specs.texts.Sessions.{SessionRepresents, SessionState};
 ghost use Rattle.tfpg_embed.specs.Causes.{check_cause_number, graph_cause_number};
 ghost use Rattle.tfpg_embed.specs.declared.status.TheConstants.{DONE, NOT_ACCEPTED, OUT_OF_RANGE, BAD_GRAPH, TOO_MANY_HYPOTHESES, TOO_MUCH_INPUT, NO_MEMORY, ROOM_TOO_SMALL, ENDED};
 

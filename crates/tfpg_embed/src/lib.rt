@@ -3,7 +3,7 @@
 //! [`tfpg_report`] writes the report of a whole log into a room, and [`tfpg_check`] judges one. A [`TfpgSession`] takes one line after
 //! the other: [`tfpg_open`] opens it, [`tfpg_line`] takes a line, [`tfpg_block`] writes the block of the line into a room, and
 //! [`tfpg_close`] closes it. Each call but the last answers by a [`TfpgAnswer`], whose status is [`DONE`] or another of the constants.
-//! What opens, takes a line, reports or judges calls `tfpg_run`, and its clause says what came of that.
+//! What opens, takes a line, reports or judges calls `tfpg_diagnose`, and its clause says what came of that.
 //!
 //! [`laws`] says that the statuses are the numbers that the header has.
 //!

@@ -1,7 +1,7 @@
 //! The calls over whole texts.
 
 ghost use Rattle.std.specs.Prelude.{◌≡◌, length};
-ghost use Rattle.tfpg_run.specs.texts.Checks.{checked_texts};
+ghost use Rattle.tfpg_diagnose.specs.texts.Checks.{checked_texts};
 ghost use Rattle.tfpg_embed.specs.TextCalls.{AnswersCheck, AnswersReport, terms_of};
 
 use crate::answer::{TfpgAnswer, of_check_fault, of_report_fault, with_count};
@@ -9,7 +9,7 @@ use crate::room::put_text;
 use crate::status::DONE;
 use std::alloc::Global;
 use tfpg_base::Terms;
-use tfpg_run::{check_texts, diagnose_texts};
+use tfpg_diagnose::{check_texts, diagnose_texts};
 
 /// Writes the report of the lines of the log, for the graph that the text spells, on these terms, to the front of the room. The answer has
 /// the number of its bytes, also if the room is too small, and then nothing is written.

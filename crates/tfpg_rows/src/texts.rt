@@ -8,8 +8,9 @@ use crate::runs::append_difference;
 use itoa::Buffer;
 use std::alloc::Global;
 use tfpg_base::{NoMemory, Terms, append_line};
+use tfpg_diagnose::{CheckTextsFault, ReportFault, Session, check_texts, diagnose_texts};
 use tfpg_graph::GraphFault;
-use tfpg_run::{CheckTextsFault, End, ReportFault, Session, check_texts, diagnose_texts};
+use tfpg_run::End;
 use tfpg_words::UsageCause;
 
 /// Makes the report of the input, by the text of a file and the terms that the words say, and appends what came of it.

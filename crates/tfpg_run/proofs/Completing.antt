@@ -22,8 +22,7 @@ use Rattle.tfpg_log.specs.LogOfLines.{log_of_lines}
 use Rattle.tfpg_report.specs.Blocks.{Block}
 use Rattle.tfpg_check.specs.declared.cause.CheckCause.{CheckCause}
 use Rattle.tfpg_check.specs.Causes.{AreReportLines, IsCause, DiagnosisProblem}
-use Rattle.tfpg_check.specs.RightReports.{LinesHaveOneCause, LinesOfTooManyHaveNoCause, ShortReportsHaveNoCause}
-use Rattle.tfpg_check.proofs.FirstLines.{OneLine, few_hypotheses}
+use Rattle.tfpg_check.proofs.FirstLines.{few_hypotheses}
 use Rattle.tfpg_sim.specs.Script.{IsScriptFault}
 use Rattle.tfpg_words.specs.declared.usage_cause.UsageCause.{UsageCause}
 use Rattle.tfpg_words.specs.Meaning.{Meaning, Diagnose, Explain, Check, Simulate, Generate, Convert, Ask, Fleet, Predict}
@@ -35,8 +34,8 @@ use Rattle.tfpg_streams.specs.declared.fault.StreamFault.{StreamFault}
 use Rattle.tfpg_streams.specs.declared.fault.StreamFault.TheVariants as streams
 use Rattle.tfpg_run.specs.declared.fault.ExplainFault.{ExplainFault}
 use Rattle.tfpg_run.specs.declared.fault.ExplainFault.TheVariants as explain
-use Rattle.tfpg_run.specs.declared.fault.CheckFault.{CheckFault}
-use Rattle.tfpg_run.specs.declared.fault.CheckFault.TheVariants as check
+use Rattle.tfpg_diagnose.specs.declared.fault.CheckFault.{CheckFault}
+use Rattle.tfpg_diagnose.specs.declared.fault.CheckFault.TheVariants as check
 use Rattle.tfpg_run.specs.declared.fault.SimulateFault.{SimulateFault}
 use Rattle.tfpg_run.specs.declared.fault.SimulateFault.TheVariants as simulate
 use Rattle.tfpg_streams.specs.declared.fault.OutputFault.{OutputFault}
@@ -49,21 +48,24 @@ use Rattle.tfpg_run.specs.Fetch.{HasFile, IsTooLong, GivesGraph, GivesGraphBy, G
 use Rattle.tfpg_run.specs.generate.Generating.{HasSummary}
 use Rattle.tfpg_run.specs.ask.Asking.{AskEnds, QuestionsEnd}
 use Rattle.tfpg_run.specs.convert.Converting.{ConvertEnds, IsFaultFrom, SpellsFrom, converted_text}
-use Rattle.tfpg_run.specs.check.Checking.{CheckEnds, CheckingEnds, HasTooManyInHead, IsAccepted, problem_of}
+use Rattle.tfpg_run.specs.check.Checking.{CheckEnds, CheckingEnds, IsAccepted}
+use Rattle.tfpg_diagnose.specs.JudgedReports.{HasTooManyInHead, problem_of}
 use Rattle.tfpg_run.specs.explain.Explaining.{ExplainEnds, ExplainingEnds}
 use Rattle.tfpg_map.specs.Spelling.{HasMap, BeginsMap, IsMapFault}
 use Rattle.tfpg_streams.specs.Outputs.{IsStreamFault, TextEnds}
 use Rattle.tfpg_run.specs.Run.{CommandEnds, RunEnds}
 use Rattle.tfpg_run.specs.fleet.FleetEnds.{AnswersStream, FleetDiagnosisEnds, FleetEnds, FleetWords, HasFewForFleet, fleet_words}
 use Rattle.tfpg_run.specs.fleet.FleetOutput.{fleet_problem}
-use Rattle.tfpg_run.specs.diagnose.Diagnosing.{Diagnoses, DiagnoseEnds, DiagnosisEnds}
+use Rattle.tfpg_diagnose.specs.Diagnosing.{Diagnoses}
+use Rattle.tfpg_run.specs.diagnose.Diagnosing.{DiagnoseEnds, DiagnosisEnds}
 use Rattle.tfpg_run.specs.simulate.Simulating.{HasSimulation, SimulateEnds, SimulationEnds}
-use Rattle.tfpg_run.specs.diagnosis.TooMany.{HasFewHypotheses}
+use Rattle.tfpg_run.specs.TooMany.{HasFewHypotheses}
 use Rattle.tfpg_run.specs.predict.Forecasts.{HasForecasts, Prediction, prediction}
 use Rattle.tfpg_run.specs.predict.Predicting.{PredictEnds, PredictionEnds}
 use Rattle.tfpg_streams.specs.Streams.{HasLeft}
 use Rattle.tfpg_run.specs.World.{World, streams_of, watched_of}
 use Rattle.tfpg_streams.proofs.lemmas.InputLines.{all_taken}
+use Rattle.tfpg_diagnose.proofs.lemmas.JudgedReports.{CheckLaws}
 
 -- no text of a valid graph has a fault, for any notions of both
 abbrev NoFaultBy : (List ℕ → Tfpg → Type 0) → (List ℕ → GraphFault → Type 0) → Type 0
@@ -78,13 +80,6 @@ pub record GraphLaws : Type 0 where
 no_fault_from : GraphLaws → (json : Bool) → NoFaultBy (SpellsFrom json) (IsFaultFrom json)
 no_fault_from laws true = laws.json
 no_fault_from laws false = laws.text
-
--- What cause lines have, and what bytes say: the laws that a report that is checked needs.
-pub record CheckLaws : Type 0 where
-  pub no_cause : ShortReportsHaveNoCause
-  pub one_cause : LinesHaveOneCause
-  pub too_many : LinesOfTooManyHaveNoCause
-  pub one_line : OneLine
 
 -- ---- files that are there
 

@@ -1,10 +1,9 @@
 -- How a run on a file ends.
-use Rattle.std.proofs.Common.{◌≡◌, ℕ, ◌<◌, ◌≤◌, List, [], ◌∷◌, Result, Ok, Err, refl, sym, ap, subst, subst₂, ◌∙◌, inl, inr, Bool}
-use Rattle.std.specs.Prelude.{◌↔◌, IsErrAnd, OnOk, IfErr}
+use Rattle.std.proofs.Common.{◌≡◌, ℕ, ◌≤◌, List, [], ◌∷◌, Result, Ok, Err, refl, sym, subst, subst₂, ◌∙◌, inl, inr, Bool}
+use Rattle.std.specs.Prelude.{IsErrAnd, OnOk, IfErr}
 use Rattle.tfpg_base.specs.declared.terms.Terms.{Terms}
 use Rattle.tfpg_base.specs.Terms.{AreReportTerms}
 use Rattle.tfpg_graph.specs.Graph.{Tfpg}
-use Rattle.tfpg_check.specs.Report.{HasReports}
 use Rattle.tfpg_hyp.specs.Hypotheses.{HasHypotheses}
 use Rattle.tfpg_hyp.specs.declared.limits.TheConstants.{MAX_HYPOTHESES}
 use Rattle.tfpg_hyp.specs.declared.table.TableFault.{TableFault}
@@ -18,24 +17,27 @@ use Rattle.tfpg_streams.specs.declared.fault.StreamFault.{StreamFault}
 use Rattle.tfpg_streams.specs.declared.fault.StreamFault.TheVariants as faults
 use Rattle.tfpg_run.specs.inside.Faults.{IsFetchFault, end_of_table_fault}
 use Rattle.tfpg_base.proofs.lists.Choices.{IfErr-from}
-use Rattle.tfpg_run.proofs.lemmas.diagnose.NextBlocks.{begins_without_memory}
-use Rattle.tfpg_base.proofs.lists.Sequences.{not_above}
+use Rattle.tfpg_diagnose.proofs.lemmas.NextBlocks.{begins_without_memory}
 use Rattle.tfpg_run.specs.EndsOf.{end_of_fetch_fault, end_of_stream_fault, end_of_result}
 use Rattle.tfpg_run.specs.declared.fault.FetchFault.TheVariants as fetch
 use Rattle.tfpg_streams.specs.Outputs.{WorksToEnd}
-use Rattle.tfpg_run.specs.diagnose.Work.{IsReportWithin, RunsWithin}
+use Rattle.tfpg_diagnose.specs.Work.{IsReportWithin}
+use Rattle.tfpg_run.specs.diagnose.Work.{RunsWithin}
 use Rattle.tfpg_words.specs.declared.usage_cause.UsageCause.{UsageCause}
 use Rattle.tfpg_run.specs.Fetch.{Fetched, GivesGraph}
 use Rattle.tfpg_run.specs.Run.{CommandEnds}
-use Rattle.tfpg_run.specs.diagnose.Diagnosing.{Diagnoses, DiagnoseEnds}
+use Rattle.tfpg_diagnose.specs.Diagnosing.{Diagnoses}
+use Rattle.tfpg_run.specs.diagnose.Diagnosing.{DiagnoseEnds}
 use Rattle.tfpg_run.specs.explain.Explaining.{ExplainEnds}
 use Rattle.tfpg_run.specs.check.Checking.{CheckEnds}
 use Rattle.tfpg_run.specs.simulate.Simulating.{HasSimulation, SimulateEnds}
 use Rattle.tfpg_run.specs.convert.Converting.{ConvertEnds}
 use Rattle.tfpg_run.specs.ask.Asking.{AskEnds}
 use Rattle.tfpg_streams.specs.Streams.{Streams}
-use Rattle.tfpg_run.specs.World.{World, Watched, watched_of}
+use Rattle.tfpg_run.specs.World.{World, watched_of}
+use Rattle.tfpg_diagnose.specs.Watched.{Watched}
 use Rattle.tfpg_panel.specs.ToldRounds.{HasTold}
+use Rattle.tfpg_diagnose.proofs.lemmas.CountedHypotheses.{CountsHypotheses, without_memory}
 
 -- what holds besides, where there is a value
 pub OnOk-with : {T E : Type 0} (result : Result T E) (P Q : Type 0) → OnOk result P → Q → OnOk result (P × Q)
@@ -46,32 +48,6 @@ OnOk-with (Err fault) P Q is also = tt
 pub IfErr-with : {T E : Type 0} (result : Result T E) (P : E → Type 0) (Q : Type 0) → IfErr result P → Q → IfErr result (λ fault. P fault × Q)
 IfErr-with (Ok value) P Q is also = tt
 IfErr-with (Err fault) P Q is also = (is, also)
-
--- what the result of `Engine::new` says of the number of hypotheses
-abbrev pub CountsHypotheses : {X : Type 0} → Tfpg → Terms → Result X TableFault → Type 0
-CountsHypotheses graph terms result = (count : ℕ) → (result ≡ Err (TooMany count)) ↔ ((MAX_HYPOTHESES < count) × HasHypotheses graph terms count)
-
--- what is made of the engine says the same of their number
-pub counted_when_made : {X Y : Type 0} (graph : Tfpg) (terms : Terms) (engine : X) (made : Y) → CountsHypotheses graph terms (Ok engine) → CountsHypotheses graph terms (Ok made)
-counted_when_made graph terms engine made exact count = (λ is. cc, λ many. let is = (exact count).1 many in cc)
-
--- and so does the same fault
-pub counted_when_not : {X Y : Type 0} (graph : Tfpg) (terms : Terms) (fault : TableFault) → CountsHypotheses {X = X} graph terms (Err fault) → CountsHypotheses {X = Y} graph terms (Err fault)
-counted_when_not graph terms fault exact count =
-    (λ is. (exact count).0 (let same : fault ≡ TooMany count = cc in ap Err same), λ many. let is = (exact count).1 many in let same : fault ≡ TooMany count = cc in ap Err same)
-
--- where there is an engine, they are not too many
-pub not_too_many : {X : Type 0} (graph : Tfpg) (terms : Terms) (engine : X) → CountsHypotheses graph terms (Ok engine) → (count : ℕ) → HasHypotheses graph terms count → count ≤ MAX_HYPOTHESES
-not_too_many graph terms engine exact count counted = not_above count MAX_HYPOTHESES (λ many. let is = (exact count).1 (many, counted) in cc)
-
--- so there are reports, where the terms are within their limits
-pub has_reports : {X : Type 0} (graph : Tfpg) (terms : Terms) (engine : X) (g : Tfpg) (other : Terms) → CountsHypotheses graph terms (Ok engine) → g ≡ graph → other ≡ terms → AreReportTerms terms → HasReports g other
-has_reports graph terms engine g other exact e f within =
-    subst₂ HasReports (sym e) (sym f) (record { within = within; few_hypotheses = not_too_many graph terms engine exact })
-
--- nor where memory ran out
-pub without_memory : {X : Type 0} (graph : Tfpg) (terms : Terms) → CountsHypotheses {X = X} graph terms (Err NoMemory) → (count : ℕ) → HasHypotheses graph terms count → count ≤ MAX_HYPOTHESES
-without_memory graph terms exact count counted = not_above count MAX_HYPOTHESES (λ many. let is = (exact count).1 (many, counted) in cc)
 
 module _ {T : Type 0} (terms : Terms) (name : List ℕ) (before now : World) (result : Result T End) where
   -- the end at the exit of a `?`

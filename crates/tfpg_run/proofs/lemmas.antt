@@ -2,10 +2,8 @@
 pub mod diagnose
 pub mod explain
 pub mod check
-pub mod diagnosis
 pub mod simulate
 pub mod generate
 pub mod ask
 pub mod fleet
 pub mod predict
-pub mod texts

@@ -14,11 +14,11 @@ use Rattle.tfpg_base.specs.declared.terms.Terms.{Terms}
 use Rattle.tfpg_run.specs.declared.end.End.{End}
 use Rattle.tfpg_run.specs.declared.end.End.TheVariants.{Done, NoMemory, NotAccepted}
 use Rattle.tfpg_run.specs.Fetch.{GivesGraphBy, GivesGraphAndText}
-use Rattle.tfpg_run.specs.check.Checking.{problem_of}
+use Rattle.tfpg_diagnose.specs.JudgedReports.{problem_of}
 use Rattle.tfpg_run.specs.convert.Converting.{SpellsFrom}
 use Rattle.tfpg_map.specs.Spelling.{HasMap}
 use Rattle.tfpg_run.specs.fleet.FleetEnds.{HasFewForFleet, fleet_words}
-use Rattle.tfpg_run.specs.diagnosis.TooMany.{HasFewHypotheses}
+use Rattle.tfpg_run.specs.TooMany.{HasFewHypotheses}
 use Rattle.tfpg_run.specs.declared.fault.ProbeFault.{ProbeFault}
 use Rattle.tfpg_run.specs.predict.Probing.{probed_node}
 use Rattle.tfpg_run.specs.World.{World}

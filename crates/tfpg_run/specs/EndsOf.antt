@@ -6,8 +6,8 @@ use Rattle.tfpg_streams.specs.declared.fault.StreamFault.{StreamFault}
 use Rattle.tfpg_streams.specs.declared.fault.StreamFault.TheVariants as streams
 use Rattle.tfpg_run.specs.declared.fault.ExplainFault.{ExplainFault}
 use Rattle.tfpg_run.specs.declared.fault.ExplainFault.TheVariants as explain
-use Rattle.tfpg_run.specs.declared.fault.CheckFault.{CheckFault}
-use Rattle.tfpg_run.specs.declared.fault.CheckFault.TheVariants as check
+use Rattle.tfpg_diagnose.specs.declared.fault.CheckFault.{CheckFault}
+use Rattle.tfpg_diagnose.specs.declared.fault.CheckFault.TheVariants as check
 use Rattle.tfpg_run.specs.declared.fault.SimulateFault.{SimulateFault}
 use Rattle.tfpg_run.specs.declared.fault.SimulateFault.TheVariants as simulate
 use Rattle.tfpg_streams.specs.declared.fault.OutputFault.{OutputFault}

@@ -5,20 +5,18 @@ pub mod Ends
 pub mod EndsOf
 pub mod Run
 pub mod Completeness
+pub mod TooMany
 -- What they say of the lines of file panels.
 pub mod PanelLines
--- What they say of a diagnosis in memory, and of each command, in folders named like those of the source.
+-- What they say of each command, in folders named like those of the source.
 pub mod diagnose
 pub mod explain
 pub mod check
 pub mod simulate
-pub mod diagnosis
 pub mod generate
 pub mod convert
 pub mod ask
 pub mod fleet
 pub mod predict
--- What they say of calls over texts in memory.
-pub mod texts
 -- What the code and its proofs need besides. No public clause reaches it.
 pub mod inside

@@ -2,6 +2,7 @@
 use Rattle.tfpg_base.specs.Outside.{SourceState, SinkState, ShelfState}
 use Rattle.tfpg_panel.specs.Desk.{DeskState}
 use Rattle.tfpg_streams.specs.Streams.{Streams, streams}
+use Rattle.tfpg_diagnose.specs.Watched.{Watched, watched}
 
 -- the states of the shelf, the input, the output and the desk
 pub record World : Type 0 where
@@ -17,20 +18,6 @@ world shelf input output desk = record { shelf = shelf; input = input; output = 
 -- the input and the output of a world
 abbrev pub streams_of : World → Streams
 streams_of at = streams at.input at.output
-
--- What a diagnosis works on besides the shelf: the input, the output and the desk.
-pub record Watched : Type 0 where
-  pub input : SourceState
-  pub output : SinkState
-  pub desk : DeskState
-
--- these three
-abbrev pub watched : SourceState → SinkState → DeskState → Watched
-watched input output desk = record { input = input; output = output; desk = desk }
-
--- the input and the output of them
-abbrev pub streams_in : Watched → Streams
-streams_in at = streams at.input at.output
 
 -- all of a world but its shelf
 abbrev pub watched_of : World → Watched

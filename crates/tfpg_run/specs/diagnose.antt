@@ -1,7 +1,4 @@
--- How `diagnose` ends, and what its report says.
-pub mod TellsPanels
-pub mod RightReport
+-- How `diagnose` ends.
 pub mod Diagnosing
-pub mod BlockFindings
 pub mod Work
 pub mod InTime

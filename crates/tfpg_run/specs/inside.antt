@@ -2,13 +2,9 @@
 pub mod Faults
 pub mod Fetching
 pub mod Plans
-pub mod diagnose
 pub mod explain
-pub mod check
-pub mod diagnosis
 pub mod generate
 pub mod ask
 pub mod convert
 pub mod fleet
 pub mod predict
-pub mod texts

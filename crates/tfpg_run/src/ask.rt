@@ -12,7 +12,6 @@ ghost use Rattle.tfpg_run.specs.inside.ask.Asked.{CanBeAskedOf, IsNewDiagnosis, 
 mod among;
 mod answer;
 
-use crate::diagnosis::Diagnosis;
 use crate::end::End;
 use crate::fault::QuestionsFault;
 use crate::fetching::fetch_graph_and_text;
@@ -21,6 +20,7 @@ use answer::{append_answer, append_first_line};
 use std::alloc::Global;
 use std::sync::ledger::Ledger;
 use tfpg_base::{NoMemory, Shelf, Sink, Steps, Terms};
+use tfpg_diagnose::Diagnosis;
 use tfpg_graph::Graph;
 use tfpg_hyp::TableFault;
 use tfpg_hyp::laws::the_table_is_one;

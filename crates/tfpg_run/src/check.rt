@@ -6,19 +6,15 @@ ghost use Rattle.tfpg_base.specs.declared.limits.TheConstants.{LONGEST_FILE};
 ghost use Rattle.tfpg_streams.specs.Streams.{streams};
 ghost use Rattle.tfpg_panel.specs.Desk.{DeskState};
 ghost use Rattle.tfpg_run.specs.World.{world};
-ghost use Rattle.tfpg_run.specs.check.Checking.{CheckEnds, ChecksReport, problem_of};
-ghost use Rattle.tfpg_run.specs.inside.check.UnderWay.{AcceptsReport, LacksReport};
-
-mod report_lines;
+ghost use Rattle.tfpg_run.specs.check.Checking.{CheckEnds, ChecksReport};
+ghost use Rattle.tfpg_diagnose.specs.JudgedReports.{problem_of};
 
 use crate::end::End;
-use crate::fault::CheckFault;
 use crate::fetching::fetch_graph_and_text;
 use itoa::Buffer;
-use report_lines::judge_lines;
 use std::alloc::Global;
 use tfpg_base::{NoMemory, Shelf, Sink, Source, append_line};
-use tfpg_check::{Judge, LogText};
+use tfpg_diagnose::{CheckFault, judge_report};
 use tfpg_graph::Graph;
 use tfpg_streams::write_all;
 
@@ -66,24 +62,6 @@ fn check_report<S: Source, K: Sink>(
     let line = accepted_line(alloc, rounds)?;
     write_all(out, &line)?;
     Ok(())
-}
-
-/// Judges the report of the input by the graph and the lines of the log, and returns how many rounds it has.
-pub(crate) fn judge_report<T: LogText, S: Source>(
-    alloc: Global,
-    graph: Graph,
-    log_text: T,
-    input: &mut S,
-) -> Result<u32, CheckFault>
-    requires { length (T.text log_text) ≤ LONGEST_FILE }
-    ensures accepted { IfOk result (AcceptsReport (problem_of graph (T.text log_text)) (S.state input.old)
-        (S.state input.new)) }
-    ensures stopped { IfErr result (LacksReport (problem_of graph (T.text log_text)) (S.state input.old)
-        (S.state input.new)) }
-{
-    graph.is_always_valid();
-    let mut judge = Judge::by(alloc, graph, log_text);
-    judge_lines(alloc, &mut judge, input)
 }
 
 /// The line for a report that is accepted, with so many rounds.

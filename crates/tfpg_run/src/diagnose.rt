@@ -8,16 +8,12 @@ ghost use Rattle.tfpg_run.specs.EndsOf.{end_of_result};
 ghost use Rattle.tfpg_run.specs.diagnose.Diagnosing.{DiagnoseEnds};
 ghost use Rattle.tfpg_run.specs.diagnose.Work.{DiagnosesWithin};
 
-pub(crate) mod line_blocks;
-pub(crate) mod report;
-mod telling;
-
 use crate::end::End;
 use crate::fetching::fetch_graph;
-use report::write_report;
 use std::alloc::Global;
 use std::sync::ledger::Ledger;
 use tfpg_base::{Shelf, Sink, Source, Steps, Terms};
+use tfpg_diagnose::write_report;
 use tfpg_engine::Engine;
 use tfpg_panel::laws::a_desk_is_told_round_by_round;
 use tfpg_panel::{Desk, Panel};

@@ -8,13 +8,12 @@ ghost use Rattle.tfpg_run.specs.Ends.{check_cause_name, graph_cause_name, line_o
 ghost use Rattle.tfpg_run.specs.EndsOf.{end_of_check_fault, end_of_explain_fault, end_of_fetch_fault, end_of_output_fault, end_of_questions_fault, end_of_simulate_fault, end_of_stream_fault, end_of_probe_fault};
 ghost use Rattle.tfpg_run.specs.inside.Faults.{end_of_plan_fault, end_of_table_fault};
 
-use crate::fault::{
-    CheckFault, ExplainFault, FetchFault, ProbeFault, QuestionsFault, SimulateFault,
-};
+use crate::fault::{ExplainFault, FetchFault, ProbeFault, QuestionsFault, SimulateFault};
 use itoa::Buffer;
 use std::process::ExitCode;
 use tfpg_base::{NoMemory, append_words};
 use tfpg_check::CheckCause;
+use tfpg_diagnose::CheckFault;
 use tfpg_graph::GraphCause;
 use tfpg_hyp::TableFault;
 use tfpg_streams::{OutputFault, StreamFault};

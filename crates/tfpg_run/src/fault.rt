@@ -1,17 +1,15 @@
 //! What ends the parts of a run early: fetching files, and the work of each command.
 
 ghost use Rattle.std.specs.Prelude.{◌≡◌};
-ghost use Rattle.tfpg_run.specs.inside.Faults.{check_fault_of_judge, check_fault_of_lines, explain_fault_of_no_map, fetch_fault_of_refusal, fetch_fault_of_shelf, simulate_fault_of_sim};
+ghost use Rattle.tfpg_run.specs.inside.Faults.{explain_fault_of_no_map, fetch_fault_of_refusal, fetch_fault_of_shelf, simulate_fault_of_sim};
 ghost use Rattle.tfpg_run.specs.declared.fault.FetchFault.TheVariants as fetch;
 ghost use Rattle.tfpg_streams.specs.declared.fault.StreamFault.TheVariants as streams;
 ghost use Rattle.tfpg_run.specs.declared.fault.ExplainFault.TheVariants as explain;
-ghost use Rattle.tfpg_run.specs.declared.fault.CheckFault.TheVariants as check;
 ghost use Rattle.tfpg_run.specs.declared.fault.SimulateFault.TheVariants as simulate;
 ghost use Rattle.tfpg_run.specs.declared.fault.QuestionsFault.TheVariants as asking;
 ghost use Rattle.tfpg_run.specs.inside.ask.Asked.{questions_fault_of_table};
 
-use tfpg_base::{Failed, LineFault, NoMemory, ShelfFault};
-use tfpg_check::{CheckCause, JudgeFault};
+use tfpg_base::{Failed, NoMemory, ShelfFault};
 use tfpg_graph::{GraphFault, GraphRefusal};
 use tfpg_hyp::TableFault;
 use tfpg_map::NoMap;
@@ -96,53 +94,6 @@ impl From<Failed> for ExplainFault {
 
     fn from(_e: Failed) -> ExplainFault {
         ExplainFault::Stream(StreamFault::WriteFault)
-    }
-}
-
-/// Why the report of the input was not accepted, or that it is accepted was not written.
-#[derive(Clone, Copy, Debug, PartialEq, Eq)]
-pub(crate) enum CheckFault {
-    /// The first test of the report that fails says this line and this cause.
-    NotAccepted { line: u64, cause: CheckCause },
-    /// The first line gives more than [`MAX_HYPOTHESES`](tfpg_hyp::MAX_HYPOTHESES) hypotheses, exactly this many.
-    TooMany { count: u128 },
-    /// The input was not read to its end, or the output not written.
-    Stream(StreamFault),
-}
-
-impl From<JudgeFault> for CheckFault {
-    ghost from_gives = { λ fault e. e ≡ check_fault_of_judge fault };
-
-    fn from(fault: JudgeFault) -> CheckFault {
-        match fault {
-            JudgeFault::NotAccepted { line, cause } => CheckFault::NotAccepted { line, cause },
-            JudgeFault::TooMany { count } => CheckFault::TooMany { count },
-            JudgeFault::NoMemory => CheckFault::Stream(StreamFault::NoMemory),
-        }
-    }
-}
-
-impl From<LineFault> for CheckFault {
-    ghost from_gives = { λ fault e. e ≡ check_fault_of_lines fault };
-
-    fn from(fault: LineFault) -> CheckFault {
-        CheckFault::Stream(StreamFault::from(fault))
-    }
-}
-
-impl From<NoMemory> for CheckFault {
-    ghost from_gives = { λ _ e. e ≡ check.Stream streams.NoMemory };
-
-    fn from(_e: NoMemory) -> CheckFault {
-        CheckFault::Stream(StreamFault::NoMemory)
-    }
-}
-
-impl From<Failed> for CheckFault {
-    ghost from_gives = { λ _ e. e ≡ check.Stream streams.WriteFault };
-
-    fn from(_e: Failed) -> CheckFault {
-        CheckFault::Stream(StreamFault::WriteFault)
     }
 }
 

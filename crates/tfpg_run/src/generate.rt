@@ -8,18 +8,18 @@ ghost use Rattle.tfpg_run.specs.EndsOf.{EndsBy, end_of_output_fault};
 ghost use Rattle.tfpg_streams.specs.Outputs.{TextEnds};
 ghost use Rattle.tfpg_run.specs.generate.Generating.{HasSummary};
 ghost use Rattle.tfpg_run.specs.generate.Terms.{generated_terms};
-ghost use Rattle.tfpg_run.specs.inside.diagnosis.Diagnosed.{HasDiagnosed};
+ghost use Rattle.tfpg_diagnose.specs.Diagnosed.{HasDiagnosed};
 ghost use Rattle.tfpg_run.specs.inside.generate.Drawn.{IsDrawn};
 
 mod summary;
 
-use crate::diagnosis::Diagnosis;
 use crate::end::End;
 use crate::limits::{GENERATED_BUDGET, GENERATED_K};
 use std::alloc::Global;
 use std::sync::ledger::Ledger;
 use summary::summary_of;
 use tfpg_base::{NoMemory, Sink, Steps, Terms};
+use tfpg_diagnose::Diagnosis;
 use tfpg_graph::Graph;
 use tfpg_hyp::TableFault;
 use tfpg_hyp::laws::rounds_say_which_sets_fit;

@@ -1,14 +1,13 @@
 //! What the definitions of reports, of fleets, of runs and of conversions come to, as functions that do nothing: each says its
 //! laws in its clauses.
 
-ghost use Rattle.std.specs.Prelude.{◌≡◌, ◌<◌, ℕ, List, [], Contains, Some, Ok, true, false, slice_get};
+ghost use Rattle.std.specs.Prelude.{◌≡◌, ℕ, List, [], Contains, Some, Ok, true, false, slice_get};
 ghost use Rattle.tfpg_base.specs.declared.terms.Terms.{Terms};
 ghost use Rattle.tfpg_base.specs.Hypothesis.{believing};
 ghost use Rattle.tfpg_base.specs.Lines.{lines_of};
 ghost use Rattle.tfpg_graph.specs.Graph.{Tfpg};
 ghost use Rattle.tfpg_graph.specs.Valid.{IsValid};
 ghost use Rattle.tfpg_evidence.specs.declared.finding.Finding.{Finding};
-ghost use Rattle.tfpg_evidence.specs.declared.finding.Status.TheVariants.{Rejected};
 ghost use Rattle.tfpg_evidence.specs.declared.round.Round.{Round};
 ghost use Rattle.tfpg_evidence.specs.Findings.{hypothesis_of};
 ghost use Rattle.tfpg_evidence.specs.RoundOf.{is_rejected};
@@ -25,7 +24,7 @@ ghost use Rattle.tfpg_run.specs.convert.Converting.{ConvertEnds};
 ghost use Rattle.tfpg_fleet.specs.Alone.{RoundsFindTheSame};
 ghost use Rattle.tfpg_fleet.specs.Belonging.{lines_for};
 ghost use Rattle.tfpg_run.specs.diagnose.InTime.{BlocksComeInTime};
-ghost use Rattle.tfpg_run.specs.diagnose.BlockFindings.{HasFindingInBlock, HasSettledRoundInBlock};
+ghost use Rattle.tfpg_diagnose.specs.BlockFindings.{HasSettledRoundInBlock};
 ghost use Rattle.tfpg_run.specs.fleet.Answers.{Answer, blocks_for};
 ghost use Rattle.tfpg_run.specs.fleet.FleetOutput.{AreAnswers, FleetProblem};
 ghost use Rattle.tfpg_words.specs.Meaning.{Check, Diagnose};
@@ -35,10 +34,7 @@ ghost use Rattle.tfpg_run.specs.Run.{RunEnds};
 ghost use Rattle.tfpg_run.specs.check.AfterDiagnosis.{FollowsDiagnosis};
 
 use tfpg_check::laws::lines_have_at_most_one_cause;
-use tfpg_clause::laws::{
-    a_refutation_is_finished, a_refutation_leaves_no_trace, a_tree_stays,
-    the_front_of_a_tree_is_a_partial_tree,
-};
+use tfpg_clause::laws::a_refutation_leaves_no_trace;
 use tfpg_fleet::laws::rounds_of_the_same_lines_find_the_same;
 use tfpg_graph::laws::a_text_has_at_most_one_first_fault;
 use tfpg_json::laws::{a_text_has_at_most_one_first_fault_as_json, a_written_graph_is_read_back};
@@ -57,24 +53,6 @@ pub fn a_simulated_set_is_rejected_in_no_round()
 {
     a_refutation_leaves_no_trace();
     a_simulated_log_is_accepted_and_explained();
-}
-
-/// In the blocks of a diagnosis what one round rejects has no step in a later round, and is rejected there.
-pub fn a_rejected_set_stays_rejected()
-    ensures rejected { (graph : Tfpg) (terms : Terms) (lines : List (List ℕ)) (blocks : List Block) →
-        AreBlocks graph terms lines blocks → (earlier later : ℕ) → earlier < later →
-        (number : ℕ) (first second : Finding) →
-        HasFindingInBlock blocks earlier number first → HasFindingInBlock blocks later number second →
-        first.status ≡ Rejected → second.status ≡ Rejected }
-    ensures no_steps { (graph : Tfpg) (terms : Terms) (lines : List (List ℕ)) (blocks : List Block) →
-        AreBlocks graph terms lines blocks → (earlier later : ℕ) → earlier < later →
-        (number : ℕ) (first second : Finding) →
-        HasFindingInBlock blocks earlier number first → HasFindingInBlock blocks later number second →
-        first.status ≡ Rejected → second.steps ≡ [] }
-{
-    a_refutation_is_finished();
-    the_front_of_a_tree_is_a_partial_tree();
-    a_tree_stays();
 }
 
 /// A vehicle is diagnosed as if it were alone. Take the answers of `fleet` to a stream, and the blocks of a diagnosis of the own lines of one

@@ -1,12 +1,9 @@
 //! A run of the diagnoser, from the words of the command line to its end, over any shelf of files, input and output.
 //!
 //! [`run`] is the call that the program makes. It says how it ended by an [`End`], which has an exit code and a line. [`laws`] says that a
-//! simulated set is rejected in no round, that a rejected hypothesis stays rejected, that `diagnose` writes each block before it takes the
-//! next line, that what it wrote is accepted by `check`, and that a graph that is converted to JSON and back is the same graph.
-//! [`panel_line`] appends the line that a file panel writes for a round.
-//!
-//! For programs that have no files and no streams there are calls over texts in memory: [`diagnose_texts`], [`check_texts`], and a
-//! [`Session`] that takes the lines of a log one by one.
+//! simulated set is rejected in no round, that `diagnose` writes each block before it takes the next line, that what it wrote is accepted
+//! by `check`, and that a graph that is converted to JSON and back is the same graph. [`panel_line`] appends the line that a file panel
+//! writes for a round.
 //!
 //! ```
 //! // The words `diagnose pump.tfpg`, over a shelf that has the graph, and an input that has a log of it.
@@ -28,7 +25,6 @@ mod check;
 mod commands;
 mod convert;
 mod diagnose;
-mod diagnosis;
 mod end;
 mod explain;
 mod fault;
@@ -40,10 +36,8 @@ mod limits;
 mod panel_lines;
 mod predict;
 mod simulate;
-mod texts;
 
 pub use commands::run;
 pub use end::End;
 pub use limits::{GENERATED_BUDGET, GENERATED_K};
 pub use panel_lines::panel_line;
-pub use texts::{CheckTextsFault, OpenFault, ReportFault, Session, check_texts, diagnose_texts};

@@ -11,14 +11,13 @@ ghost use Rattle.tfpg_run.specs.World.{world};
 ghost use Rattle.tfpg_run.specs.predict.Forecasts.{HasForecasts, prediction};
 ghost use Rattle.tfpg_run.specs.predict.Predicting.{PredictEnds};
 ghost use Rattle.tfpg_run.specs.predict.Probing.{probed_node};
-ghost use Rattle.tfpg_run.specs.inside.diagnosis.Diagnosed.{HasDiagnosed};
+ghost use Rattle.tfpg_diagnose.specs.Diagnosed.{HasDiagnosed};
 ghost use Rattle.tfpg_run.specs.inside.predict.Forecasting.{IsAimAt};
 
 mod forecast_lines;
 mod forecasts;
 mod query;
 
-use crate::diagnosis::Diagnosis;
 use crate::end::End;
 use crate::fault::ProbeFault;
 use crate::fetching::fetch_graph_and_text;
@@ -26,6 +25,7 @@ use forecasts::{Aim, forecasts_text};
 use std::alloc::Global;
 use std::sync::ledger::Ledger;
 use tfpg_base::{Shelf, Sink, Steps, Terms};
+use tfpg_diagnose::Diagnosis;
 use tfpg_graph::{Graph, MAX_EDGES, MAX_NODES};
 use tfpg_streams::{OutputFault, write_all};
 

@@ -1,8 +1,8 @@
 //! The calls of a session.
 
 ghost use Rattle.std.specs.Prelude.{◌≡◌, ◌≢◌, ◌⊎◌, Err, IfErr, IfOk, IsOkUnless, None, length};
-ghost use Rattle.tfpg_run.specs.declared.texts.fault.OpenFault.{OpenFault as WhyNotOpen};
-ghost use Rattle.tfpg_run.specs.texts.Opening.{CanOpen, IsOpenFault};
+ghost use Rattle.tfpg_diagnose.specs.declared.texts.fault.OpenFault.{OpenFault as WhyNotOpen};
+ghost use Rattle.tfpg_diagnose.specs.texts.Opening.{CanOpen, IsOpenFault};
 ghost use Rattle.tfpg_embed.specs.Sessions.{AnswersLine, AnswersOpen, IsNewlyOpen, answer_of_held, room_after_held};
 ghost use Rattle.tfpg_embed.specs.TextCalls.{terms_of};
 
@@ -13,9 +13,9 @@ use crate::room::put_text;
 use crate::status::{DONE, ENDED};
 use std::alloc::Global;
 use tfpg_base::Terms;
+use tfpg_diagnose::OpenFault;
 use tfpg_graph::laws::a_text_has_at_most_one_first_fault;
 use tfpg_hyp::laws::the_table_is_one;
-use tfpg_run::OpenFault;
 
 /// Opens a session of the graph that the text spells, on these terms. The text of the session is then the first line of its report, and the
 /// answer has the number of its bytes. What the handle held before is given back.

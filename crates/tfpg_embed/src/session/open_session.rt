@@ -5,14 +5,14 @@ ghost use Rattle.tfpg_base.specs.declared.terms.Terms.{Terms};
 ghost use Rattle.tfpg_graph.specs.Graph.{Tfpg};
 ghost use Rattle.tfpg_evidence.specs.declared.round.Round.{Round};
 ghost use Rattle.tfpg_engine.specs.EngineState.{EngineRepresents};
-ghost use Rattle.tfpg_run.specs.texts.Opening.{IsOpenFault};
-ghost use Rattle.tfpg_run.specs.texts.Sessions.{CountsBlock, SessionRepresents};
+ghost use Rattle.tfpg_diagnose.specs.texts.Opening.{IsOpenFault};
+ghost use Rattle.tfpg_diagnose.specs.texts.Sessions.{CountsBlock, SessionRepresents};
 ghost use Rattle.tfpg_embed.specs.Sessions.{IsNewlyOpen};
 
 use std::alloc::Global;
 use tfpg_base::{NoMemory, Terms};
+use tfpg_diagnose::{OpenFault, Session};
 use tfpg_engine::EventFault;
-use tfpg_run::{OpenFault, Session};
 
 /// A session, and the text that it returned last: the first line of its report, or the block of the last line.
 #[derive(Drop)]

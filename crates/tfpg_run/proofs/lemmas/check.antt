@@ -1,4 +1,3 @@
--- Judging the report of the input: what each line leads to, how it ends, and that what a diagnosis wrote is accepted.
-pub mod NextReportLines
+-- How judging the report of the input ends, and that what a diagnosis wrote is accepted.
 pub mod CheckedReports
 pub mod AcceptedDiagnoses

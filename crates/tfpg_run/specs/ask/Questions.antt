@@ -16,7 +16,7 @@ use Rattle.tfpg_whatif.specs.declared.question.Question.{Question}
 use Rattle.tfpg_whatif.specs.Outcomes.{Asked}
 use Rattle.tfpg_whatif.specs.Questions.{AreQuestions, HasNoRoom}
 use Rattle.tfpg_whatif.specs.Foresight.{IsKnownIfEnough}
-use Rattle.tfpg_run.specs.diagnosis.Rounds.{IsLastRound}
+use Rattle.tfpg_diagnose.specs.Rounds.{IsLastRound}
 
 -- The numbers of the hypotheses that the last round leaves: the ranked and the open ones, rising. Before the first round there are none.
 abbrev pub left_by : Option Round → List ℕ

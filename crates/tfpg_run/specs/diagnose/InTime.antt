@@ -9,8 +9,8 @@ use Rattle.tfpg_run.specs.Fetch.{GivesGraph, LacksFiles}
 use Rattle.tfpg_streams.specs.Outputs.{TakesAndWrites}
 use Rattle.tfpg_run.specs.Run.{RunEnds}
 use Rattle.tfpg_run.specs.World.{World, streams_of}
-use Rattle.tfpg_run.specs.diagnose.RightReport.{IsRightReport}
-use Rattle.tfpg_run.specs.diagnose.TellsPanels.{desks}
+use Rattle.tfpg_diagnose.specs.RightReport.{IsRightReport}
+use Rattle.tfpg_diagnose.specs.TellsPanels.{desks}
 
 -- The output has the whole report of the lines that the input gave whole, each with its block, and the panels were told its rounds.
 pub record ReportsWholeLines (terms : Terms) (name : List ℕ) (before now : World) : Type 0 where

@@ -7,8 +7,8 @@ use Rattle.tfpg_fleet.specs.Belonging.{addressee, lines_for}
 use Rattle.tfpg_evidence.specs.declared.round.Round.{Round}
 use Rattle.tfpg_report.specs.Blocks.{Block}
 use Rattle.tfpg_check.specs.Report.{AreBlocks, HasReports, rounds_of}
-use Rattle.tfpg_run.specs.diagnose.RightReport.{RoundsSay}
-use Rattle.tfpg_run.specs.diagnose.TellsPanels.{losses_in}
+use Rattle.tfpg_diagnose.specs.RightReport.{RoundsSay}
+use Rattle.tfpg_diagnose.specs.TellsPanels.{losses_in}
 use Rattle.tfpg_run.specs.fleet.Answers.{Answer, answers_text, blocks_for, opening_text, vehicle_of}
 use Rattle.tfpg_run.specs.fleet.Counting.{last_ranks, modes_text, vehicles_that}
 

@@ -12,7 +12,7 @@ use Rattle.tfpg_sim.specs.Generated.{generated_graph, generated_script}
 use Rattle.tfpg_sim.specs.Simulated.{IsSimulationOf}
 use Rattle.tfpg_run.specs.declared.end.End.{End}
 use Rattle.tfpg_run.specs.EndsOf.{EndsBy, end_of_output_fault}
-use Rattle.tfpg_run.specs.diagnosis.Rounds.{AreRoundsOf}
+use Rattle.tfpg_diagnose.specs.Rounds.{AreRoundsOf}
 use Rattle.tfpg_run.specs.generate.Terms.{generated_terms}
 use Rattle.tfpg_streams.specs.Outputs.{TextEnds}
 use Rattle.tfpg_run.specs.generate.Summary.{drawing, summary_text}

@@ -1,7 +1,6 @@
 -- How the faults of the layers below become those of fetching, of the work of a command and of a run.
 use Rattle.std.specs.Prelude.{◌≡◌, ℕ, List}
 use Rattle.tfpg_base.specs.Outside.{ShelfState, Rose, NotesName}
-use Rattle.tfpg_base.specs.declared.line.LineFault.{LineFault}
 use Rattle.tfpg_base.specs.declared.outside.ShelfFault.{ShelfFault}
 use Rattle.tfpg_base.specs.declared.outside.ShelfFault.TheVariants as shelf
 use Rattle.tfpg_graph.specs.declared.cause.GraphRefusal.{GraphRefusal}
@@ -19,10 +18,6 @@ use Rattle.tfpg_sim.specs.declared.fault.SimFault.{SimFault}
 use Rattle.tfpg_sim.specs.declared.fault.SimFault.TheVariants as sim
 use Rattle.tfpg_run.specs.declared.fault.ExplainFault.{ExplainFault}
 use Rattle.tfpg_run.specs.declared.fault.ExplainFault.TheVariants as explain
-use Rattle.tfpg_check.specs.declared.judge_fault.JudgeFault.{JudgeFault}
-use Rattle.tfpg_check.specs.declared.judge_fault.JudgeFault.TheVariants as judge
-use Rattle.tfpg_run.specs.declared.fault.CheckFault.{CheckFault}
-use Rattle.tfpg_run.specs.declared.fault.CheckFault.TheVariants as check
 use Rattle.tfpg_run.specs.declared.fault.SimulateFault.{SimulateFault}
 use Rattle.tfpg_run.specs.declared.fault.SimulateFault.TheVariants as simulate
 use Rattle.tfpg_run.specs.declared.end.End.{End}
@@ -47,16 +42,6 @@ abbrev pub explain_fault_of_no_map : NoMap → ExplainFault
 explain_fault_of_no_map (maps.Refused line) = explain.BadMap line
 explain_fault_of_no_map (maps.Lines fault) = explain.Stream (stream_fault_of_lines fault)
 explain_fault_of_no_map maps.NoMemory = explain.Stream streams.NoMemory
-
--- why a report is not accepted whose judge reports this fault
-abbrev pub check_fault_of_judge : JudgeFault → CheckFault
-check_fault_of_judge (judge.NotAccepted line cause) = check.NotAccepted line cause
-check_fault_of_judge (judge.TooMany count) = check.TooMany count
-check_fault_of_judge judge.NoMemory = check.Stream streams.NoMemory
-
--- why a report is not accepted whose lines are not read to their end
-abbrev pub check_fault_of_lines : LineFault → CheckFault
-check_fault_of_lines fault = check.Stream (stream_fault_of_lines fault)
 
 -- the end of a run that has no table of hypotheses
 abbrev pub end_of_table_fault : TableFault → End

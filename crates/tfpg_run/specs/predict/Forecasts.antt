@@ -20,7 +20,7 @@ use Rattle.tfpg_predict.specs.declared.outlook.Outlook.TheVariants.{Earliest, Ne
 use Rattle.tfpg_predict.specs.LeastTime.{Lookahead, lookahead_of}
 use Rattle.tfpg_predict.specs.Outlooks.{IsOutlook}
 use Rattle.tfpg_predict.specs.Probed.{IsProbeNumber, probe_lag, probe_word}
-use Rattle.tfpg_run.specs.diagnosis.Rounds.{IsLastRound}
+use Rattle.tfpg_diagnose.specs.Rounds.{IsLastRound}
 
 -- What is asked of a graph and a log: on which terms, how many milliseconds past the last event, and about the node of which name.
 pub record Prediction : Type 0 where

@@ -8,7 +8,7 @@ use Rattle.tfpg_run.specs.EndsOf.{EndsBy, end_of_output_fault, end_of_probe_faul
 use Rattle.tfpg_run.specs.Fetch.{EndsByFiles}
 use Rattle.tfpg_streams.specs.Outputs.{TextEnds}
 use Rattle.tfpg_run.specs.World.{World, watched_of}
-use Rattle.tfpg_run.specs.diagnosis.TooMany.{EndsWithTooMany, HasFewHypotheses}
+use Rattle.tfpg_run.specs.TooMany.{EndsWithTooMany, HasFewHypotheses}
 use Rattle.tfpg_run.specs.predict.Forecasts.{Prediction, HasForecasts}
 use Rattle.tfpg_run.specs.predict.Probing.{probed_node}
 

@@ -7,10 +7,10 @@ ghost use Rattle.tfpg_graph.specs.Graph.{AreFailures};
 ghost use Rattle.tfpg_run.specs.generate.Summary.{drawing, drawn_text, rounds_text, status_word, truth_text};
 ghost use Rattle.tfpg_run.specs.inside.generate.Summary.{HasFindingOn, SaysOfRound};
 
-use crate::diagnosis::Diagnosis;
 use itoa::Buffer;
 use std::alloc::Global;
 use tfpg_base::{Hypothesis, NoMemory, Set, append_line};
+use tfpg_diagnose::Diagnosis;
 use tfpg_evidence::{Counts, Finding, Round, Status};
 use tfpg_graph::Graph;
 use tfpg_report::{append_counts, append_set};

@@ -8,16 +8,16 @@ ghost use Rattle.tfpg_evidence.specs.Findings.{findings_at, ranked_in_order};
 ghost use Rattle.tfpg_predict.specs.LeastTime.{lookahead_of};
 ghost use Rattle.tfpg_predict.specs.Probed.{IsProbeable};
 ghost use Rattle.tfpg_run.specs.predict.Forecasts.{HasForecasts, predict_line, prediction, time_ahead};
-ghost use Rattle.tfpg_run.specs.inside.diagnosis.Diagnosed.{HasDiagnosed, IsDiagnosed};
+ghost use Rattle.tfpg_diagnose.specs.Diagnosed.{HasDiagnosed, IsDiagnosed};
 ghost use Rattle.tfpg_run.specs.inside.predict.Forecasting.{AddsForecasts, ForecastsFollow, IsAimAt, IsAskable, IsQuery};
 
 use super::forecast_lines::append_outlook;
 use super::query::Query;
-use crate::diagnosis::Diagnosis;
 use itoa::Buffer;
 use std::alloc::Global;
 use std::sync::ledger::Ledger;
 use tfpg_base::{MAX_TIME, NoMemory, Steps, append_line};
+use tfpg_diagnose::Diagnosis;
 use tfpg_evidence::{Finding, Round, finding_numbered};
 use tfpg_hyp::laws::a_round_is_of_its_graph;
 use tfpg_predict::{forecast, probed};

@@ -1,5 +1,5 @@
 use Rattle.std.proofs.Common.{◌∙◌, List, ℕ, Ok, Err, ap, length, refl, inl, inr, ⊎_elim}
-use Rattle.tfpg_run.specs.declared.texts.fault.ReportFault.TheVariants.{NoMemory}
+use Rattle.tfpg_diagnose.specs.declared.texts.fault.ReportFault.TheVariants.{NoMemory}
 use Rattle.tfpg_embed.specs.Answers.{answer_of_text}
 use Rattle.tfpg_embed.specs.Rooms.{room_after}
 use Rattle.tfpg_embed.proofs.SessionCalls.{err_refuses, ok_refuses}

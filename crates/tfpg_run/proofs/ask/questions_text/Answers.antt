@@ -1,4 +1,4 @@
-use Rattle.tfpg_run.proofs.Stops.{not_too_many}
+use Rattle.tfpg_diagnose.proofs.lemmas.CountedHypotheses.{not_too_many}
 use Rattle.tfpg_run.proofs.lemmas.ask.Asked.{new_diagnosis, no_memory_fault, of_new}
 use Rattle.tfpg_run.proofs.ask.questions_text.Goals as goal
 

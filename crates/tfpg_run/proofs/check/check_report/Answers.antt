@@ -1,10 +1,11 @@
 use Rattle.std.proofs.Common.{Err, sym, ◌∙◌}
 use Rattle.tfpg_base.proofs.lists.Choices.{IfErr-from}
-use Rattle.tfpg_run.specs.declared.fault.CheckFault.{CheckFault}
-use Rattle.tfpg_run.specs.declared.fault.CheckFault.TheVariants.{Stream}
+use Rattle.tfpg_diagnose.specs.declared.fault.CheckFault.{CheckFault}
+use Rattle.tfpg_diagnose.specs.declared.fault.CheckFault.TheVariants.{Stream}
 use Rattle.tfpg_streams.specs.declared.fault.StreamFault.TheVariants.{NoMemory, WriteFault}
 use Rattle.tfpg_streams.specs.Streams.{streams}
-use Rattle.tfpg_run.specs.check.Checking.{ChecksReport, problem_of}
+use Rattle.tfpg_run.specs.check.Checking.{ChecksReport}
+use Rattle.tfpg_diagnose.specs.JudgedReports.{problem_of}
 use Rattle.tfpg_run.proofs.lemmas.check.CheckedReports.{checks_badly, checks_in_part, checks_well, no_line}
 use Rattle.tfpg_run.proofs.check.check_report.Goals as goal
 

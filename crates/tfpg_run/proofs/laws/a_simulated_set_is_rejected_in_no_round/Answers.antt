@@ -1,5 +1,5 @@
 use Rattle.tfpg_base.specs.Lines.{lines_of}
-use Rattle.tfpg_run.proofs.lemmas.diagnose.NeverRejected.{not_rejected}
+use Rattle.tfpg_diagnose.proofs.lemmas.NeverRejected.{not_rejected}
 use Rattle.tfpg_run.proofs.laws.a_simulated_set_is_rejected_in_no_round.Goals as goal
 
 pub returns : goal.returns

@@ -30,14 +30,14 @@ use Rattle.tfpg_whatif.specs.declared.ask_fault.AskFault.TheVariants.{Refused}
 use Rattle.tfpg_whatif.specs.Foresight.{IsKnownIfEnough}
 use Rattle.tfpg_whatif.specs.Outcomes.{Asked, asked_of}
 use Rattle.tfpg_whatif.specs.Questions.{AreQuestions, HasNoRoom, IsQuestion}
-use Rattle.tfpg_run.specs.declared.diagnosis.Diagnosis.{Diagnosis}
+use Rattle.tfpg_diagnose.specs.declared.diagnosis.Diagnosis.{Diagnosis}
 use Rattle.tfpg_run.specs.declared.fault.QuestionsFault.{QuestionsFault}
 use Rattle.tfpg_run.specs.declared.fault.QuestionsFault.TheVariants.{WriteFault}
 use Rattle.tfpg_run.specs.ask.Asking.{QuestionsEnd}
 use Rattle.tfpg_run.specs.ask.Questions.{AnswersAsked, HasQuestions, asked_on, first_line, full_line, left_by, question_line}
 use Rattle.tfpg_run.specs.inside.ask.Asked.{AppendsAnswer, CanBeAskedOf, IsNewDiagnosis, IsTableFault, SaysQuestionsOf, asked_after, questions_fault_of_table}
-use Rattle.tfpg_run.specs.inside.diagnosis.Diagnosed.{HasDiagnosed, HasLastOf}
-use Rattle.tfpg_run.proofs.lemmas.diagnosis.Diagnosed.{last_diagnosed}
+use Rattle.tfpg_diagnose.specs.Diagnosed.{HasDiagnosed, HasLastOf}
+use Rattle.tfpg_diagnose.proofs.lemmas.Diagnosed.{last_diagnosed}
 
 -- That a graph has one table on the same terms is a law.
 abbrev pub TablesAreOne : Type 0

@@ -18,9 +18,10 @@ use Rattle.tfpg_run.specs.Fetch.{GivesGraph}
 use Rattle.tfpg_run.specs.Run.{RunEnds}
 use Rattle.tfpg_run.specs.World.{World, watched_of}
 use Rattle.tfpg_run.specs.check.AfterDiagnosis.{FollowsDiagnosis}
-use Rattle.tfpg_run.specs.diagnose.Diagnosing.{Diagnoses, DiagnosisEnds}
-use Rattle.tfpg_run.specs.diagnose.RightReport.{IsRightReport}
-use Rattle.tfpg_run.specs.diagnose.TellsPanels.{desks}
+use Rattle.tfpg_diagnose.specs.Diagnosing.{Diagnoses}
+use Rattle.tfpg_run.specs.diagnose.Diagnosing.{DiagnosisEnds}
+use Rattle.tfpg_diagnose.specs.RightReport.{IsRightReport}
+use Rattle.tfpg_diagnose.specs.TellsPanels.{desks}
 use Rattle.tfpg_streams.proofs.lemmas.InputLines.{all_taken}
 use Rattle.tfpg_run.proofs.Completing.{gives_is}
 use Rattle.tfpg_run.proofs.Stops.{fetch_not_done, stream_not_done}

@@ -1,29 +1,15 @@
 -- How judging a report ends.
-use Rattle.std.proofs.Common.{◌≡◌, ℕ, ◌≤◌, List, [], ◌∷◌, ◌++◌, length, Ok, Err, codes, refl, sym, ap, ◌∙◌, arith}
+use Rattle.std.proofs.Common.{◌≡◌, ℕ, List, [], ◌∷◌, ◌++◌, Ok, Err, codes, refl, sym, ap, ◌∙◌}
 use Rattle.std.specs.Prelude.{decimal}
-use Rattle.tfpg_base.specs.declared.limits.TheConstants.{LONGEST_FILE, MAX_LINE_NUMBER}
-use Rattle.tfpg_base.specs.Lines.{lines_of}
 use Rattle.tfpg_base.specs.Outside.{SourceState, SinkState, Rose, Puts}
 use Rattle.tfpg_base.specs.TextLine.{text_line}
-use Rattle.tfpg_graph.specs.Graph.{Tfpg}
-use Rattle.tfpg_graph.specs.Valid.{IsValid}
 use Rattle.tfpg_check.specs.Causes.{DiagnosisProblem}
-use Rattle.tfpg_check.specs.JudgeState.{JudgeRepresents, JudgeState}
-use Rattle.tfpg_run.specs.declared.fault.CheckFault.{CheckFault}
-use Rattle.tfpg_run.specs.declared.fault.CheckFault.TheVariants.{NotAccepted, TooMany, Stream}
+use Rattle.tfpg_diagnose.specs.declared.fault.CheckFault.{CheckFault}
+use Rattle.tfpg_diagnose.specs.declared.fault.CheckFault.TheVariants.{NotAccepted, TooMany, Stream}
 use Rattle.tfpg_streams.specs.declared.fault.StreamFault.TheVariants.{ReadFault, WriteFault, TooMuchInput, NoMemory}
 use Rattle.tfpg_streams.specs.Streams.{streams}
-use Rattle.tfpg_run.specs.check.Checking.{ChecksReport, IsAccepted, problem_of}
-use Rattle.tfpg_run.specs.inside.check.UnderWay.{AcceptsReport, IsNewJudge, LacksReport}
-use Rattle.tfpg_streams.proofs.lemmas.FewLines.{few_lines}
-
--- a log of a file has not too many lines
-few_log_lines : (text : List ℕ) → length text ≤ LONGEST_FILE → length (lines_of text) ≤ MAX_LINE_NUMBER
-few_log_lines text small = omega (arith, few_lines text, small)
-
--- the judge of a valid graph and of the text of a file to which no line came yet
-pub new_judge : (graph : Tfpg) (text : List ℕ) (judge : JudgeState) → IsValid graph → length text ≤ LONGEST_FILE → JudgeRepresents (problem_of graph text) judge [] → IsNewJudge (problem_of graph text) judge
-new_judge graph text judge valid small represents = record { valid = valid; few = few_log_lines text small; represents = represents }
+use Rattle.tfpg_run.specs.check.Checking.{ChecksReport, IsAccepted}
+use Rattle.tfpg_diagnose.specs.JudgedReports.{AcceptsReport, LacksReport}
 
 -- the report is not accepted, and nothing is written
 pub checks_badly : (problem : DiagnosisProblem) (before : SourceState) (output : SinkState) (input : SourceState) (fault : CheckFault) → LacksReport problem before input fault

@@ -10,7 +10,8 @@ use Rattle.tfpg_run.specs.EndsOf.{end_of_result, end_of_stream_fault}
 use Rattle.tfpg_run.specs.Fetch.{LacksFiles, WorksByGraph}
 use Rattle.tfpg_run.specs.Run.{RunEnds}
 use Rattle.tfpg_run.specs.World.{World, watched_of}
-use Rattle.tfpg_run.specs.diagnose.Diagnosing.{Diagnoses, DiagnosisEnds}
+use Rattle.tfpg_diagnose.specs.Diagnosing.{Diagnoses}
+use Rattle.tfpg_run.specs.diagnose.Diagnosing.{DiagnosisEnds}
 use Rattle.tfpg_run.specs.diagnose.InTime.{ReportsWholeLines}
 
 -- the work with a graph ended with a read fault

@@ -31,7 +31,7 @@ use Rattle.tfpg_run.specs.inside.fleet.UnderWay.{Answers, AreOwnBlocks, ComesTo,
 use Rattle.tfpg_streams.proofs.lemmas.InputLines.{came_to_end, front_of_input, rest_at_end, rest_is_left, rest_of}
 use Rattle.tfpg_streams.proofs.lemmas.FewLines.{few_lines}
 use Rattle.tfpg_streams.proofs.lemmas.Putting.{Puts-append, Puts-same_held}
-use Rattle.tfpg_run.proofs.lemmas.diagnose.NextBlocks.{few_numbered}
+use Rattle.tfpg_diagnose.proofs.lemmas.NextBlocks.{few_numbered}
 use Rattle.tfpg_run.proofs.lemmas.fleet.Counts.{kept_counts}
 use Rattle.tfpg_run.proofs.lemmas.fleet.NextAnswers.{no_own_blocks}
 

@@ -20,7 +20,8 @@ use Rattle.tfpg_run.specs.EndsOf.{end_of_fetch_fault, end_of_stream_fault}
 use Rattle.tfpg_run.specs.inside.Faults.{IsFetchFault, end_of_table_fault}
 use Rattle.tfpg_run.specs.Fetch.{Fetched, GivesGraph}
 use Rattle.tfpg_streams.specs.Streams.{Streams}
-use Rattle.tfpg_run.specs.World.{Watched, World, streams_in, streams_of, watched_of}
+use Rattle.tfpg_diagnose.specs.Watched.{Watched, streams_in}
+use Rattle.tfpg_run.specs.World.{World, streams_of, watched_of}
 use Rattle.tfpg_run.specs.fleet.FleetOutput.{fleet_problem}
 use Rattle.tfpg_run.specs.fleet.FleetEnds.{AnswersStream, FleetEnds, FleetWords, fleet_words}
 use Rattle.tfpg_run.specs.Run.{CommandEnds}

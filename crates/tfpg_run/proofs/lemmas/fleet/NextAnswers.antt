@@ -1,5 +1,5 @@
 -- The answers with one answer more.
-use Rattle.std.proofs.Common.{◌≡◌, ◌≢◌, ℕ, ◌+◌, ◌<◌, ◌==◌, Bool, true, false, cond, List, [], ◌∷◌, ◌++◌, length, set, Option, Some, None, Ok, refl, sym, ap, subst, subst₂, ◌∙◌, arith, replicate, get_or}
+use Rattle.std.proofs.Common.{◌≡◌, ◌≢◌, ℕ, ◌+◌, ◌<◌, ◌==◌, Bool, true, false, cond, List, [], ◌∷◌, ◌++◌, length, set, Option, Some, None, Ok, refl, sym, ap, subst, subst₂, ◌∙◌, arith, replicate, get_or, length-append}
 use Rattle.std.specs.Prelude.{◌-◌, All, flat_map, option_map, slice_get}
 use Rattle.std.specs.Option.{option_map_or}
 use Rattle.std.specs.Bool.{then_some}
@@ -12,7 +12,7 @@ use Rattle.std.proofs.lemmas.Option.{same_Some, slice_get_within}
 use Rattle.tfpg_base.specs.Choice.{last_of}
 use Rattle.tfpg_base.proofs.lists.Elements.{All-at}
 use Rattle.tfpg_base.proofs.lists.Valued.{filter_map-push_none, filter_map-push_some}
-use Rattle.tfpg_base.proofs.lists.Written.{slice_get-set_other, slice_get-set_same}
+use Rattle.tfpg_base.proofs.lists.Written.{slice_get-set_other, slice_get-set_same, slice_get-push_at}
 use Rattle.tfpg_base.specs.declared.terms.Terms.{Terms}
 use Rattle.tfpg_graph.specs.Graph.{Tfpg, failures}
 use Rattle.tfpg_graph.specs.Valid.{IsValid}
@@ -28,17 +28,15 @@ use Rattle.tfpg_fleet.proofs.LinesFor.{lines-other, lines-own, lines-stray}
 use Rattle.tfpg_report.specs.Blocks.{Block}
 use Rattle.tfpg_check.specs.Report.{IsBlock, progress_of, rounds_of}
 use Rattle.tfpg_run.specs.declared.fleet.watch.Watch.{Watch}
-use Rattle.tfpg_run.specs.diagnose.RightReport.{BlockSays}
-use Rattle.tfpg_run.specs.diagnose.TellsPanels.{losses_in}
+use Rattle.tfpg_diagnose.specs.RightReport.{BlockSays}
+use Rattle.tfpg_diagnose.specs.TellsPanels.{losses_in}
 use Rattle.tfpg_run.specs.fleet.Answers.{Answer, OwnBlock, StrayLine, block_for, blocks_for, naming_text, stray_text, vehicle_of}
 use Rattle.tfpg_run.specs.fleet.Counting.{is_in, ranks}
 use Rattle.tfpg_run.specs.fleet.FleetOutput.{FleetProblem, rounds_for}
 use Rattle.tfpg_run.specs.inside.fleet.UnderWay.{Answers, AreOwnBlocks, HasAnswered, IsKept, KeepsLast, told_text}
-use Rattle.tfpg_run.proofs.lemmas.diagnose.NextBlocks.{AreBlocks-none, AreBlocks-push, RoundsSay-none, RoundsSay-push}
-use Rattle.tfpg_run.proofs.lemmas.diagnose.ToldBlocks.{flat_map-push}
+use Rattle.tfpg_diagnose.proofs.lemmas.NextBlocks.{AreBlocks-none, AreBlocks-push, RoundsSay-none, RoundsSay-push}
+use Rattle.tfpg_diagnose.proofs.lemmas.ToldBlocks.{flat_map-push}
 use Rattle.tfpg_run.proofs.lemmas.fleet.OwnBlocks.{RoundLaws, own_block, own_number, its_line}
-use Rattle.tfpg_base.proofs.lists.Written.{slice_get-push_at}
-use Rattle.std.proofs.Common.{length-append}
 
 -- the last of a list with one item more
 last_pushed : {X : Type 0} (xs : List X) (x : X) → last_of (xs ++ x ∷ []) ≡ Some x

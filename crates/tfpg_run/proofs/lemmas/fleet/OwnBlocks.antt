@@ -21,12 +21,13 @@ use Rattle.tfpg_fleet.proofs.LinesFor.{own_short}
 use Rattle.tfpg_report.specs.Blocks.{round_text}
 use Rattle.tfpg_check.specs.Report.{Progress, progress_of, rounds_of}
 use Rattle.tfpg_run.specs.declared.fleet.watch.Watch.{Watch}
-use Rattle.tfpg_run.specs.diagnose.TellsPanels.{losses_in}
-use Rattle.tfpg_run.specs.inside.diagnose.LineBlocks.{EngineReports, HasBlock, numbered}
+use Rattle.tfpg_diagnose.specs.TellsPanels.{losses_in}
+use Rattle.tfpg_diagnose.specs.EngineReports.{EngineReports}
+use Rattle.tfpg_diagnose.specs.inside.LineBlocks.{HasBlock, numbered}
 use Rattle.tfpg_run.specs.fleet.Answers.{Answer, blocks_for}
 use Rattle.tfpg_run.specs.fleet.FleetOutput.{FleetProblem, rounds_for}
 use Rattle.tfpg_run.specs.inside.fleet.UnderWay.{HasAnswered, IsToldOf, told_text}
-use Rattle.tfpg_run.proofs.lemmas.diagnose.LineBlocks.{FitsOfRounds, MinimalOfRounds, NamesOfRounds, block_of_refusal, block_of_round, round_is_of_graph, round_says}
+use Rattle.tfpg_diagnose.proofs.lemmas.LineBlocks.{FitsOfRounds, MinimalOfRounds, NamesOfRounds, block_of_refusal, block_of_round, round_is_of_graph, round_says}
 
 -- the laws on logs of lines and on rounds
 pub record RoundLaws : Type 0 where

@@ -28,16 +28,16 @@ use Rattle.tfpg_base.proofs.lists.Elements.{Contains-at}
 use Rattle.tfpg_sim.proofs.simulations.SimulatedSets.{simulated_members}
 use Rattle.tfpg_sim.proofs.drawn.GeneratedGraphs.{generated_valid, generated_failures}
 use Rattle.tfpg_sim.proofs.drawn.GeneratedScripts.{generated_set, generated_log}
-use Rattle.tfpg_run.specs.declared.diagnosis.Diagnosis.{Diagnosis}
-use Rattle.tfpg_run.specs.diagnosis.Rounds.{AreRoundsOf}
+use Rattle.tfpg_diagnose.specs.declared.diagnosis.Diagnosis.{Diagnosis}
+use Rattle.tfpg_diagnose.specs.Rounds.{AreRoundsOf}
 use Rattle.tfpg_run.specs.generate.Generating.{HasSummary}
 use Rattle.tfpg_run.specs.generate.Summary.{drawing, summary_text}
 use Rattle.tfpg_run.specs.generate.Terms.{generated_terms}
-use Rattle.tfpg_run.specs.inside.diagnosis.Diagnosed.{HasDiagnosed, HasLastOf, IsLastOf}
+use Rattle.tfpg_diagnose.specs.Diagnosed.{HasDiagnosed, HasLastOf, IsLastOf}
 use Rattle.tfpg_run.specs.inside.generate.Drawn.{IsDrawn}
 use Rattle.tfpg_run.specs.inside.generate.Summary.{HasFindingOn, SaysOfRound}
-use Rattle.tfpg_run.proofs.lemmas.diagnose.NeverRejected.{ignores_none}
-use Rattle.tfpg_run.proofs.lemmas.diagnosis.Diagnosed.{rounds_diagnosed}
+use Rattle.tfpg_diagnose.proofs.lemmas.NeverRejected.{ignores_none}
+use Rattle.tfpg_diagnose.proofs.lemmas.Diagnosed.{rounds_diagnosed}
 use Rattle.tfpg_run.proofs.lemmas.generate.AcceptedEvents.{accepted_events}
 
 -- no round rejects a set that fits

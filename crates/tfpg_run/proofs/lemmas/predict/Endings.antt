@@ -26,7 +26,8 @@ use Rattle.tfpg_run.specs.inside.Faults.{end_of_table_fault}
 use Rattle.tfpg_run.specs.predict.Forecasts.{Prediction, HasForecasts, prediction}
 use Rattle.tfpg_run.specs.predict.Predicting.{PredictEnds, PredictionEnds}
 use Rattle.tfpg_run.specs.predict.Probing.{probed_node}
-use Rattle.tfpg_run.proofs.Stops.{CountsHypotheses, IfErr-with, OnOk-with, without_memory}
+use Rattle.tfpg_diagnose.proofs.lemmas.CountedHypotheses.{CountsHypotheses, without_memory}
+use Rattle.tfpg_run.proofs.Stops.{IfErr-with, OnOk-with}
 
 module _ (asked : Prediction) (graph_name log_name : List ℕ) (before now : World) (graph : Tfpg) (log_text : List ℕ) (gives : GivesGraphAndText before.shelf graph_name log_name graph log_text)
     (fetched : Fetched (graph_name ∷ log_name ∷ []) before.shelf now.shelf) where

@@ -22,15 +22,15 @@ use Rattle.tfpg_hyp.specs.Rounds.{IsRound}
 use Rattle.tfpg_hyp.proofs.FindingsOfRound.{HasFindingAt, evidence}
 use Rattle.tfpg_predict.specs.LeastTime.{Lookahead, lookahead_of}
 use Rattle.tfpg_predict.specs.Probed.{IsProbeable}
-use Rattle.tfpg_run.specs.declared.diagnosis.Diagnosis.{Diagnosis}
+use Rattle.tfpg_diagnose.specs.declared.diagnosis.Diagnosis.{Diagnosis}
 use Rattle.tfpg_run.specs.declared.fault.ProbeFault.TheVariants.{TooManyNodes, TooManyEdges}
 use Rattle.tfpg_run.specs.declared.predict.forecasts.Aim.{Aim}
-use Rattle.tfpg_run.specs.inside.diagnosis.Diagnosed.{HasDiagnosed, HasLastOf}
+use Rattle.tfpg_diagnose.specs.Diagnosed.{HasDiagnosed, HasLastOf}
 use Rattle.tfpg_run.specs.inside.predict.Forecasting.{ForecastsFollow, IsAimAt, IsAskable}
 use Rattle.tfpg_run.specs.predict.Forecasts.{AreForecastsAfter, AreForecastsOf, HasForecasts, predict_line, prediction, lookahead_after, time_ahead}
 use Rattle.tfpg_run.specs.predict.Probing.{known_node, probed_node}
-use Rattle.tfpg_run.proofs.lemmas.diagnose.LineBlocks.{NamesOfRounds}
-use Rattle.tfpg_run.proofs.lemmas.diagnosis.Diagnosed.{last_diagnosed}
+use Rattle.tfpg_diagnose.proofs.lemmas.LineBlocks.{NamesOfRounds}
+use Rattle.tfpg_diagnose.proofs.lemmas.Diagnosed.{last_diagnosed}
 
 -- ---- what may be asked
 

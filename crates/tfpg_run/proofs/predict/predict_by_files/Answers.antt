@@ -1,5 +1,5 @@
 use Rattle.std.proofs.Common.{Ok, Err, refl, sym}
-use Rattle.tfpg_run.proofs.Stops.{not_too_many}
+use Rattle.tfpg_diagnose.proofs.lemmas.CountedHypotheses.{not_too_many}
 use Rattle.tfpg_run.specs.World.{world}
 use Rattle.tfpg_run.specs.predict.Forecasts.{prediction}
 use Rattle.tfpg_run.proofs.lemmas.predict.Endings.{ends_unwritten, ends_without_diagnosis, ends_written, text_ends_for}

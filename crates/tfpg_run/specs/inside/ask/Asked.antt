@@ -8,10 +8,10 @@ use Rattle.tfpg_hyp.specs.declared.limits.TheConstants.{MAX_HYPOTHESES}
 use Rattle.tfpg_hyp.specs.declared.table.TableFault.{TableFault}
 use Rattle.tfpg_hyp.specs.declared.table.TableFault.TheVariants as table
 use Rattle.tfpg_whatif.specs.Outcomes.{Asked, asked_of}
-use Rattle.tfpg_run.specs.declared.diagnosis.Diagnosis.{Diagnosis}
+use Rattle.tfpg_diagnose.specs.declared.diagnosis.Diagnosis.{Diagnosis}
 use Rattle.tfpg_run.specs.declared.fault.QuestionsFault.{QuestionsFault}
 use Rattle.tfpg_run.specs.declared.fault.QuestionsFault.TheVariants.{TooMany, NoMemory}
-use Rattle.tfpg_run.specs.inside.diagnosis.Diagnosed.{HasDiagnosed}
+use Rattle.tfpg_diagnose.specs.Diagnosed.{HasDiagnosed}
 use Rattle.tfpg_run.specs.ask.Questions.{AnswersAsked, first_line, left_by}
 
 -- The last round has a finding for each hypothesis of the table, which has at most 4,096.

@@ -24,8 +24,8 @@ use Rattle.tfpg_run.specs.declared.fleet.stream.NextAnswer.TheVariants.{Written,
 use Rattle.tfpg_run.specs.declared.fleet.watch.Vehicles.{Vehicles}
 use Rattle.tfpg_run.specs.declared.fleet.watch.Watch.{Watch}
 use Rattle.tfpg_streams.specs.Streams.{Streams, CountsUnchanged}
-use Rattle.tfpg_run.specs.diagnose.RightReport.{RoundsSay}
-use Rattle.tfpg_run.specs.diagnose.TellsPanels.{losses_in}
+use Rattle.tfpg_diagnose.specs.RightReport.{RoundsSay}
+use Rattle.tfpg_diagnose.specs.TellsPanels.{losses_in}
 use Rattle.tfpg_run.specs.fleet.Answers.{Answer, answer_text, blocks_for, vehicle_of}
 use Rattle.tfpg_run.specs.fleet.Counting.{is_in, last_ranks, modes_text, ranks, vehicles_that}
 use Rattle.tfpg_run.specs.fleet.FleetEnds.{FleetWords, fleet_words}

@@ -1,5 +1,5 @@
 use Rattle.std.proofs.lemmas.Result.{IfOk-weaker}
-use Rattle.tfpg_run.proofs.lemmas.texts.Opened.{OpenLaws, opens_or_no_memory, refuses_to_open, session_can_open}
+use Rattle.tfpg_diagnose.proofs.lemmas.texts.Opened.{OpenLaws, opens_or_no_memory, refuses_to_open, session_can_open}
 use Rattle.tfpg_embed.proofs.session.calls.boxed_session.Goals as goal
 
 pub returns-clause-completes : goal.returns-clause-completes

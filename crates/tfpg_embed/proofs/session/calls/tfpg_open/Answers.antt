@@ -1,5 +1,5 @@
 use Rattle.std.proofs.Common.{ap, ◌∙◌}
-use Rattle.tfpg_run.specs.declared.texts.fault.OpenFault.TheVariants.{NoMemory}
+use Rattle.tfpg_diagnose.specs.declared.texts.fault.OpenFault.TheVariants.{NoMemory}
 use Rattle.tfpg_embed.specs.declared.session.open_session.OpenSession.{OpenSession}
 use Rattle.tfpg_embed.proofs.SessionCalls.{err_refuses, not_opened, ok_refuses, opened}
 use Rattle.tfpg_embed.proofs.session.calls.tfpg_open.Goals as goal

@@ -5,7 +5,7 @@ use Rattle.tfpg_base.specs.Lines.{lines_of}
 use Rattle.tfpg_graph.specs.Graph.{Tfpg}
 use Rattle.tfpg_run.specs.inside.predict.Forecasting.{IsAimAt}
 use Rattle.tfpg_run.specs.predict.Forecasts.{HasForecasts, prediction}
-use Rattle.tfpg_run.proofs.lemmas.diagnosis.Diagnosed.{own_diagnosed}
+use Rattle.tfpg_diagnose.proofs.lemmas.Diagnosed.{own_diagnosed}
 use Rattle.tfpg_run.proofs.predict.forecasts.forecasts_text.Goals as goal
 
 pub predicted_text-requires-clause-diagnosed : goal.predicted_text-requires-clause-diagnosed

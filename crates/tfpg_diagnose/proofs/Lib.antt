@@ -1,0 +1,2 @@
+-- Lemmas on diagnosing line by line, on judging a report, and on texts in memory.
+pub mod lemmas

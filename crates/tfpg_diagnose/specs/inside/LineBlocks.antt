@@ -1,0 +1,49 @@
+-- What the engine of a diagnosis represents, and the block of a line that it was given.
+use Rattle.std.specs.Prelude.{◌≡◌, ℕ, ◌+◌, ◌<◌, ◌≤◌, List, [], length, Option, Some, None}
+use Rattle.tfpg_graph.specs.Graph.{Tfpg}
+use Rattle.tfpg_graph.specs.Valid.{IsValid}
+use Rattle.tfpg_evidence.specs.declared.round.Round.{Round}
+use Rattle.tfpg_engine.specs.EngineState.{EngineState, EngineRepresents}
+use Rattle.tfpg_report.specs.Blocks.{Block, RoundBlock, block_text}
+use Rattle.tfpg_check.specs.Report.{Progress, IsBlock, progress_after, rounds_of}
+use Rattle.tfpg_base.specs.declared.terms.Terms.{Terms}
+use Rattle.tfpg_diagnose.specs.RightReport.{BlockSays}
+use Rattle.tfpg_diagnose.specs.TellsPanels.{losses_in}
+use Rattle.tfpg_diagnose.specs.Work.{IsBlockLimit}
+use Rattle.tfpg_diagnose.specs.EngineReports.{EngineReports}
+
+-- a line of the input with its number
+pub record NumberedLine : Type 0 where
+  pub number : ℕ
+  pub text : List ℕ
+
+-- the line of this number and text
+abbrev pub numbered : ℕ → List ℕ → NumberedLine
+numbered number text = record { number = number; text = text }
+
+-- the engine is of a valid graph, and represents some rounds
+pub record IsEngineReady (engine : EngineState) : Type 0 where
+  pub valid : IsValid engine.graph
+  pub rounds : List Round
+  pub represents : EngineRepresents engine rounds
+
+-- The bytes are the block of a line, and the engine represents the progress after it.
+pub record HasBlock (graph : Tfpg) (terms : Terms) (before : Progress) (line : NumberedLine) (bytes : List ℕ)
+    (engine : EngineState) : Type 0 where
+  pub block : Block
+  pub is_block : IsBlock graph terms before line.number line.text block
+  pub says : BlockSays graph terms before line.text block
+  pub text : bytes ≡ block_text graph block
+  pub reports : EngineReports graph terms engine (progress_after graph before line.text block)
+
+-- For the block the count of calls went from one number to the other, by at most its limit.
+abbrev pub IsBlockWithin : Tfpg → Progress → List ℕ → Block → ℕ → ℕ → Type 0
+IsBlockWithin graph before line block start end =
+    (limit : ℕ) × IsBlockLimit graph before line block limit × (end ≤ start + limit)
+
+-- The block is that of a line that brought this round, which no panel was told yet, from the one engine to the other: the round comes after
+-- all earlier events. Or it is that of a line that brought none, and the log is as it was.
+abbrev pub IsUntold : Option Round → Block → EngineState → EngineState → Type 0
+IsUntold None block old new = (rounds_of block ≡ []) × (losses_in block ≡ []) × (new.log ≡ old.log)
+IsUntold (Some round) block old new =
+    (block ≡ RoundBlock round []) × (length old.log.events < round.number) × (round.number ≡ length new.log.events)

@@ -1,2 +1,0 @@
--- A diagnosis of lines in memory.
-pub mod Diagnosed

@@ -1,2 +1,0 @@
--- Judging the report of the input.
-pub mod UnderWay
