@@ -9,6 +9,7 @@ pub mod Judging
 pub mod Passing
 pub mod Causes
 pub mod HypothesesState
+pub mod CauseNames
 pub mod Judged
 pub mod JudgeState
 pub mod EqualReports

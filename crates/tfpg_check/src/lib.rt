@@ -3,6 +3,7 @@
 //! - [`Judge`] takes a report line by line, and judges it by a graph and the text of a log. It keeps what the next lines are judged
 //!   by, and not the report. The text is a [`LogText`], which it owns or borrows.
 //! - [`JudgeFault`] is why a report is not accepted, and [`CheckCause`] the first test that it fails.
+//!   [`check_cause_word`] is the name of such a cause.
 //!
 //! [`laws`] says how far a report has come after each block, that equal reports say the same, that each line of a report can be read,
 //! that a report whose lines can be read has no cause for which it would not be accepted, and that no lines have more than one; also that
@@ -34,6 +35,7 @@
 
 mod block_judge;
 mod cause;
+mod cause_names;
 mod judge;
 mod judge_fault;
 mod kept_flags;
@@ -45,6 +47,7 @@ mod round;
 mod round_fault;
 
 pub use cause::CheckCause;
+pub use cause_names::check_cause_word;
 pub use judge::Judge;
 pub use judge_fault::JudgeFault;
 pub use log_text::LogText;

@@ -13,6 +13,7 @@ pub mod Statements
 pub mod Declares
 pub mod Causes
 pub mod Faults
+pub mod CauseNames
 pub mod Probe
 pub mod Laws
 -- What the code and its proofs need besides. No public clause reaches it.

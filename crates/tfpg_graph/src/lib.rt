@@ -6,7 +6,7 @@
 //! - [`Graph`] is a valid graph with its look-ups. [`Kind`], with [`Lag`], and [`Edge`] are its parts.
 //! - [`NodeSet`] is a set of its nodes. [`Graph::reach`] returns the nodes that a set of failure modes reaches.
 //! - [`GraphCause`] says what is wrong with a text that spells no valid graph, and [`GraphFault`] in which line.
-//!   [`GraphRefusal`] is that fault, or out of memory.
+//!   [`GraphRefusal`] is that fault, or out of memory. [`graph_cause_word`] is the name of a cause.
 //! - [`MAX_NODES`] and the other limits say how much a graph may have of each thing.
 //! - [`laws`] has the laws of the definitions that the contracts cite.
 //!
@@ -28,6 +28,7 @@
 #![tactic(auto)]
 
 mod cause;
+mod cause_names;
 mod declared;
 mod edge;
 mod graph;
@@ -42,6 +43,7 @@ mod writing;
 mod zero_cycle;
 
 pub use cause::{GraphCause, GraphFault, GraphRefusal};
+pub use cause_names::graph_cause_word;
 pub use edge::Edge;
 pub use graph::Graph;
 pub use kind::{Kind, Lag};

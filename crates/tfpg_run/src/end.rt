@@ -4,7 +4,10 @@ ghost use Rattle.std.specs.Prelude.{◌≡◌, ◌∷◌, [], codes, decimal};
 ghost use Rattle.std.specs.Process.{exit_status};
 ghost use Rattle.tfpg_base.specs.Append.{Appends};
 ghost use Rattle.tfpg_base.specs.Words.{line_of};
-ghost use Rattle.tfpg_run.specs.Ends.{check_cause_name, graph_cause_name, line_of_end, status_of, usage_name};
+ghost use Rattle.tfpg_check.specs.CauseNames.{check_cause_name};
+ghost use Rattle.tfpg_graph.specs.CauseNames.{graph_cause_name};
+ghost use Rattle.tfpg_run.specs.Ends.{line_of_end, status_of};
+ghost use Rattle.tfpg_words.specs.CauseNames.{usage_name};
 ghost use Rattle.tfpg_run.specs.EndsOf.{end_of_check_fault, end_of_explain_fault, end_of_fetch_fault, end_of_output_fault, end_of_questions_fault, end_of_simulate_fault, end_of_stream_fault, end_of_probe_fault};
 ghost use Rattle.tfpg_run.specs.inside.Faults.{end_of_plan_fault, end_of_table_fault};
 
@@ -12,12 +15,12 @@ use crate::fault::{ExplainFault, FetchFault, ProbeFault, QuestionsFault, Simulat
 use itoa::Buffer;
 use std::process::ExitCode;
 use tfpg_base::{NoMemory, append_words};
-use tfpg_check::CheckCause;
+use tfpg_check::{CheckCause, check_cause_word};
 use tfpg_diagnose::CheckFault;
-use tfpg_graph::GraphCause;
+use tfpg_graph::{GraphCause, graph_cause_word};
 use tfpg_hyp::TableFault;
 use tfpg_streams::{OutputFault, StreamFault};
-use tfpg_words::{PlanFault, UsageCause};
+use tfpg_words::{PlanFault, UsageCause, usage_cause_word};
 
 /// How a run ends. Of several that would hold, the first in the order of the work decides: the words, the files in their order,
 /// the graph, the script, the number of hypotheses, and then input and output line by line.
@@ -286,77 +289,4 @@ fn append_text(text: &[u8], into: &mut Vec<u8>) -> Result<(), NoMemory>
 {
     into.extend_from_slice(text)?;
     Ok(())
-}
-
-/// The name of why a line is refused.
-fn check_cause_word(cause: CheckCause) -> &'static [u8]
-    ensures { result.now ≡ check_cause_name cause }
-{
-    match cause {
-        CheckCause::AfterClosed => b"AfterClosed",
-        CheckCause::NotReusable => b"NotReusable",
-        CheckCause::NotAClause => b"NotAClause",
-        CheckCause::NotAFact => b"NotAFact",
-        CheckCause::NotOnPath => b"NotOnPath",
-        CheckCause::Unchained => b"Unchained",
-        CheckCause::NotNegative => b"NotNegative",
-        CheckCause::BadReport => b"BadReport",
-        CheckCause::Surplus => b"Surplus",
-        CheckCause::WrongRound => b"WrongRound",
-        CheckCause::WrongHypothesis => b"WrongHypothesis",
-        CheckCause::WrongRanked => b"WrongRanked",
-        CheckCause::NotATrace => b"NotATrace",
-        CheckCause::WrongOpen => b"WrongOpen",
-        CheckCause::WrongRejected => b"WrongRejected",
-        CheckCause::WrongStatus => b"WrongStatus",
-        CheckCause::WrongCounts => b"WrongCounts",
-        CheckCause::EndsEarly => b"EndsEarly",
-        CheckCause::BadMap => b"BadMap",
-        CheckCause::BadScript => b"BadScript",
-    }
-}
-
-/// The name of why words are refused.
-fn usage_cause_word(cause: UsageCause) -> &'static [u8]
-    ensures { result.now ≡ usage_name cause }
-{
-    match cause {
-        UsageCause::NoCommand => b"NoCommand",
-        UsageCause::UnknownCommand => b"UnknownCommand",
-        UsageCause::BadWords => b"BadWords",
-        UsageCause::BadNumber => b"BadNumber",
-        UsageCause::OutOfRange => b"OutOfRange",
-        UsageCause::BadPanel => b"BadPanel",
-        UsageCause::BadNames => b"BadNames",
-        UsageCause::UnknownNode => b"UnknownNode",
-    }
-}
-
-/// The name of what is wrong with a graph.
-fn graph_cause_word(cause: GraphCause) -> &'static [u8]
-    ensures { result.now ≡ graph_cause_name cause }
-{
-    match cause {
-        GraphCause::BadHeader => b"BadHeader",
-        GraphCause::BadLine => b"BadLine",
-        GraphCause::BadName => b"BadName",
-        GraphCause::DuplicateName => b"DuplicateName",
-        GraphCause::UnknownName => b"UnknownName",
-        GraphCause::BadNumber => b"BadNumber",
-        GraphCause::NumberTooLarge => b"NumberTooLarge",
-        GraphCause::MinOverMax => b"MinOverMax",
-        GraphCause::EdgeIntoFailure => b"EdgeIntoFailure",
-        GraphCause::SelfEdge => b"SelfEdge",
-        GraphCause::DuplicateEdge => b"DuplicateEdge",
-        GraphCause::NoModes => b"NoModes",
-        GraphCause::NoIncoming => b"NoIncoming",
-        GraphCause::ZeroCycle => b"ZeroCycle",
-        GraphCause::TooManyNodes => b"TooManyNodes",
-        GraphCause::TooManyFailures => b"TooManyFailures",
-        GraphCause::TooManyEdges => b"TooManyEdges",
-        GraphCause::TooManyModes => b"TooManyModes",
-        GraphCause::TooManyIncoming => b"TooManyIncoming",
-        GraphCause::MissingEnd => b"MissingEnd",
-        GraphCause::AfterEnd => b"AfterEnd",
-    }
 }

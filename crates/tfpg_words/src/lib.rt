@@ -4,6 +4,7 @@
 //! [`PlanFault`] says why there is none: the first [`UsageCause`] that holds of the words, or out of memory. A [`PanelWord`] is such a
 //! panel: what it writes, a [`PanelKind`], and the file to which it does. [`DEFAULT_K`] and the other constants
 //! are the defaults and the limits of the options. [`laws`] says between which limits the numbers of a command are, and what its names are.
+//! [`usage_cause_word`] is the name of a cause.
 //!
 //! ```
 //! // The words `diagnose --k 1 engine.tfpg`.
@@ -19,6 +20,7 @@
 //! - The words mean one command, with its panels, or have their first cause: `plan`.
 #![tactic(auto)]
 
+mod cause_names;
 mod command;
 mod form;
 pub mod laws;
@@ -32,6 +34,7 @@ mod plan_fault;
 mod planning;
 mod usage_cause;
 
+pub use cause_names::usage_cause_word;
 pub use command::{Command, Planned};
 pub use limits::{
     DEFAULT_AHEAD, DEFAULT_BUDGET, DEFAULT_DOUBT, DEFAULT_DRAW, DEFAULT_K, DEFAULT_SIZE, MAX_DRAW,
