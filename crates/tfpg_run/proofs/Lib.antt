@@ -5,7 +5,5 @@ pub mod Stops
 pub mod PlannedNumbers
 pub mod Completing
 pub mod ConvertedBack
--- Lemmas on the lines of file panels.
-pub mod BestFinding
 -- The lemmas of each room, in a folder named like that of the source.
 pub mod lemmas

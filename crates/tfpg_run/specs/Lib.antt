@@ -6,8 +6,6 @@ pub mod EndsOf
 pub mod Run
 pub mod Completeness
 pub mod TooMany
--- What they say of the lines of file panels.
-pub mod PanelLines
 -- What they say of each command, in folders named like those of the source.
 pub mod diagnose
 pub mod explain

@@ -2,8 +2,7 @@
 //!
 //! [`run`] is the call that the program makes. It says how it ended by an [`End`], which has an exit code and a line. [`laws`] says that a
 //! simulated set is rejected in no round, that `diagnose` writes each block before it takes the next line, that what it wrote is accepted
-//! by `check`, and that a graph that is converted to JSON and back is the same graph. [`panel_line`] appends the line that a file panel
-//! writes for a round.
+//! by `check`, and that a graph that is converted to JSON and back is the same graph.
 //!
 //! ```
 //! // The words `diagnose pump.tfpg`, over a shelf that has the graph, and an input that has a log of it.
@@ -13,7 +12,6 @@
 //! # Proved, and by which clause
 //!
 //! - The rows of the program in `docs/promises.md`: `run`, `ends`, `completes`, `refuses`, `rechecks`, `work`, `desk`.
-//! - The lines of file panels: `panel_line`.
 //!
 //! # Not proved
 //!
@@ -33,11 +31,9 @@ mod fleet;
 mod generate;
 pub mod laws;
 mod limits;
-mod panel_lines;
 mod predict;
 mod simulate;
 
 pub use commands::run;
 pub use end::End;
 pub use limits::{GENERATED_BUDGET, GENERATED_K};
-pub use panel_lines::panel_line;

@@ -1,0 +1,2 @@
+-- Lemmas on the lines of file panels.
+pub mod lemmas

@@ -1,0 +1,2 @@
+-- The finding that a line names.
+pub mod BestFinding
