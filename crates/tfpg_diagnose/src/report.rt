@@ -1,7 +1,6 @@
 //! The report of a diagnosis: line by line, each with its block written, and its round told, before the next is taken.
 
-ghost use Rattle.std.specs.Prelude.{◌≡◌, ◌++◌, [], ℕ, List, IfOk, IfErr, OnOk, OnErr, Ok, Err};
-ghost use Rattle.tfpg_base.specs.Outside.{Rose, Puts};
+ghost use Rattle.std.specs.Prelude.{◌≡◌, [], ℕ, IfOk, IfErr, OnOk, Ok, Err};
 ghost use Rattle.tfpg_graph.specs.Graph.{Tfpg};
 ghost use Rattle.tfpg_graph.specs.Valid.{IsValid};
 ghost use Rattle.tfpg_log.specs.LogOfLines.{new_log};

@@ -1,6 +1,6 @@
 //! Telling the desk a round once its text is written, and the lines of the panels that are lost.
 
-ghost use Rattle.std.specs.Prelude.{◌≡◌, length, drop, IfSome, Ok, Err};
+ghost use Rattle.std.specs.Prelude.{◌≡◌, length, drop, IfSome, Ok};
 ghost use Rattle.tfpg_evidence.specs.RoundOf.{IsRoundOf};
 ghost use Rattle.tfpg_graph.specs.Graph.{sizes_of};
 ghost use Rattle.tfpg_panel.specs.Desk.{IsTold, seen_by};

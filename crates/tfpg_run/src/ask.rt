@@ -1,6 +1,6 @@
 //! The command `ask`: from the names of a graph file and a log file, and the terms, to the questions that would tell most.
 
-ghost use Rattle.std.specs.Prelude.{◌≡◌, ◌≤◌, IfErr, IfOk, OnOk, Ok, Err, length};
+ghost use Rattle.std.specs.Prelude.{◌≡◌, IfErr, IfOk, OnOk, Ok, Err};
 ghost use Rattle.tfpg_base.specs.Outside.{SourceState};
 ghost use Rattle.tfpg_base.specs.Terms.{AreReportTerms};
 ghost use Rattle.tfpg_panel.specs.Desk.{DeskState};

@@ -2,7 +2,6 @@
 
 ghost use Rattle.std.specs.Prelude.{◌≡◌, ◌∷◌, [], IfOk, IfErr, OnOk};
 ghost use Rattle.tfpg_base.specs.Lines.{lines_of};
-ghost use Rattle.tfpg_graph.specs.Valid.{IsValid};
 ghost use Rattle.tfpg_log.specs.Log.{IsLogOf};
 ghost use Rattle.tfpg_log.specs.LogOfLines.{log_after, log_of_lines};
 ghost use Rattle.tfpg_run.specs.Fetch.{Fetched, HasFile, GivesGraph, GivesGraphAndText};

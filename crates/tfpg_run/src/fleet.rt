@@ -1,6 +1,6 @@
 //! The command `fleet`: from the name of a graph file, the terms and the names of vehicles to the answers to the lines of the input.
 
-ghost use Rattle.std.specs.Prelude.{◌≡◌, ◌≤◌, ◌∷◌, [], IfErr, IfOk, OnOk, length, map};
+ghost use Rattle.std.specs.Prelude.{◌≡◌, ◌∷◌, [], IfErr, IfOk, OnOk, map};
 ghost use Rattle.tfpg_base.specs.Terms.{AreReportTerms};
 ghost use Rattle.tfpg_base.specs.Words.{comma_parts};
 ghost use Rattle.tfpg_panel.specs.Desk.{DeskState};

@@ -25,7 +25,7 @@ use Rattle.tfpg_diagnose.specs.RightReport.{RoundSays}
 use Rattle.tfpg_diagnose.specs.Rounds.{AreRoundsOf, IsLastRound}
 use Rattle.tfpg_diagnose.specs.EngineReports.{EngineReports}
 use Rattle.tfpg_diagnose.specs.inside.LineBlocks.{HasBlock, numbered}
-use Rattle.tfpg_diagnose.specs.Diagnosed.{HasDiagnosed, HasLastOf, IsLastOf}
+use Rattle.tfpg_diagnose.specs.Diagnosed.{HasDiagnosed, HasLastOf}
 use Rattle.tfpg_diagnose.proofs.lemmas.LineBlocks.{along, block_of_long_line, block_of_refusal, block_of_round}
 use Rattle.tfpg_diagnose.proofs.lemmas.NextBlocks.{AreBlocks-none, AreBlocks-push, RoundsSay-none, RoundsSay-push}
 

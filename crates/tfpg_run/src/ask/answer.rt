@@ -1,6 +1,6 @@
 //! The text of the questions.
 
-ghost use Rattle.std.specs.Prelude.{◌≡◌, ◌≤◌, ◌<◌, All, OnOk, flat_map, length};
+ghost use Rattle.std.specs.Prelude.{◌≤◌, ◌<◌, All, OnOk, flat_map, length};
 ghost use Rattle.tfpg_base.specs.Append.{Appends};
 ghost use Rattle.tfpg_base.specs.Set.{Rises};
 ghost use Rattle.tfpg_whatif.specs.Outcomes.{asked_of};

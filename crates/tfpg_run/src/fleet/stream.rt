@@ -1,11 +1,9 @@
 //! The stream: line by line, each with its answer written before the next is taken, and the counts at its end.
 
-ghost use Rattle.std.specs.Prelude.{◌≡◌, [], IfErr, IfOk, OnOk, Err, Ok, ℕ};
-ghost use Rattle.tfpg_base.specs.Outside.{Puts, Rose};
+ghost use Rattle.std.specs.Prelude.{[], IfErr, IfOk, OnOk, Err, Ok};
 ghost use Rattle.tfpg_check.specs.Report.{HasReports};
 ghost use Rattle.tfpg_streams.specs.Streams.{Streams, streams};
 ghost use Rattle.tfpg_run.specs.fleet.FleetEnds.{AnswersStream};
-ghost use Rattle.tfpg_run.specs.fleet.FleetOutput.{FleetProblem};
 ghost use Rattle.tfpg_run.specs.inside.fleet.UnderWay.{ComesTo, HasAnswered, IsAnswering, IsWatching, WritesAnswer, answering_at, problem_in};
 
 use super::answering::{answer_line, stray_answer};

@@ -1,6 +1,5 @@
 //! The lines of a forecast.
 
-ghost use Rattle.std.specs.Prelude.{◌≡◌};
 ghost use Rattle.tfpg_base.specs.Append.{Appends};
 ghost use Rattle.tfpg_graph.specs.Graph.{sizes_of};
 ghost use Rattle.tfpg_run.specs.predict.Forecasts.{outlook_text};

@@ -1,38 +1,33 @@
 -- The report of a log in memory.
-use Rattle.std.proofs.Common.{◌≡◌, ◌⊎◌, ℕ, ◌+◌, ◌-◌, ◌<◌, ◌≤◌, ◌^◌, Contains, List, [], ◌∷◌, ◌++◌, length, Option, Some, IfSome, Result, Ok, Err, refl, sym, ap, subst, subst₂, ◌∙◌, inl, inr, ⊎_elim, arith}
-use Rattle.std.specs.Prelude.{flat_map, IfErr, IfOk, IsOkUnless, OnOk}
+use Rattle.std.proofs.Common.{◌≡◌, ◌⊎◌, ℕ, ◌+◌, ◌-◌, ◌≤◌, ◌^◌, Contains, List, [], ◌∷◌, ◌++◌, length, Option, Some, IfSome, Result, Ok, Err, refl, sym, ap, subst, subst₂, ◌∙◌, inl, inr, ⊎_elim, arith}
+use Rattle.std.specs.Prelude.{flat_map, IfErr, IsOkUnless, OnOk}
 use Rattle.std.proofs.lemmas.List.{length-append}
 use Rattle.std.proofs.lemmas.List.Elements.{All-head}
 use Rattle.std.proofs.lemmas.Option.{same_Some}
 use Rattle.tfpg_base.specs.declared.terms.Terms.{Terms}
 use Rattle.tfpg_base.specs.declared.limits.TheConstants.{MAX_BYTES}
 use Rattle.tfpg_base.specs.Lines.{lines_of}
-use Rattle.tfpg_base.specs.Outside.{SourceState, SinkState, Rose, Takes}
+use Rattle.tfpg_base.specs.Outside.{Rose, Takes}
 use Rattle.tfpg_base.proofs.lists.Elements.{Contains-nil}
 use Rattle.tfpg_graph.specs.Graph.{Tfpg}
-use Rattle.tfpg_hyp.specs.Hypotheses.{HasHypotheses}
 use Rattle.tfpg_evidence.specs.declared.round.Round.{Round}
 use Rattle.tfpg_panel.specs.declared.lost_panel.LostPanel.{LostPanel}
 use Rattle.tfpg_panel.specs.Desk.{DeskState, new_desk}
 use Rattle.tfpg_panel.specs.ToldRounds.{HasTold}
-use Rattle.tfpg_report.specs.Blocks.{Block}
 use Rattle.tfpg_check.specs.Report.{IsReport, rounds_of}
-use Rattle.tfpg_engine.specs.EngineState.{EngineState}
 use Rattle.tfpg_streams.specs.declared.fault.StreamFault.{StreamFault}
 use Rattle.tfpg_streams.specs.declared.fault.StreamFault.TheVariants as streams
 use Rattle.tfpg_diagnose.specs.declared.texts.fault.OpenFault.{OpenFault}
 use Rattle.tfpg_diagnose.specs.declared.texts.fault.OpenFault.TheVariants as opening
 use Rattle.tfpg_diagnose.specs.declared.texts.fault.ReportFault.{ReportFault}
 use Rattle.tfpg_diagnose.specs.declared.texts.fault.ReportFault.TheVariants.{OutOfRange, Graph, TooManyHypotheses, TooMuchInput, NoMemory}
-use Rattle.tfpg_streams.specs.Outputs.{IsStreamFault}
-use Rattle.tfpg_diagnose.specs.Watched.{Watched, streams_in, watched}
+use Rattle.tfpg_diagnose.specs.Watched.{Watched}
 use Rattle.tfpg_diagnose.specs.Diagnosing.{Diagnoses}
 use Rattle.tfpg_diagnose.specs.RightReport.{RoundsSay}
 use Rattle.tfpg_diagnose.specs.TellsPanels.{losses_in}
 use Rattle.tfpg_diagnose.specs.texts.Opening.{CanOpen, IsOpenFault}
-use Rattle.tfpg_diagnose.specs.texts.Reports.{CanReport, IsPlainReport, IsReportFault, IsReportOfTexts}
+use Rattle.tfpg_diagnose.specs.texts.Reports.{CanReport, IsPlainReport, IsReportFault}
 use Rattle.tfpg_diagnose.specs.inside.texts.Faults.{IsWritingFault, report_fault_of_open, report_fault_of_stream}
-use Rattle.tfpg_diagnose.specs.inside.texts.Opened.{IsNewEngineOf}
 use Rattle.tfpg_streams.proofs.lemmas.InputLines.{all_taken}
 use Rattle.tfpg_diagnose.proofs.lemmas.texts.Opened.{OpenLaws, no_fault_of_many, not_too_many, one_number}
 

@@ -1,6 +1,5 @@
 -- A session, one line after another.
-use Rattle.std.proofs.Common.{◌≡◌, ℕ, ◌+◌, ◌<◌, ◌≤◌, List, [], ◌∷◌, ◌++◌, length, Option, Some, None, Result, Ok, Err, refl, sym, ap, subst, subst₂, ◌∙◌, arith}
-use Rattle.std.specs.Prelude.{flat_map, IfOk, OnOk}
+use Rattle.std.proofs.Common.{◌≡◌, ℕ, ◌+◌, ◌<◌, List, [], ◌∷◌, ◌++◌, length, Option, Some, None, refl, sym, ap, subst, ◌∙◌, arith}
 use Rattle.std.proofs.lemmas.List.{append-nil, length_push}
 use Rattle.std.proofs.lemmas.List.Concat.{flat_map-append}
 use Rattle.tfpg_base.specs.declared.terms.Terms.{Terms}
@@ -10,9 +9,8 @@ use Rattle.tfpg_graph.specs.Valid.{IsValid}
 use Rattle.tfpg_evidence.specs.declared.round.Round.{Round}
 use Rattle.tfpg_engine.specs.EngineState.{EngineState}
 use Rattle.tfpg_log.specs.declared.refused_line.RefusedLine.TheVariants.{TooLong}
-use Rattle.tfpg_report.specs.Blocks.{Block, RefusedBlock, block_text, head_text, refused_text}
-use Rattle.tfpg_panel.specs.declared.lost_panel.LostPanel.{LostPanel}
-use Rattle.tfpg_check.specs.Report.{HasReports, Progress, progress_of, report_text, rounds_of}
+use Rattle.tfpg_report.specs.Blocks.{Block, RefusedBlock, head_text, refused_text}
+use Rattle.tfpg_check.specs.Report.{HasReports, Progress, progress_of}
 use Rattle.tfpg_check.proofs.Progressing.{progress_of-push}
 use Rattle.tfpg_report.proofs.WrittenLines.{written_refusal}
 use Rattle.tfpg_diagnose.specs.TellsPanels.{losses_in}

@@ -1,4 +1,3 @@
-use Rattle.std.proofs.lemmas.Result.{IfOk-weaker}
 use Rattle.tfpg_run.proofs.lemmas.ask.Asked.{can_be_asked, has_questions}
 use Rattle.tfpg_run.proofs.ask.text_of_lines.Goals as goal
 

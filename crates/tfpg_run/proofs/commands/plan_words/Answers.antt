@@ -1,4 +1,4 @@
-use Rattle.std.proofs.Common.{◌≡◌, Ok, Err, ap, map}
+use Rattle.std.proofs.Common.{Ok, Err, ap, map}
 use Rattle.std.specs.Prelude.{Result}
 use Rattle.std.specs.String.{string_bytes}
 use Rattle.tfpg_words.specs.Meaning.{Meant, command_meant, meant_by}

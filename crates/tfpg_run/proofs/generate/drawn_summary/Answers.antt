@@ -1,4 +1,4 @@
-use Rattle.std.proofs.Common.{List, ℕ, length, ap}
+use Rattle.std.proofs.Common.{length, ap}
 use Rattle.std.proofs.lemmas.Result.{IfOk-weaker}
 use Rattle.std.specs.Prelude.{IsSomeAnd}
 use Rattle.tfpg_base.specs.Lines.{lines_of}

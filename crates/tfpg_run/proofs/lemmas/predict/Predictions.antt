@@ -1,6 +1,6 @@
 -- What is written of a diagnosis is the prediction for a node.
-use Rattle.std.proofs.Common.{◌≡◌, ℕ, ◌+◌, ◌<◌, ◌≤◌, min, cond, true, false, Bool, List, [], ◌∷◌, ◌++◌, length, get_or, map, All, IsTrue, Option, Some, None, Result, Ok, Err, refl, sym, ap, subst, subst₂, ◌∙◌, arith}
-use Rattle.std.specs.Prelude.{slice_get, nat_lt, IfErr, IsErrAnd}
+use Rattle.std.proofs.Common.{◌≡◌, ℕ, ◌+◌, ◌<◌, ◌≤◌, cond, true, false, Bool, List, [], ◌++◌, length, get_or, All, IsTrue, Option, Some, None, Ok, Err, refl, sym, ap, subst, subst₂, ◌∙◌, arith}
+use Rattle.std.specs.Prelude.{nat_lt}
 use Rattle.std.proofs.lemmas.Bool.{ltb-true}
 use Rattle.std.proofs.lemmas.List.{append-nil}
 use Rattle.std.proofs.lemmas.List.Elements.{All-same}
@@ -20,7 +20,7 @@ use Rattle.tfpg_evidence.specs.Findings.{ranked_in_order}
 use Rattle.tfpg_evidence.proofs.FindingsByNumber.{RiseByNumber}
 use Rattle.tfpg_hyp.specs.Rounds.{IsRound}
 use Rattle.tfpg_hyp.proofs.FindingsOfRound.{HasFindingAt, evidence}
-use Rattle.tfpg_predict.specs.LeastTime.{Lookahead, lookahead_of}
+use Rattle.tfpg_predict.specs.LeastTime.{lookahead_of}
 use Rattle.tfpg_predict.specs.Probed.{IsProbeable}
 use Rattle.tfpg_diagnose.specs.declared.diagnosis.Diagnosis.{Diagnosis}
 use Rattle.tfpg_run.specs.declared.fault.ProbeFault.TheVariants.{TooManyNodes, TooManyEdges}

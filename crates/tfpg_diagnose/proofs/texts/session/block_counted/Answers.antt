@@ -1,4 +1,4 @@
-use Rattle.std.proofs.Common.{List, ℕ, ap, subst, sym}
+use Rattle.std.proofs.Common.{List, ℕ, subst, sym}
 use Rattle.tfpg_diagnose.specs.texts.Sessions.{CountsBlock}
 use Rattle.tfpg_diagnose.proofs.lemmas.texts.SessionLines.{counted_later}
 use Rattle.tfpg_diagnose.proofs.texts.session.block_counted.Goals as goal

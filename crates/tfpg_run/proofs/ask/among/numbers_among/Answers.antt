@@ -1,7 +1,4 @@
-use Rattle.std.proofs.Common.{◌≡◌, ℕ, ◌+◌, Bool, cond, List, [], ◌∷◌, ◌++◌, length, take, Some, sym, ap, subst, ◌∙◌, append-nil}
-use Rattle.tfpg_base.specs.Choice.{numbers_from}
-use Rattle.tfpg_evidence.specs.declared.finding.Finding.{Finding}
-use Rattle.tfpg_engine.specs.Work.{is_ranked_or_open}
+use Rattle.std.proofs.Common.{◌+◌, ◌∙◌}
 use Rattle.tfpg_run.proofs.lemmas.ask.Left.{numbers_pushed, numbers_kept}
 use Rattle.tfpg_run.proofs.ask.among.numbers_among.Goals as goal
 use Rattle.tfpg_run.proofs.ask.among.numbers_among.Goals.{then-is_left+in_ok-push, else-is_left}

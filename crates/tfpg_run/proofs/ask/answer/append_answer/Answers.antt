@@ -1,5 +1,5 @@
 use Rattle.std.proofs.Common.{Err, ap, ◌∙◌}
-use Rattle.tfpg_run.proofs.lemmas.ask.Asked.{lists_questions, nodes_within, says_full}
+use Rattle.tfpg_run.proofs.lemmas.ask.Asked.{lists_questions, says_full}
 use Rattle.tfpg_run.proofs.ask.answer.append_answer.Goals as goal
 
 pub returns-in-Ok : goal.returns-in-Ok
