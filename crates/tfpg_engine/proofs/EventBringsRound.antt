@@ -1,14 +1,14 @@
 -- What an event brings, for an engine as contracts see it.
-use Rattle.std.proofs.Common.{◌≡◌, ℕ, ◌≤◌, false, List, [], ◌∷◌, length, replicate, Some, refl, sym, ap, subst, ◌∙◌, arith, length-append}
-use Rattle.std.specs.Prelude.{All, IsTrue, slice_get, ◌↔◌, Result, Err}
+use Rattle.std.proofs.Common.{◌≡◌, ℕ, ◌+◌, ◌<◌, ◌≤◌, false, List, [], ◌∷◌, length, replicate, Some, refl, sym, ap, subst, ◌∙◌, arith, length-append}
+use Rattle.std.specs.Prelude.{All, Contains, IsTrue, slice_get, ◌↔◌, Result, Err}
 use Rattle.tfpg_hyp.specs.declared.table.TableFault.{TableFault}
 use Rattle.tfpg_hyp.specs.declared.table.TableFault.TheVariants.{TooMany, NoMemory}
 use Rattle.std.proofs.lemmas.List.{length-replicate}
 use Rattle.std.proofs.lemmas.List.Elements.{All-replicate}
 use Rattle.tfpg_base.specs.declared.terms.Terms.{Terms}
 use Rattle.tfpg_base.proofs.lists.Choices.{same_Err}
-use Rattle.tfpg_base.proofs.lists.Elements.{All-at, All-from_members}
-use Rattle.tfpg_base.specs.Hypothesis.{Hypothesis}
+use Rattle.tfpg_base.proofs.lists.Elements.{All-at, All-from_members, Contains-at}
+use Rattle.tfpg_base.specs.Hypothesis.{Hypothesis, IsProperPart}
 use Rattle.tfpg_graph.specs.Graph.{Tfpg, AreFailures, is_monitored}
 use Rattle.tfpg_log.specs.declared.event.Event.{Event}
 use Rattle.tfpg_log.specs.declared.event.Offered.{Offered}
@@ -18,6 +18,7 @@ use Rattle.tfpg_log.specs.Log.{Logbook, IsLogOf, IsOrdered, GoesOn, with_event, 
 use Rattle.tfpg_log.specs.Accepted.{reply_to}
 use Rattle.tfpg_log.specs.LogOfLines.{new_log}
 use Rattle.tfpg_evidence.specs.declared.round.Round.{Round}
+use Rattle.tfpg_hyp.specs.Table.{IsHypothesis, IsTable}
 use Rattle.tfpg_hyp.specs.Hypotheses.{Hypotheses, Row, IsRowOf, IsTableOf}
 use Rattle.tfpg_hyp.specs.Views.{case_for}
 use Rattle.tfpg_hyp.specs.Rounds.{Inquiry, steps_so_far}
@@ -29,17 +30,41 @@ use Rattle.tfpg_engine.specs.inside.SlotWork.{AreSlotsWithin}
 use Rattle.tfpg_engine.proofs.RoundWork.{never_worked_on}
 use Rattle.tfpg_engine.specs.inside.Slots.{AllCanGoOn, IsEngine}
 use Rattle.tfpg_engine.specs.inside.TreeLaws.{TreeLaws}
-use Rattle.tfpg_engine.specs.inside.NewFindings.{IsOfGraph, MakesRound}
+use Rattle.tfpg_engine.specs.inside.NewFindings.{PartsStandFirst, IsOfGraph, MakesRound}
 use Rattle.tfpg_engine.proofs.Ignoring.{own_log}
 use Rattle.tfpg_engine.proofs.FindingsMakeRound.{StandBefore, can_go_on, still_go_on, round_is, earned, none_open, represents, worked_on, within}
 
--- the hypotheses of a table are of failure modes and monitors
-pub of_graph : (graph : Tfpg) (terms : Terms) (table : Hypotheses) → IsTableOf graph terms table → IsOfGraph graph table
-of_graph graph terms table is = record {
+-- That none has fewer members than one before it is a law of the table.
+abbrev pub StandBySize : Type 0
+StandBySize =
+    (graph : Tfpg) (terms : Terms) (hypotheses : List Hypothesis) → IsTable graph terms hypotheses → (number other : ℕ) (earlier later : Hypothesis) → slice_get hypotheses number ≡ Some earlier
+    → slice_get hypotheses other ≡ Some later → number ≤ other → length earlier.set + length earlier.doubts ≤ length later.set + length later.doubts
+
+-- So is that a proper part has fewer.
+abbrev pub HaveFewer : Type 0
+HaveFewer =
+    (graph : Tfpg) (terms : Terms) (part whole : Hypothesis) → IsHypothesis graph terms part → IsHypothesis graph terms whole → IsProperPart part whole
+    → length part.set + length part.doubts < length whole.set + length whole.doubts
+
+-- parts of a hypothesis of a table stand first
+parts_stand_first : StandBySize → HaveFewer → (graph : Tfpg) (terms : Terms) (hypotheses : List Hypothesis) → IsTable graph terms hypotheses → (whole : Hypothesis) → Contains hypotheses whole
+    → PartsStandFirst hypotheses whole
+parts_stand_first by_size fewer graph terms hypotheses table whole has number other hypothesis part at at_part before many proper =
+    omega (
+      arith,
+      many,
+      by_size graph terms hypotheses table number other hypothesis part at at_part before,
+      fewer graph terms part whole ((table.exact part).0 (Contains-at hypotheses other part at_part)) ((table.exact whole).0 has) proper,
+    )
+
+-- the hypotheses of a table are of failure modes and monitors, and parts stand first
+pub of_graph : StandBySize → HaveFewer → (graph : Tfpg) (terms : Terms) (table : Hypotheses) → IsTableOf graph terms table → IsOfGraph graph table
+of_graph by_size fewer graph terms table is = record {
   members = All-from_members (λ (hypothesis : Hypothesis). AreFailures graph hypothesis.set) table.hypotheses (λ hypothesis has. ((is.hypotheses.exact hypothesis).0 has).of_graph.members);
   doubts = All-from_members (λ (hypothesis : Hypothesis). All (λ node. IsTrue (is_monitored graph node)) hypothesis.doubts) table.hypotheses
       (λ hypothesis has. ((is.hypotheses.exact hypothesis).0 has).doubts_of_graph.monitored);
   reached = is.reached;
+  parts_first = All-from_members (PartsStandFirst table.hypotheses) table.hypotheses (parts_stand_first by_size fewer graph terms table.hypotheses is.hypotheses);
 }
 
 -- ---- an engine without events

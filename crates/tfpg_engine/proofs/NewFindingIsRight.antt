@@ -1,9 +1,9 @@
 -- What a round finds of one hypothesis.
-use Rattle.std.proofs.Common.{◌≡◌, ℕ, ◌+◌, ◌<◌, ◌≤◌, ◌⊎◌, inl, inr, ◌↔◌, Bool, true, false, cond, List, [], ◌∷◌, ◌++◌, length, get_or, take, set as set_at, refl, sym, ap, subst, ◌∙◌, arith}
+use Rattle.std.proofs.Common.{◌≡◌, ℕ, ◌+◌, ◌<◌, ◌≤◌, ◌⊎◌, inl, inr, ◌↔◌, Bool, true, false, cond, List, [], ◌∷◌, ◌++◌, length, map, get_or, take, set as set_at, refl, sym, ap, subst, ◌∙◌, arith}
 use Rattle.std.proofs.Math.Arith.{lt_of_le-ne}
-use Rattle.std.specs.Prelude.{IsTrue, ◌==◌, ◌||◌, Result, Ok, Some, slice_get}
+use Rattle.std.specs.Prelude.{IsTrue, ◌==◌, ◌||◌, Option, option_map, Result, Ok, Some, None, slice_get}
 use Rattle.std.proofs.lemmas.List.{append-nil, length-append, length-set, take-append-le, take_at}
-use Rattle.std.proofs.lemmas.Option.{slice_get-get_or, slice_get_within, get_or_from_slice_get, same_Some}
+use Rattle.std.proofs.lemmas.Option.{slice_get-get_or, slice_get-map, slice_get_within, get_or_from_slice_get, same_Some}
 use Rattle.tfpg_base.proofs.lists.Sequences.{below_or_last}
 use Rattle.tfpg_base.proofs.lists.Written.{slice_get-set_same, slice_get-set_other, slice_get-push_before, slice_get-push_at}
 use Rattle.tfpg_base.specs.declared.no_memory.NoMemory.{NoMemory}
@@ -40,7 +40,7 @@ use Rattle.tfpg_engine.specs.declared.slot.Slot.TheVariants.{Untouched, Searched
 use Rattle.tfpg_engine.specs.Earned.{IsEarned}
 use Rattle.tfpg_engine.specs.EngineState.{SlotRepresents, is_rejected_slot}
 use Rattle.tfpg_engine.specs.inside.TreeLaws.{TreeLaws}
-use Rattle.tfpg_engine.specs.inside.NewFindings.{kept, status_by, IsKeptAfter, RanksByFraction, GoesOnFrom, IsNewFinding, AreFirstFindings}
+use Rattle.tfpg_engine.specs.inside.NewFindings.{kept, status_by, IsKeptAfter, RanksByFraction, GoesOnFrom, IsNewFinding, AreFirstFindings, PartsStandFirst}
 use Rattle.tfpg_engine.proofs.KeptStaysRight.{slot_partial}
 use Rattle.tfpg_engine.proofs.Ignoring.{own_log, ordered_for}
 use Rattle.tfpg_engine.proofs.EnoughIgnoring.{enough_ignoring}
@@ -270,6 +270,14 @@ module _ (findings : List Finding) (hypothesis : Hypothesis) (number : ℕ) wher
   pub none_at_all : length findings ≤ number → ((other : ℕ) → IsRankedPart findings hypothesis other → number ≤ other) → HasRankedPart findings hypothesis → ⊥
   none_at_all long so_far has = absurd (omega (arith, long, so_far has.0 has.1, slice_get_within findings has.0 has.1.finding has.1.numbered))
 
+  -- no finding from this one on ranks a proper part, where this one has as many failure modes as the hypothesis has members
+  pub none_from_here : (read : Finding) → PartsStandFirst (map hypothesis_of findings) hypothesis → read ≡ get_or findings number read → number < length findings
+      → length hypothesis.set + length hypothesis.doubts ≤ length read.set → ((other : ℕ) → IsRankedPart findings hypothesis other → number ≤ other) → HasRankedPart findings hypothesis → ⊥
+  none_from_here read first is within many so_far has =
+      first number has.0 (hypothesis_of read) (hypothesis_of has.1.finding)
+      (slice_get-map hypothesis_of findings number ∙ ap (option_map hypothesis_of) (slice_get-get_or findings number read within ∙ ap Some (sym is)))
+      (slice_get-map hypothesis_of findings has.0 ∙ ap (option_map hypothesis_of) has.1.numbered) (so_far has.0 has.1) (omega (arith, many)) has.1.part
+
 -- ---- one hypothesis after the other
 
 same_new_finding : (inquiry : Inquiry) (row row' : Row) (fs fs' : List Finding) (a a' b b' : Slot) (f f' : Finding) → row ≡ row' → fs ≡ fs' → a ≡ a' → b ≡ b' → f ≡ f'
@@ -349,3 +357,28 @@ module _ (inquiry : Inquiry) (table : Hypotheses) (old slots : List Slot) (findi
       subst (λ (fs : List Finding). AreFirstFindings inquiry table old (set_at slots number now) fs (number + 1)) (sym is_after)
       (turned inquiry table old slots findings row so_far (get_or slots number d) now finding (record { hypothesis = at_hypothesis; reach = at_reach }) (slot_there d)
       (subst (λ (fs : List Finding). IsNewFinding inquiry row fs (get_or slots number d) now finding) is_read is_new))
+
+  -- a finding so far is on the hypothesis of its number
+  finding_on : length table.reaches ≡ length table.hypotheses → (other : ℕ) (finding : Finding) → slice_get findings other ≡ Some finding → slice_get table.hypotheses other ≡ Some (hypothesis_of finding)
+  finding_on reached other finding at =
+      let below : other < length table.hypotheses = omega (arith, slice_get_within findings other finding at, so_far.counted, within) in
+      let there = slice_get-get_or table.hypotheses other (hypothesis_of finding) below in
+      let row : Row = record { number = other; hypothesis = get_or table.hypotheses other (hypothesis_of finding); reach = get_or table.reaches other [] } in
+      let is_new =
+      so_far.each row (record { hypothesis = there; reach = slice_get-get_or table.reaches other [] (omega (arith, below, reached)) }) (get_or old other Untouched) (get_or slots other Untouched) finding
+      (slice_get-get_or old other Untouched (omega (arith, below, one_each))) (slice_get-get_or slots other Untouched (omega (arith, below, one_each, so_far.one_each))) at in
+      there ∙ ap Some (sym is_new.hypothesis_is)
+
+  -- parts stand first among the findings so far, as they do in the table
+  pub parts_first_so_far : length table.reaches ≡ length table.hypotheses → (read : List Finding) → read ≡ findings → (whole : Hypothesis) → PartsStandFirst table.hypotheses whole
+      → PartsStandFirst (map hypothesis_of read) whole
+  parts_first_so_far reached read is_read whole first =
+      subst (λ (fs : List Finding). PartsStandFirst (map hypothesis_of fs) whole) (sym is_read)
+      (λ one other hypothesis part at at_part. first one other hypothesis part (on_table one hypothesis at) (on_table other part at_part))
+    where
+      by : (other : ℕ) (hypothesis : Hypothesis) (at : Option Finding) → slice_get findings other ≡ at → option_map hypothesis_of at ≡ Some hypothesis → slice_get table.hypotheses other ≡ Some hypothesis
+      by other hypothesis None is none = cc
+      by other hypothesis (Some finding) is some = finding_on reached other finding is ∙ some
+
+      on_table : (other : ℕ) (hypothesis : Hypothesis) → slice_get (map hypothesis_of findings) other ≡ Some hypothesis → slice_get table.hypotheses other ≡ Some hypothesis
+      on_table other hypothesis at = by other hypothesis (slice_get findings other) refl (sym (slice_get-map hypothesis_of findings other) ∙ at)

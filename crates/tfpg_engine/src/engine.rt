@@ -22,7 +22,7 @@ use std::marker::Model;
 use std::sync::ledger::Ledger;
 use tfpg_base::{NoMemory, Steps, Terms};
 use tfpg_graph::Graph;
-use tfpg_hyp::laws::subsets_stand_before_their_supersets;
+use tfpg_hyp::laws::{hypotheses_stand_by_size, subsets_stand_before_their_supersets};
 use tfpg_hyp::{Table, TableFault};
 use tfpg_log::{Log, Offered};
 use tfpg_search::Search;
@@ -124,6 +124,7 @@ impl Engine {
                 self.log.is_always_ordered();
                 tree_laws();
                 subsets_stand_before_their_supersets();
+                hypotheses_stand_by_size();
                 let inquiry = Inquiry {
                     graph: &self.graph,
                     terms: self.terms,

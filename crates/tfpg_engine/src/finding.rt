@@ -1,12 +1,13 @@
 //! What a round finds of one hypothesis.
 
-ghost use Rattle.std.specs.Prelude.{◌≡◌, ◌+◌, ◌<◌, ◌^◌, List, [], length, false, IfOk};
+ghost use Rattle.std.specs.Prelude.{◌≡◌, ◌+◌, ◌<◌, ◌^◌, List, [], length, map, false, IfOk};
 ghost use Rattle.tfpg_evidence.specs.declared.finding.Finding.{Finding};
+ghost use Rattle.tfpg_evidence.specs.Findings.{hypothesis_of};
 ghost use Rattle.tfpg_hyp.specs.Ranking.{cost_of, robustness_of};
 ghost use Rattle.tfpg_hyp.specs.Rounds.{HasRankedPart, IsLeastPart};
 ghost use Rattle.tfpg_engine.specs.inside.Inquiries.{IsInquiry, IsRowOfGraph, case_of_row, row_of, inquiry_of};
 ghost use Rattle.tfpg_engine.specs.inside.Slots.{CanGoOn};
-ghost use Rattle.tfpg_engine.specs.inside.NewFindings.{IsNewFinding, status_by};
+ghost use Rattle.tfpg_engine.specs.inside.NewFindings.{IsNewFinding, PartsStandFirst, status_by};
 ghost use Rattle.tfpg_engine.specs.inside.SlotWork.{IsSlotWithin};
 ghost use Rattle.tfpg_engine.specs.EngineState.{calls_of_slot, is_rejected_slot};
 
@@ -41,6 +42,7 @@ pub(crate) fn new_finding<L: Ledger>(
     requires ignores { log.now.ignored ≡ listed.now.hypothesis.doubts }
     requires row { IsRowOfGraph inquiry.now.graph.now (row_of listed.now) }
     requires few { length findings.now < 2 ^ 32 }
+    requires parts_first { PartsStandFirst (map hypothesis_of findings.now) listed.now.hypothesis }
     requires goes_on { CanGoOn (case_of_row (inquiry_of inquiry.now log.now) (row_of listed.now))
         listed.now.hypothesis slot.old }
     ensures found { IfOk result (IsNewFinding (inquiry_of inquiry.now log.now) (row_of listed.now)

@@ -19,7 +19,8 @@ use tfpg_hyp::Table;
 use tfpg_log::Log;
 
 /// A finding on each hypothesis of the table, in the order of their numbers, each by the log that ignores its monitors. The log
-/// may be left ignoring some. It costs the searches, and for each hypothesis a look at the findings before it.
+/// may be left ignoring some. It costs the searches, and for each hypothesis that is not rejected a look at the findings before it, up to
+/// the first ranked one with as many failure modes as the hypothesis has members.
 pub(crate) fn new_findings<L: Ledger>(
     alloc: Global,
     inquiry: &Inquiry<'_>,

@@ -8,6 +8,7 @@ pub mod Members
 pub mod Valid
 pub mod ZeroCycle
 pub mod Reach
+pub mod Onward
 pub mod Text
 pub mod Statements
 pub mod Declares

@@ -4,7 +4,8 @@
 //! - [`read`] reads the text of a graph, and [`write`] writes it. [`append_node`] writes the line of one node, as a text of
 //!   a [`Version`] has it, and [`append_edge_start`] that of one edge up to its greatest delay.
 //! - [`Graph`] is a valid graph with its look-ups. [`Kind`], with [`Lag`], and [`Edge`] are its parts.
-//! - [`NodeSet`] is a set of its nodes. [`Graph::reach`] returns the nodes that a set of failure modes reaches.
+//! - [`NodeSet`] is a set of its nodes. [`Graph::reach`] returns the nodes that a set of failure modes reaches, and
+//!   [`Graph::reach_with`] those of the set with one more, by [`Onward`].
 //! - [`GraphCause`] says what is wrong with a text that spells no valid graph, and [`GraphFault`] in which line.
 //!   [`GraphRefusal`] is that fault, or out of memory. [`graph_cause_word`] is the name of a cause.
 //! - [`MAX_NODES`] and the other limits say how much a graph may have of each thing.
@@ -23,7 +24,7 @@
 //!
 //! - A text is read exactly, or refused with its first fault: `read`, `spelled`, `valid`, `exact`, `refused`, `faulty`.
 //! - Its canonical text: `write`.
-//! - Reach: `Graph::reach`.
+//! - Reach: `Graph::reach`, `Graph::reach_with`.
 //! - That a text spells a valid graph or has a first fault: its laws.
 #![tactic(auto)]
 
@@ -35,6 +36,7 @@ mod graph;
 mod kind;
 pub mod laws;
 mod limits;
+mod node_steps;
 mod probe;
 mod reach;
 mod reading;
@@ -48,7 +50,7 @@ pub use edge::Edge;
 pub use graph::Graph;
 pub use kind::{Kind, Lag};
 pub use limits::{MAX_EDGES, MAX_FAILURES, MAX_INCOMING, MAX_MODES, MAX_NODES, MAX_RARITY};
-pub use reach::NodeSet;
+pub use reach::{NodeSet, Onward};
 pub use reading::read;
 pub use version::Version;
 pub use writing::{append_edge_start, append_node, write};

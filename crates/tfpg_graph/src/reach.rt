@@ -1,16 +1,19 @@
 //! Which nodes a set of failure modes reaches.
 
-ghost use Rattle.std.specs.Prelude.{◌≡◌, ◌<◌, ◌↔◌, length, All, Contains, IsTrue, false};
+ghost use Rattle.std.specs.Prelude.{◌≡◌, ◌<◌, ◌↔◌, ◌⊎◌, ℕ, length, All, Contains, IsTrue, false};
 ghost use Rattle.tfpg_graph.specs.Graph.{failures};
 ghost use Rattle.tfpg_graph.specs.Reach.{IsReach};
 ghost use Rattle.tfpg_graph.specs.inside.reach.Reaching.{HasSourceIn, HasAllSourcesIn, IsFed, IsFullBefore, AreReached, Widens};
 
+mod growing;
 mod node_set;
+mod onward;
 
 use crate::graph::Graph;
 use crate::kind::Kind;
 use crate::limits::MAX_NODES;
 pub use node_set::NodeSet;
+pub use onward::Onward;
 use tfpg_base::Set;
 
 impl Graph {
@@ -77,6 +80,8 @@ impl Graph {
         ensures added { IsTrue result → length reached.old < length reached.new }
         ensures same { result ≡ false → reached.new ≡ reached.old }
         ensures full { result ≡ false → IsFed self.now reached.new node → Contains reached.new node }
+        ensures here { IsTrue result → Contains reached.new node }
+        ensures only { (other : ℕ) → Contains reached.new other → (node ≡ other) ⊎ Contains reached.old other }
     {
         if reached.has(node) || !self.is_fed(reached, node) {
             return false;

@@ -11,8 +11,8 @@ mod steps;
 
 use crate::declared::Declared;
 use crate::edge::Edge;
+use crate::node_steps::NodeSteps;
 use crate::zero_cycle::find_groups::groups;
-use crate::zero_cycle::steps::ZeroSteps;
 use std::alloc::Global;
 use tfpg_base::NoMemory;
 
@@ -43,8 +43,8 @@ fn zero_groups(alloc: Global, declared: &Declared) -> Result<Vec<Option<usize>>,
     requires { All (IsValidEdge declared.now) declared.now.edges }
     ensures { IfOk result (λ marks. AreZeroGroups declared.now marks.items) }
 {
-    let steps = ZeroSteps::of_edges(alloc, declared, false)?;
-    let reversed = ZeroSteps::of_edges(alloc, declared, true)?;
+    let steps = NodeSteps::of_edges(alloc, declared, false)?;
+    let reversed = NodeSteps::of_edges(alloc, declared, true)?;
     groups(alloc, declared.node_count(), &steps, &reversed)
 }
 

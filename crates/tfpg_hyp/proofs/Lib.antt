@@ -7,6 +7,7 @@ mod CountedSoFar
 mod Listed
 pub mod Tables
 mod Subsets
+mod Growing
 mod Fractions
 pub mod FindingsOfRound
 mod IgnoredMore

@@ -41,7 +41,7 @@ hypothesis_part graph terms part whole is_set is_nodes within fewer is = record 
 }
 
 -- A proper part has fewer members.
-fewer_members : (graph : Tfpg) (terms : Terms) (part whole : Hypothesis) → IsHypothesis graph terms part → IsHypothesis graph terms whole → IsProperPart part whole
+pub fewer_members : (graph : Tfpg) (terms : Terms) (part whole : Hypothesis) → IsHypothesis graph terms part → IsHypothesis graph terms whole → IsProperPart part whole
     → length part.set + length part.doubts < length whole.set + length whole.doubts
 fewer_members graph terms part whole is also proper =
     ⊎_elim
@@ -77,4 +77,19 @@ module _ (graph : Tfpg) (terms : Terms) (hypotheses : List Hypothesis) (table : 
       (λ same. absurd (proper.proper (same_Some part whole (sym at ∙ ap (slice_get hypotheses) same ∙ at_whole))))
       (λ differ. ⊎_elim (λ less. less)
       (λ greater. absurd (⊎_elim (λ less. omega (arith, less, shorter, first, second)) (λ equal. omega (arith, equal.0, shorter, first, second)) (AllPairs-at (StandsBefore graph) hypotheses other number whole part table.in_order at_whole at greater))) differ)
+      (cases_order number other)
+
+  -- none has fewer members than one before it
+  pub by_size : (earlier later : Hypothesis) → slice_get hypotheses number ≡ Some earlier → slice_get hypotheses other ≡ Some later → number ≤ other
+      → length earlier.set + length earlier.doubts ≤ length later.set + length later.doubts
+  by_size earlier later at at_later before =
+      let first = length-members graph earlier in
+      let second = length-members graph later in
+      ⊎_elim
+      (λ same. let equal : earlier ≡ later = same_Some earlier later (sym at ∙ ap (slice_get hypotheses) same ∙ at_later) in
+      omega (arith, ap (λ (h : Hypothesis). length h.set + length h.doubts) equal))
+      (λ differ. ⊎_elim
+      (λ less. ⊎_elim (λ fewer. omega (arith, fewer, first, second)) (λ equal. omega (arith, equal.0, first, second))
+      (AllPairs-at (StandsBefore graph) hypotheses number other earlier later table.in_order at at_later less))
+      (λ greater. absurd (omega (arith, greater, before))) differ)
       (cases_order number other)

@@ -1,6 +1,6 @@
 //! What the definitions of this crate come to, as functions that do nothing: each says its law in its clauses.
 
-ghost use Rattle.std.specs.Prelude.{◌≡◌, ◌≢◌, ◌<◌, ◌≤◌, ◌⊎◌, ℕ, List, Some, slice_get};
+ghost use Rattle.std.specs.Prelude.{◌≡◌, ◌≢◌, ◌+◌, ◌<◌, ◌≤◌, ◌⊎◌, ℕ, List, length, Some, slice_get};
 ghost use Rattle.tfpg_base.specs.declared.terms.Terms.{Terms};
 ghost use Rattle.tfpg_base.specs.Hypothesis.{Hypothesis, IsProperPart};
 ghost use Rattle.tfpg_base.specs.NodeSet.{IsNodeSet};
@@ -41,6 +41,17 @@ pub fn subsets_stand_before_their_supersets()
         IsTable graph terms hypotheses → (number other : ℕ) (part whole : Hypothesis) →
         slice_get hypotheses number ≡ Some part → slice_get hypotheses other ≡ Some whole →
         IsProperPart part whole → number < other }
+{}
+
+/// Hypotheses stand by how many members they have: none has fewer than one before it. A proper part of one has fewer.
+pub fn hypotheses_stand_by_size()
+    ensures in_order { (graph : Tfpg) (terms : Terms) (hypotheses : List Hypothesis) →
+        IsTable graph terms hypotheses → (number other : ℕ) (earlier later : Hypothesis) →
+        slice_get hypotheses number ≡ Some earlier → slice_get hypotheses other ≡ Some later → number ≤ other →
+        length earlier.set + length earlier.doubts ≤ length later.set + length later.doubts }
+    ensures fewer { (graph : Tfpg) (terms : Terms) (part whole : Hypothesis) →
+        IsHypothesis graph terms part → IsHypothesis graph terms whole → IsProperPart part whole →
+        length part.set + length part.doubts < length whole.set + length whole.doubts }
 {}
 
 /// The ranking order is a strict total order of keys with different numbers whose robustness is a fraction.

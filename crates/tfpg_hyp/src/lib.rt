@@ -39,6 +39,7 @@ mod listing;
 mod monitors;
 mod place;
 mod ranking;
+mod reaches;
 mod table;
 
 pub use limits::{DOUBT_COST, MAX_HYPOTHESES};

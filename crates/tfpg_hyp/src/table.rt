@@ -1,13 +1,12 @@
 //! The table of hypotheses.
 
-ghost use Rattle.std.specs.Prelude.{◌≡◌, ◌<◌, ◌≤◌, ◌↔◌, ◌+◌, ℕ, List, length, slice_get, option_map, Some, All, IfOk};
+ghost use Rattle.std.specs.Prelude.{◌≡◌, ◌<◌, ◌≤◌, ◌↔◌, ◌+◌, ℕ, length, slice_get, option_map, Some, IfOk};
 ghost use Rattle.tfpg_base.specs.declared.terms.Terms.{Terms};
 ghost use Rattle.tfpg_base.specs.declared.limits.TheConstants.{MAX_DOUBT};
 ghost use Rattle.tfpg_base.specs.Hypothesis.{Hypothesis};
-ghost use Rattle.tfpg_graph.specs.Graph.{failures, AreFailures};
-ghost use Rattle.tfpg_graph.specs.Reach.{IsReach};
+ghost use Rattle.tfpg_graph.specs.Graph.{failures};
 ghost use Rattle.tfpg_hyp.specs.Table.{monitors};
-ghost use Rattle.tfpg_hyp.specs.Hypotheses.{HasHypotheses, AreReaches, IsTableOf};
+ghost use Rattle.tfpg_hyp.specs.Hypotheses.{HasHypotheses, IsTableOf};
 ghost use Rattle.tfpg_hyp.specs.declared.limits.TheConstants.{MAX_HYPOTHESES};
 ghost use Rattle.tfpg_hyp.specs.inside.Choices.{counted_below};
 
@@ -15,6 +14,7 @@ use crate::counting::count_hypotheses;
 use crate::limits::MAX_HYPOTHESES;
 use crate::listing::list_hypotheses;
 use crate::monitors::{monitor_count, monitors_of};
+use crate::reaches::reaches_of;
 use std::alloc::Global;
 use std::marker::Model;
 use tfpg_base::{Doubts, Hypothesis, NoMemory, Set};
@@ -154,26 +154,4 @@ impl Table {
             reaches,
         })
     }
-}
-
-/// What each of the hypotheses reaches. Those with the same failure modes that follow one another share the search.
-fn reaches_of(
-    alloc: Global,
-    graph: &Graph,
-    hypotheses: &[Hypothesis],
-) -> Result<Vec<NodeSet>, NoMemory>
-    requires { All (λ (hypothesis : Hypothesis). AreFailures graph.now hypothesis.set) hypotheses.now }
-    ensures { IfOk result (λ reaches. AreReaches graph.now hypotheses.now reaches.items) }
-{
-    let mut reaches = Vec::new(alloc);
-    let mut set = Set::empty();
-    let mut reach = graph.reach(set);
-    for hypothesis in hypotheses {
-        if hypothesis.set != set {
-            set = hypothesis.set;
-            reach = graph.reach(set);
-        }
-        reaches.push(reach)?;
-    }
-    Ok(reaches)
 }

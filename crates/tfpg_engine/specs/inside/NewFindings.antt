@@ -1,5 +1,6 @@
 -- What a round finds of one hypothesis after the other, whatever the earlier rounds were.
-use Rattle.std.specs.Prelude.{◌≡◌, ℕ, ◌≤◌, List, length, take, All, true, false, IsTrue, Some, slice_get}
+use Rattle.std.specs.Prelude.{◌≡◌, ℕ, ◌+◌, ◌≤◌, List, length, take, All, true, false, IsTrue, Some, slice_get}
+use Rattle.tfpg_base.specs.Hypothesis.{Hypothesis, IsProperPart}
 use Rattle.tfpg_graph.specs.Graph.{Tfpg, AreFailures, is_monitored}
 use Rattle.tfpg_log.specs.Log.{now_of}
 use Rattle.tfpg_evidence.specs.declared.finding.Finding.{Finding}
@@ -96,11 +97,19 @@ pub record AreFirstFindings (inquiry : Inquiry) (table : Hypotheses) (old new : 
   pub each : AreNewFindings inquiry table old new findings
   pub same : (number : ℕ) → count ≤ number → slice_get new number ≡ slice_get old number
 
--- a table of hypotheses of failure modes and monitors of the graph, with what each reaches
+-- From a hypothesis with as many members as this one on, none is a proper part of it.
+abbrev pub PartsStandFirst : List Hypothesis → Hypothesis → Type 0
+PartsStandFirst hypotheses whole =
+    (number other : ℕ) (hypothesis part : Hypothesis) → slice_get hypotheses number ≡ Some hypothesis →
+    slice_get hypotheses other ≡ Some part → number ≤ other →
+    length whole.set + length whole.doubts ≤ length hypothesis.set + length hypothesis.doubts → IsProperPart part whole → ⊥
+
+-- a table of hypotheses of failure modes and monitors of the graph, with what each reaches, in which parts stand first
 pub record IsOfGraph (graph : Tfpg) (table : Hypotheses) : Type 0 where
   pub members : All (λ hypothesis. AreFailures graph hypothesis.set) table.hypotheses
   pub doubts : All (λ hypothesis. All (λ node. IsTrue (is_monitored graph node)) hypothesis.doubts) table.hypotheses
   pub reached : AreReaches graph table.hypotheses table.reaches
+  pub parts_first : All (PartsStandFirst table.hypotheses) table.hypotheses
 
 -- A finding on each hypothesis was made, they were put in order and counted.
 pub record MakesRound (inquiry : Inquiry) (table : Hypotheses) (old new : List Slot) (line : ℕ)

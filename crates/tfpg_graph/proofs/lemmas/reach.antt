@@ -1,2 +1,4 @@
 pub mod Sources
 pub mod Reaches
+pub mod Onward
+pub mod Growing

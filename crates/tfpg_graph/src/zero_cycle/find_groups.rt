@@ -3,7 +3,7 @@
 ghost use Rattle.std.specs.Prelude.{◌≡◌, ◌<◌, [], None, length, replicate, IfOk, OnOk};
 ghost use Rattle.tfpg_graph.specs.inside.zero_cycle.ZeroSearch.{IsVisited, search_of, HasVisited, IsFinishingOrder, AreReversed, AreGroups};
 
-use crate::zero_cycle::steps::ZeroSteps;
+use crate::node_steps::NodeSteps;
 use std::alloc::Global;
 use tfpg_base::NoMemory;
 
@@ -32,7 +32,7 @@ impl GroupSearch {
 /// Searches depth-first: gives a mark to the node and all that it reaches over nodes without one, and is done with each of
 /// these when it is done with those that it reaches. It calls itself as deep as there are nodes.
 fn visit(
-    steps: &ZeroSteps,
+    steps: &NodeSteps,
     node: u32,
     mark: usize,
     search: &mut GroupSearch,
@@ -56,7 +56,7 @@ fn visit(
 }
 
 /// The nodes in the order in which searches from each of them are done with them.
-fn finishing_order(alloc: Global, count: u32, steps: &ZeroSteps) -> Result<Vec<u32>, NoMemory>
+fn finishing_order(alloc: Global, count: u32, steps: &NodeSteps) -> Result<Vec<u32>, NoMemory>
     requires { count ≡ length steps.now }
     ensures { IfOk result (λ order. IsFinishingOrder steps.now order.items) }
 {
@@ -79,8 +79,8 @@ fn finishing_order(alloc: Global, count: u32, steps: &ZeroSteps) -> Result<Vec<u
 pub(crate) fn groups(
     alloc: Global,
     count: u32,
-    steps: &ZeroSteps,
-    reversed: &ZeroSteps,
+    steps: &NodeSteps,
+    reversed: &NodeSteps,
 ) -> Result<Vec<Option<usize>>, NoMemory>
     requires count { count ≡ length steps.now }
     requires reversed { AreReversed steps.now reversed.now }

@@ -7,13 +7,13 @@ use Rattle.tfpg_log.specs.Log.{ignoring}
 use Rattle.tfpg_clause.specs.Case.{case_of}
 use Rattle.tfpg_engine.specs.inside.Inquiries.{inquiry_of}
 use Rattle.tfpg_engine.specs.inside.Slots.{CanGoOn}
-use Rattle.tfpg_engine.specs.inside.NewFindings.{AreFirstFindings}
+use Rattle.tfpg_engine.specs.inside.NewFindings.{AreFirstFindings, PartsStandFirst}
 use Rattle.tfpg_engine.specs.inside.SlotWork.{IsLimitBySlots, AreSlotsWithin}
 use Rattle.tfpg_engine.specs.EngineState.{calls_of_slot}
 use Rattle.tfpg_engine.proofs.CallsCounted.{calls_with}
 use Rattle.tfpg_engine.proofs.FindingWork.{none_within, found_within}
 use Rattle.tfpg_engine.proofs.Ignoring.{same_ignoring, inquiry_ignoring}
-use Rattle.tfpg_engine.proofs.NewFindingIsRight.{none_found, found_by, found_ignoring, slot_before}
+use Rattle.tfpg_engine.proofs.NewFindingIsRight.{none_found, found_by, found_ignoring, parts_first_so_far, slot_before}
 use Rattle.tfpg_engine.proofs.findings.new_findings.Goals as goal
 
 pub loop-number-init : goal.loop-number-init
@@ -44,6 +44,13 @@ new_finding-requires-clause-row g c =
 pub new_finding-requires-clause-few : goal.new_finding-requires-clause-few
 new_finding-requires-clause-few g c =
     omega (arith, ap length c.deref.ensures.value, c.loop-number.invariant.1.counted, c.loop-number-test.true, c.len-number-end.type_inv)
+
+pub new_finding-requires-clause-parts_first : goal.new_finding-requires-clause-parts_first
+new_finding-requires-clause-parts_first g c =
+    let within : c.loop-number.number < length c.args.table.now.hypotheses = omega (arith, c.loop-number-test.true, c.len-number-end.ensures.count) in
+    parts_first_so_far (inquiry_of c.args.inquiry.now c.args.log.now) c.args.table.now c.args.slots.now c.loop-number.slots c.loop-number.findings.items c.loop-number.number c.loop-number.invariant.1 c.requires.one_each within
+    c.requires.table.reached.complete c.deref.result.now c.deref.ensures.value c.hypothesis-hypothesis.result
+    (All-at (PartsStandFirst c.args.table.now.hypotheses) c.args.table.now.hypotheses c.loop-number.number _ c.requires.table.parts_first c.hypothesis-hypothesis.ensures)
 
 pub new_finding-requires-clause-goes_on : goal.new_finding-requires-clause-goes_on
 new_finding-requires-clause-goes_on g c =

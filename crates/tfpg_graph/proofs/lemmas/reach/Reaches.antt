@@ -84,7 +84,7 @@ module _ (graph : Tfpg) (set nodes : List ℕ) (reached : All (Reaches graph set
       (edges_into graph node) fed)
 
   -- what is fed by nodes that are reached is reached
-  fed_is_reached : IsFed graph nodes node → Reaches graph set node
+  pub fed_is_reached : IsFed graph nodes node → Reaches graph set node
   fed_is_reached fed = by (kind_at graph node) refl fed
     where
       by : (kind : Option Kind) → kind_at graph node ≡ kind → IsSomeAnd kind (IsFedAs graph nodes node)
@@ -162,7 +162,7 @@ module _ (graph : Tfpg) (set : List ℕ) where
   }
 
   -- the node of a failure mode in the set is reached
-  own_is_reached : (position node : ℕ) → Contains set position → failure_at graph position ≡ Some node → Reaches graph set node
+  pub own_is_reached : (position node : ℕ) → Contains set position → failure_at graph position ≡ Some node → Reaches graph set node
   own_is_reached position node member at test closed =
       subst (λ (own : Option ℕ). IfSome own (λ n. IsTrue (test n))) at
       (All-contains (λ p. IfSome (failure_at graph p) (λ n. IsTrue (test n))) set position closed.members member)

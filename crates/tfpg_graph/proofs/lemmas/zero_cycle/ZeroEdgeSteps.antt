@@ -5,9 +5,9 @@ use Rattle.std.proofs.lemmas.List.Elements.{Contains-append_left, Contains-push,
 use Rattle.tfpg_graph.specs.declared.edge.Edge.{Edge}
 use Rattle.tfpg_graph.specs.Graph.{Tfpg}
 use Rattle.tfpg_graph.specs.Valid.{WalksInNoTime}
-use Rattle.tfpg_graph.specs.inside.zero_cycle.ZeroSearch.{IsStep, with_zero_step, AreReversed, WalksUnmarked, AreGroups}
+use Rattle.tfpg_graph.specs.inside.zero_cycle.ZeroSearch.{IsStep, with_step, AreReversed, WalksUnmarked, AreGroups}
 use Rattle.tfpg_graph.specs.inside.zero_cycle.ZeroEdges.{step_begin, step_end, IsZeroStep, AreZeroSteps, AddsZeroStep, AreZeroGroups}
-use Rattle.tfpg_graph.proofs.lemmas.zero_cycle.StepRows.{IsStep-new, IsStep-old, IsStep-cases, length-with_zero_step}
+use Rattle.tfpg_graph.proofs.lemmas.zero_cycle.StepRows.{IsStep-new, IsStep-old, IsStep-cases, length-with_step}
 
 -- one of the edges is one of these and one more
 IsZeroStep-more : (edges : List Edge) (edge : Edge) (reversed : Bool) (from to : ℕ) → IsZeroStep edges reversed from to
@@ -53,17 +53,17 @@ AddsZeroStep-passed reversed edge rows takes = λ edges are. record {
 -- an edge that may take no time adds one
 pub AddsZeroStep-along : (reversed : Bool) (edge : Edge) (rows : List (List ℕ)) → edge.tmin ≡ 0
     → step_begin reversed edge < length rows
-    → AddsZeroStep reversed edge rows (with_zero_step rows (step_begin reversed edge) (step_end reversed edge))
+    → AddsZeroStep reversed edge rows (with_step rows (step_begin reversed edge) (step_end reversed edge))
 AddsZeroStep-along reversed edge rows no_time within = λ edges are. record {
-  row_count = length-with_zero_step rows (step_begin reversed edge) (step_end reversed edge) within;
+  row_count = length-with_step rows (step_begin reversed edge) (step_end reversed edge) within;
   along = λ from to leads. ⊎_elim
       (λ old. IsZeroStep-more edges edge reversed from to (are.along from to old))
       (λ new. record { edge = edge; among = Contains-push edges edge; no_time = no_time; begins = new.0; ends = new.1 })
       (IsStep-cases rows (step_begin reversed edge) (step_end reversed edge) within from to leads);
   all = λ from to step. ⊎_elim
       (λ old. IsStep-old rows (step_begin reversed edge) (step_end reversed edge) within from to (are.all from to old))
-      (λ new. subst (λ (node : ℕ). IsStep (with_zero_step rows (step_begin reversed edge) (step_end reversed edge)) node to) new.1
-      (subst (λ (node : ℕ). IsStep (with_zero_step rows (step_begin reversed edge) (step_end reversed edge))
+      (λ new. subst (λ (node : ℕ). IsStep (with_step rows (step_begin reversed edge) (step_end reversed edge)) node to) new.1
+      (subst (λ (node : ℕ). IsStep (with_step rows (step_begin reversed edge) (step_end reversed edge))
       (step_begin reversed edge) node) new.2
       (IsStep-new rows (step_begin reversed edge) (step_end reversed edge) within)))
       (IsZeroStep-cases edges edge reversed from to step);

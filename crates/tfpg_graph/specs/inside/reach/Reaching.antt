@@ -1,5 +1,5 @@
 -- How the reach of a set is sought: what feeds a node, and what is known of the nodes that were found so far.
-use Rattle.std.specs.Prelude.{◌≡◌, ◌≤◌, ◌<◌, ℕ, List, length, All, Contains, Some}
+use Rattle.std.specs.Prelude.{◌≡◌, ◌≤◌, ◌<◌, ◌⊎◌, ℕ, List, length, All, Contains, Some}
 use Rattle.std.specs.Option.{IsSomeAnd}
 use Rattle.tfpg_graph.specs.declared.kind.Kind.{Kind}
 use Rattle.tfpg_graph.specs.declared.kind.Kind.TheVariants.{Failure, Or, And}
@@ -29,6 +29,10 @@ IsFed graph nodes node = IsSomeAnd (kind_at graph node) (IsFedAs graph nodes nod
 -- each node before this number that these feed is one of these
 abbrev pub IsFullBefore : Tfpg → List ℕ → ℕ → Type 0
 IsFullBefore graph nodes end = (node : ℕ) → node < end → IsFed graph nodes node → Contains nodes node
+
+-- each node that these feed is pending, or is one of these
+abbrev pub IsFullBut : Tfpg → List ℕ → List ℕ → Type 0
+IsFullBut graph pending nodes = (node : ℕ) → IsFed graph nodes node → Contains pending node ⊎ Contains nodes node
 
 -- These nodes are reached by the set, and the set's own failure modes are among them.
 pub record AreReached (graph : Tfpg) (set nodes : List ℕ) : Type 0 where

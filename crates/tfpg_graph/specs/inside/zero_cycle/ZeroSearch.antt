@@ -11,8 +11,8 @@ abbrev pub IsStep : List (List ℕ) → ℕ → ℕ → Type 0
 IsStep rows from to = Contains (row rows from) to
 
 -- the steps with one more
-abbrev pub with_zero_step : List (List ℕ) → ℕ → ℕ → List (List ℕ)
-with_zero_step rows from to = set rows from (row rows from ++ to ∷ [])
+abbrev pub with_step : List (List ℕ) → ℕ → ℕ → List (List ℕ)
+with_step rows from to = set rows from (row rows from ++ to ∷ [])
 
 -- each step leads to a node
 abbrev pub AreStepsWithin : List (List ℕ) → Type 0

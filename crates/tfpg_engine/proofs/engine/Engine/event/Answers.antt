@@ -9,7 +9,7 @@ use Rattle.tfpg_engine.proofs.EventBringsRound.{of_graph, same_refusal, lent_go_
 use Rattle.tfpg_engine.proofs.engine.Engine.event.Goals as goal
 
 pub make-requires-clause-table : goal.make-requires-clause-table
-make-requires-clause-table g c = of_graph c.self.inside.graph c.self.inside.terms c.self.inside.table c.self.invariant.table
+make-requires-clause-table g c = of_graph c.hypotheses_stand_by_size.ensures.in_order c.hypotheses_stand_by_size.ensures.fewer c.self.inside.graph c.self.inside.terms c.self.inside.table c.self.invariant.table
 
 pub make-requires-clause-go_on : goal.make-requires-clause-go_on
 make-requires-clause-go_on g c =

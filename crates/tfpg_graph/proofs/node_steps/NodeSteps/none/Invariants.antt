@@ -1,5 +1,5 @@
 use Rattle.std.proofs.Common.{◌≡◌, [], map, replicate}
-use Rattle.tfpg_graph.proofs.zero_cycle.steps.ZeroSteps.none.Given as goal
+use Rattle.tfpg_graph.proofs.node_steps.NodeSteps.none.Given as goal
 
 abbrev pub invariant-loop : goal.invariant-loop
 invariant-loop l = map (λ row. row.items) l.rows.items ≡ replicate l.counter []

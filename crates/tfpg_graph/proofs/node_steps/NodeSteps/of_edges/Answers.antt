@@ -1,7 +1,7 @@
 use Rattle.std.proofs.Common.{◌≡◌, ◌<◌, length, get_or, arith}
 use Rattle.std.proofs.lemmas.Option.{slice_get-get_or}
 use Rattle.tfpg_graph.proofs.lemmas.zero_cycle.ZeroEdgeSteps.{AreZeroSteps-next}
-use Rattle.tfpg_graph.proofs.zero_cycle.steps.ZeroSteps.of_edges.Goals as goal
+use Rattle.tfpg_graph.proofs.node_steps.NodeSteps.of_edges.Goals as goal
 
 pub loop-number-preserved : goal.loop-number-preserved
 loop-number-preserved c =

@@ -2,8 +2,8 @@ use Rattle.std.proofs.Common.{◌≡◌, ◌∙◌, ◌<◌, ℕ, List, [], leng
 use Rattle.std.proofs.lemmas.List.{get_or-map, length-map}
 use Rattle.std.proofs.lemmas.List.Elements.{Contains-get_or}
 use Rattle.tfpg_graph.specs.inside.zero_cycle.ZeroSearch.{row, AreStepsWithin}
-use Rattle.tfpg_graph.proofs.zero_cycle.steps.ZeroSteps.row.Goals as goal
-use Rattle.tfpg_graph.proofs.zero_cycle.steps.ZeroSteps.row.Goals.{After-as_slice}
+use Rattle.tfpg_graph.proofs.node_steps.NodeSteps.row.Goals as goal
+use Rattle.tfpg_graph.proofs.node_steps.NodeSteps.row.Goals.{After-as_slice}
 
 -- what is lent is the row of the node
 row_is : (c : After-as_slice) → c.as_slice.result.now ≡ row c.args.self.now c.args.node

@@ -1,9 +1,9 @@
 use Rattle.std.proofs.Common.{◌≡◌, ◌∙◌, ◌<◌, ℕ, List, [], ◌∷◌, ◌++◌, length, map, set, ap, sym, subst, arith}
 use Rattle.std.proofs.lemmas.List.{get_or-map, length-map, map-set}
-use Rattle.tfpg_graph.specs.inside.zero_cycle.ZeroSearch.{row, with_zero_step, AreStepsWithin}
+use Rattle.tfpg_graph.specs.inside.zero_cycle.ZeroSearch.{row, with_step, AreStepsWithin}
 use Rattle.tfpg_graph.proofs.lemmas.zero_cycle.StepRows.{AreStepsWithin-more}
-use Rattle.tfpg_graph.proofs.zero_cycle.steps.ZeroSteps.with_zero_step.Goals as goal
-use Rattle.tfpg_graph.proofs.zero_cycle.steps.ZeroSteps.with_zero_step.Goals.{In_ok-push}
+use Rattle.tfpg_graph.proofs.node_steps.NodeSteps.with_step.Goals as goal
+use Rattle.tfpg_graph.proofs.node_steps.NodeSteps.with_step.Goals.{In_ok-push}
 
 -- the row of the node where the step begins has one more
 row_more : (c : In_ok-push) → c.push.new.self.items ≡ row c.args.self c.args.from ++ c.args.to ∷ []
@@ -18,7 +18,7 @@ row_more c =
     c.in_ok-push.ensures.items ∙ ap (λ nodes. nodes ++ c.args.to ∷ []) was
 
 seen_is : (c : In_ok-push) → map (λ row. row.items)
-    (set c.steps.inside.rows.items c.args.from c.push.new.self) ≡ with_zero_step c.args.self c.args.from c.args.to
+    (set c.steps.inside.rows.items c.args.from c.push.new.self) ≡ with_step c.args.self c.args.from c.args.to
 seen_is c =
     map-set (λ row. row.items) c.steps.inside.rows.items c.args.from c.push.new.self
     ∙ (λ i. set (c.steps.view_is i) c.args.from (row_more c i))
