@@ -15,8 +15,8 @@ use tfpg_base::{NEVER, NoMemory};
 use tfpg_graph::Graph;
 use tfpg_log::Log;
 
-/// How often at most the nodes are gone through in a try.
-pub(crate) const PASSES: u32 = 16;
+/// How often at most the nodes are gone through from one start.
+pub(crate) const PASSES: u32 = 32;
 
 /// After how many splits of a round a trace is first tried. Small trees are grown whole: a later log may need them.
 const FIRST_TRIED: u64 = 30;
@@ -37,10 +37,14 @@ pub(crate) struct Raising<'a> {
     log: &'a Log,
     leaf: &'a LeafSystem,
     times: Vec<u64>,
+    /// Whether one of several sources of an AND node was raised.
+    has_chosen: bool,
+    /// Whether of these the first is raised that can be, and not the one that is raised least.
+    takes_first: bool,
 }
 
 impl<'a> Raising<'a> {
-    /// The floor of each node in this system.
+    /// The floor of each node in this system. At an AND node the source is chosen that is raised least.
     pub(crate) fn new(
         alloc: Global,
         graph: &'a Graph,
@@ -56,7 +60,18 @@ impl<'a> Raising<'a> {
             log,
             leaf,
             times,
+            has_chosen: false,
+            takes_first: false,
         })
+    }
+
+    /// Starts anew from the floors, with another choice at each AND node. Returns whether there was a choice, and it did.
+    pub(crate) fn restart(&mut self) -> bool {
+        for node in 0..self.graph.node_count() {
+            self.set(node, floor_of(self.leaf, node));
+        }
+        self.takes_first = true;
+        self.has_chosen
     }
 
     /// The times so far, in the order of the nodes.

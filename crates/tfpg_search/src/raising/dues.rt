@@ -47,8 +47,8 @@ impl Raising<'_> {
         time
     }
 
-    /// Raises a source of an AND node that is overdue by all of its edges, where this clause is violated: the one that is raised least.
-    /// A clause of another kind is given up.
+    /// Raises a source of an AND node that is overdue by all of its edges, where this clause is violated. A clause of another kind is
+    /// given up.
     pub(crate) fn choose(&mut self, name: ClauseName) -> Result<(), TooLate> {
         let ClauseName::AndMust { node, span, .. } = name else {
             return Err(TooLate);
@@ -56,11 +56,12 @@ impl Raising<'_> {
         let Some(choice) = self.least_choice(node, span) else {
             return Err(TooLate);
         };
+        self.has_chosen = true;
         self.raise(choice.source, choice.time)?;
         Ok(())
     }
 
-    /// The source that is raised least, so that the node is not overdue in its joint window round the span.
+    /// The source that is chosen, so that the node is not overdue in its joint window round the span.
     fn least_choice(&self, node: u32, span: u32) -> Option<Choice> {
         let window = joint_over(self.graph, self.log, node, span)?;
         let due = window.hi.saturating_add(1).min(self.time(node));
@@ -76,8 +77,16 @@ impl Raising<'_> {
         let propagation = edge_at(self.graph, edge)?;
         let source = propagation.source;
         let time = due.saturating_sub(propagation.tmax?);
-        let rise = time.saturating_sub(self.time(source));
+        let rise = self.rise(source, time);
         (time <= self.ceiling(source)).then_some(Choice { source, time, rise })
+    }
+
+    /// By how much a source would be raised to this time, and 0 where the first is taken that can be raised.
+    fn rise(&self, source: u32, time: u64) -> u64 {
+        if self.takes_first {
+            return 0;
+        }
+        time.saturating_sub(self.time(source))
     }
 }
 

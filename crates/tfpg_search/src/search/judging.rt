@@ -80,8 +80,9 @@ impl Search {
         }
     }
 
-    /// A trace that explains the log, where one is found by raising times from their floors: in at most 16 passes over the nodes and
-    /// their edges, with a look for the first clause violated where a pass raises nothing. Takes 8 bytes for each node meanwhile.
+    /// A trace that explains the log, where one is found by raising times from their floors. There is a second start with other choices,
+    /// if the first had any. From each, at most 32 passes are made over the nodes and their edges, with a look for the first clause violated
+    /// where a pass raises nothing. Takes 8 bytes for each node meanwhile.
     fn raised(&self, graph: &Graph, log: &Log) -> Result<Option<Trace>, NoMemory>
         requires of { IsLogOf graph.now log.now }
         requires stands { IsAtItsLeaf graph.now log.now self.now }
@@ -89,6 +90,27 @@ impl Search {
         ensures { IfOk result (λ found. IfSome found (Explains graph.now log.now self.now.set)) }
     {
         let mut raising = self.raising(graph, log)?;
+        if let Some(trace) = self.raise_on(graph, log, &mut raising)? {
+            return Ok(Some(trace));
+        }
+        if !raising.restart() {
+            return Ok(None);
+        }
+        self.raise_on(graph, log, &mut raising)
+    }
+
+    /// Raises times until they explain the log, or one cannot be raised further.
+    fn raise_on(
+        &self,
+        graph: &Graph,
+        log: &Log,
+        raising: &mut Raising<'_>,
+    ) -> Result<Option<Trace>, NoMemory>
+        requires of { IsLogOf graph.now log.now }
+        requires stands { IsAtItsLeaf graph.now log.now self.now }
+        requires loaded { IsLoaded graph.now log.now self.now }
+        ensures { IfOk result (λ found. IfSome found (Explains graph.now log.now self.now.set)) }
+    {
         for _ in 0..PASSES {
             match raising.pass() {
                 Ok(true) => continue,

@@ -1,5 +1,5 @@
 -- Node by node, each time lies between its bounds.
-use Rattle.std.proofs.Common.{◌≡◌, ℕ, ◌<◌, [], length, get_or, Some, refl, sym, subst, ◌∙◌, below_more, arith}
+use Rattle.std.proofs.Common.{◌≡◌, get_or, refl, sym, subst, ◌∙◌, below_more, arith}
 use Rattle.std.proofs.lemmas.List.Elements.{All-nil}
 use Rattle.std.proofs.lemmas.Option.{same_Some, slice_get_within}
 use Rattle.tfpg_base.specs.Constraint.{Meets}

@@ -1,5 +1,5 @@
 -- Times between the bounds that violate no clause give a trace.
-use Rattle.std.proofs.Common.{ℕ, List, [], length, sym, ap, subst, ◌∙◌}
+use Rattle.std.proofs.Common.{ℕ, [], sym, ap, subst, ◌∙◌}
 use Rattle.tfpg_log.specs.Explains.{Explains}
 use Rattle.tfpg_clause.specs.Cut.{cut}
 use Rattle.tfpg_diff.specs.Demands.{demands_of}
