@@ -5,4 +5,5 @@ pub mod LatestAtLeaf
 pub mod MovesStayAtLeaf
 pub mod NextLeaf
 pub mod PicksOfPath
+pub mod ProposedTimes
 pub mod StaysAtItsLeaf

@@ -1,15 +1,15 @@
 //! The system of the present leaf: the bounds of the facts below, the constraints of the alternatives on the path above,
 //! each with its reason.
 
-ghost use Rattle.std.specs.Prelude.{◌≡◌, ◌<◌, ◌≤◌, ◌+◌, ◌*◌, ◌++◌, ◌∷◌, [], ℕ, pos, length, take, slice_get, All, Option, Some, Ok, Err, IfOk, OnOk, OnErr, IfErr};
+ghost use Rattle.std.specs.Prelude.{◌≡◌, ◌<◌, ◌≤◌, ◌+◌, ◌*◌, ◌++◌, ◌∷◌, [], ℕ, pos, length, take, slice_get, All, Option, Some, Ok, Err, IfOk, OnOk, OnErr, IfErr, IsTrue, ◌↔◌};
 ghost use Rattle.tfpg_base.specs.declared.limits.TheConstants.{NEVER};
 ghost use Rattle.tfpg_base.specs.declared.constraint.Constraint.{Constraint};
 ghost use Rattle.tfpg_evidence.specs.declared.reason.Reason.{Reason};
 ghost use Rattle.tfpg_evidence.specs.declared.reason.Reason.TheVariants.{Zero, Top, Pick};
 ghost use Rattle.tfpg_base.specs.Bounds.{at_most, at_least};
 ghost use Rattle.tfpg_diff.specs.VariableBounds.{VariableBounds};
-ghost use Rattle.tfpg_diff.specs.Demands.{Bounded};
-ghost use Rattle.tfpg_diff.specs.Solution.{IsLatest};
+ghost use Rattle.tfpg_diff.specs.Demands.{Bounded, demands_of};
+ghost use Rattle.tfpg_diff.specs.Solution.{IsBetween, IsSolution, IsLatest};
 ghost use Rattle.tfpg_diff.specs.SystemState.{with_floor, with_ceiling, with_pick};
 ghost use Rattle.tfpg_search.specs.Work.{widest_bounds};
 ghost use Rattle.tfpg_search.specs.inside.Leaf.{bounds_in, pick_reasons, IsStated};
@@ -117,6 +117,36 @@ impl LeafSystem {
         ensures { Bounded self.now.demands node result }
     {
         self.system.bounds(node)
+    }
+
+    /// The present bounds of a node, where there is one. The number may be any.
+    pub(crate) fn find_bounds(&self, node: u32) -> Option<Bounds> {
+        if node < self.node_count() {
+            return Some(self.bounds(node));
+        }
+        None
+    }
+
+    /// Of how many nodes it is.
+    fn node_count(&self) -> u32
+        ensures { result ≡ length self.now.demands.bounds }
+    {
+        self.system.variable_count()
+    }
+
+    /// Whether there is one of these times for each node, and it lies between the bounds of the node.
+    pub(crate) fn allows(&self, times: &[u64]) -> bool
+        ensures { IsTrue result ↔ IsSolution (demands_of self.now.demands.bounds []) times.now }
+    {
+        if times.len() != self.node_count() as usize {
+            return false;
+        }
+        for node in 0..times.len() {
+            if !is_between(self.bounds(node as u32), times[node]) {
+                return false;
+            }
+        }
+        true
     }
 
     /// The latest solution, a time for each node.
@@ -270,4 +300,11 @@ impl LeafSystem {
         self.system.pop_to(before as u64);
         self.entered.truncate(kept);
     }
+}
+
+/// Whether the time lies between the bounds, or is one of them.
+fn is_between(bounds: Bounds, time: u64) -> bool
+    ensures { IsTrue result ↔ IsBetween bounds time }
+{
+    bounds.floor() <= time && time <= bounds.ceiling()
 }

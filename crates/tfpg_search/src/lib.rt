@@ -38,6 +38,7 @@ mod found;
 mod kept_reason;
 pub mod laws;
 mod leaf_system;
+mod raising;
 mod search;
 
 pub use found::Found;

@@ -14,11 +14,13 @@ ghost use Rattle.tfpg_search.specs.inside.Counted.{CountsAlike, IsPaid};
 ghost use Rattle.tfpg_search.specs.inside.Moves.{KeepsSet, SearchesOn};
 
 mod entering;
+mod judging;
 mod loading;
 
 use crate::clause_laws::clause_laws;
 use crate::found::Found;
 use crate::leaf_system::LeafSystem;
+use crate::raising::is_tried;
 use std::alloc::Global;
 use std::marker::Model;
 use std::sync::ledger::Ledger;
@@ -58,9 +60,9 @@ impl Model for Search {
 /// What was seen at a loaded leaf.
 #[derive(Drop)]
 pub(crate) enum Look {
-    /// The latest solution, cut at now, is a trace that explains the log.
+    /// This trace explains the log: the latest solution, or times that were proposed beside it, cut at now.
     Shown(Trace),
-    /// It violates this clause first.
+    /// The latest solution violates this clause first.
     Violated(ClauseName),
 }
 
@@ -174,7 +176,7 @@ impl Search {
         let mut spent = 0;
         let mut has_facts = false;
         loop {
-            match self.look(graph, log, has_facts, steps, work) {
+            match self.look(graph, log, has_facts, is_tried(spent, budget), steps, work) {
                 Err(NoMemory) => return Err(NoMemory),
                 Ok(None) => return Ok(Found::Closed),
                 Ok(Some(Look::Shown(trace))) => return Ok(Found::Shown(trace)),

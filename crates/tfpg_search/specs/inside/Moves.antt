@@ -22,6 +22,8 @@ use Rattle.tfpg_search.specs.declared.found.Found.{Found}
 use Rattle.tfpg_search.specs.declared.found.Found.TheVariants.{Shown as FoundShown, Closed as FoundClosed, Spent}
 use Rattle.tfpg_search.specs.declared.search.Look.{Look}
 use Rattle.tfpg_search.specs.declared.search.Look.TheVariants.{Violated, Shown}
+use Rattle.tfpg_search.specs.declared.search.judging.Proposed.{Proposed}
+use Rattle.tfpg_search.specs.declared.search.judging.Proposed.TheVariants.{Shown as ProposedShown, Violated as ProposedViolated, Outside}
 
 -- The step is one that a search makes at the leaf of this path: a reuse where one is allowed, and else a live split, or a cycle
 -- in which no left side stands twice.
@@ -99,6 +101,12 @@ Loading graph log call (Err no_memory) = GrowsAnyhow graph log call
 abbrev pub Sees : Tfpg → Logbook → SearchState → Look → Type 0
 Sees graph log search (Violated name) = IsLiveAt (case_of_search graph log search) search.path name
 Sees graph log search (Shown trace) = Explains graph log search.set trace
+
+-- Where a trace was shown by proposed times, it explains the log from the set.
+abbrev pub ExplainsIfShown : Tfpg → Logbook → List ℕ → Proposed → Type 0
+ExplainsIfShown graph log set (ProposedShown trace) = Explains graph log set trace
+ExplainsIfShown graph log set (ProposedViolated name) = Unit {0}
+ExplainsIfShown graph log set Outside = Unit {0}
 
 -- What a look comes to: what is seen at a loaded leaf; or no leaf.
 abbrev pub Looking : Tfpg → Logbook → SearchCall → Result (Option Look) NoMemory → Type 0

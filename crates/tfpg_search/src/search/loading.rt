@@ -20,28 +20,27 @@ ghost use Rattle.tfpg_search.specs.inside.Facts.{AreFactsIn};
 ghost use Rattle.tfpg_search.specs.Searched.{call_of};
 ghost use Rattle.tfpg_search.specs.inside.Closing.{IsSimpleCycle, Closes};
 ghost use Rattle.tfpg_search.specs.inside.LeafCalls.{AddsFacts};
-ghost use Rattle.tfpg_search.specs.inside.Moves.{KeepsSet, HasFactBounds, IsLoaded, Closing, Loading, Sees, Looking, Splitting};
+ghost use Rattle.tfpg_search.specs.inside.Moves.{KeepsSet, HasFactBounds, IsLoaded, Closing, Loading, Looking, Splitting};
 
 use crate::add_fault::AddFault;
 use crate::clause_laws::clause_laws;
-use crate::cut::cut;
 use crate::search::{Look, Search};
 use std::sync::ledger::Ledger;
 use tfpg_base::{NoMemory, Steps};
-use tfpg_clause::laws::numbers_that_meet_all_give_a_trace;
-use tfpg_clause::{PathSplit, backtrack, cite, is_reusable, reuse, violated};
+use tfpg_clause::{PathSplit, backtrack, cite, is_reusable, reuse};
 use tfpg_evidence::{ClauseName, Reason, Reasons, Step, StepList};
 use tfpg_graph::Graph;
 use tfpg_log::Log;
 
 impl Search {
-    /// Loads the present leaf, and looks whether its latest solution keeps the rules. Returns what was seen, or that no leaf
-    /// is left.
+    /// Loads the present leaf, and looks whether its latest solution keeps the rules, or else for a trace by raising, if that is
+    /// asked for. Returns what was seen, or that no leaf is left.
     pub(super) fn look<L: Ledger>(
         &mut self,
         graph: &Graph,
         log: &Log,
         has_facts: bool,
+        raises: bool,
         steps: &mut StepList,
         work: &mut Steps<L>,
     ) -> Result<Option<Look>, NoMemory>
@@ -59,28 +58,9 @@ impl Search {
             Ok(false) => return Ok(None),
             Err(NoMemory) => return Err(NoMemory),
         }
-        match self.judge(graph, log) {
+        match self.judge(graph, log, raises) {
             Ok(look) => Ok(Some(look)),
             Err(NoMemory) => Err(NoMemory),
-        }
-    }
-
-    /// Looks whether the latest solution at a loaded leaf keeps the rules.
-    fn judge(&self, graph: &Graph, log: &Log) -> Result<Look, NoMemory>
-        requires of { IsLogOf graph.now log.now }
-        requires stands { IsAtItsLeaf graph.now log.now self.now }
-        requires loaded { IsLoaded graph.now log.now self.now }
-        ensures { IfOk result (Sees graph.now log.now self.now) }
-    {
-        graph.is_always_valid();
-        log.is_always_ordered();
-        clause_laws();
-        numbers_that_meet_all_give_a_trace();
-        self.leaf.has_a_reason_for_each_pick();
-        let times = self.leaf.solution();
-        match violated(graph, log, times) {
-            None => Ok(Look::Shown(cut(self.alloc, log.now(), times)?)),
-            Some(name) => Ok(Look::Violated(name)),
         }
     }
 
