@@ -1,6 +1,6 @@
 //! A graph with guesses which node has a name.
 //!
-//! A report names the same nodes on many lines. To look whether the guessed node has a name takes a third of a look-up in the map of the
+//! A report names the same nodes on many lines. To look whether the guessed node has a name takes less than a look-up in the map of the
 //! graph.
 
 ghost use Rattle.std.specs.Prelude.{◌≡◌, ◌<◌, ◌≤◌, IfSome, Some, length};
