@@ -1,5 +1,5 @@
 -- Which nodes words keep, how many, and which words keep a subset.
-use Rattle.std.proofs.Common.{◌≡◌, ◌≢◌, ℕ, suc, zero, ◌+◌, ◌*◌, ◌/◌, ◌%◌, ◌<◌, ◌≤◌, ◌^◌, lit<, List, [], ◌∷◌, length, map, get_or, set, bit_and, bit_or, count_ones, length-append, nat_eq, ◌↔◌, ⊎_elim, IsTrue, refl, arith, sym, ◌∙◌, ap, subst}
+use Rattle.std.proofs.Common.{◌≡◌, ◌≢◌, ℕ, suc, zero, ◌+◌, ◌*◌, ◌/◌, ◌%◌, ◌<◌, ◌≤◌, ◌^◌, lit<, List, [], ◌∷◌, ◌++◌, length, map, get_or, set, bit_and, bit_or, count_ones, length-append, nat_eq, ◌↔◌, ⊎_elim, IsTrue, refl, arith, sym, ◌∙◌, ap, subst, zero-add}
 use Rattle.std.specs.List.{Contains, All, sum_by}
 use Rattle.std.proofs.lemmas.Bool.{cases_eq}
 use Rattle.std.proofs.lemmas.List.{length-set, get_or-set_same, get_or-set_other, length-map}
@@ -239,6 +239,54 @@ module _ (words nodes : List ℕ) (are : AreWords words) (view : nodes_of words 
   pub IsNodeSet-with_bit : (node : ℕ) → node < MAX_NODE_NUMBERS → IsNodeSet (nodes_of (with_node_bit words node))
   IsNodeSet-with_bit node small = IsNodeSet-nodes_of (with_node_bit words node)
       (length-with_node_bit words node ∙ are.count)
+
+-- ---- the least node
+
+module _ (low rest : ℕ) where
+  -- what words keep whose first one with a bit is split
+  nodes_from-split : (first : ℕ) (words : List ℕ) (number : ℕ) → number < length words → ((k : ℕ) → k < number → get_or words k 0 ≡ 0)
+      → members_of (get_or words number 0) ≡ low ∷ members_of rest → nodes_from first words ≡ (first + (number * 64 + low)) ∷ nodes_from first (set words number rest)
+  unfolding nodes_from
+  nodes_from-split first [] number within none split = absurd (omega arith)
+  nodes_from-split first (word ∷ words) zero within none split =
+      let at : first + low ≡ first + (0 * 64 + low) = omega arith in
+      ap (λ ms. map (λ index. first + index) ms ++ nodes_from (first + 64) words) split
+      ∙ ap (λ n. n ∷ (map (λ index. first + index) (members_of rest) ++ nodes_from (first + 64) words)) at
+  nodes_from-split first (word ∷ words) (suc number) within none split =
+      let empty : members_of word ≡ [] = ap members_of (none 0 (omega arith)) ∙ members_of-zero in
+      let at : first + 64 + (number * 64 + low) ≡ first + (suc number * 64 + low) = omega arith in
+      let later : List ℕ = nodes_from (first + 64) (set words number rest) in
+      ap (λ ms. map (λ index. first + index) ms ++ nodes_from (first + 64) words) empty
+      ∙ nodes_from-split (first + 64) words number (omega (arith, within)) (λ k before. none (suc k) (omega (arith, before))) split
+      ∙ ap (λ n. n ∷ later) at
+      ∙ ap (λ ns. (first + (suc number * 64 + low)) ∷ ns) (sym (ap (λ ms. map (λ index. first + index) ms ++ later) empty))
+
+-- words without a bit keep nothing
+nodes_from-none : (first : ℕ) (words : List ℕ) → ((k : ℕ) → k < length words → get_or words k 0 ≡ 0) → nodes_from first words ≡ []
+unfolding nodes_from
+nodes_from-none first [] none = refl
+nodes_from-none first (word ∷ words) none =
+    ap (λ ms. map (λ index. first + index) ms ++ nodes_from (first + 64) words) (ap members_of (none 0 (omega arith)) ∙ members_of-zero)
+    ∙ nodes_from-none (first + 64) words (λ k within. none (suc k) (omega (arith, within)))
+
+module _ (words nodes : List ℕ) (are : AreWords words) (view : nodes_of words ≡ nodes) where
+  -- The lowest bit of the first word with one is that of the least node, and without it the others are left.
+  pub words_split : (number low rest : ℕ) → number < 8 → ((k : ℕ) → k < number → get_or words k 0 ≡ 0)
+      → members_of (get_or words number 0) ≡ low ∷ members_of rest → nodes ≡ (number * 64 + low) ∷ nodes_of (set words number rest)
+  words_split number low rest within none split =
+      sym view ∙ nodes_from-split low rest 0 words number (omega (arith, within, are.count)) none split
+      ∙ ap (λ n. n ∷ nodes_of (set words number rest)) (zero-add (number * 64 + low))
+
+  -- Where no word has a bit there is no node.
+  pub words_without_bits : ((k : ℕ) → k < 8 → get_or words k 0 ≡ 0) → nodes ≡ []
+  words_without_bits none = sym view ∙ nodes_from-none 0 words (λ k within. none k (omega (arith, within, are.count)))
+
+  -- Words stay words where one is written.
+  pub AreWords-set : (number word : ℕ) → word < 2 ^ 64 → AreWords (set words number word)
+  AreWords-set number word small = record {
+    count = length-set words number word ∙ are.count;
+    small = All-set (λ w. w < 2 ^ 64) words number word small are.small;
+  }
 
 -- ---- how many nodes words keep
 

@@ -1,14 +1,14 @@
 -- Laws of sets as rising lists of positions, and of the bits that keep them.
 use Rattle.std.proofs.Common.{◌≡◌, ℕ, suc, zero, ◌+◌, ◌*◌, ◌/◌, ◌%◌, ◌<◌, ◌≤◌, ◌^◌, cond, eqb, ltb, List, [], ◌∷◌, ◌++◌, length, ◌⊎◌, ◌↔◌, inl, inr, ⊎_elim, bit_and, bit_or, count_ones, append-nil, length-append, add-one, w64, nat_eq, IsTrue, refl, arith, sym, ◌∙◌, ap, Bool, true, false, nat_lt, ◌==◌, subst, ◌≢◌}
 use Rattle.std.specs.List.{Contains, All, sum_by}
-use Rattle.std.specs.Int.{bit_at}
+use Rattle.std.specs.Int.{bit_at, bit_not, trailing_zeros}
 use Rattle.std.proofs.lemmas.Bool.{ltb-true, ltb-false, eqb-true, eqb-false, eq-eqb, cases_lt, cases_eq, cond-true, cond_both, le-ltb, ne_eqb, cond-false}
 use Rattle.std.proofs.lemmas.List.Elements.{Contains-get_or, All-nil, All-contains, Contains-append_left, Contains-append_right, Contains-append_cases, All-head, All-tail}
 use Rattle.std.proofs.lemmas.List.Quantifiers.{all_pairs_push}
 use Rattle.std.proofs.Math.Nat.{add_comm, mod-one, mod-lt, mod-eq_of_lt, pow-suc}
 use Rattle.std.proofs.Math.Pow.{mod-pow-add, pow_pos, pow_mono}
 use Rattle.std.proofs.lemmas.Nat.{ones_cat}
-use Rattle.std.proofs.lemmas.Nat.Bits.{bit_at-lt, shr_and_one, bit_at_and, bit_at_set_same, bit_at_set_other, bit_at_above, same_from_bits}
+use Rattle.std.proofs.lemmas.Nat.Bits.{bit_at-lt, shr_and_one, bit_at_and, bit_at_set_same, bit_at_set_other, bit_at_clear_same, bit_at_clear_other, bit_at-trailing_zeros, bit_at_above, same_from_bits}
 use Rattle.tfpg_base.proofs.lists.Elements.{AllPairs-head, AllPairs-tail, AllPairs-cons, All-from_members, Contains-head, Contains-tail, Contains-cons_cases, Contains-nil, Contains-cond, length-cond_bit}
 pub use Rattle.tfpg_base.proofs.lists.Ordered.{Rises, same_from_members}
 use Rattle.tfpg_base.proofs.lists.Ordered.{least_first}
@@ -219,6 +219,46 @@ members_of-set bits index small =
     (λ unlike. (both.0, bit_at_set_other w64 bits index small other unlike ∙ both.1))
     (cases_eq other index))
     (with_member-only index (members_of bits) other member)))
+
+-- bits without their lowest one
+abbrev without_lowest : ℕ → ℕ
+without_lowest bits = bit_and bits (bit_not w64 (1 * 2 ^ trailing_zeros w64 bits % 2 ^ 64))
+
+module _ (bits : ℕ) (some : 0 < bits) (small : bits < 2 ^ 64) where
+  -- the members of bits without their lowest one are members that come after it
+  without_lowest-only : (index : ℕ) → Contains (members_of (without_lowest bits)) index → (trailing_zeros w64 bits < index) × Contains (members_of bits) index
+  without_lowest-only index member =
+      let lowest = bit_at-trailing_zeros w64 bits some small in
+      let both = (members_of-is (without_lowest bits) index).0 member in
+      let differs : index ≢ trailing_zeros w64 bits = λ same.
+      let none : bit_at (without_lowest bits) index ≡ 0 = ap (bit_at (without_lowest bits)) same ∙ bit_at_clear_same w64 bits (trailing_zeros w64 bits) lowest.0 in
+      omega (arith, none, both.1) in
+      let one : bit_at bits index ≡ 1 = sym (bit_at_clear_other w64 bits (trailing_zeros w64 bits) lowest.0 index both.0 differs) ∙ both.1 in (
+        ⊎_elim (λ before. absurd (let none = lowest.2 index before in omega (arith, none, one))) (λ beyond. omega (arith, beyond, differs)) (cases_lt index (trailing_zeros w64 bits)),
+        (members_of-is bits index).1 (both.0, one),
+      )
+
+  -- each other member stays
+  without_lowest-all : (index : ℕ) → Contains (members_of bits) index → index ≢ trailing_zeros w64 bits → Contains (members_of (without_lowest bits)) index
+  without_lowest-all index member differs =
+      let lowest = bit_at-trailing_zeros w64 bits some small in
+      let both = (members_of-is bits index).0 member in
+      (members_of-is (without_lowest bits) index).1
+      (both.0, bit_at_clear_other w64 bits (trailing_zeros w64 bits) lowest.0 index both.0 differs ∙ both.1)
+
+  -- The lowest bit is that of the least member, and without it the others are left.
+  pub members_of-split : members_of bits ≡ trailing_zeros w64 bits ∷ members_of (without_lowest bits)
+  members_of-split =
+      let least = trailing_zeros w64 bits in
+      let others = members_of (without_lowest bits) in
+      let lowest = bit_at-trailing_zeros w64 bits some small in
+      same_from_members (members_of bits) (least ∷ others) (IsSet-members_of bits).rising
+      (AllPairs-cons ◌<◌ least others (All-from_members (λ later. least < later) others (λ index member. (without_lowest-only index member).0))
+      (IsSet-members_of (without_lowest bits)).rising)
+      (λ index member. ⊎_elim (λ same. rw same (Contains-head least others))
+      (λ differs. Contains-tail least others index (without_lowest-all index member differs)) (cases_eq index least))
+      (λ index member. ⊎_elim (λ same. rw (← same) ((members_of-is bits least).1 (lowest.0, lowest.1)))
+      (λ later. (without_lowest-only index later).1) (Contains-cons_cases least others index member))
 
 -- Each member is one of the other set where no bit is lost by taking the bits of both.
 pub IsSubset-from_bits : (a b : ℕ) → bit_and a b ≡ a → IsSubset (members_of a) (members_of b)

@@ -1,11 +1,13 @@
 -- Laws of traces as lists of activations by rising nodes.
-use Rattle.std.proofs.Common.{◌≡◌, ◌≢◌, ℕ, suc, zero, ◌<◌, cond, eqb, ltb, List, [], ◌∷◌, length, get_or, set, Some, None, Result, Ok, Err, IfOk, IfErr, ◌⊎◌, inl, inr, ⊎_elim, refl, arith, sym, ◌∙◌, ap}
+use Rattle.std.proofs.Common.{◌≡◌, ◌≢◌, ℕ, suc, zero, ◌-◌, ◌<◌, cond, eqb, ltb, List, [], ◌∷◌, length, get_or, set, Some, None, Result, Ok, Err, IfOk, IfErr, ◌⊎◌, inl, inr, ⊎_elim, refl, arith, sym, ◌∙◌, ap, subst}
+use Rattle.std.specs.Prelude.{slice_get}
 use Rattle.std.specs.List.{insert, HoldsAt, Contains}
 use Rattle.std.specs.List.Sorted.{IsSearchInRange, IsBinarySearchResult}
 use Rattle.std.specs.Ordering.{nat_cmp}
 use Rattle.std.proofs.lemmas.Cmp.{ranked}
 use Rattle.std.proofs.lemmas.Bool.{ltb-true, ltb-false, eqb-true, eqb-false, lt-ltb, le-ltb, eq-eqb, ne_eqb, cond-true, cond-false, cond_both, cases_lt}
 use Rattle.std.proofs.lemmas.List.Elements.{All-cons, All-weaker, All-contains}
+use Rattle.std.proofs.lemmas.Option.{get_or_from_slice_get, slice_get-get_or}
 use Rattle.tfpg_base.proofs.lists.Elements.{AllPairs-head, AllPairs-tail, AllPairs-cons, All-from_members, Contains-head, Contains-tail, Contains-cons_cases, Contains-nil}
 use Rattle.tfpg_base.specs.declared.activation.Activation.{Activation}
 use Rattle.tfpg_base.specs.Trace.{TimesAfter, IsRisingByNode, time_of, with_time}
@@ -35,6 +37,29 @@ IsInsertedAt-searched trace node (Err index) rising in_range parted =
       before = λ k d from upto. ranked _ node _ (sym (halves.0 k d from upto));
       after = λ k d from upto. ranked _ node _ (sym (halves.1 k d from upto));
     }
+
+-- a node above the last one would be inserted at the end
+pub IsInsertedAt-after_last : (trace : List Activation) (node : ℕ) (last : Activation) → IsRisingByNode trace → slice_get trace (length trace - 1) ≡ Some last → last.node < node
+    → IsInsertedAt trace node (length trace)
+IsInsertedAt-after_last trace node last rising at above = record {
+  in_range = omega arith;
+  before = λ k d from upto.
+      let end : (get_or trace (length trace - 1) d).node < node = omega (arith, above, ap (λ (a : Activation). a.node) (get_or_from_slice_get trace (length trace - 1) last d at)) in
+      ⊎_elim (λ earlier. omega (arith, rising k (length trace - 1) d earlier (omega (arith, upto)), end))
+      (λ later. let same : length trace - 1 ≡ k = omega (arith, later, upto) in subst (λ (n : ℕ). (get_or trace n d).node < node) same end)
+      (cases_lt k (length trace - 1));
+  after = λ k d from upto. absurd (omega (arith, from, upto));
+}
+
+-- where there is no last one there is none
+pub IsInsertedAt-no_last : (trace : List Activation) (node : ℕ) → slice_get trace (length trace - 1) ≡ None → IsInsertedAt trace node (length trace)
+IsInsertedAt-no_last [] node none = record {
+  in_range = omega arith;
+  before = λ k d from upto. absurd (omega (arith, upto));
+  after = λ k d from upto. absurd (omega (arith, upto));
+}
+IsInsertedAt-no_last (first ∷ others) node none =
+    absurd (let some = slice_get-get_or (first ∷ others) (length (first ∷ others) - 1) first (omega arith) in cc)
 
 -- ---- the time of a node
 

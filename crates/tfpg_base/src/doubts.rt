@@ -1,6 +1,6 @@
 //! Sets of monitors that may be wrong.
 
-ghost use Rattle.std.specs.Prelude.{◌≡◌, ◌⊎◌, ◌<◌, ◌↔◌, [], ℕ, IsTrue, Contains, length};
+ghost use Rattle.std.specs.Prelude.{◌≡◌, ◌⊎◌, ◌<◌, ◌↔◌, [], ◌∷◌, ℕ, IsTrue, Contains, MatchOption, length};
 ghost use Rattle.tfpg_base.specs.Set.{with_member, IsSubset};
 ghost use Rattle.tfpg_base.specs.NodeSet.{IsNodeSet};
 ghost use Rattle.tfpg_base.specs.declared.limits.TheConstants.{MAX_NODE_NUMBERS};
@@ -56,6 +56,14 @@ impl Doubts {
         ensures set { IsNodeSet self }
     {
         self.nodes.has(node)
+    }
+
+    /// The monitor of the least node, and the set of the others.
+    pub fn split_first(self) -> Option<(u32, Doubts)>
+        ensures { MatchOption result (self ≡ []) (λ parts. self ≡ parts.0 ∷ parts.1) }
+    {
+        let (node, nodes) = self.nodes.split_first()?;
+        Some((node, Doubts { nodes }))
     }
 
     /// How many monitors there are.

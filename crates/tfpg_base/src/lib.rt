@@ -48,6 +48,7 @@
 #![tactic(auto)]
 
 mod activation;
+mod bits;
 mod constraint;
 mod doubts;
 mod fault_count;

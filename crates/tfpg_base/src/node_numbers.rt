@@ -1,11 +1,12 @@
 //! Sets of nodes by their numbers, as words of bits.
 
-ghost use Rattle.std.specs.Prelude.{◌≡◌, ◌⊎◌, ◌<◌, ◌↔◌, [], ℕ, IsTrue, Contains, length};
+ghost use Rattle.std.specs.Prelude.{◌≡◌, ◌⊎◌, ◌<◌, ◌↔◌, [], ◌∷◌, ℕ, IsTrue, Contains, MatchOption, length};
 ghost use Rattle.tfpg_base.specs.Set.{with_member, IsSubset};
 ghost use Rattle.tfpg_base.specs.NodeSet.{IsNodeSet};
 ghost use Rattle.tfpg_base.specs.declared.limits.TheConstants.{MAX_NODE_NUMBERS};
 
 use crate::MAX_NODE_NUMBERS;
+use crate::bits::split_lowest;
 use std::marker::Model;
 
 /// How many words of 64 bits keep a set.
@@ -61,6 +62,22 @@ impl NodeNumbers {
         ensures set { IsNodeSet self }
     {
         node < MAX_NODE_NUMBERS && self.words[(node / 64) as usize] >> (node % 64) & 1 == 1
+    }
+
+    /// The least node, and the set of the others. Looks at each word once at most.
+    pub fn split_first(self) -> Option<(u32, NodeNumbers)>
+        ensures { MatchOption result (self ≡ []) (λ parts. self ≡ parts.0 ∷ parts.1) }
+    {
+        for number in 0..WORDS {
+            let word = self.words[number];
+            if word != 0 {
+                let (index, rest) = split_lowest(word);
+                let mut words = self.words;
+                words[number] = rest;
+                return Some((number as u32 * 64 + index, NodeNumbers { words }));
+            }
+        }
+        None
     }
 
     /// How many nodes there are.

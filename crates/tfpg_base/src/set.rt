@@ -1,6 +1,6 @@
 //! Sets of failure modes.
 
-ghost use Rattle.std.specs.Prelude.{◌≡◌, ◌⊎◌, ◌<◌, ◌^◌, ◌↔◌, [], ℕ, IsTrue, Contains, length, bytes_eq};
+ghost use Rattle.std.specs.Prelude.{◌≡◌, ◌⊎◌, ◌<◌, ◌^◌, ◌↔◌, [], ◌∷◌, ℕ, IsTrue, Contains, MatchOption, length, bytes_eq};
 ghost use Rattle.std.specs.Cmp.{partial_equiv_from_equiv};
 ghost use Rattle.std.specs.Cmp.Lexicographic.{nat_list_eq_equiv};
 ghost use Rattle.tfpg_base.specs.Set.{with_member, IsSubset, IsProperSubset, IsSet};
@@ -8,6 +8,7 @@ ghost use Rattle.tfpg_base.specs.SetBits.{bits_of};
 ghost use Rattle.tfpg_base.specs.declared.limits.TheConstants.{MAX_MEMBERS};
 
 use crate::MAX_MEMBERS;
+use crate::bits::split_lowest;
 use std::marker::Model;
 
 /// A set of failure modes, each by its position among the failure modes of the graph, which is below
@@ -84,6 +85,17 @@ impl Set {
         ensures set { IsSet self }
     {
         place < MAX_MEMBERS && self.bits >> place & 1 == 1
+    }
+
+    /// The least member, and the set of the others.
+    pub fn split_first(self) -> Option<(u32, Set)>
+        ensures { MatchOption result (self ≡ []) (λ parts. self ≡ parts.0 ∷ parts.1) }
+    {
+        if self.bits == 0 {
+            return None;
+        }
+        let (place, bits) = split_lowest(self.bits);
+        Some((place, Set { bits }))
     }
 
     /// How many members there are.

@@ -1,6 +1,6 @@
 //! Traces: which node became active when.
 
-ghost use Rattle.std.specs.Prelude.{◌≡◌, [], IfOk, IfErr, OnOk, OnErr};
+ghost use Rattle.std.specs.Prelude.{◌≡◌, [], length, IfOk, IfErr, IsTrue, OnOk, OnErr};
 ghost use Rattle.tfpg_base.specs.Trace.{IsRisingByNode, TimesAfter, time_of, with_time};
 ghost use Rattle.tfpg_base.specs.inside.TraceSearch.{IsInsertedAt, StandsAt};
 
@@ -37,15 +37,15 @@ impl Trace {
         }
     }
 
-    /// Gives the node that time, in place of the time that it may have. Takes time logarithmic in the length for a
-    /// node above all others, linear for any other new one.
+    /// Gives the node that time, in place of the time that it may have. Takes amortized constant time for a node above all
+    /// others, time logarithmic in the length for one that has a time, and linear for any other.
     pub fn set(&mut self, node: u32, time: u64) -> Result<(), NoMemory>
         ensures list { OnOk result (self.new ≡ with_time node time self.old) }
         ensures times { OnOk result (TimesAfter self.old self.new node time) }
         ensures err { OnErr result (self.new ≡ self.old) }
     {
         let activation = Activation { node, time };
-        match search(&self.items, node) {
+        match place_of(&self.items, node) {
             Ok(index) => self.items[index] = activation,
             Err(index) => self.items.insert(index, activation)?,
         }
@@ -87,7 +87,30 @@ impl Trace {
     }
 }
 
-/// Where the node stands, or where it would.
+/// Where the node stands, or where it would. Takes constant time for a node above all others.
+fn place_of(items: &[Activation], node: u32) -> Result<usize, usize>
+    requires { IsRisingByNode items.now }
+    ensures found { IfOk result (StandsAt items.now node) }
+    ensures absent { IfErr result (IsInsertedAt items.now node) }
+{
+    if is_above_all(items, node) {
+        return Err(items.len());
+    }
+    search(items, node)
+}
+
+/// Whether the node is above all others.
+fn is_above_all(items: &[Activation], node: u32) -> bool
+    requires { IsRisingByNode items.now }
+    ensures { IsTrue result → IsInsertedAt items.now node (length items.now) }
+{
+    match items.last() {
+        Some(last) => last.node < node,
+        None => true,
+    }
+}
+
+/// Where the node stands, or where it would. Costs the logarithm of the length.
 fn search(items: &[Activation], node: u32) -> Result<usize, usize>
     requires { IsRisingByNode items.now }
     ensures found { IfOk result (StandsAt items.now node) }

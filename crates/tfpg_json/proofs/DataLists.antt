@@ -1,12 +1,10 @@
 -- The data of the items of a list so far, and of one item more.
 use Rattle.std.proofs.Common.{◌≡◌, ℕ, ◌+◌, ◌<◌, Bool, true, false, List, [], ◌∷◌, ◌++◌, length, get_or, map, filter, take, All, Option, Some, None, filter_map, slice_get, refl, sym, ap, ◌∙◌}
-use Rattle.std.specs.List.{Contains, cons_option}
+use Rattle.std.specs.List.{cons_option}
 use Rattle.std.specs.Option.{option_and_then}
 use Rattle.std.proofs.lemmas.List.{map-append, take_more}
-use Rattle.std.proofs.lemmas.List.Elements.{All-contains, filter_map-append}
+use Rattle.std.proofs.lemmas.List.Elements.{filter_map-append}
 use Rattle.std.proofs.lemmas.Option.{get_or_from_slice_get, slice_get_within}
-use Rattle.tfpg_base.specs.Set.{Rises}
-use Rattle.tfpg_base.proofs.lists.Below.{below, below-absent, below-all, below-member, below-zero}
 use Rattle.tfpg_base.proofs.lists.Filtered.{filter-push_no, filter-push_yes}
 
 module _ {X D : Type 0} (f : X → D) (xs : List X) where
@@ -42,27 +40,3 @@ module _ {X D : Type 0} (look : ℕ → Option X) (f : X → Option D) (numbers 
       by : (found : Option X) → filter_map f (cons_option found []) ≡ cons_option (option_and_then f found) []
       by None = refl
       by (Some x) = refl
-
-module _ {X D : Type 0} (write : X → D) (word : ℕ → X) (members : List ℕ) where
-  -- that of the members below a number
-  abbrev pub data_below : ℕ → List D
-  data_below number = map write (map word (below number members))
-
-  -- none at first
-  pub none_below : data_below 0 ≡ []
-  none_below = ap (λ ms. map write (map word ms)) (below-zero members)
-
-  -- one member more
-  pub member_next : (number : ℕ) → Rises members → Contains members number → data_below (number + 1) ≡ data_below number ++ write (word number) ∷ []
-  member_next number rising member =
-      ap (λ ms. map write (map word ms)) (below-member number members rising member)
-      ∙ ap (map write) (map-append word (below number members) (number ∷ []))
-      ∙ map-append write (map word (below number members)) (word number ∷ [])
-
-  -- a number that is no member
-  pub member_passed : (number : ℕ) → (Contains members number → ⊥) → data_below (number + 1) ≡ data_below number
-  member_passed number absent = ap (λ ms. map write (map word ms)) (below-absent number members absent)
-
-  -- all members
-  pub all_below : (number : ℕ) → All (λ m. m < number) members → data_below number ≡ map write (map word members)
-  all_below number small = ap (λ ms. map write (map word ms)) (below-all number members (λ m member. All-contains (λ n. n < number) members m small member))

@@ -39,6 +39,17 @@ item_written old mid new items more item is are next =
     ∙ ap (λ ts. old ++ ts)
     (sym (ap each_tokens is ∙ flat_map-append data_tokens items (item ∷ []) ∙ ap (λ ts. each_tokens items ++ ts) (append-nil (data_tokens item))))
 
+-- one item more, where the tokens of the others are left
+pub item_left : (mid new all : List Token) (items : List Data) (item : Data) (others : List Data) → items ≡ item ∷ others → mid ++ each_tokens items ≡ all
+    → new ≡ mid ++ data_tokens item → new ++ each_tokens others ≡ all
+item_left mid new all items item others splits are next =
+    ap (λ ts. ts ++ each_tokens others) next ∙ append_assoc mid (data_tokens item) (each_tokens others)
+    ∙ ap (λ ds. mid ++ each_tokens ds) (sym splits) ∙ are
+
+-- no item is left
+pub none_left : (new all : List Token) (items : List Data) → items ≡ [] → new ++ each_tokens items ≡ all → new ≡ all
+none_left new all items none are = sym (append-nil new) ∙ ap (λ ds. new ++ each_tokens ds) (sym none) ∙ are
+
 -- one item more, if it is there
 pub found_written : (old mid new : List Token) (items more : List Data) (found : Option Data) → more ≡ items ++ cons_option found [] → mid ≡ old ++ each_tokens items
     → new ≡ mid ++ found_tokens found → new ≡ old ++ each_tokens more

@@ -38,9 +38,8 @@ pub fn write_graph(graph: &Graph, into: &mut Vec<u8>) -> Result<(), NoMemory>
 /// Appends the round as one line of JSON, without a line end: an object with the counts, line, time and number of the round, and
 /// the open, the ranked and the rejected hypotheses, each by its set. A set is the list of the names of its failure modes, and
 /// then of its monitors that are not believed, each with a `!` before it. No space stands in it, and the keys of each object
-/// rise. Where memory runs out, the old bytes may be followed by a part of the line. It costs the length of the line, a test for
-/// each failure mode of the graph and each set that is written, another for each node where the set has a monitor that is not
-/// believed, and a binary search for each ranked hypothesis.
+/// rise. Where memory runs out, the old bytes may be followed by a part of the line. It costs the length of the line, and a binary
+/// search for each ranked hypothesis.
 pub fn write_round(graph: &Graph, round: &Round, into: &mut Vec<u8>) -> Result<(), NoMemory>
     requires { IsRoundOf (sizes_of graph.now) round.now }
     ensures { Appends result into.old.items into.new.items (round_json graph.now round.entry.now) }

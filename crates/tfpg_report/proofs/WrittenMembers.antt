@@ -5,7 +5,6 @@ use Rattle.std.proofs.lemmas.List.{append-nil, map-append}
 use Rattle.std.proofs.lemmas.List.Elements.{All-contains}
 use Rattle.tfpg_base.specs.Hypothesis.{Hypothesis}
 use Rattle.tfpg_base.specs.TextLine.{separated}
-use Rattle.tfpg_base.proofs.lists.Below.{below, below-absent, below-all, below-member, below-zero}
 use Rattle.tfpg_graph.specs.Graph.{Tfpg, failure_word}
 use Rattle.tfpg_report.specs.SetText.{hyphen_or_joined, set_word}
 use Rattle.tfpg_graph.specs.Members.{doubt_word}
@@ -65,54 +64,34 @@ joined-further (word ∷ next ∷ words) = ap (λ (text : List ℕ). word ++ tex
 
 -- ---- one member after another
 
--- The words for the members below a number stand after the old bytes, and whether a next one is the first.
-pub record AreMembersWritten (word : ℕ → List ℕ) (members : List ℕ) (from_first : Bool) (old new : List ℕ) (is_first : Bool) (number : ℕ) : Type 0 where
-  pub text : new ≡ old ++ further_words from_first (map word (below number members))
-  pub first : is_first ≡ still_first from_first (below number members)
+-- A part of a whole text stands after the old bytes, and this rest is left to be written.
+pub record IsPartWritten (old whole new rest : List ℕ) : Type 0 where
+  pub part : List ℕ
+  pub text : new ≡ old ++ part
+  pub is_whole : part ++ rest ≡ whole
 
-module _ (word : ℕ → List ℕ) (members : List ℕ) (from_first : Bool) (old : List ℕ) where
-  -- none is written at first
-  pub AreMembersWritten-none : AreMembersWritten word members from_first old old from_first 0
-  AreMembersWritten-none =
-      let none : below 0 members ≡ [] = below-zero members in
-      record {
-        text = sym (append-nil old) ∙ ap (λ (ms : List ℕ). old ++ further_words from_first (map word ms)) (sym none);
-        first = ap (λ (ms : List ℕ). still_first from_first ms) (sym none);
-      }
+module _ (old whole : List ℕ) where
+  -- nothing is written at first
+  pub IsPartWritten-none : IsPartWritten old whole old whole
+  IsPartWritten-none = record { part = []; text = sym (append-nil old); is_whole = refl }
 
-  -- one member more is written
-  pub AreMembersWritten-more : (mid new : List ℕ) (is_first : Bool) (number : ℕ) → AllPairs (λ earlier later. earlier < later) members → Contains members number
-      → AreMembersWritten word members from_first old mid is_first number → new ≡ mid ++ separated 44 is_first (word number) → AreMembersWritten word members from_first old new false (number + 1)
-  AreMembersWritten-more mid new is_first number rising member written e =
-      let more : below (number + 1) members ≡ below number members ++ number ∷ [] = below-member number members rising member in
-      let words : List (List ℕ) = map word (below number members) in
-      let further : further_words from_first (map word (below (number + 1) members)) ≡ further_words from_first words ++ separated 44 is_first (word number) =
-      ap (λ (ms : List ℕ). further_words from_first (map word ms)) more
-      ∙ ap (further_words from_first) (map-append word (below number members) (number ∷ []))
-      ∙ further-push from_first words (word number)
-      ∙ ap (λ (b : Bool). further_words from_first words ++ separated 44 b (word number)) (still_first-map word from_first (below number members) ∙ sym written.first) in
-      record {
-        text = e ∙ ap (λ (t : List ℕ). t ++ separated 44 is_first (word number)) written.text
-            ∙ append_assoc old (further_words from_first words) (separated 44 is_first (word number))
-            ∙ ap (λ (t : List ℕ). old ++ t) (sym further);
-        first = sym (ap (λ (ms : List ℕ). still_first from_first ms) more ∙ still_first-push from_first (below number members) number);
-      }
+  -- the first bytes of the rest are written
+  pub IsPartWritten-more : (mid new more rest left : List ℕ) → rest ≡ more ++ left → IsPartWritten old whole mid rest → new ≡ mid ++ more → IsPartWritten old whole new left
+  IsPartWritten-more mid new more rest left splits written e = record {
+    part = written.part ++ more;
+    text = e ∙ ap (λ (t : List ℕ). t ++ more) written.text ∙ append_assoc old written.part more;
+    is_whole = append_assoc written.part more left ∙ ap (λ (t : List ℕ). written.part ++ t) (sym splits) ∙ written.is_whole;
+  }
 
-  -- no member more is to be written
-  pub AreMembersWritten-same : (new : List ℕ) (is_first : Bool) (number : ℕ) → (Contains members number → ⊥)
-      → AreMembersWritten word members from_first old new is_first number → AreMembersWritten word members from_first old new is_first (number + 1)
-  AreMembersWritten-same new is_first number absent written =
-      let same : below (number + 1) members ≡ below number members = below-absent number members absent in
-      record {
-        text = written.text ∙ ap (λ (ms : List ℕ). old ++ further_words from_first (map word ms)) (sym same);
-        first = written.first ∙ ap (λ (ms : List ℕ). still_first from_first ms) (sym same);
-      }
+  -- no rest is left
+  pub IsPartWritten-all : (new rest : List ℕ) → rest ≡ [] → IsPartWritten old whole new rest → new ≡ old ++ whole
+  IsPartWritten-all new rest none written =
+      written.text
+      ∙ ap (λ (t : List ℕ). old ++ t) (sym (append-nil written.part) ∙ ap (λ (t : List ℕ). written.part ++ t) (sym none) ∙ written.is_whole)
 
-  -- all are written
-  pub AreMembersWritten-all : (new : List ℕ) (is_first : Bool) (number : ℕ) → All (λ m. m < number) members
-      → AreMembersWritten word members from_first old new is_first number → new ≡ old ++ further_words from_first (map word members)
-  AreMembersWritten-all new is_first number small written =
-      written.text ∙ ap (λ (ms : List ℕ). old ++ further_words from_first (map word ms)) (below-all number members (λ m member. All-contains (λ n. n < number) members m small member))
+-- the words for the members that are left
+abbrev pub words_left : (ℕ → List ℕ) → Bool → List ℕ → List ℕ
+words_left word is_first members = further_words is_first (map word members)
 
 -- ---- the text of a set
 

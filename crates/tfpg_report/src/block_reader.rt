@@ -1,9 +1,10 @@
 //! The reader of reports.
 
-ghost use Rattle.std.specs.Prelude.{◌≡◌, ◌+◌, ℕ, List, [], false, Some, None, Err, IfOk, IfErr, OnOk};
+ghost use Rattle.std.specs.Prelude.{◌≡◌, ◌+◌, ℕ, List, [], false, Some, None, Err, IfOk, IfErr, IfSome, OnOk};
 ghost use Rattle.tfpg_report.specs.declared.fed.ReadRefusal.{ReadRefusal};
 ghost use Rattle.tfpg_report.specs.declared.fed.ReadRefusal.TheVariants.{BadReport};
 ghost use Rattle.tfpg_report.specs.declared.report_line.ReportLine.{ReportLine};
+ghost use Rattle.tfpg_report.specs.declared.report_line.ReportLine.TheVariants.{At};
 ghost use Rattle.tfpg_report.specs.ReportLines.{Says};
 ghost use Rattle.tfpg_report.specs.Stands.{may_begin_block, stand_after};
 ghost use Rattle.tfpg_report.specs.Represents.{ReaderRepresents, Takes, NoneMayCome};
@@ -12,14 +13,15 @@ pub(crate) mod draft;
 mod stepping;
 
 use crate::laws::a_report_line_says_one_thing;
-use crate::reading::{LineRefusal, read_report_line};
+use crate::reading::named_graph::{NameGuesses, NamedGraph};
+use crate::reading::{LineRefusal, activation_in, read_named_line};
 use crate::{Fed, ReadRefusal, ReportLine, Stand};
 use draft::Draft;
 use std::alloc::Global;
 use std::marker::Model;
 use std::snapshot::Snapshot;
 use stepping::step_after;
-use tfpg_base::NoMemory;
+use tfpg_base::{Activation, NoMemory};
 use tfpg_graph::Graph;
 
 /// Reads a report line by line, and says what each line completes. Nothing is judged: numbers, sets, steps and traces may be
@@ -31,6 +33,7 @@ pub struct BlockReader {
     refused: Option<ReadRefusal>,
     stand: Stand,
     draft: Draft,
+    guesses: NameGuesses,
     /// How many lines it took, for contracts alone.
     taken: Snapshot<u64>,
 }
@@ -70,6 +73,7 @@ impl BlockReader {
             refused: None,
             stand: Stand::Nothing,
             draft: Draft::empty(alloc),
+            guesses: NameGuesses::new(),
             taken: Snapshot::of(&0),
         }
     }
@@ -93,7 +97,22 @@ impl BlockReader {
         if let Some(refusal) = self.refused {
             return Err(refusal);
         }
-        match &next_line(self.alloc, graph, self.stand, number, line) {
+        self.guesses.make(graph);
+        let named = NamedGraph::with_guesses(graph, &self.guesses);
+        if let Some(found) = next_activation(&named, self.stand, line) {
+            return match self.draft.add_activation(found.0) {
+                Ok(()) => {
+                    self.stand = found.1;
+                    self.taken = Snapshot::of(&number);
+                    Ok(Fed::More)
+                }
+                Err(NoMemory) => {
+                    refuse(&mut self.refused, &mut self.stand, ReadRefusal::NoMemory);
+                    Err(ReadRefusal::NoMemory)
+                }
+            };
+        }
+        match &next_line(self.alloc, &named, self.stand, number, line) {
             Ok(next) => match self.draft.add(self.alloc, number, next.stand, &next.line) {
                 Ok(()) => {
                     self.stand = next.stand;
@@ -131,10 +150,24 @@ fn refuse(refused: &mut Option<ReadRefusal>, stand: &mut Stand, refusal: ReadRef
     *stand = Stand::Nothing;
 }
 
+/// The activation that the line says, if it says one that may come at this stand, and the stand after it.
+fn next_activation(
+    graph: &NamedGraph<'_>,
+    before: Stand,
+    line: &[u8],
+) -> Option<(Activation, Stand)>
+    ensures says { IfSome result (λ found. Says graph.now (At found.0) line.now) }
+    ensures stand { IfSome result (λ found. stand_after before (At found.0) ≡ Some found.1) }
+{
+    let activation = activation_in(graph, line)?;
+    let stand = before.after_activation(activation.node)?;
+    Some((activation, stand))
+}
+
 /// Reads the line with this number, if it may come at this stand.
 fn next_line(
     alloc: Global,
-    graph: &Graph,
+    graph: &NamedGraph<'_>,
     before: Stand,
     number: u64,
     line: &[u8],
@@ -146,7 +179,7 @@ fn next_line(
 {
     graph.is_always_valid();
     a_report_line_says_one_thing();
-    match read_report_line(alloc, graph, line) {
+    match read_named_line(alloc, graph, line) {
         Ok(line) => match step_after(before, &line) {
             Some(stand) => Ok(Next { line, stand }),
             None => Err(ReadRefusal::BadReport { line: number }),

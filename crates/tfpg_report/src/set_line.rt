@@ -42,8 +42,7 @@ fn append_pieces(pieces: &[&[u8]], into: &mut Vec<u8>) -> Result<(), NoMemory>
 
 /// Appends the text of a set: a hyphen where there is no member. Else the members, with commas between: the names of the
 /// failure modes in the order of their positions, and then the monitors that are not believed, in the order of their nodes,
-/// each with a `!` before its node's name. Takes time linear in the count of failure modes, and where there are such monitors
-/// in the count of nodes, besides its text.
+/// each with a `!` before its node's name. Takes time linear in its text.
 pub fn append_set(graph: &Graph, hypothesis: Hypothesis, into: &mut Vec<u8>) -> Result<(), NoMemory>
     requires members { AreFailures graph.now hypothesis.set }
     requires nodes { All (λ node. node < length graph.now.nodes) hypothesis.doubts }
@@ -63,12 +62,12 @@ fn append_failures(graph: &Graph, set: Set, into: &mut Vec<u8>) -> Result<(), No
     ensures { Appends result into.old.items into.new.items
         (further_words true (map (failure_word graph.now) set)) }
 {
+    let mut left = set;
     let mut is_first = true;
-    for position in 0..graph.failure_count() {
-        if set.has(position) {
-            append_part(into, b',', is_first, failure_word(graph, position))?;
-            is_first = false;
-        }
+    while let Some(parts) = left.split_first() {
+        append_part(into, b',', is_first, failure_word(graph, parts.0))?;
+        is_first = false;
+        left = parts.1;
     }
     Ok(())
 }
@@ -84,15 +83,12 @@ fn append_doubts(
     ensures { Appends result into.old.items into.new.items
         (further_words is_first (map (doubt_word graph.now) doubts)) }
 {
-    if doubts.len() == 0 {
-        return Ok(());
-    }
+    let mut left = doubts;
     let mut is_next_first = is_first;
-    for node in 0..graph.node_count() {
-        if doubts.has(node) {
-            append_doubt(graph, node, is_next_first, into)?;
-            is_next_first = false;
-        }
+    while let Some(parts) = left.split_first() {
+        append_doubt(graph, parts.0, is_next_first, into)?;
+        is_next_first = false;
+        left = parts.1;
     }
     Ok(())
 }

@@ -223,10 +223,10 @@ fn append_failures(graph: &Graph, set: Set, into: &mut Writer) -> Result<(), NoM
     ensures ok { OnOk result (into.new.tokens
         ≡ into.old.tokens ++ each_tokens (map string (map (failure_word graph.now) set))) }
 {
-    for position in 0..graph.failure_count() {
-        if set.has(position) {
-            into.string(failure_name(graph, position))?;
-        }
+    let mut left = set;
+    while let Some(parts) = left.split_first() {
+        into.string(failure_name(graph, parts.0))?;
+        left = parts.1;
     }
     Ok(())
 }
@@ -243,13 +243,10 @@ fn append_doubts(
     ensures ok { OnOk result (into.new.tokens
         ≡ into.old.tokens ++ each_tokens (map string (map (doubt_word graph.now) doubts))) }
 {
-    if doubts.len() == 0 {
-        return Ok(());
-    }
-    for node in 0..graph.node_count() {
-        if doubts.has(node) {
-            into.string(doubt_word(alloc, graph, node)?.as_str())?;
-        }
+    let mut left = doubts;
+    while let Some(parts) = left.split_first() {
+        into.string(doubt_word(alloc, graph, parts.0)?.as_str())?;
+        left = parts.1;
     }
     Ok(())
 }

@@ -4,6 +4,7 @@ pub mod FirstWords
 -- lines without a set
 pub mod SaidLines
 pub mod ReadLines
+pub mod ActivationsSaid
 -- lines with a set
 pub mod SetLines
 -- each line

@@ -232,7 +232,7 @@ impl Draft {
     }
 
     /// Adds an activation to the trace of the ranked hypothesis that is under way.
-    fn add_activation(&mut self, activation: Activation) -> Result<(), NoMemory>
+    pub(super) fn add_activation(&mut self, activation: Activation) -> Result<(), NoMemory>
         requires { has_ranked self.old.under_way ≡ true }
         ensures { OnOk result (self.new ≡ with_activation activation self.old) }
     {

@@ -123,7 +123,7 @@ impl Stand {
     }
 
     /// The stand after an activation of this node, which may come after a ranked hypothesis, by rising nodes.
-    fn after_activation(self, node: u32) -> Option<Stand>
+    pub(super) fn after_activation(self, node: u32) -> Option<Stand>
         ensures { result ≡ after_activation self node }
     {
         match self {

@@ -3,8 +3,8 @@
 ghost use Rattle.std.specs.Prelude.{◌≡◌, ◌≤◌, ◌<◌, IfSome, map, option_map, length};
 ghost use Rattle.tfpg_report.specs.inside.FirstWords.{number_within, small, number_first, small_first, node_first, edge_first, after_word, number_after, small_after, set_last};
 
+use super::named_graph::NamedGraph;
 use tfpg_base::{Number, read_number};
-use tfpg_graph::Graph;
 
 /// The number that the word spells, at most this limit.
 pub(crate) fn number_within(word: &[u8], limit: u64) -> Option<u64>
@@ -49,7 +49,7 @@ pub(crate) fn small_first<'a, 'w>(words: &'w [&'a [u8]]) -> Option<(u32, &'w [&'
 
 /// The node that the first word names, and the words after it.
 pub(crate) fn node_first<'a, 'w>(
-    graph: &Graph,
+    graph: &NamedGraph<'_>,
     words: &'w [&'a [u8]],
 ) -> Option<(u32, &'w [&'a [u8]])>
     ensures node { option_map (λ found. (found.0, map (λ word. word.now) found.1.now)) result
@@ -62,7 +62,7 @@ pub(crate) fn node_first<'a, 'w>(
 
 /// The edge from the node that the first word names to that of the second, and the words after them.
 pub(crate) fn edge_first<'a, 'w>(
-    graph: &Graph,
+    graph: &NamedGraph<'_>,
     words: &'w [&'a [u8]],
 ) -> Option<(u32, &'w [&'a [u8]])>
     ensures { option_map (λ found. (found.0, map (λ word. word.now) found.1.now)) result

@@ -4,15 +4,16 @@ ghost use Rattle.std.specs.Prelude.{◌≡◌, ◌∷◌, ◌==◌, map, option_
 ghost use Rattle.tfpg_report.specs.inside.LinesRead.{at_in, without_first, robust_in, robust_first, ranked_first, ranked_in, numbered_in, plain_line_in};
 ghost use Rattle.tfpg_report.specs.inside.WordsRead.{AreWordsRead, AreNumberedRead};
 
+use super::LineRefusal;
 use super::first_words::{
     after_word, node_first, number_first, set_last, small, small_after, small_first,
 };
+use super::named_graph::NamedGraph;
 use super::read_steps::step_line_in;
-use super::{LineRefusal, read_set};
+use super::set_word::set_in;
 use crate::ReportLine;
 use std::alloc::Global;
 use tfpg_base::{Activation, Hypothesis, MAX_TIME};
-use tfpg_graph::Graph;
 
 /// What the line of a ranked hypothesis says before its set.
 #[derive(Clone, Copy)]
@@ -26,7 +27,7 @@ pub(crate) struct RankedNumbers {
 /// The line of these words.
 pub(crate) fn line_in(
     alloc: Global,
-    graph: &Graph,
+    graph: &NamedGraph<'_>,
     words: &[&[u8]],
 ) -> Result<ReportLine, LineRefusal>
     ensures { AreWordsRead graph.now (map (λ word. word.now) words.now) result }
@@ -47,7 +48,7 @@ pub(crate) fn line_in(
 }
 
 /// The line without a set, of this keyword and these words after it.
-fn plain_line_in(graph: &Graph, keyword: &[u8], words: &[&[u8]]) -> Option<ReportLine>
+fn plain_line_in(graph: &NamedGraph<'_>, keyword: &[u8], words: &[&[u8]]) -> Option<ReportLine>
     ensures { result ≡ plain_line_in graph.now keyword.now (map (λ word. word.now) words.now) }
 {
     if keyword == b"at".as_slice() {
@@ -58,7 +59,7 @@ fn plain_line_in(graph: &Graph, keyword: &[u8], words: &[&[u8]]) -> Option<Repor
 }
 
 /// The line of an activation.
-fn at_in(graph: &Graph, words: &[&[u8]]) -> Option<ReportLine>
+fn at_in(graph: &NamedGraph<'_>, words: &[&[u8]]) -> Option<ReportLine>
     ensures { result ≡ at_in graph.now (map (λ word. word.now) words.now) }
 {
     let (node, words) = node_first(graph, words)?;
@@ -70,14 +71,18 @@ fn at_in(graph: &Graph, words: &[&[u8]]) -> Option<ReportLine>
 }
 
 /// The line of a ranked hypothesis.
-fn ranked_in(alloc: Global, graph: &Graph, words: &[&[u8]]) -> Result<ReportLine, LineRefusal>
+fn ranked_in(
+    alloc: Global,
+    graph: &NamedGraph<'_>,
+    words: &[&[u8]],
+) -> Result<ReportLine, LineRefusal>
     ensures { AreWordsRead graph.now (codes "ranked" ∷ map (λ word. word.now) words.now) result }
 {
     graph.is_always_valid();
     let Some((ranked, set)) = ranked_words(words) else {
         return Err(LineRefusal::NotALine);
     };
-    let Some(hypothesis) = read_set(alloc, graph, set)? else {
+    let Some(hypothesis) = set_in(alloc, graph, set)? else {
         return Err(LineRefusal::NotALine);
     };
     Ok(ReportLine::Ranked {
@@ -147,7 +152,11 @@ fn slash_in(word: &[u8]) -> Option<usize>
 }
 
 /// The line of an open hypothesis.
-fn open_in(alloc: Global, graph: &Graph, words: &[&[u8]]) -> Result<ReportLine, LineRefusal>
+fn open_in(
+    alloc: Global,
+    graph: &NamedGraph<'_>,
+    words: &[&[u8]],
+) -> Result<ReportLine, LineRefusal>
     ensures { AreWordsRead graph.now (codes "open" ∷ map (λ word. word.now) words.now) result }
 {
     graph.is_always_valid();
@@ -156,7 +165,11 @@ fn open_in(alloc: Global, graph: &Graph, words: &[&[u8]]) -> Result<ReportLine, 
 }
 
 /// The line of a hypothesis that the round rejected.
-fn rejected_in(alloc: Global, graph: &Graph, words: &[&[u8]]) -> Result<ReportLine, LineRefusal>
+fn rejected_in(
+    alloc: Global,
+    graph: &NamedGraph<'_>,
+    words: &[&[u8]],
+) -> Result<ReportLine, LineRefusal>
     ensures { AreWordsRead graph.now (codes "rejected" ∷ map (λ word. word.now) words.now) result }
 {
     graph.is_always_valid();
@@ -167,7 +180,7 @@ fn rejected_in(alloc: Global, graph: &Graph, words: &[&[u8]]) -> Result<ReportLi
 /// The number of a hypothesis, and the hypothesis.
 fn numbered_in(
     alloc: Global,
-    graph: &Graph,
+    graph: &NamedGraph<'_>,
     words: &[&[u8]],
 ) -> Result<(u32, Hypothesis), LineRefusal>
     ensures { AreNumberedRead graph.now (map (λ word. word.now) words.now) result }
@@ -176,7 +189,7 @@ fn numbered_in(
     let Some((number, set)) = numbered_words(words) else {
         return Err(LineRefusal::NotALine);
     };
-    match read_set(alloc, graph, set)? {
+    match set_in(alloc, graph, set)? {
         Some(hypothesis) => Ok((number, hypothesis)),
         None => Err(LineRefusal::NotALine),
     }

@@ -4,6 +4,7 @@ ghost use Rattle.std.specs.Prelude.{◌≡◌, IfOk, IsErrOf};
 ghost use Rattle.tfpg_report.specs.ReportLines.{Says};
 ghost use Rattle.tfpg_report.specs.declared.report_line.ReportLine.{ReportLine as ALine};
 
+use super::named_graph::NamedGraph;
 use super::read_findings::line_in;
 use crate::ReportLine;
 use std::alloc::Global;
@@ -29,6 +30,19 @@ pub enum LineRefusal {
 pub fn read_report_line(
     alloc: Global,
     graph: &Graph,
+    line: &[u8],
+) -> Result<ReportLine, LineRefusal>
+    ensures says { IfOk result (λ read. Says graph.now read line.now) }
+    ensures none { IsErrOf result LineRefusal.NotALine → (read : ALine) →
+        Says graph.now read line.now → ⊥ }
+{
+    read_named_line(alloc, &NamedGraph::unguessed(graph), line)
+}
+
+/// What a line of a report says, as `read_report_line` reads it.
+pub(crate) fn read_named_line(
+    alloc: Global,
+    graph: &NamedGraph<'_>,
     line: &[u8],
 ) -> Result<ReportLine, LineRefusal>
     ensures says { IfOk result (λ read. Says graph.now read line.now) }

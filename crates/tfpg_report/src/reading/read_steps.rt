@@ -6,14 +6,18 @@ ghost use Rattle.tfpg_evidence.specs.declared.reason.Reason.TheVariants as reaso
 ghost use Rattle.tfpg_report.specs.inside.LinesRead.{hyp_in, cycle_in, again_in, span_and_horizon, node_clause_in, edge_clause_in, clause_in, split_in, node_reason_in, event_reason_in, unreached_in, quiet_in, pick_in, reason_in, why_in, step_line_in};
 
 use super::first_words::{edge_first, node_first, number_first, small_first};
+use super::named_graph::NamedGraph;
 use super::read_blocks::block_line_in;
 use crate::ReportLine;
 use tfpg_base::{MAX_LINE_NUMBER, MAX_TIME};
 use tfpg_evidence::{ClauseName, Reason};
-use tfpg_graph::Graph;
 
 /// The line of the steps of a hypothesis, or the line that begins or ends a block, of this keyword and these words after it.
-pub(crate) fn step_line_in(graph: &Graph, keyword: &[u8], words: &[&[u8]]) -> Option<ReportLine>
+pub(crate) fn step_line_in(
+    graph: &NamedGraph<'_>,
+    keyword: &[u8],
+    words: &[&[u8]],
+) -> Option<ReportLine>
     ensures { result ≡ step_line_in graph.now keyword.now (map (λ word. word.now) words.now) }
 {
     if keyword == b"why".as_slice() {
@@ -64,7 +68,7 @@ fn again_in(words: &[&[u8]]) -> Option<ReportLine>
 }
 
 /// The line of a split.
-fn split_in(graph: &Graph, words: &[&[u8]]) -> Option<ReportLine>
+fn split_in(graph: &NamedGraph<'_>, words: &[&[u8]]) -> Option<ReportLine>
     ensures { result ≡ split_in graph.now (map (λ word. word.now) words.now) }
 {
     let name = clause_in(graph, words)?;
@@ -72,7 +76,7 @@ fn split_in(graph: &Graph, words: &[&[u8]]) -> Option<ReportLine>
 }
 
 /// The name of a clause.
-fn clause_in(graph: &Graph, words: &[&[u8]]) -> Option<ClauseName>
+fn clause_in(graph: &NamedGraph<'_>, words: &[&[u8]]) -> Option<ClauseName>
     ensures { result ≡ clause_in graph.now (map (λ word. word.now) words.now) }
 {
     let (kind, words) = words.split_first()?;
@@ -89,7 +93,7 @@ fn clause_in(graph: &Graph, words: &[&[u8]]) -> Option<ClauseName>
     }
 }
 
-fn or_may_in(graph: &Graph, words: &[&[u8]]) -> Option<ClauseName>
+fn or_may_in(graph: &NamedGraph<'_>, words: &[&[u8]]) -> Option<ClauseName>
     ensures { result ≡ node_clause_in clause.OrMay graph.now (map (λ word. word.now) words.now) }
 {
     let (node, words) = node_first(graph, words)?;
@@ -101,7 +105,7 @@ fn or_may_in(graph: &Graph, words: &[&[u8]]) -> Option<ClauseName>
     })
 }
 
-fn and_may_in(graph: &Graph, words: &[&[u8]]) -> Option<ClauseName>
+fn and_may_in(graph: &NamedGraph<'_>, words: &[&[u8]]) -> Option<ClauseName>
     ensures { result ≡ edge_clause_in clause.AndMay graph.now (map (λ word. word.now) words.now) }
 {
     let (edge, words) = edge_first(graph, words)?;
@@ -113,7 +117,7 @@ fn and_may_in(graph: &Graph, words: &[&[u8]]) -> Option<ClauseName>
     })
 }
 
-fn or_must_in(graph: &Graph, words: &[&[u8]]) -> Option<ClauseName>
+fn or_must_in(graph: &NamedGraph<'_>, words: &[&[u8]]) -> Option<ClauseName>
     ensures { result ≡ edge_clause_in clause.OrMust graph.now (map (λ word. word.now) words.now) }
 {
     let (edge, words) = edge_first(graph, words)?;
@@ -125,7 +129,7 @@ fn or_must_in(graph: &Graph, words: &[&[u8]]) -> Option<ClauseName>
     })
 }
 
-fn and_must_in(graph: &Graph, words: &[&[u8]]) -> Option<ClauseName>
+fn and_must_in(graph: &NamedGraph<'_>, words: &[&[u8]]) -> Option<ClauseName>
     ensures { result ≡ node_clause_in clause.AndMust graph.now (map (λ word. word.now) words.now) }
 {
     let (node, words) = node_first(graph, words)?;
@@ -150,7 +154,7 @@ fn span_and_horizon(words: &[&[u8]]) -> Option<(u32, u64)>
 }
 
 /// The line of a reason.
-fn why_in(graph: &Graph, words: &[&[u8]]) -> Option<ReportLine>
+fn why_in(graph: &NamedGraph<'_>, words: &[&[u8]]) -> Option<ReportLine>
     ensures { result ≡ why_in graph.now (map (λ word. word.now) words.now) }
 {
     let reason = reason_in(graph, words)?;
@@ -158,7 +162,7 @@ fn why_in(graph: &Graph, words: &[&[u8]]) -> Option<ReportLine>
 }
 
 /// A reason.
-fn reason_in(graph: &Graph, words: &[&[u8]]) -> Option<Reason>
+fn reason_in(graph: &NamedGraph<'_>, words: &[&[u8]]) -> Option<Reason>
     ensures { result ≡ reason_in graph.now (map (λ word. word.now) words.now) }
 {
     let (kind, words) = words.split_first()?;
@@ -212,7 +216,7 @@ fn pick_in(words: &[&[u8]]) -> Option<Reason>
     }
 }
 
-fn quiet_in(graph: &Graph, words: &[&[u8]]) -> Option<Reason>
+fn quiet_in(graph: &NamedGraph<'_>, words: &[&[u8]]) -> Option<Reason>
     ensures { result ≡ quiet_in graph.now (map (λ word. word.now) words.now) }
 {
     let (event, words) = small_first(words)?;
@@ -223,7 +227,7 @@ fn quiet_in(graph: &Graph, words: &[&[u8]]) -> Option<Reason>
     }
 }
 
-fn unreached_in(graph: &Graph, words: &[&[u8]]) -> Option<Reason>
+fn unreached_in(graph: &NamedGraph<'_>, words: &[&[u8]]) -> Option<Reason>
     ensures { result ≡ unreached_in graph.now (map (λ word. word.now) words.now) }
 {
     let (node, words) = node_first(graph, words)?;
@@ -234,7 +238,7 @@ fn unreached_in(graph: &Graph, words: &[&[u8]]) -> Option<Reason>
     }
 }
 
-fn zero_in(graph: &Graph, words: &[&[u8]]) -> Option<Reason>
+fn zero_in(graph: &NamedGraph<'_>, words: &[&[u8]]) -> Option<Reason>
     ensures { result ≡ node_reason_in reason.Zero graph.now (map (λ word. word.now) words.now) }
 {
     let (node, words) = node_first(graph, words)?;
@@ -244,7 +248,7 @@ fn zero_in(graph: &Graph, words: &[&[u8]]) -> Option<Reason>
     }
 }
 
-fn top_in(graph: &Graph, words: &[&[u8]]) -> Option<Reason>
+fn top_in(graph: &NamedGraph<'_>, words: &[&[u8]]) -> Option<Reason>
     ensures { result ≡ node_reason_in reason.Top graph.now (map (λ word. word.now) words.now) }
 {
     let (node, words) = node_first(graph, words)?;

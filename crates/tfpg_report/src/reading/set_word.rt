@@ -10,6 +10,7 @@ ghost use Rattle.tfpg_graph.specs.Members.{doubt_word, member_words};
 ghost use Rattle.tfpg_report.specs.ReadSets.{IsHypothesisIn};
 ghost use Rattle.tfpg_report.specs.inside.ReadMembers.{position_named, monitor_named, doubt_named, is_marked, IsPosition, IsMonitor, AreRisingFrom};
 
+use super::named_graph::NamedGraph;
 use std::alloc::Global;
 use tfpg_base::{Doubts, Hypothesis, NoMemory, Set, parts_at_commas};
 use tfpg_graph::Graph;
@@ -17,6 +18,17 @@ use tfpg_graph::Graph;
 /// The hypothesis whose text the word is, or None where it is the text of none. Takes time linear in the length of the word,
 /// and memory for its parts.
 pub fn read_set(alloc: Global, graph: &Graph, word: &[u8]) -> Result<Option<Hypothesis>, NoMemory>
+    ensures { IfOk result (IsHypothesisIn graph.now word.now) }
+{
+    set_in(alloc, &NamedGraph::unguessed(graph), word)
+}
+
+/// The hypothesis whose text the word is, or None where it is the text of none.
+pub(crate) fn set_in(
+    alloc: Global,
+    graph: &NamedGraph<'_>,
+    word: &[u8],
+) -> Result<Option<Hypothesis>, NoMemory>
     ensures { IfOk result (IsHypothesisIn graph.now word.now) }
 {
     graph.is_always_valid();
@@ -30,7 +42,7 @@ pub fn read_set(alloc: Global, graph: &Graph, word: &[u8]) -> Result<Option<Hypo
 
 /// The hypothesis whose members these words are: names of failure modes first, and then monitors with their marks, each in
 /// order.
-fn hypothesis_of(graph: &Graph, words: &[&[u8]]) -> Option<Hypothesis>
+fn hypothesis_of(graph: &NamedGraph<'_>, words: &[&[u8]]) -> Option<Hypothesis>
     ensures found { IfSome result (λ hypothesis. IsHypothesisOf graph.now hypothesis
         × (member_words graph.now hypothesis ≡ map (λ word. word.now) words.now)) }
     ensures none { IsNone result → (hypothesis : Hypothesis) → IsHypothesisOf graph.now hypothesis →
@@ -70,7 +82,7 @@ fn is_marked(word: &[u8]) -> bool
 
 /// The positions of the failure modes of these names, where they rise, and none is before the least one. Calls as deep as
 /// there are failure modes, at most.
-fn rising_positions(graph: &Graph, names: &[&[u8]], least: u32) -> Option<Set>
+fn rising_positions(graph: &NamedGraph<'_>, names: &[&[u8]], least: u32) -> Option<Set>
     ensures found { IfSome result (λ set. AreRisingFrom (IsPosition graph.now) least set ×
         (map (failure_word graph.now) set ≡ map (λ name. name.now) names.now)) }
     ensures none { IsNone result → (set : List ℕ) → AreRisingFrom (IsPosition graph.now) least set →
@@ -89,7 +101,7 @@ fn rising_positions(graph: &Graph, names: &[&[u8]], least: u32) -> Option<Set>
 }
 
 /// The position of the failure mode of this name.
-fn find_failure(graph: &Graph, name: &[u8]) -> Option<u32>
+fn find_failure(graph: &NamedGraph<'_>, name: &[u8]) -> Option<u32>
     ensures position { result ≡ position_named graph.now name.now }
     ensures valid { IsValid graph.now }
 {
@@ -99,7 +111,7 @@ fn find_failure(graph: &Graph, name: &[u8]) -> Option<u32>
 
 /// The monitors that these words stand for, where their nodes rise, and none is before the least one. Calls as deep as there
 /// are nodes, at most.
-fn rising_doubts(graph: &Graph, words: &[&[u8]], least: u32) -> Option<Doubts>
+fn rising_doubts(graph: &NamedGraph<'_>, words: &[&[u8]], least: u32) -> Option<Doubts>
     ensures found { IfSome result (λ doubts. AreRisingFrom (IsMonitor graph.now) least doubts ×
         (map (doubt_word graph.now) doubts ≡ map (λ word. word.now) words.now)) }
     ensures none { IsNone result → (doubts : List ℕ) → AreRisingFrom (IsMonitor graph.now) least doubts →
@@ -118,7 +130,7 @@ fn rising_doubts(graph: &Graph, words: &[&[u8]], least: u32) -> Option<Doubts>
 }
 
 /// The monitored node of the name after the exclamation mark of this word.
-fn find_doubt(graph: &Graph, word: &[u8]) -> Option<u32>
+fn find_doubt(graph: &NamedGraph<'_>, word: &[u8]) -> Option<u32>
     ensures node { result ≡ doubt_named graph.now word.now }
     ensures within { IfSome result (λ node. node < MAX_NODES) }
     ensures valid { IsValid graph.now }
@@ -132,7 +144,7 @@ fn find_doubt(graph: &Graph, word: &[u8]) -> Option<u32>
 }
 
 /// The monitored node of this name.
-fn find_monitor(graph: &Graph, name: &[u8]) -> Option<u32>
+fn find_monitor(graph: &NamedGraph<'_>, name: &[u8]) -> Option<u32>
     ensures node { result ≡ monitor_named graph.now name.now }
     ensures within { IfSome result (λ node. node < MAX_NODES) }
 {

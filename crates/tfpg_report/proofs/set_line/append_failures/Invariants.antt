@@ -1,8 +1,14 @@
-use Rattle.std.proofs.Common.{true}
-use Rattle.tfpg_graph.specs.Graph.{failure_word}
-use Rattle.tfpg_report.proofs.WrittenMembers.{AreMembersWritten}
+use Rattle.std.proofs.Common.{true, ◌<◌, length, All}
+use Rattle.tfpg_graph.specs.Graph.{AreFailures, failure_word}
+use Rattle.tfpg_report.proofs.WrittenMembers.{IsPartWritten, words_left}
 use Rattle.tfpg_report.proofs.set_line.append_failures.Given as goal
 
--- the members below the position are named
-abbrev pub invariant-loop-position : goal.invariant-loop-position
-invariant-loop-position l = AreMembersWritten (failure_word l.graph) l.set true l.fn.into.items l.into.items l.is_first l.position
+-- the words for the members that are left are still to be written
+abbrev pub invariant-loop-parts : goal.invariant-loop-parts
+invariant-loop-parts l = record {
+  written : IsPartWritten l.fn.into.items (words_left (failure_word l.graph) true l.fn.set) l.into.items (words_left (failure_word l.graph) l.is_first l.left);
+  within : AreFailures l.graph l.left;
+}
+
+abbrev pub decreases-loop-parts : goal.decreases-loop-parts
+decreases-loop-parts l = length l.left

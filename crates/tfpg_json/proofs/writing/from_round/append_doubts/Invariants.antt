@@ -1,11 +1,16 @@
-use Rattle.std.proofs.Common.{◌≡◌, ◌++◌, map}
+use Rattle.std.proofs.Common.{◌≡◌, ◌++◌, ◌<◌, length, map, All}
 use Rattle.serde_json.specs.Data.{string}
-use Rattle.tfpg_base.proofs.lists.Below.{below}
 use Rattle.tfpg_graph.specs.Members.{doubt_word}
 use Rattle.tfpg_json.specs.inside.Tokens.{each_tokens}
 use Rattle.tfpg_json.proofs.writing.from_round.append_doubts.Given as goal
 
--- the words for the monitors of nodes below this one are written
-abbrev pub invariant-loop-node : goal.invariant-loop-node
-invariant-loop-node l =
-    (l.into.before ≡ l.fn.into.before) × (l.into.tokens ≡ l.fn.into.tokens ++ each_tokens (map string (map (doubt_word l.graph) (below l.node l.doubts))))
+-- the words for the members that are left are still to be written
+abbrev pub invariant-loop-parts : goal.invariant-loop-parts
+invariant-loop-parts l = record {
+  before : l.into.before ≡ l.fn.into.before;
+  tokens : l.into.tokens ++ each_tokens (map string (map (doubt_word l.graph) l.left)) ≡ l.fn.into.tokens ++ each_tokens (map string (map (doubt_word l.graph) l.fn.doubts));
+  within : All (λ node. node < length l.graph.nodes) l.left;
+}
+
+abbrev pub decreases-loop-parts : goal.decreases-loop-parts
+decreases-loop-parts l = length l.left

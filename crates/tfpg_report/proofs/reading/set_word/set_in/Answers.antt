@@ -1,6 +1,6 @@
 use Rattle.std.proofs.Common.{rules, ◌≡◌, false, map, bytes_eq, codes, ap, ◌∙◌}
 use Rattle.tfpg_report.proofs.lemmas.reading.SetParts.{hypothesis_of_word}
-use Rattle.tfpg_report.proofs.reading.set_word.read_set.Goals as goal
+use Rattle.tfpg_report.proofs.reading.set_word.set_in.Goals as goal
 
 pub returns : goal.returns
 returns c =

@@ -5,7 +5,7 @@ use Rattle.tfpg_base.specs.Words.{words_of}
 use Rattle.tfpg_base.specs.declared.limits.TheConstants.{LONGEST_LINE, MAX_WORDS}
 use Rattle.tfpg_report.specs.inside.WordsRead.{AreWordsRead}
 use Rattle.tfpg_report.proofs.lemmas.reading.LinesSay.{says_few, words_read-none, words_read-say}
-use Rattle.tfpg_report.proofs.reading.read_line.read_report_line.Goals as goal
+use Rattle.tfpg_report.proofs.reading.read_line.read_named_line.Goals as goal
 
 pub returns-in-None-clause-none : goal.returns-in-None-clause-none
 returns-in-None-clause-none c none =
