@@ -12,8 +12,8 @@ use Rattle.tfpg_base.specs.Bounds.{at_least, at_most}
 use Rattle.tfpg_clause.specs.Case.{Case, at_log}
 use Rattle.tfpg_clause.specs.Facts.{fact}
 use Rattle.tfpg_clause.specs.Clauses.{alternatives, count_of, alternatives_limit, IsSmall}
-use Rattle.tfpg_clause.specs.Trees.{Judged, stated, IsRefutation, IsPartial, IsPresentLeaf}
-use Rattle.tfpg_clause.specs.Paths.{with_step, MovesTo, IsRightNext}
+use Rattle.tfpg_clause.specs.Trees.{Judged, Chosen, Place, stated, IsReusable, IsRefutation, IsPartial, IsPresentLeaf}
+use Rattle.tfpg_clause.specs.Paths.{with_step, MovesTo, HasPath, IsPathOf, IsRightNext}
 use Rattle.tfpg_clause.specs.declared.path.PathSplit.{PathSplit}
 
 -- Times meet the bound "at least so much" exactly where the time of its node is at least so much.
@@ -64,7 +64,7 @@ FactsStay =
 -- What a reason states on a path at a log, it states there at each log that goes on from it.
 abbrev pub StatedConstraintsStay : Type 0
 StatedConstraintsStay =
-    (case : Case) (later : Logbook) (path : List PathSplit) (reason : Reason) (constraint : Constraint)
+    (case : Case) (later : Logbook) (path : List Chosen) (reason : Reason) (constraint : Constraint)
     → IsOrdered later → GoesOn case.log later
     → stated case path reason ≡ Some constraint → stated (at_log case later) path reason ≡ Some constraint
 
@@ -79,39 +79,51 @@ FrontsOfRefutationsArePartial =
     (case : Case) (front : List Judged) (next : Judged) (back : List Judged) → IsRefutation case (front ++ next ∷ back)
     → IsPartial case front
 
--- Without a step the present leaf is the root.
+-- Without a step the path is that of the root.
 abbrev pub TreesBeginAtTheRoot : Type 0
-TreesBeginAtTheRoot = (case : Case) → IsPresentLeaf case [] []
+TreesBeginAtTheRoot = (case : Case) → HasPath case [] []
 
--- After a step that is right at the present leaf and moves to a next leaf, that one is the present leaf.
-abbrev pub PresentLeavesFollowSteps : Type 0
-PresentLeavesFollowSteps =
-    (case : Case) (steps : List Judged) (path next : List PathSplit) (step : Step) → IsPresentLeaf case steps path
-    → MovesTo case path step (Some next) → IsPresentLeaf case (with_step steps case.log step) next
+-- After a step that is right at the leaf of a path and moves to a next leaf, the path is that of the next leaf.
+abbrev pub PathsFollowSteps : Type 0
+PathsFollowSteps =
+    (case : Case) (steps : List Judged) (path next : List PathSplit) (step : Step) → HasPath case steps path
+    → MovesTo case path step (Some next) → HasPath case (with_step steps case.log step) next
 
--- After a step that is right at the present leaf, and from which no leaf is left, the steps are a refutation.
+-- After a step that is right at the leaf of a path, and from which no leaf is left, the steps are a refutation.
 abbrev pub LastLeavesEndInRefutations : Type 0
 LastLeavesEndInRefutations =
-    (case : Case) (steps : List Judged) (path : List PathSplit) (step : Step) → IsPresentLeaf case steps path
+    (case : Case) (steps : List Judged) (path : List PathSplit) (step : Step) → HasPath case steps path
     → MovesTo case path step None → IsRefutation case (with_step steps case.log step)
+
+-- A path that steps lead to is that of their present leaf, and its last mark says whether a subtree is reusable there.
+abbrev pub PathsAreThoseOfPresentLeaves : Type 0
+PathsAreThoseOfPresentLeaves =
+    (case : Case) (steps : List Judged) (path : List PathSplit) → HasPath case steps path
+    → (place : Place) × IsPresentLeaf case steps place × IsPathOf path place
 
 -- A partial tree has a present leaf.
 abbrev pub PartialTreesHaveAPresentLeaf : Type 0
 PartialTreesHaveAPresentLeaf =
     (case : Case) (steps : List Judged) → IsPartial case steps
-    → (path : List PathSplit) × IsPresentLeaf case steps path
+    → (place : Place) × IsPresentLeaf case steps place
 
--- A partial tree has no two present leaves.
+-- A partial tree has no two present leaves: the path to them is one, and a subtree is reusable at both or at none.
 abbrev pub PresentLeavesAreAlone : Type 0
 PresentLeavesAreAlone =
-    (case : Case) (steps : List Judged) (one other : List PathSplit) → IsPresentLeaf case steps one
-    → IsPresentLeaf case steps other → one ≡ other
+    (case : Case) (steps : List Judged) (one other : Place) → IsPresentLeaf case steps one
+    → IsPresentLeaf case steps other → (one.path ≡ other.path) × (IsReusable one ↔ IsReusable other)
 
 -- A present leaf at a log is one at each log that goes on from it.
 abbrev pub PresentLeavesStay : Type 0
 PresentLeavesStay =
+    (case : Case) (later : Logbook) (steps : List Judged) (place : Place) → IsOrdered later
+    → GoesOn case.log later → IsPresentLeaf case steps place → IsPresentLeaf (at_log case later) steps place
+
+-- A path that steps lead to at a log is one at each log that goes on from it.
+abbrev pub PathsStay : Type 0
+PathsStay =
     (case : Case) (later : Logbook) (steps : List Judged) (path : List PathSplit) → IsOrdered later
-    → GoesOn case.log later → IsPresentLeaf case steps path → IsPresentLeaf (at_log case later) steps path
+    → GoesOn case.log later → HasPath case steps path → HasPath (at_log case later) steps path
 
 -- A partial tree at a log is one at each log that goes on from it.
 abbrev pub PartialTreesStay : Type 0

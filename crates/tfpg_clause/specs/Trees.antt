@@ -1,8 +1,7 @@
 -- Refutations: trees of clauses, each leaf of which is closed by a cycle of constraints that cannot all hold. One walk
 -- over a tree gives its places in the order of the steps, and what is said of trees is said of these.
-use Rattle.std.specs.Prelude.{◌≡◌, ℕ, suc, ◌+◌, ◌<◌, List, [], ◌∷◌, ◌++◌, length, take, map, count_by, All, Bool, true, false, not, ◌||◌, ◌==◌, IsTrue, IsSomeAnd, Option, Some, option_map, option_and_then, slice_get}
-use Rattle.std.specs.List.{list_any}
-use Rattle.tfpg_base.specs.Choice.{each_of, item_at, last_of}
+use Rattle.std.specs.Prelude.{◌≡◌, ℕ, suc, ◌+◌, ◌<◌, List, [], ◌∷◌, ◌++◌, length, take, map, count_by, All, Contains, Bool, true, false, IsSomeAnd, Option, Some, None, option_map, option_and_then, slice_get}
+use Rattle.tfpg_base.specs.Choice.{each_of, item_at}
 use Rattle.tfpg_base.specs.ConstraintCycle.{IsNegativeCycle}
 use Rattle.tfpg_base.specs.declared.constraint.Constraint.{Constraint}
 use Rattle.tfpg_graph.specs.Graph.{Tfpg}
@@ -15,7 +14,6 @@ use Rattle.tfpg_evidence.specs.declared.step.Step.TheVariants.{Split, Cycle, Aga
 use Rattle.tfpg_clause.specs.Case.{Case, case_at}
 use Rattle.tfpg_clause.specs.Facts.{fact}
 use Rattle.tfpg_clause.specs.Clauses.{alternatives, count_of, constraint_at}
-use Rattle.tfpg_clause.specs.declared.path.PathSplit.{PathSplit}
 
 -- a step, with the number of events of the log that judged it
 pub record Judged : Type 0 where
@@ -63,85 +61,56 @@ abbrev mutual
   reasons_in_all (Next tree others) = reasons_in tree ++ reasons_in_all others
   reasons_in_all (Reused seen others) = []
 
--- the test of a reason that is a pick of the split with this number
-abbrev pub is_pick_of : ℕ → Reason → Bool
-is_pick_of number (Pick split constraint) = split == number
-is_pick_of number (Zero node) = false
-is_pick_of number (Top node) = false
-is_pick_of number (Unreached node horizon) = false
-is_pick_of number (From event) = false
-is_pick_of number (Upto event) = false
-is_pick_of number (Quiet event node) = false
+-- the alternative that was taken at a split: the name of its clause, and its number, counted from 1
+pub record Chosen : Type 0 where
+  pub name : ClauseName
+  pub alternative : ℕ
 
--- whether some of the reasons is a pick of the split with this number
-abbrev pub cites : List Reason → ℕ → Bool
-cites reasons number = list_any (is_pick_of number) reasons
+-- A place in a tree: the alternatives taken from the root to it; and, where an alternative comes before the last of these,
+-- the reasons of all cycles in the subtree of that one.
+pub record Place : Type 0 where
+  pub path : List Chosen
+  pub before : Option (List Reason)
 
--- a new split on a clause with so many alternatives, in its first alternative: nothing cited it, and no alternative is before
-abbrev pub new_split : ClauseName → ℕ → PathSplit
-new_split name count = record { name = name; alternative = 1; alternatives = count; cited = false; reusable = false }
+-- the place of the root
+abbrev pub root : Place
+root = record { path = []; before = None }
 
--- the split, cited also if this is so
-abbrev pub also_cited : Bool → PathSplit → PathSplit
-also_cited cited split = record split { cited = split.cited || cited }
+-- the place of an alternative of a split that has this path, after a subtree with these reasons, where there is one
+abbrev pub place_in : List Chosen → ClauseName → ℕ → Option (List Reason) → Place
+place_in path name alternative before =
+    record { path = path ++ record { name = name; alternative = alternative } ∷ []; before = before }
 
--- The split in its next alternative: the subtree of the one before is reusable if it did not cite the split.
-abbrev pub next_alternative : PathSplit → PathSplit
-next_alternative split =
-    record split { alternative = split.alternative + 1; cited = false; reusable = not split.cited }
-
--- the splits, the first of which has this number, where those that the reasons cite are marked so
-abbrev pub cited_from : ℕ → List Reason → List PathSplit → List PathSplit
-cited_from number reasons [] = []
-cited_from number reasons (split ∷ deeper) =
-    also_cited (cites reasons number) split ∷ cited_from (number + 1) reasons deeper
-
--- the path, where the splits that the reasons cite are marked so
-abbrev pub cited_by : List Reason → List PathSplit → List PathSplit
-cited_by reasons path = cited_from 1 reasons path
-
--- a step in its place in a tree: the splits from the root to it, the step, and how many subtrees it has
+-- a step in its place in a tree, and how many subtrees it has
 pub record StepPlace : Type 0 where
-  pub path : List PathSplit
+  pub place : Place
   pub step : Judged
   pub subtrees : ℕ
 
--- the place of a leaf of this path
-abbrev pub leaf_place : List PathSplit → ℕ → List Reason → StepPlace
-leaf_place path seen reasons =
-    record { path = path; step = record { seen = seen; step = Cycle reasons }; subtrees = 0 }
-
--- the place of a branch of this path
-abbrev pub branch_place : List PathSplit → ℕ → ClauseName → ℕ → StepPlace
-branch_place path seen name subtrees =
-    record { path = path; step = record { seen = seen; step = Split name }; subtrees = subtrees }
-
--- the place of a step that reuses a subtree
-abbrev pub again_place : List PathSplit → ℕ → StepPlace
-again_place path seen = record { path = path; step = record { seen = seen; step = Again }; subtrees = 0 }
-
--- the split of this number after a subtree in whose cycles these are the reasons
-abbrev pub after_subtree : ℕ → List Reason → PathSplit → PathSplit
-after_subtree number reasons split = next_alternative (also_cited (cites reasons number) split)
+-- this step, so judged, with so many subtrees, in this place
+abbrev pub step_at : Place → ℕ → Step → ℕ → StepPlace
+step_at place seen step subtrees =
+    record { place = place; step = record { seen = seen; step = step }; subtrees = subtrees }
 
 -- The places of a tree, in the order of the steps: a split, and then its subtrees one after the other.
 abbrev mutual
-  pub places : List PathSplit → Tree → List StepPlace
-  places path (Leaf seen reasons) = leaf_place path seen reasons ∷ []
-  places path (Branch seen name subtrees) =
-      branch_place path seen name (how_many subtrees) ∷ places_from path (new_split name (how_many subtrees)) subtrees
+  pub places : Place → Tree → List StepPlace
+  places place (Leaf seen reasons) = step_at place seen (Cycle reasons) 0 ∷ []
+  places place (Branch seen name subtrees) =
+      step_at place seen (Split name) (how_many subtrees) ∷ places_from place.path name 1 None subtrees
 
-  -- the places of the subtrees of a split, the first of which is that of the split's present alternative
-  pub places_from : List PathSplit → PathSplit → Subtrees → List StepPlace
-  places_from path split NoMore = []
-  places_from path split (Next tree others) =
-      places (path ++ split ∷ []) tree
-      ++ places_from (cited_by (reasons_in tree) path) (after_subtree (length path + 1) (reasons_in tree) split) others
-  places_from path split (Reused seen others) = again_place (path ++ split ∷ []) seen ∷ []
+  -- the places of the subtrees of a split with this path, from this alternative on
+  pub places_from : List Chosen → ClauseName → ℕ → Option (List Reason) → Subtrees → List StepPlace
+  places_from path name alternative before NoMore = []
+  places_from path name alternative before (Next tree others) =
+      places (place_in path name alternative before) tree
+      ++ places_from path name (alternative + 1) (Some (reasons_in tree)) others
+  places_from path name alternative before (Reused seen others) =
+      step_at (place_in path name alternative before) seen Again 0 ∷ []
 
 -- the places of a whole tree
 abbrev pub places_of : Tree → List StepPlace
-places_of tree = places [] tree
+places_of tree = places root tree
 
 -- the steps of a tree, in order
 abbrev pub steps_of : Tree → List Judged
@@ -151,10 +120,10 @@ steps_of tree = map (λ place. place.step) (places_of tree)
 -- is that which judges the step that cites the constraint, and not that which judged the split. What is allowed at a log
 -- is allowed with the same constraints at each later one, and the steps of rounds are judged by later and later logs: so
 -- for them it is the same.
-abbrev pub picked : Tfpg → Logbook → List PathSplit → ℕ → ℕ → Option Constraint
+abbrev pub picked : Tfpg → Logbook → List Chosen → ℕ → ℕ → Option Constraint
 picked graph log path split number =
     option_and_then
-    (λ (taken : PathSplit).
+    (λ (taken : Chosen).
     option_and_then (λ clause. constraint_at clause taken.alternative number) (alternatives graph log taken.name))
     (item_at path split)
 
@@ -169,7 +138,7 @@ stated_with pick_at fact_of (Upto event) = fact_of (Upto event)
 stated_with pick_at fact_of (Quiet event node) = fact_of (Quiet event node)
 
 -- The constraint that a reason states at a leaf of this path: a fact, or one that was picked on the path.
-abbrev pub stated : Case → List PathSplit → Reason → Option Constraint
+abbrev pub stated : Case → List Chosen → Reason → Option Constraint
 stated case path reason = stated_with (picked case.graph case.log path) (fact case) reason
 
 -- The reasons close a leaf: each states its constraint, and these are a negative cycle.
@@ -179,23 +148,24 @@ pub record IsClosedBy (stated : Reason → Option Constraint) (reasons : List Re
   pub negative_cycle : IsNegativeCycle constraints
 
 -- The leaf of this path is closed by the reasons.
-abbrev pub IsClosedLeaf : Case → List PathSplit → List Reason → Type 0
+abbrev pub IsClosedLeaf : Case → List Chosen → List Reason → Type 0
 IsClosedLeaf case path reasons = IsClosedBy (stated case path) reasons
 
--- At the leaf of this path the subtree of the alternative before is reusable.
-abbrev pub IsReusable : List PathSplit → Type 0
-IsReusable path = IsSomeAnd (last_of path) (λ split. IsTrue split.reusable)
+-- In this place the subtree of the alternative before is reusable: there is one, and none of its cycles picks from the split.
+abbrev pub IsReusable : Place → Type 0
+IsReusable place =
+    IsSomeAnd place.before (λ reasons. (number : ℕ) → Contains reasons (Pick (length place.path) number) → ⊥)
 
--- The step, with so many subtrees, is right at the leaf of this path: a split has an allowed name, and one subtree for each
+-- The step, with so many subtrees, is right in this place: a split has an allowed name, and one subtree for each
 -- alternative; a cycle closes the leaf; and a subtree is reused where one is reusable.
-abbrev pub IsRightStep : Case → List PathSplit → ℕ → Step → Type 0
-IsRightStep case path subtrees (Split name) = count_of case.graph case.log name ≡ Some subtrees
-IsRightStep case path subtrees (Cycle reasons) = IsClosedLeaf case path reasons
-IsRightStep case path subtrees Again = IsReusable path
+abbrev pub IsRightStep : Case → Place → ℕ → Step → Type 0
+IsRightStep case place subtrees (Split name) = count_of case.graph case.log name ≡ Some subtrees
+IsRightStep case place subtrees (Cycle reasons) = IsClosedLeaf case place.path reasons
+IsRightStep case place subtrees Again = IsReusable place
 
 -- The step of a place is right there, judged by the first events of the log that judged it.
 abbrev pub IsRight : Case → StepPlace → Type 0
-IsRight case place = IsRightStep (case_at case place.step.seen) place.path place.subtrees place.step.step
+IsRight case here = IsRightStep (case_at case here.step.seen) here.place here.subtrees here.step.step
 
 -- The steps are a refutation: those of a tree all of whose places are right.
 pub record IsRefutation (case : Case) (steps : List Judged) : Type 0 where
@@ -211,8 +181,8 @@ pub record IsPartial (case : Case) (steps : List Judged) : Type 0 where
   pub steps_are : steps ++ more ≡ steps_of tree
   pub right : All (IsRight case) (take (length steps) (places_of tree))
 
--- The present leaf of a partial tree has this path: the next step would stand there.
-pub record IsPresentLeaf (case : Case) (steps : List Judged) (path : List PathSplit) : Type 0 where
+-- This is the place of the present leaf of a partial tree: the next step would stand there.
+pub record IsPresentLeaf (case : Case) (steps : List Judged) (place : Place) : Type 0 where
   pub partial : IsPartial case steps
-  pub here : option_map (λ (place : StepPlace). place.path) (slice_get (places_of partial.tree) (length steps)) ≡
-      Some path
+  pub here : option_map (λ (next : StepPlace). next.place) (slice_get (places_of partial.tree) (length steps)) ≡
+      Some place

@@ -6,3 +6,4 @@ pub mod FirstSpan
 pub mod KnownWindows
 pub mod Musts
 pub mod Overdue
+pub mod MarkedTrees

@@ -12,16 +12,15 @@ ghost use Rattle.tfpg_log.specs.Explains.{Explains, Fits, ShowsAll, IsMember};
 ghost use Rattle.tfpg_evidence.specs.declared.clause_name.ClauseName.{ClauseName};
 ghost use Rattle.tfpg_evidence.specs.declared.reason.Reason.{Reason};
 ghost use Rattle.tfpg_base.specs.Constraint.{Meets};
-ghost use Rattle.tfpg_clause.specs.Laws.{LowerBoundsHold, UpperBoundsHold, AllowedClausesHaveAlternatives, AllowedClausesAreShort, AllowedClausesAreSmall, LogsGoOnFromTheirFirstEvents, AllowedClausesStay, FactsStay, PartialTreesHaveAPresentLeaf, PresentLeavesAreAlone};
+ghost use Rattle.tfpg_clause.specs.Laws.{LowerBoundsHold, UpperBoundsHold, AllowedClausesHaveAlternatives, AllowedClausesAreShort, AllowedClausesAreSmall, LogsGoOnFromTheirFirstEvents, AllowedClausesStay, FactsStay, PartialTreesHaveAPresentLeaf, PresentLeavesAreAlone, PathsAreThoseOfPresentLeaves};
 ghost use Rattle.tfpg_base.specs.Bounds.{at_least_after, at_most_after};
 ghost use Rattle.tfpg_clause.specs.Case.{Case, case_of, case_at};
 ghost use Rattle.tfpg_clause.specs.Facts.{fact, IsLow, IsHigh};
-ghost use Rattle.tfpg_clause.specs.declared.path.PathSplit.{PathSplit};
 ghost use Rattle.tfpg_evidence.specs.declared.reason.Reason.TheVariants.{Pick};
 ghost use Rattle.tfpg_clause.specs.Clauses.{alternatives, MeetsClause};
 ghost use Rattle.tfpg_clause.specs.Order.{horizon_of, ComesBefore};
 ghost use Rattle.tfpg_clause.specs.Cut.{cut, AreNumbers, AreNumbersOf};
-ghost use Rattle.tfpg_clause.specs.Trees.{Judged, picked, IsClosedLeaf, IsRefutation};
+ghost use Rattle.tfpg_clause.specs.Trees.{Judged, Chosen, picked, IsClosedLeaf, IsRefutation};
 ghost use Rattle.tfpg_base.specs.ConstraintCycle.{IsCycle, sum_of};
 
 mod tree_laws;
@@ -157,23 +156,27 @@ pub fn numbers_that_meet_all_give_a_trace()
         Explains graph log set (cut (now_of log) numbers) }
 {}
 
-/// The next step of a partial tree stands at one leaf, whichever tree is chosen that begins with its steps: `there` says
-/// that it has a present leaf, and `only_one` that it has no other.
+/// The next step of a partial tree stands at one leaf, whichever tree is chosen that begins with its steps.
+///
+/// - `there`: it has a present leaf.
+/// - `only_one`: it has no other.
+/// - `path`: a path with marks that its steps lead to is that of the present leaf.
 pub fn a_partial_tree_has_one_present_leaf()
     ensures there { PartialTreesHaveAPresentLeaf }
     ensures only_one { PresentLeavesAreAlone }
+    ensures path { PathsAreThoseOfPresentLeaves }
 {}
 
 /// A closed leaf is sound: no numbers meet all facts of the log and the constraints that the picks among its reasons state.
 /// `cited` says so, and `path` says it of numbers that meet all constraints that are picked on the path of the leaf.
 pub fn a_closed_leaf_leaves_no_numbers()
-    ensures cited { (case : Case) (path : List PathSplit) (seen : ℕ) (reasons : List Reason)
+    ensures cited { (case : Case) (path : List Chosen) (seen : ℕ) (reasons : List Reason)
         (numbers : List ℕ) →
         IsOrdered case.log → IsClosedLeaf (case_at case seen) path reasons →
         ((reason : Reason) (stated : Constraint) → fact case reason ≡ Some stated → Meets numbers stated) →
         ((split number : ℕ) (stated : Constraint) → Contains reasons (Pick split number) →
         picked case.graph case.log path split number ≡ Some stated → Meets numbers stated) → ⊥ }
-    ensures path { (case : Case) (path : List PathSplit) (seen : ℕ) (reasons : List Reason)
+    ensures path { (case : Case) (path : List Chosen) (seen : ℕ) (reasons : List Reason)
         (numbers : List ℕ) →
         IsOrdered case.log → IsClosedLeaf (case_at case seen) path reasons →
         ((reason : Reason) (stated : Constraint) → fact case reason ≡ Some stated → Meets numbers stated) →

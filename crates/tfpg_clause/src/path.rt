@@ -6,8 +6,9 @@ ghost use Rattle.tfpg_log.specs.Log.{IsLogOf};
 ghost use Rattle.tfpg_evidence.specs.declared.reason.Reason.TheVariants.{Pick};
 ghost use Rattle.tfpg_clause.specs.Clauses.{count_of};
 ghost use Rattle.tfpg_clause.specs.Case.{case_of};
-ghost use Rattle.tfpg_clause.specs.Trees.{new_split, cited_by, picked, stated, IsReusable};
-ghost use Rattle.tfpg_clause.specs.Paths.{next_leaf, above_last};
+ghost use Rattle.tfpg_clause.specs.Trees.{picked, stated};
+ghost use Rattle.tfpg_clause.specs.Paths.{chosen_on, new_split, cited_by, next_leaf, above_last, IsMarkedReusable};
+ghost use Rattle.tfpg_clause.specs.inside.MarkedTrees.{picked_on};
 ghost use Rattle.tfpg_clause.specs.inside.UnfinishedSplits.{HasNext};
 
 use crate::clauses::{constraint, count};
@@ -72,7 +73,7 @@ pub fn backtrack(path: &mut Vec<PathSplit>) -> bool
 
 /// Whether the subtree of the alternative before is reusable at the leaf of this path.
 pub fn is_reusable(path: &[PathSplit]) -> bool
-    ensures { IsTrue result ↔ IsReusable path.now }
+    ensures { IsTrue result ↔ IsMarkedReusable path.now }
 {
     match path.last() {
         Some(deepest) => deepest.reusable,
@@ -154,7 +155,7 @@ pub fn stated(
     reason: Reason,
 ) -> Option<Constraint>
     requires of { IsLogOf graph.now log.now }
-    ensures { result ≡ stated (case_of graph.now log.now reach.now) path.now reason }
+    ensures { result ≡ stated (case_of graph.now log.now reach.now) (chosen_on path.now) reason }
 {
     match reason {
         Reason::Pick { split, place } => picked(graph, log, path, split, place),
@@ -172,7 +173,20 @@ pub fn picked(
     split: u64,
     number: u32,
 ) -> Option<Constraint>
-    ensures { result ≡ picked graph.now log.now path.now split number }
+    ensures { result ≡ picked graph.now log.now (chosen_on path.now) split number }
+{
+    picked_on(graph, log, path, split, number)
+}
+
+/// The same, by the splits of the path.
+fn picked_on(
+    graph: &Graph,
+    log: &Log,
+    path: &[PathSplit],
+    split: u64,
+    number: u32,
+) -> Option<Constraint>
+    ensures { result ≡ picked_on graph.now log.now path.now split number }
 {
     if split == 0 {
         return None;

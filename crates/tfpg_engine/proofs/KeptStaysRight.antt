@@ -7,8 +7,7 @@ use Rattle.tfpg_base.specs.declared.no_memory.NoMemory.{NoMemory}
 use Rattle.tfpg_base.specs.Hypothesis.{Hypothesis}
 use Rattle.tfpg_graph.specs.Graph.{Tfpg}
 use Rattle.tfpg_clause.specs.Case.{Case, case_of, at_log}
-use Rattle.tfpg_clause.specs.Trees.{Judged, IsPartial, IsPresentLeaf, IsRefutation}
-use Rattle.tfpg_clause.specs.declared.path.PathSplit.{PathSplit}
+use Rattle.tfpg_clause.specs.Trees.{Judged, Place, IsPartial, IsPresentLeaf, IsRefutation}
 use Rattle.tfpg_hyp.specs.Views.{log_for, case_for}
 use Rattle.tfpg_search.specs.Live.{HasNoNameTwice}
 use Rattle.tfpg_search.specs.SearchState.{SearchState}
@@ -23,20 +22,16 @@ use Rattle.tfpg_engine.proofs.Ignoring.{ordered_for}
 
 -- ---- names on paths
 
--- without a step no name stands twice
-pub no_name_twice : TreeLaws → (case : Case) → HasNoNameTwice case []
-no_name_twice laws case = none_twice case (λ path leaf. laws.one_leaf case [] [] path (laws.leaf_begins case) leaf)
-
 module _ (laws : TreeLaws) (case : Case) (later : Logbook) (ordered : IsOrdered later) (goes_on : GoesOn case.log later) where
-  front_of : (front back : List Judged) (path : List PathSplit) → IsRefutation case (front ++ back) → IsPresentLeaf (at_log case later) front path → IsPartial case front
-  front_of front [] path refutation leaf =
+  front_of : (front back : List Judged) (place : Place) → IsRefutation case (front ++ back) → IsPresentLeaf (at_log case later) front place → IsPartial case front
+  front_of front [] place refutation leaf =
       absurd (laws.finished (at_log case later) front (laws.refutation_stays case later front ordered goes_on (subst (IsRefutation case) (append-nil front) refutation)) leaf.partial)
-  front_of front (next ∷ back) path refutation leaf = laws.refutation_front case front next back refutation
+  front_of front (next ∷ back) place refutation leaf = laws.refutation_front case front next back refutation
 
   names_of_refutation : (steps : List Judged) → IsRefutation case steps → HasNoNameTwice case steps → HasNoNameTwice (at_log case later) steps
   names_of_refutation steps refutation names =
       names_stay laws.leaf_there laws.one_leaf laws.leaf_stays case later ordered goes_on steps
-      (λ front back path is leaf. front_of front back path (subst (IsRefutation case) is refutation) leaf) names
+      (λ front back place is leaf. front_of front back place (subst (IsRefutation case) is refutation) leaf) names
 
   -- What is kept of a hypothesis represents the same steps at the later log.
   pub slot_stays : (hypothesis : Hypothesis) (slot : Slot) (steps : List Judged) → SlotRepresents case hypothesis slot steps → SlotRepresents (at_log case later) hypothesis slot steps
@@ -62,7 +57,7 @@ pub record IsGoodPartial (case : Case) (steps : List Judged) : Type 0 where
 pub slot_partial : TreeLaws → (case : Case) → IsOrdered case.log → (hypothesis : Hypothesis) (slot : Slot) (steps : List Judged) → is_rejected_slot slot ≡ false → SlotRepresents case hypothesis slot steps
     → IsGoodPartial case steps
 slot_partial laws case ordered hypothesis Untouched steps open_yet is =
-    subst (IsGoodPartial case) (sym is) (record { partial = (laws.leaf_begins case).partial; names = no_name_twice laws case })
+    subst (IsGoodPartial case) (sym is) (record { partial = (laws.leaf_begins case).partial; names = none_twice case })
 slot_partial laws case ordered hypothesis (Searched search) steps open_yet is =
     let seen : Case = case_of case.graph (first_events case.log search.seen) search.reach in
     subst (λ (reach : List ℕ). IsGoodPartial (case_of case.graph case.log reach) steps) is.1

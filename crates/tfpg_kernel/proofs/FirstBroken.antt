@@ -1,6 +1,6 @@
 -- A step breaks one condition first, and none where it is right.
 use Rattle.std.proofs.Common.{◌≡◌, ℕ, List, [], ◌∷◌, Option, Some, None, refl, sym, ap, subst, ◌∙◌, inl, inr, arith}
-use Rattle.std.specs.Prelude.{map, option_map, is_none}
+use Rattle.std.specs.Prelude.{◌↔◌, map, option_map, is_none}
 use Rattle.std.specs.Bool.{then_some}
 use Rattle.std.proofs.lemmas.Int.{ints}
 use Rattle.tfpg_base.specs.Choice.{first_of, each_of}
@@ -11,8 +11,7 @@ use Rattle.tfpg_evidence.specs.declared.step.Step.{Step}
 use Rattle.tfpg_evidence.specs.declared.step.Step.TheVariants.{Split, Cycle, Again}
 use Rattle.tfpg_clause.specs.Case.{Case, case_at}
 use Rattle.tfpg_clause.specs.Laws.{PresentLeavesAreAlone, RefutationsAreNotPartial}
-use Rattle.tfpg_clause.specs.Trees.{Judged, stated, IsRightStep}
-use Rattle.tfpg_clause.specs.declared.path.PathSplit.{PathSplit}
+use Rattle.tfpg_clause.specs.Trees.{Judged, Chosen, Place, stated, IsReusable, IsRightStep}
 use Rattle.tfpg_kernel.specs.declared.taken.BadStep.{BadStep}
 use Rattle.tfpg_kernel.specs.Breaks.{fault_of, reasons_fault, ClosingBreaks, CycleBreaks, BreaksAt, IsFirstBroken}
 
@@ -58,16 +57,22 @@ cycle_wrong states reasons bad (inr a) constraints hold cycle =
 
 module _ (case : Case) where
   -- A step breaks one condition first.
-  pub breaks_unique : (path : List PathSplit) (step : Step) (one other : BadStep) → BreaksAt case path step one → BreaksAt case path step other → one ≡ other
-  breaks_unique path (Split name) one other a b = a.0 ∙ sym b.0
-  breaks_unique path (Cycle reasons) one other a b = cycle_unique (stated case path) reasons one other a b
-  breaks_unique path Again one other a b = a.0 ∙ sym b.0
+  pub breaks_unique : (place : Place) (step : Step) (one other : BadStep) → BreaksAt case place step one → BreaksAt case place step other → one ≡ other
+  breaks_unique place (Split name) one other a b = a.0 ∙ sym b.0
+  breaks_unique place (Cycle reasons) one other a b = cycle_unique (stated case place.path) reasons one other a b
+  breaks_unique place Again one other a b = a.0 ∙ sym b.0
 
   -- A step that breaks a condition is not right.
-  pub breaks_wrong : (path : List PathSplit) (subtrees : ℕ) (step : Step) (bad : BadStep) → BreaksAt case path step bad → IsRightStep case path subtrees step → ⊥
-  breaks_wrong path subtrees (Split name) bad breaks right = let both : None ≡ Some subtrees = sym breaks.1 ∙ right in cc
-  breaks_wrong path subtrees (Cycle reasons) bad breaks right = cycle_wrong (stated case path) reasons bad breaks right.constraints right.hold right.negative_cycle
-  breaks_wrong path subtrees Again bad breaks right = breaks.1 right
+  pub breaks_wrong : (place : Place) (subtrees : ℕ) (step : Step) (bad : BadStep) → BreaksAt case place step bad → IsRightStep case place subtrees step → ⊥
+  breaks_wrong place subtrees (Split name) bad breaks right = let both : None ≡ Some subtrees = sym breaks.1 ∙ right in cc
+  breaks_wrong place subtrees (Cycle reasons) bad breaks right = cycle_wrong (stated case place.path) reasons bad breaks right.constraints right.hold right.negative_cycle
+  breaks_wrong place subtrees Again bad breaks right = breaks.1 right
+
+  -- What it breaks in a place it breaks in each place with the same path, where as much is reusable.
+  pub breaks_alike : (one other : Place) → (one.path ≡ other.path) × (IsReusable one ↔ IsReusable other) → (step : Step) (bad : BadStep) → BreaksAt case one step bad → BreaksAt case other step bad
+  breaks_alike one other alike (Split name) bad breaks = breaks
+  breaks_alike one other alike (Cycle reasons) bad breaks = subst (λ (path : List Chosen). CycleBreaks (stated case path) reasons bad) alike.0 breaks
+  breaks_alike one other alike Again bad breaks = (breaks.0, λ reusable. breaks.1 (alike.1.1 reusable))
 
 -- So does the step that comes next after these steps.
 pub first_broken_unique : PresentLeavesAreAlone → RefutationsAreNotPartial → (case : Case) (steps : List Judged) (next : Judged) (one other : BadStep) → IsFirstBroken case steps next one
@@ -76,5 +81,4 @@ first_broken_unique only_one finished case steps next one other (inl a) (inl b) 
 first_broken_unique only_one finished case steps next one other (inl a) (inr b) = absurd (finished case steps a.1 b.1.partial)
 first_broken_unique only_one finished case steps next one other (inr a) (inl b) = absurd (finished case steps b.1 a.1.partial)
 first_broken_unique only_one finished case steps next one other (inr a) (inr b) =
-    let same : a.0 ≡ b.0 = only_one case steps a.0 b.0 a.1 b.1 in
-    breaks_unique (case_at case next.seen) b.0 next.step one other (subst (λ (p : List PathSplit). BreaksAt (case_at case next.seen) p next.step one) same a.2) b.2
+    breaks_unique (case_at case next.seen) b.0 next.step one other (breaks_alike (case_at case next.seen) a.0 b.0 (only_one case steps a.0 b.0 a.1 b.1) next.step one a.2) b.2

@@ -1,12 +1,13 @@
 -- The results of a checker are those of the definitions, by the laws of trees.
-use Rattle.std.proofs.Common.{◌≡◌, ℕ, List, Bool, true, false, refl, sym, ap, subst, ◌∙◌, inl, inr}
+use Rattle.std.proofs.Common.{◌≡◌, ℕ, List, Bool, true, false, refl, sym, ap, subst, inl, inr}
 use Rattle.tfpg_graph.specs.Graph.{Tfpg}
 use Rattle.tfpg_log.specs.Log.{Logbook, GoesOn, IsOrdered}
 use Rattle.tfpg_evidence.specs.declared.step.Step.{Step}
+use Rattle.tfpg_evidence.specs.declared.step.Step.TheVariants.{Split, Cycle, Again}
 use Rattle.tfpg_clause.specs.Case.{Case, case_of, case_at}
-use Rattle.tfpg_clause.specs.Trees.{Judged, IsRefutation, IsPartial, IsPresentLeaf}
-use Rattle.tfpg_clause.specs.Laws.{PresentLeavesAreAlone, RefutationsAreNotPartial, LastStepsOfRefutationsAreRight, LastStepsOfPartialTreesAreRight, RefutationsStay, PresentLeavesStay, PresentLeavesFollowSteps, LastLeavesEndInRefutations}
-use Rattle.tfpg_clause.specs.Paths.{judged_by, with_step, IsRightNext}
+use Rattle.tfpg_clause.specs.Trees.{Judged, Chosen, Place, stated, IsRefutation, IsPartial}
+use Rattle.tfpg_clause.specs.Laws.{PresentLeavesAreAlone, RefutationsAreNotPartial, LastStepsOfRefutationsAreRight, LastStepsOfPartialTreesAreRight, RefutationsStay, PathsStay, PathsFollowSteps, PathsAreThoseOfPresentLeaves, LastLeavesEndInRefutations}
+use Rattle.tfpg_clause.specs.Paths.{judged_by, with_step, HasPath, IsPathOf, IsRightNext}
 use Rattle.tfpg_clause.specs.declared.path.PathSplit.{PathSplit}
 use Rattle.tfpg_clause.proofs.trees.LeafSteps.{whole_case}
 use Rattle.tfpg_kernel.specs.declared.taken.Taken.{Taken}
@@ -14,11 +15,11 @@ use Rattle.tfpg_kernel.specs.declared.taken.Taken.TheVariants.{Open, Closed, Bad
 use Rattle.tfpg_kernel.specs.declared.taken.BadStep.{BadStep}
 use Rattle.tfpg_kernel.specs.declared.taken.BadStep.TheVariants.{AfterClosed}
 use Rattle.tfpg_kernel.specs.CheckerState.{CheckerState}
-use Rattle.tfpg_kernel.specs.Breaks.{BreaksAt, IsFirstBroken}
+use Rattle.tfpg_kernel.specs.Breaks.{CycleBreaks, BreaksAt, IsFirstBroken}
 use Rattle.tfpg_kernel.specs.Represents.{Represented, CheckerRepresents}
 use Rattle.tfpg_kernel.specs.inside.StepResults.{IsStepResult}
-use Rattle.tfpg_kernel.specs.inside.Paths.{Moves}
-use Rattle.tfpg_kernel.proofs.FirstBroken.{breaks_wrong, first_broken_unique}
+use Rattle.tfpg_kernel.specs.inside.Paths.{BreaksOn, Moves}
+use Rattle.tfpg_kernel.proofs.FirstBroken.{breaks_wrong, breaks_alike, first_broken_unique}
 
 -- what the laws say of all trees
 pub record ResultLaws : Type 0 where
@@ -27,16 +28,17 @@ pub record ResultLaws : Type 0 where
   pub last_of_refutation : LastStepsOfRefutationsAreRight
   pub last_of_partial : LastStepsOfPartialTreesAreRight
   pub refutation_stays : RefutationsStay
-  pub leaf_stays : PresentLeavesStay
-  pub leaf_moves : PresentLeavesFollowSteps
+  pub path_stays : PathsStay
+  pub path_moves : PathsFollowSteps
+  pub path_is : PathsAreThoseOfPresentLeaves
   pub leaf_ends : LastLeavesEndInRefutations
 
 module _ (laws : ResultLaws) (case : Case) where
   broken_wrong : (steps : List Judged) (next : Judged) (bad : BadStep) → IsFirstBroken case steps next bad → IsRightNext case steps next → ⊥
   broken_wrong steps next bad (inl a) last = laws.finished case steps a.1 last.leaf.partial
   broken_wrong steps next bad (inr a) last =
-      let same : a.0 ≡ last.path = laws.only_one case steps a.0 last.path a.1 last.leaf in
-      breaks_wrong (case_at case next.seen) last.path last.subtrees next.step bad (subst (λ (p : List PathSplit). BreaksAt (case_at case next.seen) p next.step bad) same a.2) last.right
+      breaks_wrong (case_at case next.seen) last.place last.subtrees next.step bad
+      (breaks_alike (case_at case next.seen) a.0 last.place (laws.only_one case steps a.0 last.place a.1 last.leaf) next.step bad a.2) last.right
 
   -- ---- the three results
 
@@ -70,9 +72,17 @@ module _ (laws : ResultLaws) (case : Case) where
 
   -- ---- a checker that is not closed
 
-  broken : (steps : List Judged) (path : List PathSplit) (step : Step) (cause : BadStep) → IsPresentLeaf case steps path → BreaksAt case path step cause
+  -- what is broken by the marks of a path is broken at its leaf
+  breaks_there : (path : List PathSplit) (place : Place) → IsPathOf path place → (step : Step) (cause : BadStep) → BreaksOn case path step cause → BreaksAt case place step cause
+  breaks_there path place of (Split name) cause breaks = breaks
+  breaks_there path place of (Cycle reasons) cause breaks = subst (λ (chosen : List Chosen). CycleBreaks (stated case chosen) reasons cause) of.chosen breaks
+  breaks_there path place of Again cause breaks = (breaks.0, λ reusable. breaks.1 (of.reusable.1 reusable))
+
+  broken : (steps : List Judged) (path : List PathSplit) (step : Step) (cause : BadStep) → HasPath case steps path → BreaksOn case path step cause
       → IsFirstBroken case steps (judged_by case.log step) cause
-  broken steps path step cause leaf breaks = inr (path, leaf, subst (λ (c : Case). BreaksAt c path step cause) (sym (whole_case case)) breaks)
+  broken steps path step cause has breaks =
+      let there = laws.path_is case steps path has in
+      inr (there.0, there.1, subst (λ (c : Case). BreaksAt c there.0 step cause) (sym (whole_case case)) (breaks_there path there.0 there.2 step cause breaks))
 
 -- ---- what a checker represents
 
@@ -89,7 +99,7 @@ module _ (laws : ResultLaws) (graph : Tfpg) (earlier log : Logbook) (old : Check
   -- the steps are those that it represents at this log too
   stays : (closed : Bool) → Represented (case_of graph earlier old.reach) old.path steps closed → Represented (case_of graph log old.reach) old.path steps closed
   stays true is = laws.refutation_stays (case_of graph earlier old.reach) log steps ordered goes_on is
-  stays false is = laws.leaf_stays (case_of graph earlier old.reach) log steps old.path ordered goes_on is
+  stays false is = laws.path_stays (case_of graph earlier old.reach) log steps old.path ordered goes_on is
 
   now_is : Represented (case_of graph log old.reach) old.path steps old.closed
   now_is = stays old.closed represents.steps_are
@@ -101,13 +111,13 @@ module _ (laws : ResultLaws) (graph : Tfpg) (earlier log : Logbook) (old : Check
       result_bad laws (case_of graph log old.reach) steps step old AfterClosed (inl (refl, refutation)) (record { steps_are = now_is })
 
   module _ (step : Step) (new : CheckerState) (open_old : old.closed ≡ false) (kept : new.reach ≡ old.reach) where
-    leaf_now : IsPresentLeaf (case_of graph log old.reach) steps old.path
+    leaf_now : HasPath (case_of graph log old.reach) steps old.path
     leaf_now = subst (λ (b : Bool). Represented (case_of graph log old.reach) old.path steps b) open_old now_is
 
     -- it was not
     pub moved : (result : Taken) → Moves graph log old step result new → IsStepResult (case_of graph log old.reach) steps step result new
     moved Open moves =
-        let leaf : IsPresentLeaf (case_of graph log old.reach) (with_step steps log step) new.path = laws.leaf_moves (case_of graph log old.reach) steps old.path new.path step leaf_now moves.0 in
+        let leaf : HasPath (case_of graph log old.reach) (with_step steps log step) new.path = laws.path_moves (case_of graph log old.reach) steps old.path new.path step leaf_now moves.0 in
         result_partial laws (case_of graph log old.reach) steps step new leaf.partial (represents_by graph log old.reach new (with_step steps log step) false kept moves.1 leaf)
     moved Closed moves =
         let refutation : IsRefutation (case_of graph log old.reach) (with_step steps log step) = laws.leaf_ends (case_of graph log old.reach) steps old.path step leaf_now moves.0 in

@@ -9,8 +9,7 @@ use Rattle.tfpg_evidence.specs.declared.step.Step.{Step}
 use Rattle.tfpg_evidence.specs.declared.step.Step.TheVariants.{Split, Cycle, Again}
 use Rattle.tfpg_clause.specs.Case.{Case, case_at}
 use Rattle.tfpg_clause.specs.Clauses.{count_of}
-use Rattle.tfpg_clause.specs.Trees.{Judged, stated, IsReusable, IsRefutation, IsPresentLeaf}
-use Rattle.tfpg_clause.specs.declared.path.PathSplit.{PathSplit}
+use Rattle.tfpg_clause.specs.Trees.{Judged, Place, stated, IsReusable, IsRefutation, IsPresentLeaf}
 use Rattle.tfpg_base.specs.ConstraintCycle.{IsCycle, sum_of}
 use Rattle.tfpg_kernel.specs.declared.taken.BadStep.{BadStep}
 use Rattle.tfpg_kernel.specs.declared.taken.BadStep.TheVariants.{AfterClosed, NotReusable, NotAClause, NotAFact, NotOnPath, Unchained, NotNegative}
@@ -43,16 +42,16 @@ CycleBreaks stated reasons bad =
     (reasons_fault stated reasons ≡ Some bad)
     ⊎ ((constraints : List Constraint) × (each_of (map stated reasons) ≡ Some constraints) × ClosingBreaks constraints bad)
 
--- The step breaks this condition at a leaf of this path, and none before it.
-abbrev pub BreaksAt : Case → List PathSplit → Step → BadStep → Type 0
-BreaksAt case path (Split name) bad = (bad ≡ NotAClause) × (count_of case.graph case.log name ≡ None)
-BreaksAt case path (Cycle reasons) bad = CycleBreaks (stated case path) reasons bad
-BreaksAt case path Again bad = (bad ≡ NotReusable) × (IsReusable path → ⊥)
+-- The step breaks this condition at a leaf in this place, and none before it.
+abbrev pub BreaksAt : Case → Place → Step → BadStep → Type 0
+BreaksAt case place (Split name) bad = (bad ≡ NotAClause) × (count_of case.graph case.log name ≡ None)
+BreaksAt case place (Cycle reasons) bad = CycleBreaks (stated case place.path) reasons bad
+BreaksAt case place Again bad = (bad ≡ NotReusable) × (IsReusable place → ⊥)
 
 -- The step that comes next after these steps breaks this condition, and none before it: they are a refutation already; or it
 -- breaks it at the present leaf.
 abbrev pub IsFirstBroken : Case → List Judged → Judged → BadStep → Type 0
 IsFirstBroken case steps next bad =
     ((bad ≡ AfterClosed) × IsRefutation case steps)
-    ⊎ ((path : List PathSplit) × IsPresentLeaf case steps path
-    × BreaksAt (case_at case next.seen) path next.step bad)
+    ⊎ ((place : Place) × IsPresentLeaf case steps place
+    × BreaksAt (case_at case next.seen) place next.step bad)

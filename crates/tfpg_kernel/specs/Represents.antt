@@ -4,17 +4,17 @@ use Rattle.tfpg_graph.specs.Graph.{Tfpg}
 use Rattle.tfpg_log.specs.Log.{Logbook}
 use Rattle.tfpg_evidence.specs.declared.step.Step.{Step}
 use Rattle.tfpg_clause.specs.Case.{Case, case_of}
-use Rattle.tfpg_clause.specs.Trees.{Judged, IsRefutation, IsPresentLeaf}
-use Rattle.tfpg_clause.specs.Paths.{with_step}
+use Rattle.tfpg_clause.specs.Trees.{Judged, IsRefutation}
+use Rattle.tfpg_clause.specs.Paths.{with_step, HasPath}
 use Rattle.tfpg_clause.specs.declared.path.PathSplit.{PathSplit}
 use Rattle.tfpg_kernel.specs.declared.taken.Taken.{Taken}
 use Rattle.tfpg_kernel.specs.declared.taken.Taken.TheVariants.{Open, Closed, Bad}
 use Rattle.tfpg_kernel.specs.CheckerState.{CheckerState}
 
--- A checker that is closed represents a refutation, and one that is not a partial tree whose present leaf has its path.
+-- A checker that is closed represents a refutation, and one that is not a partial tree, whose steps lead to its path.
 abbrev pub Represented : Case → List PathSplit → List Judged → Bool → Type 0
 Represented case path steps true = IsRefutation case steps
-Represented case path steps false = IsPresentLeaf case steps path
+Represented case path steps false = HasPath case steps path
 
 -- The checker represents these steps: it took them, each judged by the first events of this log, and each was right.
 pub record CheckerRepresents (graph : Tfpg) (log : Logbook) (checker : CheckerState)

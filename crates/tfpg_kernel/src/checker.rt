@@ -57,7 +57,7 @@ impl Checker {
         ensures represents { (graph : Tfpg) (log : Logbook) → CheckerRepresents graph log result [] }
         ensures reach { result.reach ≡ reach }
     {
-        // A law: without a step the present leaf is the root.
+        // A law: without a step the path is that of the root.
         a_partial_tree_grows();
         Checker {
             reach,

@@ -6,6 +6,7 @@ ghost use Rattle.tfpg_log.specs.Log.{IsLogOf};
 ghost use Rattle.tfpg_kernel.specs.Breaks.{fault_of, CycleBreaks};
 ghost use Rattle.tfpg_clause.specs.Case.{case_of};
 ghost use Rattle.tfpg_clause.specs.Trees.{stated, IsClosedBy};
+ghost use Rattle.tfpg_clause.specs.Paths.{chosen_on};
 
 use crate::chain::Chain;
 use crate::taken::BadStep;
@@ -25,8 +26,8 @@ pub(crate) fn check_cycle(
 ) -> Result<(), BadStep>
     requires of { IsLogOf graph.now log.now }
     ensures { MatchResult result
-        (λ _. IsClosedBy (stated (case_of graph.now log.now reach.now) path.now) reasons.now)
-        (CycleBreaks (stated (case_of graph.now log.now reach.now) path.now) reasons.now) }
+        (λ _. IsClosedBy (stated (case_of graph.now log.now reach.now) (chosen_on path.now)) reasons.now)
+        (CycleBreaks (stated (case_of graph.now log.now reach.now) (chosen_on path.now)) reasons.now) }
 {
     let mut chain = Chain::EMPTY;
     for reason in reasons {
@@ -49,7 +50,7 @@ fn stated_or_fault(
 ) -> Result<Constraint, BadStep>
     requires of { IsLogOf graph.now log.now }
     ensures { result
-        ≡ ok_or (stated (case_of graph.now log.now reach.now) path.now reason) (fault_of reason) }
+        ≡ ok_or (stated (case_of graph.now log.now reach.now) (chosen_on path.now) reason) (fault_of reason) }
 {
     stated(graph, log, reach, path, reason).ok_or(fault_of(reason))
 }

@@ -4,7 +4,8 @@
 use Rattle.std.specs.Prelude.{◌≡◌, List, length, All}
 use Rattle.tfpg_graph.specs.Graph.{Tfpg}
 use Rattle.tfpg_log.specs.Log.{Logbook, first_events}
-use Rattle.tfpg_clause.specs.Trees.{Judged, IsPresentLeaf}
+use Rattle.tfpg_clause.specs.Trees.{Judged}
+use Rattle.tfpg_clause.specs.Paths.{HasPath}
 use Rattle.tfpg_clause.specs.declared.path.PathSplit.{PathSplit}
 use Rattle.tfpg_clause.specs.Order.{horizon_of}
 use Rattle.tfpg_search.specs.Enough.{IsEventTime}
@@ -14,12 +15,12 @@ use Rattle.tfpg_search.specs.Work.{AreBoundsAt}
 use Rattle.tfpg_search.specs.inside.Leaf.{bounds_in}
 use Rattle.tfpg_search.specs.inside.AtItsLeaf.{IsAtItsLeaf, HasEnteredAll}
 
--- The search represents these steps at this log: it has seen all its events, its path is that of their present leaf, all
+-- The search represents these steps at this log: it has seen all its events, they lead to its path, all
 -- alternatives on it were entered, the bounds in its system are those at this log, no clause name stands twice on a path, and
 -- each horizon is the time of an event.
 pub record SearchRepresents (graph : Tfpg) (log : Logbook) (search : SearchState) (steps : List Judged) : Type 0 where
   pub seen : search.seen ≡ length log.events
-  pub leaf : IsPresentLeaf (case_of_search graph log search) steps search.path
+  pub leaf : HasPath (case_of_search graph log search) steps search.path
   pub names : HasNoNameTwice (case_of_search graph log search) steps
   pub horizons : All (λ (split : PathSplit). IsEventTime log (horizon_of split.name)) search.path
   pub system : IsAtItsLeaf graph log search

@@ -8,12 +8,11 @@ use Rattle.tfpg_log.specs.Log.{Logbook}
 use Rattle.tfpg_clause.specs.Case.{Case, case_at}
 use Rattle.tfpg_clause.specs.Trees.{Judged, IsRefutation, IsPartial}
 use Rattle.tfpg_clause.specs.Paths.{judged_by, with_steps, IsRightNext}
-use Rattle.tfpg_clause.specs.declared.path.PathSplit.{PathSplit}
 use Rattle.tfpg_clause.proofs.trees.TreeFronts.{partial_front, refutation_front}
-use Rattle.tfpg_clause.proofs.trees.TreeSteps.{last_of_partial, last_of_refutation, no_partial, one_leaf}
+use Rattle.tfpg_clause.proofs.trees.LedPaths.{last_of_partial, last_of_refutation, no_partial, one_leaf}
 use Rattle.tfpg_kernel.specs.declared.taken.BadStep.{BadStep}
-use Rattle.tfpg_kernel.specs.Breaks.{BreaksAt, IsFirstBroken}
-use Rattle.tfpg_kernel.proofs.FirstBroken.{breaks_wrong}
+use Rattle.tfpg_kernel.specs.Breaks.{IsFirstBroken}
+use Rattle.tfpg_kernel.proofs.FirstBroken.{breaks_wrong, breaks_alike}
 use Rattle.tfpg_report.specs.declared.read_round.NamedSet.{NamedSet}
 use Rattle.tfpg_report.specs.declared.read_round.Part.{Part}
 use Rattle.tfpg_report.specs.declared.read_round.RankedLine.{RankedLine}
@@ -39,9 +38,8 @@ module _ (case : Case) where
   breaks_none : (steps : List Judged) (next : Judged) (bad : BadStep) → IsFirstBroken case steps next bad → IsRightNext case steps next → ⊥
   breaks_none steps next bad (inl closed) right = no_partial case steps closed.1 right.leaf.partial
   breaks_none steps next bad (inr breaks) right =
-      let same : breaks.0 ≡ right.path = one_leaf case steps breaks.0 right.path breaks.1 right.leaf in
-      breaks_wrong (case_at case next.seen) right.path right.subtrees next.step bad
-      (subst (λ (path : List PathSplit). BreaksAt (case_at case next.seen) path next.step bad) same breaks.2) right.right
+      breaks_wrong (case_at case next.seen) right.place right.subtrees next.step bad
+      (breaks_alike (case_at case next.seen) breaks.0 right.place (one_leaf case steps breaks.0 right.place breaks.1 right.leaf) next.step bad breaks.2) right.right
 
   -- In right steps each is right next after those before it.
   right_after : (front : List Judged) (next : Judged) (back : List Judged) → IsPartial case (front ++ next ∷ back) ⊎ IsRefutation case (front ++ next ∷ back) → IsRightNext case front next

@@ -20,7 +20,7 @@ use Rattle.tfpg_clause.specs.Case.{Case}
 use Rattle.tfpg_clause.specs.Trees.{Judged, IsRefutation, IsPartial}
 use Rattle.tfpg_clause.specs.Paths.{judged_by, with_steps}
 use Rattle.tfpg_clause.proofs.trees.TreeFronts.{partial_front, refutation_front}
-use Rattle.tfpg_clause.proofs.trees.TreeSteps.{no_partial}
+use Rattle.tfpg_clause.proofs.trees.LedPaths.{no_partial}
 use Rattle.tfpg_hyp.specs.Table.{IsTable}
 use Rattle.tfpg_hyp.specs.Views.{IsReachOf, case_for}
 use Rattle.tfpg_hyp.specs.Rounds.{IsRound, HasEvidence, steps_so_far}

@@ -7,8 +7,8 @@ use Rattle.tfpg_log.specs.Log.{Logbook, GoesOn, IsOrdered}
 use Rattle.tfpg_clause.specs.Case.{Case, at_log}
 use Rattle.tfpg_clause.specs.Trees.{Judged, IsRefutation}
 use Rattle.tfpg_clause.specs.declared.path.PathSplit.{PathSplit}
-use Rattle.tfpg_clause.proofs.trees.TreeSteps.{no_partial}
-use Rattle.tfpg_clause.proofs.trees.TreesStay.{refutation_stays, leaf_stays}
+use Rattle.tfpg_clause.proofs.trees.LedPaths.{no_partial}
+use Rattle.tfpg_clause.proofs.trees.TreesStay.{refutation_stays, path_stays}
 use Rattle.tfpg_kernel.specs.CheckerState.{CheckerState}
 use Rattle.tfpg_kernel.specs.Represents.{CheckerRepresents, Represented}
 use Rattle.tfpg_hyp.specs.Views.{IsReachOf, case_for, log_for}
@@ -49,7 +49,7 @@ module _ (basis : RoundBasis) (number : ℕ) (hypothesis : Hypothesis) (at : IsN
 module _ (case : Case) (later : Logbook) (ordered : IsOrdered later) (goes_on : GoesOn case.log later) where
   represented_stays : (path : List PathSplit) (steps : List Judged) (closed : Bool) → Represented case path steps closed → Represented (at_log case later) path steps closed
   represented_stays path steps true is = refutation_stays case later ordered goes_on steps is
-  represented_stays path steps false is = leaf_stays case later ordered goes_on steps path is
+  represented_stays path steps false is = path_stays case later ordered goes_on steps path is
 
 -- What is kept of a basis is kept at the log of the round.
 pub keeps_on : (basis : RoundBasis) (earlier : Logbook) (state : HypothesesState) → IsOrdered basis.log → GoesOn earlier basis.log → KeepsBasis basis earlier state

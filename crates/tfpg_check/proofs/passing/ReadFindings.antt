@@ -13,7 +13,7 @@ use Rattle.tfpg_evidence.specs.declared.finding.Status.{Status}
 use Rattle.tfpg_evidence.specs.declared.finding.Status.TheVariants.{Ranked, Covered, Rejected, Open}
 use Rattle.tfpg_evidence.specs.Findings.{hypothesis_of}
 use Rattle.tfpg_clause.specs.Trees.{IsRefutation, IsPartial}
-use Rattle.tfpg_clause.proofs.trees.TreeSteps.{no_partial}
+use Rattle.tfpg_clause.proofs.trees.LedPaths.{no_partial}
 use Rattle.tfpg_hyp.specs.Views.{IsReachOf, case_for}
 use Rattle.tfpg_report.specs.declared.read_round.RankedLine.{RankedLine}
 use Rattle.tfpg_report.specs.declared.read_round.ReadRound.{ReadRound}

@@ -39,8 +39,7 @@ use Rattle.tfpg_clause.specs.Clauses.{IsSmall, alternatives, and_may, constraint
 use Rattle.tfpg_clause.specs.declared.limits.TheConstants.{MAX_CONSTRAINTS}
 use Rattle.tfpg_clause.specs.Facts.{from_alarm, upto_alarm}
 use Rattle.tfpg_clause.specs.Order.{span_of}
-use Rattle.tfpg_clause.specs.Trees.{IsPartial, IsRefutation, IsRight, IsRightStep, Judged, StepPlace, Tree, picked, places_of, stated, steps_of}
-use Rattle.tfpg_clause.specs.declared.path.PathSplit.{PathSplit}
+use Rattle.tfpg_clause.specs.Trees.{Chosen, IsPartial, IsRefutation, IsRight, IsRightStep, Judged, Place, StepPlace, Tree, picked, places_of, stated, steps_of}
 use Rattle.tfpg_clause.proofs.alternatives.SmallAlternatives.{small_clause}
 use Rattle.tfpg_clause.proofs.logs.StaysAllowed.{allowed_by_now, must_has_window}
 use Rattle.tfpg_hyp.specs.Rounds.{HasEvidence}
@@ -115,10 +114,10 @@ module _ (graph : Tfpg) (valid : IsValid graph) (log : Logbook) (within : IsWith
       omega (arith, few, item_within constraints number constraint rest)
       ))
 
-  picked_small : (path : List PathSplit) (split number : ℕ) (constraint : Constraint) → picked graph log path split number ≡ Some constraint → (split ≤ length path) × (number ≤ MAX_CONSTRAINTS)
+  picked_small : (path : List Chosen) (split number : ℕ) (constraint : Constraint) → picked graph log path split number ≡ Some constraint → (split ≤ length path) × (number ≤ MAX_CONSTRAINTS)
   picked_small path split number constraint is =
       option_and_then_some
-      (λ (taken : PathSplit). option_and_then (λ (clause : List (List Constraint)). constraint_at clause taken.alternative number) (alternatives graph log taken.name)) (item_at path split) constraint is
+      (λ (taken : Chosen). option_and_then (λ (clause : List (List Constraint)). constraint_at clause taken.alternative number) (alternatives graph log taken.name)) (item_at path split) constraint is
       (λ taken there rest. (
         item_within path split taken there,
         option_and_then_some (λ (clause : List (List Constraint)). constraint_at clause taken.alternative number) (alternatives graph log taken.name) constraint rest
@@ -129,7 +128,7 @@ module _ (graph : Tfpg) (valid : IsValid graph) (log : Logbook) (within : IsWith
   alarm_few event f constraint is = option_and_then_some f (event_at log event) constraint is (λ there at rest. event_within log there event at)
 
   -- a reason that states a constraint on a path that is not too long has small numbers
-  stated_small : (reach : List ℕ) (path : List PathSplit) → length path ≤ MAX_LINE_NUMBER → (reason : Reason) (constraint : Constraint)
+  stated_small : (reach : List ℕ) (path : List Chosen) → length path ≤ MAX_LINE_NUMBER → (reason : Reason) (constraint : Constraint)
       → stated (case_of graph log reach) path reason ≡ Some constraint → HasSmallReason reason
   stated_small reach path short (Zero node) constraint is = tt
   stated_small reach path short (Top node) constraint is = tt
@@ -156,17 +155,17 @@ module _ (graph : Tfpg) (valid : IsValid graph) (log : Logbook) (within : IsWith
   -- ---- steps
 
   -- a right step names what has small numbers
-  right_small : (reach : List ℕ) (path : List PathSplit) (subtrees : ℕ) → length path ≤ MAX_LINE_NUMBER → (step : Step) → IsRightStep (case_of graph log reach) path subtrees step → HasSmallStep step
-  right_small reach path subtrees short (Split name) right =
+  right_small : (reach : List ℕ) (place : Place) (subtrees : ℕ) → length place.path ≤ MAX_LINE_NUMBER → (step : Step) → IsRightStep (case_of graph log reach) place subtrees step → HasSmallStep step
+  right_small reach place subtrees short (Split name) right =
       let clause = option_map-some length (alternatives graph log name) subtrees right in
       allowed_small name clause.0 clause.1
-  right_small reach path subtrees short (Cycle reasons) right =
+  right_small reach place subtrees short (Cycle reasons) right =
       All-from_members HasSmallReason reasons
       (λ reason has. (
-      let states = Contains-each_of (stated (case_of graph log reach) path) reasons right.constraints reason right.hold has in
-      stated_small reach path short reason states.0 states.2
+      let states = Contains-each_of (stated (case_of graph log reach) place.path) reasons right.constraints reason right.hold has in
+      stated_small reach place.path short reason states.0 states.2
       ))
-  right_small reach path subtrees short Again right = tt
+  right_small reach place subtrees short Again right = tt
 
 -- ---- trees
 
@@ -182,7 +181,7 @@ module _ (case : Case) (valid : IsValid case.graph) (within : IsWithin case.log)
       let place = option_map-some (λ (place : StepPlace). place.step) (slice_get (places_of tree) index) judged (sym (slice_get-map (λ (place : StepPlace). place.step) (places_of tree) index) ∙ there) in
       let own = All-at (IsRight case) (take (length steps) (places_of tree)) index place.0 right (slice_get-take (length steps) (places_of tree) index before ∙ place.1) in
       subst (λ (j : Judged). HasSmallStep j.step) place.2
-      (right_small case.graph valid (first_events case.log place.0.step.seen) (first_within case.log place.0.step.seen within) case.reach place.0.path place.0.subtrees
+      (right_small case.graph valid (first_events case.log place.0.step.seen) (first_within case.log place.0.step.seen within) case.reach place.0.place place.0.subtrees
       (omega (arith, path_short tree index place.0 place.1, before, few)) place.0.step.step own)
       ))
 

@@ -1,13 +1,12 @@
 -- Where steps are a refutation, no trace explains the log: its numbers meet some alternative at each split, and so they lead down the
 -- tree to a leaf all of whose constraints they meet, which cannot be.
-use Rattle.std.proofs.Common.{◌≡◌, ℕ, zero, suc, ◌+◌, ◌<◌, List, [], ◌∷◌, ◌++◌, length, true, Option, Some, None, refl, sym, ap, subst, ◌∙◌, inl, inr, arith}
-use Rattle.std.specs.Prelude.{All, Contains, IsTrue, IsSomeAnd, slice_get, option_map, option_and_then}
+use Rattle.std.proofs.Common.{◌≡◌, ℕ, zero, suc, ◌+◌, ◌<◌, List, [], ◌∷◌, ◌++◌, length, Option, Some, None, refl, sym, ap, subst, ◌∙◌, inl, inr, arith}
+use Rattle.std.specs.Prelude.{All, Contains, slice_get, option_map, option_and_then}
 use Rattle.std.proofs.lemmas.Int.{ints}
 use Rattle.std.proofs.lemmas.Option.{option_and_then_some}
 use Rattle.std.proofs.lemmas.List.Elements.{All-head, All-tail, Contains-append_left, Contains-append_right}
-use Rattle.std.proofs.lemmas.Bool.{false≢true}
-use Rattle.std.proofs.lemmas.Bool.Decides.{nat_tests}
-use Rattle.tfpg_base.specs.Choice.{item_at, last_of}
+use Rattle.std.proofs.lemmas.List.{length-append}
+use Rattle.tfpg_base.specs.Choice.{item_at}
 use Rattle.tfpg_base.specs.declared.constraint.Constraint.{Constraint}
 use Rattle.tfpg_base.specs.declared.activation.Activation.{Activation}
 use Rattle.tfpg_graph.specs.Graph.{Tfpg}
@@ -19,15 +18,15 @@ use Rattle.tfpg_log.specs.Explains.{Explains, Fits}
 use Rattle.tfpg_evidence.specs.declared.clause_name.ClauseName.{ClauseName}
 use Rattle.tfpg_evidence.specs.declared.reason.Reason.{Reason}
 use Rattle.tfpg_evidence.specs.declared.reason.Reason.TheVariants.{Zero, Top, Unreached, From, Upto, Quiet, Pick}
+use Rattle.tfpg_evidence.specs.declared.step.Step.TheVariants.{Split, Cycle, Again}
 use Rattle.tfpg_base.specs.Constraint.{Meets}
 use Rattle.tfpg_base.proofs.lists.Choices.{Contains-each_of_only}
-use Rattle.tfpg_base.proofs.lists.Elements.{All-at, All-front, All-back, All-from_members, slice_get-contains, list_any-passes}
+use Rattle.tfpg_base.proofs.lists.Elements.{All-at, All-front, All-back, All-from_members, slice_get-contains}
 use Rattle.tfpg_base.proofs.lists.Written.{slice_get-push_cases}
 use Rattle.tfpg_clause.specs.Facts.{fact}
 use Rattle.tfpg_clause.specs.Clauses.{alternatives, count_of, constraint_at, MeetsClause}
 use Rattle.tfpg_clause.specs.Case.{Case, case_of, case_at}
-use Rattle.tfpg_clause.specs.Trees.{Judged, Tree, Leaf, Branch, Subtrees, NoMore, Next, Reused, StepPlace, how_many, reasons_in, reasons_in_all, is_pick_of, cites, cited_by, leaf_place, branch_place, again_place, new_split, after_subtree, places, places_from, picked, stated, IsClosedLeaf, IsReusable, IsRight, IsRefutation}
-use Rattle.tfpg_clause.specs.declared.path.PathSplit.{PathSplit}
+use Rattle.tfpg_clause.specs.Trees.{Judged, Tree, Leaf, Branch, Subtrees, NoMore, Next, Reused, Chosen, Place, StepPlace, how_many, reasons_in, reasons_in_all, root, place_in, step_at, places, places_from, picked, stated, IsClosedLeaf, IsReusable, IsRight, IsRefutation}
 use Rattle.tfpg_clause.proofs.traces.TraceAgrees.{of_trace}
 use Rattle.tfpg_clause.proofs.constraints.CycleNotNegative.{not_negative}
 use Rattle.tfpg_clause.proofs.traces.FactsMet.{fact_is_met}
@@ -35,20 +34,19 @@ use Rattle.tfpg_clause.proofs.rules.RulesMet.{clause_is_met}
 use Rattle.tfpg_clause.proofs.logs.StaysAllowed.{fact_stays}
 use Rattle.tfpg_clause.proofs.trees.TreesStay.{first_to_whole, count_stays, picked_stays, refutation_stays}
 use Rattle.tfpg_clause.proofs.traces.NumbersOfTrace.{numbers_of_trace}
-use Rattle.tfpg_clause.proofs.trees.Marks.{item_cited, last_push, not_both}
 
 module _ (case : Case) (ordered : IsOrdered case.log) (numbers : List ℕ)
     (facts : (reason : Reason) (constraint : Constraint) → fact case reason ≡ Some constraint → Meets numbers constraint) where
   -- the numbers meet each constraint that is picked on the path
-  abbrev MeetsPath : List PathSplit → Type 0
+  abbrev MeetsPath : List Chosen → Type 0
   MeetsPath path = (split number : ℕ) (constraint : Constraint) → picked case.graph case.log path split number ≡ Some constraint → Meets numbers constraint
 
   -- the numbers meet each constraint that a pick among the reasons states
-  abbrev MeetsCited : List PathSplit → List Reason → Type 0
+  abbrev MeetsCited : List Chosen → List Reason → Type 0
   MeetsCited path reasons =
       (split number : ℕ) (constraint : Constraint) → Contains reasons (Pick split number) → picked case.graph case.log path split number ≡ Some constraint → Meets numbers constraint
 
-  module _ (path : List PathSplit) (seen : ℕ) (reasons : List Reason) (cited : MeetsCited path reasons) where
+  module _ (path : List Chosen) (seen : ℕ) (reasons : List Reason) (cited : MeetsCited path reasons) where
     fact_met : (reason : Reason) (constraint : Constraint) → fact (case_at case seen) reason ≡ Some constraint → Meets numbers constraint
     fact_met reason constraint is =
         facts reason constraint (fact_stays case.graph (first_events case.log seen) case.log ordered (first_to_whole case.log seen) case.reach reason constraint is)
@@ -76,7 +74,7 @@ module _ (case : Case) (ordered : IsOrdered case.log) (numbers : List ℕ)
         omega (arith, ints)
 
   -- Numbers that meet all facts and all that is picked on its path close no leaf.
-  pub no_leaf : (path : List PathSplit) (seen : ℕ) (reasons : List Reason) → MeetsPath path → IsClosedLeaf (case_at case seen) path reasons → ⊥
+  pub no_leaf : (path : List Chosen) (seen : ℕ) (reasons : List Reason) → MeetsPath path → IsClosedLeaf (case_at case seen) path reasons → ⊥
   no_leaf path seen reasons met closed = no_cited_leaf path seen reasons (λ split number constraint member is. met split number constraint is) closed
 
   module _ (clauses : (name : ClauseName) (clause : List (List Constraint)) → alternatives case.graph case.log name ≡ Some clause → MeetsClause numbers clause) where
@@ -97,32 +95,33 @@ module _ (case : Case) (ordered : IsOrdered case.log) (numbers : List ℕ)
         of_alternative (suc j) constraint here = All-at (Meets numbers) alternative j constraint all here
 
     -- the constraint that is picked at a split
-    abbrev pick_at : ℕ → PathSplit → Option Constraint
+    abbrev pick_at : ℕ → Chosen → Option Constraint
     pick_at number taken = option_and_then (λ c. constraint_at c taken.alternative number) (alternatives case.graph case.log taken.name)
 
-    -- at one more split they meet what is cited there too, where they meet its alternative, or where nothing is cited
-    meets_more : (path : List PathSplit) (split : PathSplit) (reasons : List Reason) → MeetsCited path reasons
-        → (cites reasons (length path + 1) ≡ true → MeetsAlternative split.name split.alternative) → MeetsCited (path ++ split ∷ []) reasons
-    meets_more path split reasons met own zero number constraint member pick = cc
-    meets_more path split reasons met own (suc i) number constraint member pick =
-        option_and_then_some (pick_at number) (slice_get (path ++ split ∷ []) i) constraint pick
+    -- the numbers meet an alternative, where some of the reasons picks from it at the end of the path
+    abbrev MeetsLast : List Chosen → Chosen → List Reason → Type 0
+    MeetsLast path last reasons = (number : ℕ) → Contains reasons (Pick (length (path ++ last ∷ [])) number) → MeetsAlternative last.name last.alternative
+
+    -- at one more split they meet what is cited there too
+    meets_more : (path : List Chosen) (last : Chosen) (reasons : List Reason) → MeetsCited path reasons → MeetsLast path last reasons → MeetsCited (path ++ last ∷ []) reasons
+    meets_more path last reasons met own zero number constraint member pick = cc
+    meets_more path last reasons met own (suc i) number constraint member pick =
+        option_and_then_some (pick_at number) (slice_get (path ++ last ∷ []) i) constraint pick
         (λ taken there rest.
-        elim (slice_get-push_cases path split i taken there) [
+        elim (slice_get-push_cases path last i taken there) [
           | inl before ↦ met (suc i) number constraint member (ap (option_and_then (pick_at number)) before ∙ rest)
-          | inr last ↦
-              let same : suc i ≡ length path + 1 = omega (arith, last.0) in
-              own (list_any-passes (is_pick_of (length path + 1)) reasons (Pick (suc i) number) member (grind (arith, nat_tests))) number constraint
-              (subst (λ (t : PathSplit). pick_at number t ≡ Some constraint) (sym last.1) rest)
+          | inr at_last ↦
+              let same : suc i ≡ length (path ++ last ∷ []) = omega (arith, at_last.0, length-append path (last ∷ [])) in
+              own number (subst (λ (split : ℕ). Contains reasons (Pick split number)) same member) number constraint
+              (subst (λ (t : Chosen). pick_at number t ≡ Some constraint) (sym at_last.1) rest)
         ])
 
     -- fewer reasons cite less
-    meets_first : (path : List PathSplit) (one other : List Reason) → MeetsCited path (one ++ other) → MeetsCited path one
+    meets_first : (path : List Chosen) (one other : List Reason) → MeetsCited path (one ++ other) → MeetsCited path one
     meets_first path one other met split number constraint member pick = met split number constraint (Contains-append_left one other (Pick split number) member) pick
 
-    -- and what is picked does not depend on marks
-    meets_others : (path : List PathSplit) (one other : List Reason) → MeetsCited path (one ++ other) → MeetsCited (cited_by one path) other
-    meets_others path one other met split number constraint member pick =
-        met split number constraint (Contains-append_right one other (Pick split number) member) (sym (item_cited (pick_at number) (λ cited taken. refl) one path split) ∙ pick)
+    meets_others : (path : List Chosen) (one other : List Reason) → MeetsCited path (one ++ other) → MeetsCited path other
+    meets_others path one other met split number constraint member pick = met split number constraint (Contains-append_right one other (Pick split number) member) pick
 
     -- the alternative of a clause that they meet
     record MetAlternative (clause : List (List Constraint)) : Type 0 where
@@ -156,51 +155,59 @@ module _ (case : Case) (ordered : IsOrdered case.log) (numbers : List ℕ)
         by None is many = cc
         by (Some clause) is many = let same : length clause ≡ count = cc in record { clause = clause; is = is; many = same }
 
+    -- what picks from a split leaves its next alternative with nothing to reuse
+    not_reusable : (path : List Chosen) (taken : Chosen) (next : ℕ) (reasons : List Reason) → IsReusable (place_in path taken.name next (Some reasons))
+        → (number : ℕ) → Contains reasons (Pick (length (path ++ taken ∷ [])) number) → ⊥
+    not_reusable path taken next reasons reusable number member =
+        let other : Chosen = record { name = taken.name; alternative = next } in
+        let same : length (path ++ taken ∷ []) ≡ length (path ++ other ∷ []) = omega (arith, length-append path (taken ∷ []), length-append path (other ∷ [])) in
+        reusable number (subst (λ (split : ℕ). Contains reasons (Pick split number)) same member)
+
     mutual
       -- No numbers meet all facts, all clauses, and what the cycles of a tree cite on its path.
-      no_tree : (path : List PathSplit) (tree : Tree) → All (IsRight case) (places path tree) → MeetsCited path (reasons_in tree) → ⊥
-      no_tree path (Leaf seen reasons) right met = no_cited_leaf path seen reasons met (All-head (IsRight case) (leaf_place path seen reasons) [] right)
-      no_tree path (Branch seen name subtrees) right met =
-          let first : StepPlace = branch_place path seen name (how_many subtrees) in
-          let split : PathSplit = new_split name (how_many subtrees) in
-          let allowed = allowed_of seen name (how_many subtrees) (All-head (IsRight case) first (places_from path split subtrees) right) in
+      no_tree : (place : Place) (tree : Tree) → All (IsRight case) (places place tree) → MeetsCited place.path (reasons_in tree) → ⊥
+      no_tree place (Leaf seen reasons) right met = no_cited_leaf place.path seen reasons met (All-head (IsRight case) (step_at place seen (Cycle reasons) 0) [] right)
+      no_tree place (Branch seen name subtrees) right met =
+          let first : StepPlace = step_at place seen (Split name) (how_many subtrees) in
+          let later : List StepPlace = places_from place.path name 1 None subtrees in
+          let allowed = allowed_of seen name (how_many subtrees) (All-head (IsRight case) first later right) in
           let meets = met_alternative allowed.clause (clauses name allowed.clause allowed.is) in
           let number : suc meets.k ≡ 1 + meets.k = omega arith in
           let alternative : MeetsAlternative name (1 + meets.k) =
           subst (MeetsAlternative name) number (alternative_met name allowed.clause meets.k meets.alternative allowed.is meets.at meets.met) in
-          no_subtrees path split subtrees meets.k (omega (arith, meets.within, allowed.many)) (All-tail (IsRight case) first (places_from path split subtrees) right) met alternative
-          (λ reusable. absurd (false≢true reusable))
+          no_subtrees place.path name 1 None subtrees meets.k (omega (arith, meets.within, allowed.many)) (All-tail (IsRight case) first later right) met alternative
+          (λ reusable. absurd reusable)
 
       -- The subtree of the alternative that they meet is passed on to, unless an earlier one is reusable.
-      no_subtrees : (path : List PathSplit) (split : PathSplit) (subtrees : Subtrees) (k : ℕ) → k < how_many subtrees → All (IsRight case) (places_from path split subtrees)
-          → MeetsCited path (reasons_in_all subtrees) → MeetsAlternative split.name (split.alternative + k) → (split.reusable ≡ true → ⊥) → ⊥
-      no_subtrees path split NoMore k within right met alternative before = omega arith
-      no_subtrees path split (Reused seen others) k within right met alternative before =
-          let last : last_of (path ++ split ∷ []) ≡ Some split = last_push path split in
-          let reusable : IsReusable (path ++ split ∷ []) = All-head (IsRight case) (again_place (path ++ split ∷ []) seen) [] right in
-          before (subst (λ (o : Option PathSplit). IsSomeAnd o (λ (s : PathSplit). IsTrue s.reusable)) last reusable)
-      no_subtrees path split (Next tree others) zero within right met alternative before =
-          let own : List PathSplit = path ++ split ∷ [] in
+      no_subtrees : (path : List Chosen) (name : ClauseName) (alternative : ℕ) (before : Option (List Reason)) (subtrees : Subtrees) (k : ℕ) → k < how_many subtrees
+          → All (IsRight case) (places_from path name alternative before subtrees) → MeetsCited path (reasons_in_all subtrees) → MeetsAlternative name (alternative + k)
+          → (IsReusable (place_in path name alternative before) → ⊥) → ⊥
+      no_subtrees path name alternative before NoMore k within right met meets none = omega arith
+      no_subtrees path name alternative before (Reused seen others) k within right met meets none =
+          none (All-head (IsRight case) (step_at (place_in path name alternative before) seen Again 0) [] right)
+      no_subtrees path name alternative before (Next tree others) zero within right met meets none =
+          let own : Place = place_in path name alternative before in
+          let taken : Chosen = record { name = name; alternative = alternative } in
           let reasons : List Reason = reasons_in tree in
-          let number : split.alternative + 0 ≡ split.alternative = omega arith in
-          no_tree own tree (All-front (IsRight case) (places own tree) (places_from (cited_by reasons path) (after_subtree (length path + 1) reasons split) others) right)
-          (meets_more path split reasons (meets_first path reasons (reasons_in_all others) met) (λ cited. subst (MeetsAlternative split.name) number alternative))
-      no_subtrees path split (Next tree others) (suc k) within right met alternative before =
-          let own : List PathSplit = path ++ split ∷ [] in
+          let number : alternative + 0 ≡ alternative = omega arith in
+          no_tree own tree (All-front (IsRight case) (places own tree) (places_from path name (alternative + 1) (Some reasons) others) right)
+          (meets_more path taken reasons (meets_first path reasons (reasons_in_all others) met) (λ cited member. subst (MeetsAlternative name) number meets))
+      no_subtrees path name alternative before (Next tree others) (suc k) within right met meets none =
+          let own : Place = place_in path name alternative before in
+          let taken : Chosen = record { name = name; alternative = alternative } in
           let reasons : List Reason = reasons_in tree in
-          let number : split.alternative + suc k ≡ split.alternative + 1 + k = omega arith in
-          let next : PathSplit = after_subtree (length path + 1) reasons split in
-          let later : List StepPlace = places_from (cited_by reasons path) next others in
-          no_subtrees (cited_by reasons path) next others k (omega arith) (All-back (IsRight case) (places own tree) later right)
-          (meets_others path reasons (reasons_in_all others) met) (subst (MeetsAlternative split.name) number alternative)
+          let number : alternative + suc k ≡ alternative + 1 + k = omega arith in
+          let later : List StepPlace = places_from path name (alternative + 1) (Some reasons) others in
+          no_subtrees path name (alternative + 1) (Some reasons) others k (omega arith) (All-back (IsRight case) (places own tree) later right)
+          (meets_others path reasons (reasons_in_all others) met) (subst (MeetsAlternative name) number meets)
           (λ reusable.
           no_tree own tree (All-front (IsRight case) (places own tree) later right)
-          (meets_more path split reasons (meets_first path reasons (reasons_in_all others) met)
-          (λ cited. absurd (not_both split.cited (cites reasons (length path + 1)) cited reusable))))
+          (meets_more path taken reasons (meets_first path reasons (reasons_in_all others) met)
+          (λ cited member. absurd (not_reusable path taken (alternative + 1) reasons reusable cited member))))
 
     -- So no steps are a refutation.
     pub no_refutation : (steps : List Judged) → IsRefutation case steps → ⊥
-    no_refutation steps refutation = no_tree [] refutation.tree refutation.right (λ split number constraint member pick. none number constraint split pick)
+    no_refutation steps refutation = no_tree root refutation.tree refutation.right (λ split number constraint member pick. none number constraint split pick)
       where
         none : (number : ℕ) (constraint : Constraint) (split : ℕ) → picked case.graph case.log [] split number ≡ Some constraint → Meets numbers constraint
         none number constraint zero pick = cc

@@ -4,14 +4,10 @@ use Rattle.std.specs.Prelude.{nat_lt, slice_get, slice_set, option_map}
 use Rattle.std.specs.Option.{option_or}
 use Rattle.std.specs.Bool.{then_some}
 use Rattle.std.proofs.lemmas.Bool.{le-ltb, lt-ltb}
-use Rattle.tfpg_log.specs.Log.{first_events}
 use Rattle.tfpg_evidence.specs.declared.clause_name.ClauseName.{ClauseName}
-use Rattle.tfpg_evidence.specs.declared.step.Step.{Step}
-use Rattle.tfpg_evidence.specs.declared.step.Step.TheVariants.{Split, Cycle, Again}
 use Rattle.tfpg_clause.specs.Case.{Case}
-use Rattle.tfpg_clause.specs.Clauses.{count_of}
-use Rattle.tfpg_clause.specs.Trees.{Judged, new_split, next_alternative, cited_by}
-use Rattle.tfpg_clause.specs.Paths.{next_leaf, above_last}
+use Rattle.tfpg_clause.specs.Trees.{Judged}
+use Rattle.tfpg_clause.specs.Paths.{new_split, next_alternative, next_leaf, leaf_next, leaf_after}
 use Rattle.tfpg_clause.specs.declared.path.PathSplit.{PathSplit}
 
 -- the next leaf with one more split before it
@@ -60,25 +56,13 @@ new_split_none name None is = refl
 new_split_none name (Some n) is = cc
 
 module _ (case : Case) where
-  -- the path of the leaf after a step, where there is one
-  abbrev pub leaf_next : List PathSplit → ℕ → Step → Option (List PathSplit)
-  leaf_next path seen (Split name) = option_map (λ (count : ℕ). path ++ new_split name count ∷ []) (count_of case.graph (first_events case.log seen) name)
-  leaf_next path seen (Cycle reasons) = next_leaf (cited_by reasons path)
-  leaf_next path seen Again = next_leaf (above_last path)
-
-  -- the path of the leaf after steps, where there is one
-  abbrev pub leaf_after : Option (List PathSplit) → List Judged → Option (List PathSplit)
-  leaf_after leaf [] = leaf
-  leaf_after None (step ∷ steps) = None
-  leaf_after (Some path) (step ∷ steps) = leaf_after (leaf_next path step.seen step.step) steps
-
   -- After no leaf there is none.
-  pub after_none : (steps : List Judged) → leaf_after None steps ≡ None
+  pub after_none : (steps : List Judged) → leaf_after case None steps ≡ None
   after_none [] = refl
   after_none (step ∷ steps) = refl
 
   -- The leaf after steps and more steps is that after the later ones from the leaf after the earlier ones.
-  pub after_both : (leaf : Option (List PathSplit)) (one other : List Judged) → leaf_after leaf (one ++ other) ≡ leaf_after (leaf_after leaf one) other
+  pub after_both : (leaf : Option (List PathSplit)) (one other : List Judged) → leaf_after case leaf (one ++ other) ≡ leaf_after case (leaf_after case leaf one) other
   after_both leaf [] other = refl
   after_both None (step ∷ one) other = sym (after_none other)
-  after_both (Some path) (step ∷ one) other = after_both (leaf_next path step.seen step.step) one other
+  after_both (Some path) (step ∷ one) other = after_both (leaf_next case path step.seen step.step) one other

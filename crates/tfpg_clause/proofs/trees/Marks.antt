@@ -10,7 +10,7 @@ use Rattle.tfpg_base.proofs.lists.Written.{slice_get-push_at}
 use Rattle.tfpg_base.specs.Choice.{item_at, last_of}
 use Rattle.tfpg_evidence.specs.declared.reason.Reason.{Reason}
 use Rattle.tfpg_evidence.specs.declared.reason.Reason.TheVariants.{Zero, Top, Unreached, From, Upto, Quiet, Pick}
-use Rattle.tfpg_clause.specs.Trees.{is_pick_of, cites, also_cited, cited_from, cited_by}
+use Rattle.tfpg_clause.specs.Paths.{is_pick_of, cites, also_cited, cited_from, cited_by}
 use Rattle.tfpg_clause.specs.declared.path.PathSplit.{PathSplit}
 
 -- What two lists of reasons cite one after the other is what both cite.

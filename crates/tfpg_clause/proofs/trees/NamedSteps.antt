@@ -25,8 +25,7 @@ use Rattle.tfpg_evidence.specs.RoundOf.{IsReasonOf, IsClauseOf, IsStepOf}
 use Rattle.tfpg_clause.specs.Clauses.{alternatives, and_may, or_must}
 use Rattle.tfpg_clause.proofs.rules.RulesMet.{may_holds, must_holds}
 use Rattle.tfpg_clause.specs.Case.{Case, case_at}
-use Rattle.tfpg_clause.specs.Trees.{stated, IsRightStep, Judged, StepPlace, IsRight, IsRefutation, IsPartial, places_of}
-use Rattle.tfpg_clause.specs.declared.path.PathSplit.{PathSplit}
+use Rattle.tfpg_clause.specs.Trees.{stated, IsRightStep, Judged, Chosen, Place, StepPlace, IsRight, IsRefutation, IsPartial, places_of}
 
 -- ---- clauses
 
@@ -49,7 +48,7 @@ first_events_of graph log seen of = record { own = All-take (IsEventOf graph) se
 -- ---- reasons and steps
 
 -- a reason that states a constraint names no node but those of the graph
-stated_named : (case : Case) (path : List PathSplit) → IsLogOf case.graph case.log → (reason : Reason) (constraint : Constraint)
+stated_named : (case : Case) (path : List Chosen) → IsLogOf case.graph case.log → (reason : Reason) (constraint : Constraint)
     → stated case path reason ≡ Some constraint → IsReasonOf (sizes_of case.graph) reason
 stated_named case path of (Zero node) constraint is = ltb-true node (length case.graph.nodes) (then_some-true (ltb node (length case.graph.nodes)) _ constraint is).0
 stated_named case path of (Top node) constraint is = ltb-true node (length case.graph.nodes) (then_some-true (ltb node (length case.graph.nodes)) _ constraint is).0
@@ -63,17 +62,17 @@ stated_named case path of (Quiet event node) constraint is =
 stated_named case path of (Pick split index) constraint is = tt
 
 -- a right step names only what the graph has
-right_named : (case : Case) (path : List PathSplit) (subtrees : ℕ) → IsLogOf case.graph case.log → (step : Step) → IsRightStep case path subtrees step
+right_named : (case : Case) (place : Place) (subtrees : ℕ) → IsLogOf case.graph case.log → (step : Step) → IsRightStep case place subtrees step
     → IsStepOf (sizes_of case.graph) step
-right_named case path subtrees of (Split name) right =
+right_named case place subtrees of (Split name) right =
     let clause = option_map-some length (alternatives case.graph case.log name) subtrees right in
     allowed_named case.graph case.log name clause.0 clause.1
-right_named case path subtrees of (Cycle reasons) right =
+right_named case place subtrees of (Cycle reasons) right =
     All-from_members (IsReasonOf (sizes_of case.graph)) reasons
     (λ reason has.
-    let states = Contains-each_of (stated case path) reasons right.constraints reason right.hold has in
-    stated_named case path of reason states.0 states.2)
-right_named case path subtrees of Again right = tt
+    let states = Contains-each_of (stated case place.path) reasons right.constraints reason right.hold has in
+    stated_named case place.path of reason states.0 states.2)
+right_named case place subtrees of Again right = tt
 
 -- ---- trees
 
@@ -87,7 +86,7 @@ module _ (case : Case) (of : IsLogOf case.graph case.log) where
   places_named places right =
       All-map (λ (judged : Judged). IsStepOf (sizes_of case.graph) judged.step) (λ (place : StepPlace). place.step) places
       (All-weaker (IsRight case) (λ (place : StepPlace). IsStepOf (sizes_of case.graph) place.step.step)
-      (λ place is. right_named (case_at case place.step.seen) place.path place.subtrees (first_events_of case.graph case.log place.step.seen of) place.step.step is) places right)
+      (λ place is. right_named (case_at case place.step.seen) place.place place.subtrees (first_events_of case.graph case.log place.step.seen of) place.step.step is) places right)
 
   -- those of a refutation
   pub refutation_named : (steps : List Judged) → IsRefutation case steps → AreStepsOfGraph case.graph steps

@@ -1,16 +1,16 @@
 //! How refutations and partial trees grow, and how they stay.
 
-ghost use Rattle.tfpg_clause.specs.Laws.{StatedConstraintsStay, FrontsOfPartialTreesArePartial, FrontsOfRefutationsArePartial, TreesBeginAtTheRoot, PresentLeavesFollowSteps, LastLeavesEndInRefutations, PresentLeavesStay, PartialTreesStay, RefutationsStay, RefutationsAreNotPartial, LastStepsOfRefutationsAreRight, LastStepsOfPartialTreesAreRight};
+ghost use Rattle.tfpg_clause.specs.Laws.{StatedConstraintsStay, FrontsOfPartialTreesArePartial, FrontsOfRefutationsArePartial, TreesBeginAtTheRoot, PathsFollowSteps, LastLeavesEndInRefutations, PresentLeavesStay, PathsStay, PartialTreesStay, RefutationsStay, RefutationsAreNotPartial, LastStepsOfRefutationsAreRight, LastStepsOfPartialTreesAreRight};
 
 /// A right step makes a partial tree or a refutation of a partial tree.
 ///
-/// - `begins`: without a step the present leaf is the root.
+/// - `begins`: without a step the path is that of the root.
 /// - `moves`: a split on an allowed name enters its first alternative, and a cycle that closes the present leaf goes on to the
 ///   next alternative of the deepest split that has one left.
 /// - `closed`: where none has, the steps are a refutation.
 pub fn a_partial_tree_grows()
     ensures begins { TreesBeginAtTheRoot }
-    ensures moves { PresentLeavesFollowSteps }
+    ensures moves { PathsFollowSteps }
     ensures closed { LastLeavesEndInRefutations }
 {}
 
@@ -37,6 +37,7 @@ pub fn a_refutation_is_finished()
 /// Trees at a log are trees at each log that goes on from it, and what a reason states on a path stays.
 pub fn a_tree_stays()
     ensures leaf { PresentLeavesStay }
+    ensures path { PathsStay }
     ensures partial { PartialTreesStay }
     ensures refutation { RefutationsStay }
     ensures stated { StatedConstraintsStay }

@@ -8,13 +8,13 @@ use Rattle.tfpg_log.specs.Log.{Logbook, now_of, time_of_event, first_events}
 use Rattle.tfpg_evidence.specs.declared.step.Step.{Step}
 use Rattle.tfpg_evidence.specs.declared.step.Step.TheVariants.{Split, Cycle, Again}
 use Rattle.tfpg_clause.specs.Order.{horizon_of}
-use Rattle.tfpg_clause.specs.Paths.{MovesTo}
+use Rattle.tfpg_clause.specs.Paths.{new_split, MovesTo}
 use Rattle.tfpg_clause.specs.declared.path.PathSplit.{PathSplit}
 use Rattle.tfpg_search.specs.Enough.{IsEventTime}
 use Rattle.tfpg_search.specs.inside.Moves.{IsSearchStepAt, Leads}
 use Rattle.tfpg_base.proofs.lists.Elements.{fold-last}
 use Rattle.tfpg_search.proofs.steps.PathAfter.{moved_by, all_after}
-use Rattle.tfpg_clause.specs.Trees.{split_count, new_split}
+use Rattle.tfpg_clause.specs.Trees.{split_count}
 use Rattle.tfpg_clause.specs.Case.{Case}
 
 -- ---- now is the time of an event

@@ -14,7 +14,7 @@ use Rattle.tfpg_clause.specs.declared.path.PathSplit.{PathSplit}
 use Rattle.tfpg_search.specs.inside.Picks.{IsInRange, AreInRange}
 use Rattle.tfpg_search.proofs.steps.PathAfter.{After, Moved}
 use Rattle.tfpg_clause.proofs.trees.Marks.{length-cited}
-use Rattle.tfpg_clause.specs.Trees.{new_split, next_alternative, cited_from, cited_by}
+use Rattle.tfpg_clause.specs.Paths.{new_split, next_alternative, cited_from, cited_by}
 
 module _ (a : ℕ) (some : 1 ≤ a) where
   abbrev pub weight : List PathSplit → ℕ → ℕ

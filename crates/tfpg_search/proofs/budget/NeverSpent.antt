@@ -8,20 +8,19 @@ use Rattle.tfpg_log.specs.Log.{now_of}
 use Rattle.tfpg_evidence.specs.declared.clause_name.ClauseName.{ClauseName}
 use Rattle.tfpg_evidence.specs.declared.step.Step.{Step}
 use Rattle.tfpg_evidence.specs.declared.step.Step.TheVariants.{Split, Cycle, Again}
-use Rattle.tfpg_clause.specs.Trees.{Judged, is_split, split_count, new_split}
-use Rattle.tfpg_clause.specs.Paths.{with_step, MovesTo}
+use Rattle.tfpg_clause.specs.Trees.{Judged, is_split, split_count}
+use Rattle.tfpg_clause.specs.Paths.{new_split, with_step, MovesTo}
 use Rattle.tfpg_clause.specs.declared.path.PathSplit.{PathSplit}
 use Rattle.tfpg_search.specs.Enough.{IsEventTime, IsNameAt, IsEnough}
 use Rattle.tfpg_search.specs.inside.Picks.{IsAllowed}
 use Rattle.tfpg_search.specs.inside.ClauseLaws.{ClauseLaws}
 use Rattle.tfpg_search.specs.inside.Moves.{IsSearchStepAt, Leads, LeadsTo}
-use Rattle.tfpg_search.proofs.steps.DistinctNames.{split_name, names_after}
+use Rattle.tfpg_search.proofs.steps.DistinctNames.{split_name, names_after, AreDistinct}
 use Rattle.tfpg_search.proofs.steps.RightSteps.{after_step, distinct_path}
 use Rattle.tfpg_base.proofs.lists.Pigeons.{length-le_contained}
 use Rattle.tfpg_search.proofs.budget.Measure.{weight, weight_some, weight_limit, AreFew, split_lowers, closing_lowers}
 use Rattle.tfpg_search.proofs.steps.PathAfter.{Moved, moved_by}
 use Rattle.tfpg_clause.specs.Case.{Case}
-use Rattle.tfpg_search.specs.Live.{HasDistinctNames}
 
 module _ (laws : ClauseLaws) (case : Case) (now_is : IsEventTime case.log (now_of case.log)) (budget : ℕ) (enough : IsEnough case.graph case.log budget) where
   abbrev a : ℕ
@@ -54,7 +53,7 @@ module _ (laws : ClauseLaws) (case : Case) (now_is : IsEventTime case.log (now_o
 
   short : (path : List PathSplit) (earlier : List Judged) → AreLedTo path earlier → length path ≤ n
   short path earlier stands =
-      let distinct : HasDistinctNames path = distinct_path laws case path earlier stands.leads.0 stands.leads.1 in
+      let distinct : AreDistinct path = distinct_path laws case path earlier stands.leads.0 stands.leads.1 in
       omega (arith, length-map path split_name, short_names (map split_name path) distinct stands.names)
 
   -- ---- one step

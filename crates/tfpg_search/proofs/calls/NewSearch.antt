@@ -11,7 +11,8 @@ use Rattle.tfpg_log.specs.Log.{Logbook, GoesOn, IsOrdered, first_events}
 use Rattle.tfpg_evidence.specs.declared.reason.Reason.TheVariants.{Zero, Top}
 use Rattle.tfpg_base.specs.Bounds.{at_most, at_least}
 use Rattle.tfpg_clause.specs.Facts.{fact}
-use Rattle.tfpg_clause.specs.Trees.{Judged, IsPartial, IsPresentLeaf, stated}
+use Rattle.tfpg_clause.specs.Trees.{Judged, Place, IsPartial, IsPresentLeaf}
+use Rattle.tfpg_clause.specs.inside.MarkedTrees.{stated_on}
 use Rattle.tfpg_clause.specs.Laws.{FrontsOfPartialTreesArePartial, PartialTreesHaveAPresentLeaf, PresentLeavesAreAlone, PresentLeavesStay}
 use Rattle.tfpg_clause.specs.declared.path.PathSplit.{PathSplit}
 use Rattle.tfpg_clause.specs.Order.{horizon_of}
@@ -25,25 +26,27 @@ use Rattle.tfpg_search.specs.Represents.{SearchRepresents}
 use Rattle.tfpg_search.specs.inside.ClauseLaws.{ClauseLaws}
 use Rattle.tfpg_search.proofs.leaves.AtItsLeaf.{restated, fact_stated}
 use Rattle.tfpg_clause.specs.Case.{Case, case_of, at_log}
+use Rattle.tfpg_clause.proofs.trees.PresentLeaf.{leaf_of_none}
 
--- Without a step no name stands twice, where the one present leaf has an empty path.
-pub none_twice : (case : Case) → ((path : List PathSplit) → IsPresentLeaf case [] path → [] ≡ path) → HasNoNameTwice case []
-none_twice case begins [] back path is leaf = subst HasDistinctNames (begins path leaf) (λ i j d before inside. absurd (omega (arith, inside)))
-none_twice case begins (first ∷ front) back path is leaf = cc
+-- Without a step no name stands twice, since the one present leaf is the root.
+pub none_twice : (case : Case) → HasNoNameTwice case []
+none_twice case [] back place is leaf =
+    subst HasDistinctNames (ap (λ (p : Place). p.path) (sym (leaf_of_none case place leaf))) (λ i j d before inside. absurd (omega (arith, inside)))
+none_twice case (first ∷ front) back place is leaf = cc
 
 module _ (leaf_there : PartialTreesHaveAPresentLeaf) (one_leaf : PresentLeavesAreAlone) (leaf_stays : PresentLeavesStay)
     (case : Case) (later : Logbook) (ordered : IsOrdered later) (goes_on : GoesOn case.log later) (steps : List Judged) where
   -- No name stands twice at a log that goes on, where each front that has a present leaf there was a partial tree before.
-  pub names_stay : ((front back : List Judged) (path : List PathSplit) → steps ≡ front ++ back → IsPresentLeaf (at_log case later) front path → IsPartial case front)
+  pub names_stay : ((front back : List Judged) (place : Place) → steps ≡ front ++ back → IsPresentLeaf (at_log case later) front place → IsPartial case front)
       → HasNoNameTwice case steps → HasNoNameTwice (at_log case later) steps
-  names_stay fronts names front back path is leaf =
-      let there = leaf_there case front (fronts front back path is leaf) in
-      let same : there.0 ≡ path = one_leaf (at_log case later) front there.0 path (leaf_stays case later front there.0 ordered goes_on there.1) leaf in
-      subst HasDistinctNames same (names front back there.0 is there.1)
+  names_stay fronts names front back place is leaf =
+      let there = leaf_there case front (fronts front back place is leaf) in
+      let alike = one_leaf (at_log case later) front there.0 place (leaf_stays case later front there.0 ordered goes_on there.1) leaf in
+      subst HasDistinctNames alike.0 (names front back there.0 is there.1)
 
   -- So it is for the steps of a partial tree, whose fronts are partial trees.
   pub names_of_partial : FrontsOfPartialTreesArePartial → IsPartial case steps → HasNoNameTwice case steps → HasNoNameTwice (at_log case later) steps
-  names_of_partial partial_front partial = names_stay (λ front back path is leaf. partial_front case front back (subst (IsPartial case) is partial))
+  names_of_partial partial_front partial = names_stay (λ front back place is leaf. partial_front case front back (subst (IsPartial case) is partial))
 
 module _ (graph : Tfpg) (reach : List ℕ) where
   pub zero_is : (log : Logbook) (node : ℕ) → node < length graph.nodes → fact (case_of graph log reach) (Zero node) ≡ Some (at_least node 0)
@@ -60,10 +63,8 @@ module _ (graph : Tfpg) (reach : List ℕ) where
       subst (λ (s : SearchState). SearchRepresents graph (first_events log 0) s []) (sym same)
       (record {
         seen = refl;
-        leaf = laws.leaf_begins (case_of graph (first_events log 0) reach);
-        names =
-            none_twice (case_of graph (first_events log 0) reach)
-            (λ path leaf. laws.one_leaf (case_of graph (first_events log 0) reach) [] [] path (laws.leaf_begins (case_of graph (first_events log 0) reach)) leaf);
+        leaf = laws.path_begins (case_of graph (first_events log 0) reach);
+        names = none_twice (case_of graph (first_events log 0) reach);
         horizons = All-nil (λ (split : PathSplit). IsEventTime (first_events log 0) (horizon_of split.name));
         system = record {
           reach_is = is_reach;
@@ -71,7 +72,7 @@ module _ (graph : Tfpg) (reach : List ℕ) where
           allowed = All-nil (IsAllowed graph (first_events log 0));
           range = All-nil IsInRange;
           stated =
-              restated (fact (case_of graph (first_events log 0) reach)) (fact (case_of graph (first_events log 0) reach)) (stated (case_of graph (first_events log 0) reach) []) search.leaf is_stated
+              restated (fact (case_of graph (first_events log 0) reach)) (fact (case_of graph (first_events log 0) reach)) (stated_on (case_of graph (first_events log 0) reach) []) search.leaf is_stated
               (λ r c states. fact_stated graph (first_events log 0) reach [] r c states)
               (λ index r c there states. fact_stated graph (first_events log 0) reach [] r c states);
           picks = record { few = omega arith; many = omega arith; counts = λ split before there. cc; reasons = picks };

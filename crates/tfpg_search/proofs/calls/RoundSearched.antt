@@ -92,7 +92,7 @@ module _ (laws : ClauseLaws) (graph : Tfpg) (log : Logbook) (budget : ℕ) (old 
   module _ (earlier : List Judged) (represented : SearchRepresents graph (first_events log old.seen) old earlier) where
     at_start : LeadsTo old_case earlier (Some old.path)
     at_start = (
-      laws.leaf_stays (case_of_search graph (first_events log old.seen) old) log earlier old.path ordered (laws.first log old.seen) represented.leaf,
+      laws.path_stays (case_of_search graph (first_events log old.seen) old) log earlier old.path ordered (laws.first log old.seen) represented.leaf,
       names_of_partial laws.leaf_there laws.one_leaf laws.leaf_stays (case_of_search graph (first_events log old.seen) old) log ordered (laws.first log old.seen) earlier
           laws.partial_front represented.leaf.partial represented.names,
       represented.system.range,

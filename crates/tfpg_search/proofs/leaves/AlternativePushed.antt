@@ -27,7 +27,7 @@ use Rattle.tfpg_search.proofs.stated_system.PicksEntered.{IsNext-later}
 use Rattle.tfpg_search.specs.inside.Leaving.{constraint_count_at, Leaves, Pushing, PushesOne}
 use Rattle.tfpg_search.specs.SearchState.{SearchState}
 use Rattle.tfpg_base.proofs.lists.Choices.{number_in, number_out}
-use Rattle.tfpg_clause.specs.Trees.{picked, stated}
+use Rattle.tfpg_clause.specs.inside.MarkedTrees.{picked_on, stated_on}
 use Rattle.tfpg_clause.specs.Case.{Case, case_of}
 
 -- ---- leaving
@@ -40,7 +40,7 @@ leaves_none entered kept leaf count is not_less =
 -- ---- pushing
 
 -- each constraint on a path is small
-pub picked_small : ClauseLaws → (graph : Tfpg) (log : Logbook) → IsValid graph → (path : List PathSplit) (split number : ℕ) (c : Constraint) → picked graph log path split number ≡ Some c → IsOver (length graph.nodes) c
+pub picked_small : ClauseLaws → (graph : Tfpg) (log : Logbook) → IsValid graph → (path : List PathSplit) (split number : ℕ) (c : Constraint) → picked_on graph log path split number ≡ Some c → IsOver (length graph.nodes) c
 picked_small laws graph log valid path zero number c is = cc
 picked_small laws graph log valid path (suc k) number c is = by (slice_get path k) is
   where
@@ -112,11 +112,11 @@ module _ (graph : Tfpg) (log : Logbook) (path : List PathSplit) where
       upto None is some = cc
       upto (Some c) is some = (number_in (alternative_of graph log taken) number c is).1
 
-  pub at_most_there : (split number : ℕ) → IsTrue (is_some (picked graph log path split number)) → number ≤ constraint_count_at graph log path split
+  pub at_most_there : (split number : ℕ) → IsTrue (is_some (picked_on graph log path split number)) → number ≤ constraint_count_at graph log path split
   at_most_there zero number some = cc
   at_most_there (suc k) number some = (numbers_by (slice_get path k) number).0 some
 
-  pub none_there : (split number : ℕ) → picked graph log path split number ≡ None → 1 ≤ number → constraint_count_at graph log path split < number
+  pub none_there : (split number : ℕ) → picked_on graph log path split number ≡ None → 1 ≤ number → constraint_count_at graph log path split < number
   none_there zero number none low = omega arith
   none_there (suc k) number none low = (numbers_by (slice_get path k) number).1 none low
 
@@ -125,25 +125,25 @@ module _ (case : Case) (path : List PathSplit) (old : Leaf) where
   Pushed new = Pushing case path old new
 
   -- nothing is pushed, whatever is counted
-  pub pushing_same : (new : Leaf) (calls : ℕ) → new ≡ record old { calls = calls } → IsStated (fact case) (stated case path) old → Pushed new
+  pub pushing_same : (new : Leaf) (calls : ℕ) → new ≡ record old { calls = calls } → IsStated (fact case) (stated_on case path) old → Pushed new
   pushing_same new calls same is_stated = subst Pushed (sym same) (record { variables = refl; stated = is_stated; more = ([], sym (append-nil (pick_reasons old))) })
 
   -- one is pushed
-  pub pushing_one : (new : Leaf) (reason : Reason) (c : Constraint) → IsStated (fact case) (stated case path) old
+  pub pushing_one : (new : Leaf) (reason : Reason) (c : Constraint) → IsStated (fact case) (stated_on case path) old
       → new.demands.bounds ≡ old.demands.bounds
       → ((facts stated : Reason → Option Constraint) → IsStated facts stated old → stated reason ≡ Some c → IsStated facts stated new)
-      → pick_reasons new ≡ pick_reasons old ++ reason ∷ [] → stated case path reason ≡ Some c → Pushed new
+      → pick_reasons new ≡ pick_reasons old ++ reason ∷ [] → stated_on case path reason ≡ Some c → Pushed new
   pushing_one new reason c is_stated bounds keeps picks states = record {
     variables = ap (λ (bs : List _). length bs) bounds;
-    stated = keeps (fact case) (stated case path) is_stated states;
+    stated = keeps (fact case) (stated_on case path) is_stated states;
     more = (reason ∷ [], picks);
   }
 
   -- one is pushed, or none at a fault
-  pub pushing_by : (new : Leaf) (reason : Reason) (c : Constraint) (result : Result (Unit {0}) AddFault) → IsStated (fact case) (stated case path) old
+  pub pushing_by : (new : Leaf) (reason : Reason) (c : Constraint) (result : Result (Unit {0}) AddFault) → IsStated (fact case) (stated_on case path) old
       → new.demands.bounds ≡ old.demands.bounds
       → ((facts stated : Reason → Option Constraint) → IsStated facts stated old → stated reason ≡ Some c → IsStated facts stated new)
-      → OnOk result (pick_reasons new ≡ pick_reasons old ++ reason ∷ []) → OnErr result (new ≡ record old { calls = new.calls }) → stated case path reason ≡ Some c → Pushed new
+      → OnOk result (pick_reasons new ≡ pick_reasons old ++ reason ∷ []) → OnErr result (new ≡ record old { calls = new.calls }) → stated_on case path reason ≡ Some c → Pushed new
   pushing_by new reason c (Ok done) is_stated bounds keeps picks same states = pushing_one new reason c is_stated bounds keeps picks states
   pushing_by new reason c (Err fault) is_stated bounds keeps picks same states = pushing_same new new.calls same is_stated
 
@@ -184,12 +184,12 @@ module _ (graph : Tfpg) (log : Logbook) (now loop : SearchState) (same : loop �
   loop_reach : loop.reach ≡ now.reach
   loop_reach = ap (λ (s : SearchState). s.reach) same
 
-  pub loop_stated : IsStated (fact (case_of graph log loop.reach)) (stated (case_of graph log loop.reach) loop.path) loop.leaf
+  pub loop_stated : IsStated (fact (case_of graph log loop.reach)) (stated_on (case_of graph log loop.reach) loop.path) loop.leaf
   loop_stated =
-      at_other loop now (sym loop_reach) (sym loop_path) (λ (r : List ℕ) (fs : List PathSplit). IsStated (fact (case_of graph log r)) (stated (case_of graph log r) fs) loop.leaf) pushing.stated
+      at_other loop now (sym loop_reach) (sym loop_path) (λ (r : List ℕ) (fs : List PathSplit). IsStated (fact (case_of graph log r)) (stated_on (case_of graph log r) fs) loop.leaf) pushing.stated
 
-  pub loop_closes : (fault : AddFault) → Closes (stated (case_of graph log loop.reach) loop.path) fault → Closes (stated (case_of graph log now.reach) now.path) fault
-  loop_closes fault closes = at_other now loop loop_reach loop_path (λ (r : List ℕ) (fs : List PathSplit). Closes (stated (case_of graph log r) fs) fault) closes
+  pub loop_closes : (fault : AddFault) → Closes (stated_on (case_of graph log loop.reach) loop.path) fault → Closes (stated_on (case_of graph log now.reach) now.path) fault
+  loop_closes fault closes = at_other now loop loop_reach loop_path (λ (r : List ℕ) (fs : List PathSplit). Closes (stated_on (case_of graph log r) fs) fault) closes
 
   module _ (new : SearchState) (new_same : new ≡ record loop { leaf = new.leaf }) (step : Pushing (case_of graph log loop.reach) loop.path loop.leaf new.leaf) where
     pub step_same : new ≡ record now { leaf = new.leaf }
@@ -201,15 +201,15 @@ module _ (graph : Tfpg) (log : Logbook) (now loop : SearchState) (same : loop �
         (at_other now loop loop_reach loop_path (λ (r : List ℕ) (fs : List PathSplit). Pushing (case_of graph log r) fs loop.leaf new.leaf) step)
 
     module _ (split before : ℕ) (picks : pick_reasons loop.leaf ≡ pick_reasons now.leaf ++ picks_from split 1 before) (within : before ≤ constraint_count_at graph log now.path split) where
-      pub step_last : PushesOne (picked graph log loop.path split (before + 1)) (Pick split (before + 1)) loop.leaf new.leaf false
+      pub step_last : PushesOne (picked_on graph log loop.path split (before + 1)) (Pick split (before + 1)) loop.leaf new.leaf false
           → pick_reasons new.leaf ≡ pick_reasons now.leaf ++ picks_from split 1 (constraint_count_at graph log now.path split)
       step_last last =
-          let none : picked graph log now.path split (before + 1) ≡ None = ap (λ (fs : List PathSplit). picked graph log fs split (before + 1)) (sym loop_path) ∙ last.1 in
+          let none : picked_on graph log now.path split (before + 1) ≡ None = ap (λ (fs : List PathSplit). picked_on graph log fs split (before + 1)) (sym loop_path) ∙ last.1 in
           let past = none_there graph log now.path split (before + 1) none (omega arith) in
           let all : before ≡ constraint_count_at graph log now.path split = grind arith in
           last.0 ∙ picks ∙ ap (λ (n : ℕ). pick_reasons now.leaf ++ picks_from split 1 n) all
 
-      pub step_picks : PushesOne (picked graph log loop.path split (before + 1)) (Pick split (before + 1)) loop.leaf new.leaf true
+      pub step_picks : PushesOne (picked_on graph log loop.path split (before + 1)) (Pick split (before + 1)) loop.leaf new.leaf true
           → pick_reasons new.leaf ≡ pick_reasons now.leaf ++ picks_from split 1 (before + 1)
       step_picks one =
           let next : suc before ≡ before + 1 = omega arith in
@@ -221,9 +221,9 @@ module _ (graph : Tfpg) (log : Logbook) (now loop : SearchState) (same : loop �
           ∙ ap (λ (rs : List Reason). pick_reasons now.leaf ++ rs) (sym (picks_push split 1 before))
           ∙ ap (λ (n : ℕ). pick_reasons now.leaf ++ picks_from split 1 n) next
 
-      pub step_within : PushesOne (picked graph log loop.path split (before + 1)) (Pick split (before + 1)) loop.leaf new.leaf true → before + 1 ≤ constraint_count_at graph log now.path split
+      pub step_within : PushesOne (picked_on graph log loop.path split (before + 1)) (Pick split (before + 1)) loop.leaf new.leaf true → before + 1 ≤ constraint_count_at graph log now.path split
       step_within one =
-          at_most_there graph log now.path split (before + 1) (subst (λ (fs : List PathSplit). IsTrue (is_some (picked graph log fs split (before + 1)))) loop_path one.1)
+          at_most_there graph log now.path split (before + 1) (subst (λ (fs : List PathSplit). IsTrue (is_some (picked_on graph log fs split (before + 1)))) loop_path one.1)
 
 -- all constraints were pushed
 pub all_pushed : ClauseLaws → (graph : Tfpg) (log : Logbook) → IsValid graph → (now : SearchState) (leaf : Leaf) (split before : ℕ) → MAX_CONSTRAINTS ≤ before → before ≤ constraint_count_at graph log now.path split

@@ -27,7 +27,8 @@ use Rattle.tfpg_search.proofs.steps.PathAfter.{all_cited}
 use Rattle.tfpg_clause.proofs.trees.Marks.{item_cited, length-cited}
 use Rattle.tfpg_base.proofs.lists.Choices.{option_and_then-some}
 use Rattle.tfpg_base.proofs.lists.Written.{slice_get-push_cases, slice_get-push_last, slice_get-append_some}
-use Rattle.tfpg_clause.specs.Trees.{picked, stated, new_split, cited_by}
+use Rattle.tfpg_clause.specs.inside.MarkedTrees.{picked_on, stated_on}
+use Rattle.tfpg_clause.specs.Paths.{new_split, cited_by}
 use Rattle.tfpg_clause.specs.Case.{case_of}
 
 -- ---- what is stated
@@ -53,13 +54,13 @@ module _ (graph : Tfpg) (log : Logbook) where
   of_same None other number c same is = cc
   of_same (Some f) other number c same is = ap (λ (o : Option PathSplit). of_split graph log o number) (same f refl) ∙ is
 
-  picked_push : (path : List PathSplit) (last : PathSplit) (split number : ℕ) (c : Constraint) → picked graph log path split number ≡ Some c → picked graph log (path ++ last ∷ []) split number ≡ Some c
+  picked_push : (path : List PathSplit) (last : PathSplit) (split number : ℕ) (c : Constraint) → picked_on graph log path split number ≡ Some c → picked_on graph log (path ++ last ∷ []) split number ≡ Some c
   picked_push path last zero number c is = cc
   picked_push path last (suc k) number c is = of_same (slice_get path k) (slice_get (path ++ last ∷ []) k) number c (λ f at. slice_get-append_some path (last ∷ []) k f at) is
 
   module _ (reach : List ℕ) where
-    pub states_more : (path others : List PathSplit) → ((split number : ℕ) (c : Constraint) → picked graph log path split number ≡ Some c → picked graph log others split number ≡ Some c)
-        → (r : Reason) (c : Constraint) → stated (case_of graph log reach) path r ≡ Some c → stated (case_of graph log reach) others r ≡ Some c
+    pub states_more : (path others : List PathSplit) → ((split number : ℕ) (c : Constraint) → picked_on graph log path split number ≡ Some c → picked_on graph log others split number ≡ Some c)
+        → (r : Reason) (c : Constraint) → stated_on (case_of graph log reach) path r ≡ Some c → stated_on (case_of graph log reach) others r ≡ Some c
     states_more path others more (Pick split number) c is = more split number c is
     states_more path others more (Zero node) c is = is
     states_more path others more (Top node) c is = is
@@ -69,7 +70,7 @@ module _ (graph : Tfpg) (log : Logbook) where
     states_more path others more (Quiet event node) c is = is
 
     -- a fact is stated on any path
-    pub fact_stated : (path : List PathSplit) (r : Reason) (c : Constraint) → fact (case_of graph log reach) r ≡ Some c → stated (case_of graph log reach) path r ≡ Some c
+    pub fact_stated : (path : List PathSplit) (r : Reason) (c : Constraint) → fact (case_of graph log reach) r ≡ Some c → stated_on (case_of graph log reach) path r ≡ Some c
     fact_stated path (Pick split number) c is = cc
     fact_stated path (Zero node) c is = is
     fact_stated path (Top node) c is = is
@@ -81,7 +82,7 @@ module _ (graph : Tfpg) (log : Logbook) where
   module _ (old : SearchState) (at : IsAtItsLeaf graph log old) where
     -- ---- the system changes, and its picks stay
 
-    pub leaf_stands : (leaf : Leaf) → length leaf.demands.bounds ≡ length old.leaf.demands.bounds → IsStated (fact (case_of graph log old.reach)) (stated (case_of graph log old.reach) old.path) leaf
+    pub leaf_stands : (leaf : Leaf) → length leaf.demands.bounds ≡ length old.leaf.demands.bounds → IsStated (fact (case_of graph log old.reach)) (stated_on (case_of graph log old.reach) old.path) leaf
         → pick_reasons leaf ≡ pick_reasons old.leaf → IsAtItsLeaf graph log (record old { leaf = leaf })
     leaf_stands leaf variables is_stated reasons = record {
       reach_is = at.reach_is;
@@ -94,7 +95,7 @@ module _ (graph : Tfpg) (log : Logbook) where
 
     -- ---- splits on the path are cited
 
-    cited_stated : (reasons : List Reason) (r : Reason) (c : Constraint) → stated (case_of graph log old.reach) old.path r ≡ Some c → stated (case_of graph log old.reach) (cited_by reasons old.path) r ≡ Some c
+    cited_stated : (reasons : List Reason) (r : Reason) (c : Constraint) → stated_on (case_of graph log old.reach) old.path r ≡ Some c → stated_on (case_of graph log old.reach) (cited_by reasons old.path) r ≡ Some c
     cited_stated reasons r c is =
         states_more old.reach old.path (cited_by reasons old.path)
         (λ split number c is.
@@ -110,7 +111,7 @@ module _ (graph : Tfpg) (log : Logbook) where
           allowed = all_cited (IsAllowed graph log) (λ split cited allowed. allowed) 1 reasons old.path at.allowed;
           range = all_cited IsInRange (λ split cited is. record { first = is.first; last = is.last }) 1 reasons old.path at.range;
           stated =
-              restated (fact (case_of graph log old.reach)) (stated (case_of graph log old.reach) old.path) (stated (case_of graph log old.reach) (cited_by reasons old.path)) old.leaf at.stated
+              restated (fact (case_of graph log old.reach)) (stated_on (case_of graph log old.reach) old.path) (stated_on (case_of graph log old.reach) (cited_by reasons old.path)) old.leaf at.stated
               (λ r c is. fact_stated old.reach (cited_by reasons old.path) r c is)
               (λ index r c there is. cited_stated reasons r c is);
           picks = record {
@@ -134,7 +135,7 @@ module _ (graph : Tfpg) (log : Logbook) where
           allowed = All-push (IsAllowed graph log) old.path taken at.allowed counted;
           range = range_push graph log old.path name count at.range some;
           stated =
-              restated (fact (case_of graph log old.reach)) (stated (case_of graph log old.reach) old.path) (stated (case_of graph log old.reach) (old.path ++ taken ∷ [])) old.leaf at.stated
+              restated (fact (case_of graph log old.reach)) (stated_on (case_of graph log old.reach) old.path) (stated_on (case_of graph log old.reach) (old.path ++ taken ∷ [])) old.leaf at.stated
               (λ r c is. fact_stated old.reach (old.path ++ taken ∷ []) r c is)
               (λ index r c there is. states_more old.reach old.path (old.path ++ taken ∷ []) (picked_push old.path taken) r c is);
           picks = record {
@@ -225,4 +226,4 @@ module _ (graph : Tfpg) (log : Logbook) where
         let back : pick_reasons left ≡ pick_reasons old.leaf =
         gone.1 ∙ ap (λ (rs : List Reason). take count rs) pushing.more.1 ∙ take_at (pick_reasons old.leaf) pushing.more.0 count refl in
         subst (λ (es : List ℕ). IsAtItsLeaf graph log (record old { entered = es; leaf = left })) (sym (take_at old.entered (count ∷ []) (length old.entered) refl))
-        (leaf_stands left (gone.0.variables ∙ pushing.variables) (gone.0.stated (fact (case_of graph log old.reach)) (stated (case_of graph log old.reach) old.path) pushing.stated) back)
+        (leaf_stands left (gone.0.variables ∙ pushing.variables) (gone.0.stated (fact (case_of graph log old.reach)) (stated_on (case_of graph log old.reach) old.path) pushing.stated) back)

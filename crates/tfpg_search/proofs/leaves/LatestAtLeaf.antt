@@ -28,8 +28,10 @@ use Rattle.tfpg_base.proofs.lists.Elements.{All-from_indexes}
 use Rattle.tfpg_search.proofs.facts.FactsAdded.{facts_met}
 use Rattle.tfpg_search.proofs.work.BoundsGiven.{given_says}
 use Rattle.tfpg_search.proofs.leaves.PicksOfPath.{picks_have}
-use Rattle.tfpg_clause.specs.Trees.{picked, stated}
+use Rattle.tfpg_clause.specs.inside.MarkedTrees.{picked_on, stated_on}
 use Rattle.tfpg_clause.specs.Case.{case_of}
+use Rattle.tfpg_clause.specs.Paths.{chosen_on}
+use Rattle.tfpg_clause.proofs.trees.Unmarked.{picked_same}
 use Rattle.tfpg_search.specs.Solutions.{SolvesAt, IsLatestAt}
 
 -- the reason by which something is named
@@ -41,7 +43,7 @@ named_fact facts reasons (Given tag) c is = let found = option_and_then-some fac
 module _ (laws : ClauseLaws) (graph : Tfpg) (log : Logbook) (of : IsLogOf graph log) (search : SearchState) (at : IsAtItsLeaf graph log search) (loaded : IsLoaded graph log search)
     (as_many : length search.leaf.demands.picks ≡ length (pick_reasons search.leaf)) where
   abbrev states : Reason → Option Constraint
-  states = stated (case_of graph log search.reach) search.path
+  states = stated_on (case_of graph log search.reach) search.path
 
   all_picks : pick_reasons search.leaf ≡ picks_of graph log search.path
   all_picks =
@@ -49,7 +51,7 @@ module _ (laws : ClauseLaws) (graph : Tfpg) (log : Logbook) (of : IsLogOf graph 
 
   module _ (times : List ℕ) (solution : IsSolution search.leaf.demands times) where
     -- the constraint of each pick on the path is met
-    pick_met : (i split number : ℕ) (c : Constraint) → slice_get (pick_reasons search.leaf) i ≡ Some (Pick split number) → picked graph log search.path split number ≡ Some c → Meets times c
+    pick_met : (i split number : ℕ) (c : Constraint) → slice_get (pick_reasons search.leaf) i ≡ Some (Pick split number) → picked_on graph log search.path split number ≡ Some c → Meets times c
     pick_met i split number c there is =
         let within : i < length search.leaf.demands.picks = let w = slice_get_within (pick_reasons search.leaf) i (Pick split number) there in omega arith in
         let unread : PickOf = record { constraint = c; tag = 0 } in
@@ -60,7 +62,7 @@ module _ (laws : ClauseLaws) (graph : Tfpg) (log : Logbook) (of : IsLogOf graph 
         let same : c ≡ pick.constraint = cc in
         subst (Meets times) (sym same) (All-get_or (λ (p : PickOf). Meets times p.constraint) search.leaf.demands.picks i unread within solution.met)
 
-    picks_met : (split number : ℕ) (c : Constraint) → picked graph log search.path split number ≡ Some c → Meets times c
+    picks_met : (split number : ℕ) (c : Constraint) → picked_on graph log search.path split number ≡ Some c → Meets times c
     picks_met zero number c is = absurd cc
     picks_met (suc k) number c is =
         let same_split : 1 + k ≡ suc k = omega arith in
@@ -69,18 +71,18 @@ module _ (laws : ClauseLaws) (graph : Tfpg) (log : Logbook) (of : IsLogOf graph 
         ap (λ (rs : List Reason). slice_get rs have.0) all_picks ∙ have.1 ∙ ap (λ (n : ℕ). Some (Pick n number)) same_split in
         pick_met have.0 (suc k) number c there is
 
-    solves : SolvesAt (case_of graph log search.reach) search.path times
+    solves : SolvesAt (case_of graph log search.reach) (chosen_on search.path) times
     solves = record {
       one_each = solution.complete ∙ at.variables;
       facts = λ reason constraint is.
           facts_met graph log of laws search.reach search.leaf.demands at.variables
           (λ node within. given_says (case_of graph log search.reach) search.leaf loaded.bounds node) reason constraint is times solution;
-      picks = picks_met;
+      picks = λ split number c is. picks_met split number c (sym (picked_same graph log search.path split number) ∙ is);
     }
 
-  module _ (times : List ℕ) (solves : SolvesAt (case_of graph log search.reach) search.path times) where
+  module _ (times : List ℕ) (solves : SolvesAt (case_of graph log search.reach) (chosen_on search.path) times) where
     met_by_reason : (r : Reason) (c : Constraint) → states r ≡ Some c → Meets times c
-    met_by_reason (Pick split number) c is = solves.picks split number c is
+    met_by_reason (Pick split number) c is = solves.picks split number c (picked_same graph log search.path split number ∙ is)
     met_by_reason (Zero node) c is = solves.facts (Zero node) c is
     met_by_reason (Top node) c is = solves.facts (Top node) c is
     met_by_reason (Unreached node horizon) c is = solves.facts (Unreached node horizon) c is
@@ -105,7 +107,7 @@ module _ (laws : ClauseLaws) (graph : Tfpg) (log : Logbook) (of : IsLogOf graph 
     }
 
   -- The latest solution of the system is the latest at the leaf.
-  pub latest_here : (times : List ℕ) → IsLatest search.leaf.demands times → IsLatestAt (case_of graph log search.reach) search.path times
+  pub latest_here : (times : List ℕ) → IsLatest search.leaf.demands times → IsLatestAt (case_of graph log search.reach) (chosen_on search.path) times
   latest_here times latest = record {
     solves = solves times latest.solution;
     latest = λ other also node within.

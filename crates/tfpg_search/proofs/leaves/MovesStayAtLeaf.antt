@@ -1,6 +1,7 @@
 -- After each move the search stands at its leaf, and its steps lead there.
 use Rattle.std.proofs.Common.{◌≡◌, ℕ, ◌+◌, ◌-◌, ◌<◌, List, [], ◌∷◌, ◌++◌, length, take, Option, Some, None, sym, ap, subst, ◌∙◌}
-use Rattle.std.specs.Prelude.{slice_get, Result, Ok, Err, OnOk, IfErr}
+use Rattle.std.specs.Prelude.{slice_get, map, Result, Ok, Err, OnOk, IfErr}
+use Rattle.tfpg_base.specs.Choice.{each_of}
 use Rattle.tfpg_base.specs.declared.constraint.Constraint.{Constraint}
 use Rattle.tfpg_graph.specs.Graph.{Tfpg}
 use Rattle.tfpg_log.specs.Log.{Logbook}
@@ -12,7 +13,7 @@ use Rattle.tfpg_clause.specs.Facts.{fact}
 use Rattle.tfpg_clause.specs.Clauses.{count_of}
 use Rattle.tfpg_search.specs.declared.add_fault.AddFault.{AddFault}
 use Rattle.tfpg_search.specs.inside.Closing.{Closes, IsSimpleCycle}
-use Rattle.tfpg_clause.specs.Paths.{next_leaf, above_last, MovesTo, IsReusable}
+use Rattle.tfpg_clause.specs.Paths.{chosen_on, new_split, cited_by, next_leaf, above_last, MovesTo, IsMarkedReusable}
 use Rattle.tfpg_clause.specs.declared.path.PathSplit.{PathSplit}
 use Rattle.tfpg_search.specs.inside.Leaf.{Leaf, pick_reasons, IsStated}
 use Rattle.tfpg_search.specs.inside.Picks.{picks_from}
@@ -27,8 +28,10 @@ use Rattle.tfpg_search.proofs.leaves.AlternativePushed.{at_other}
 use Rattle.tfpg_search.proofs.leaves.AtItsLeaf.{leaf_stands, cited_stands, split_stands, enter_stands, left_again}
 use Rattle.tfpg_search.proofs.leaves.NextLeaf.{next_stands, next_some, next_fewer, untaken_cited}
 use Rattle.tfpg_search.proofs.steps.PathAfter.{Moved, moved_by}
-use Rattle.tfpg_clause.specs.Trees.{split_count, stated, new_split, cited_by}
+use Rattle.tfpg_clause.specs.Trees.{split_count}
+use Rattle.tfpg_clause.specs.inside.MarkedTrees.{stated_on}
 use Rattle.tfpg_clause.specs.Case.{case_of}
+use Rattle.tfpg_clause.proofs.trees.Unmarked.{closed_by, stated_same}
 use Rattle.tfpg_search.specs.Live.{IsLiveAt}
 use Rattle.tfpg_search.specs.Searched.{call_of}
 
@@ -39,7 +42,7 @@ module _ (graph : Tfpg) (log : Logbook) (old : SearchState) (at : IsAtItsLeaf gr
 
   -- ---- a split
 
-  pub split_ok : (new : SearchState) (after : List Step) (name : ClauseName) (count : ℕ) → HasEnteredAll old → IsLiveAt (case_of_search graph log old) old.path name → (IsReusable old.path → ⊥)
+  pub split_ok : (new : SearchState) (after : List Step) (name : ClauseName) (count : ℕ) → HasEnteredAll old → IsLiveAt (case_of_search graph log old) (chosen_on old.path) name → (IsMarkedReusable old.path → ⊥)
       → count_of graph log name ≡ Some count → 0 < count → new ≡ record old { path = old.path ++ new_split name count ∷ [] } → after ≡ before ++ Split name ∷ []
       → IsAtItsLeaf graph log new × Grows graph log (call_of old new before after) 1 (Some new.path)
   split_ok new after name count all live none counted some same appended = (
@@ -50,16 +53,18 @@ module _ (graph : Tfpg) (log : Logbook) (old : SearchState) (at : IsAtItsLeaf gr
   -- ---- a closed leaf
 
   -- the move of a cycle, and of a subtree that is reused
-  pub cycle_moves : (reasons cited : List Reason) (end : Option (List PathSplit)) → IsSimpleCycle (stated (case_of_search graph log old) old.path) reasons → cited ≡ reasons
+  pub cycle_moves : (reasons cited : List Reason) (end : Option (List PathSplit)) → IsSimpleCycle (stated_on (case_of_search graph log old) old.path) reasons → cited ≡ reasons
       → next_leaf (cited_by cited old.path) ≡ end → MovesTo (case_of_search graph log old) old.path (Cycle reasons) end
   cycle_moves reasons cited end cycle same is =
-      (record { constraints = cycle.0; hold = cycle.1.are_named; negative_cycle = cycle.1.negative_cycle }, sym is ∙ ap (λ (rs : List Reason). next_leaf (cited_by rs old.path)) same)
+      (closed_by (case_of_search graph log old) old.path reasons (record { constraints = cycle.0; hold = cycle.1.are_named; negative_cycle = cycle.1.negative_cycle }), sym is ∙ ap (λ (rs : List Reason). next_leaf (cited_by rs old.path)) same)
 
-  pub cycle_is : (reasons : List Reason) → IsSimpleCycle (stated (case_of_search graph log old) old.path) reasons → (IsReusable old.path → ⊥)
+  pub cycle_is : (reasons : List Reason) → IsSimpleCycle (stated_on (case_of_search graph log old) old.path) reasons → (IsMarkedReusable old.path → ⊥)
       → IsSearchStepAt (case_of_search graph log old) old.path (Cycle reasons)
-  cycle_is reasons cycle none = (record { constraints = cycle.0; hold = cycle.1.are_named; simple = cycle.1.simple }, none)
+  cycle_is reasons cycle none =
+      let names = subst (λ (s : Reason → Option Constraint). each_of (map s reasons) ≡ Some cycle.0) (sym (stated_same (case_of_search graph log old) old.path)) cycle.1.are_named in
+      (record { constraints = cycle.0; hold = names; simple = cycle.1.simple }, none)
 
-  pub reuse_moves : (end : Option (List PathSplit)) → IsReusable old.path → next_leaf (above_last old.path) ≡ end → MovesTo (case_of_search graph log old) old.path Again end
+  pub reuse_moves : (end : Option (List PathSplit)) → IsMarkedReusable old.path → next_leaf (above_last old.path) ≡ end → MovesTo (case_of_search graph log old) old.path Again end
   reuse_moves end reusable is = (reusable, sym is)
 
   module _ (after : List Step) (step : Step) (closes : split_count (step ∷ []) ≡ 0) (is_step : IsSearchStepAt (case_of_search graph log old) old.path step) (appended : after ≡ before ++ step ∷ []) where
@@ -107,12 +112,12 @@ module _ (graph : Tfpg) (log : Logbook) (old : SearchState) (at : IsAtItsLeaf gr
 
 module _ (graph : Tfpg) (log : Logbook) (old : SearchState) (at : IsAtItsLeaf graph log old) where
   module _ (marked : SearchState) (marked_is : marked ≡ with_next_entered old) where
-    pub marked_stated : IsStated (fact (case_of graph log marked.reach)) (stated (case_of graph log marked.reach) marked.path) marked.leaf
+    pub marked_stated : IsStated (fact (case_of graph log marked.reach)) (stated_on (case_of graph log marked.reach) marked.path) marked.leaf
     marked_stated =
-        subst (λ (s : SearchState). IsStated (fact (case_of graph log s.reach)) (stated (case_of graph log s.reach) s.path) s.leaf) (sym marked_is) at.stated
+        subst (λ (s : SearchState). IsStated (fact (case_of graph log s.reach)) (stated_on (case_of graph log s.reach) s.path) s.leaf) (sym marked_is) at.stated
 
-    pub marked_closes : (fault : AddFault) → Closes (stated (case_of graph log marked.reach) marked.path) fault → Closes (stated (case_of graph log old.reach) old.path) fault
-    marked_closes fault closes = subst (λ (s : SearchState). Closes (stated (case_of graph log s.reach) s.path) fault) marked_is closes
+    pub marked_closes : (fault : AddFault) → Closes (stated_on (case_of graph log marked.reach) marked.path) fault → Closes (stated_on (case_of graph log old.reach) old.path) fault
+    marked_closes fault closes = subst (λ (s : SearchState). Closes (stated_on (case_of graph log s.reach) s.path) fault) marked_is closes
 
     module _ (pushed : SearchState) (pushed_is : pushed ≡ record marked { leaf = pushed.leaf }) (pushing : Pushing (case_of graph log marked.reach) marked.path marked.leaf pushed.leaf) where
       whole : pushed ≡ record old { entered = old.entered ++ length (pick_reasons old.leaf) ∷ []; leaf = pushed.leaf }
@@ -162,7 +167,7 @@ module _ (graph : Tfpg) (log : Logbook) (old : SearchState) (at : IsAtItsLeaf gr
       → ((stated : Reason → Option Constraint) → IsStated (fact (case_of graph log old.reach)) stated old.leaf → IsStated (fact (case_of graph log old.reach)) stated new.leaf)
       → IsAtItsLeaf graph log new × KeepsSet old new × (new.path ≡ old.path)
   facts_stand new new_is variables reasons keeps = (
-    subst (IsAtItsLeaf graph log) (sym new_is) (leaf_stands graph log old at new.leaf variables (keeps (stated (case_of graph log old.reach) old.path) at.stated) reasons),
+    subst (IsAtItsLeaf graph log) (sym new_is) (leaf_stands graph log old at new.leaf variables (keeps (stated_on (case_of graph log old.reach) old.path) at.stated) reasons),
     record { set = ap (λ (s : SearchState). s.set) new_is; reach = ap (λ (s : SearchState). s.reach) new_is; seen = ap (λ (s : SearchState). s.seen) new_is },
     ap (λ (s : SearchState). s.path) new_is,
   )
@@ -178,6 +183,6 @@ add_loaded graph log middle new same all at (Ok done) inside =
 add_loaded graph log middle new same all at (Err fault) inside = tt
 
 pub add_closes : (graph : Tfpg) (log : Logbook) (old middle : SearchState) → KeepsSet old middle → middle.path ≡ old.path → (result : Result (Unit {0}) AddFault)
-    → IfErr result (Closes (stated (case_of graph log middle.reach) middle.path)) → IfErr result (Closes (stated (case_of graph log old.reach) old.path))
+    → IfErr result (Closes (stated_on (case_of graph log middle.reach) middle.path)) → IfErr result (Closes (stated_on (case_of graph log old.reach) old.path))
 add_closes graph log old middle keeps path result closes =
-    at_other old middle keeps.reach path (λ (r : List ℕ) (fs : List PathSplit). IfErr result (Closes (stated (case_of graph log r) fs))) closes
+    at_other old middle keeps.reach path (λ (r : List ℕ) (fs : List PathSplit). IfErr result (Closes (stated_on (case_of graph log r) fs))) closes

@@ -23,7 +23,8 @@ use Rattle.tfpg_base.proofs.lists.Cuts.{slice_get-taken}
 use Rattle.tfpg_base.proofs.lists.Elements.{slice_get-none}
 use Rattle.tfpg_base.proofs.lists.Written.{slice_get-append_left, slice_get-after}
 use Rattle.tfpg_search.proofs.steps.PathAfter.{After, all_next}
-use Rattle.tfpg_clause.specs.Trees.{picked, stated, next_alternative, cited_from}
+use Rattle.tfpg_clause.specs.inside.MarkedTrees.{picked_on, stated_on}
+use Rattle.tfpg_clause.specs.Paths.{next_alternative, cited_from}
 use Rattle.tfpg_clause.specs.Case.{case_of}
 
 -- a split in its next alternative, the last of its path, has fewer that are not taken
@@ -84,20 +85,20 @@ module _ (graph : Tfpg) (log : Logbook) (old : SearchState) (at : IsAtItsLeaf gr
         ∙ ap (λ (rs : List Reason). take (length (picks_of graph log (take stay old.path))) rs) at.picks.reasons
         ∙ picks_take graph log 1 old.path stay (length old.entered) bound
 
-    states_next : (r : Reason) (c : Constraint) (k number : ℕ) → k < stay → r ≡ Pick (1 + k) number → stated (case_of graph log old.reach) old.path r ≡ Some c
-        → stated (case_of graph log old.reach) next r ≡ Some c
+    states_next : (r : Reason) (c : Constraint) (k number : ℕ) → k < stay → r ≡ Pick (1 + k) number → stated_on (case_of graph log old.reach) old.path r ≡ Some c
+        → stated_on (case_of graph log old.reach) next r ≡ Some c
     states_next r c k number less pick states =
         let same_split : 1 + k ≡ suc k = omega arith in
         let pick_is : r ≡ Pick (suc k) number = pick ∙ ap (λ (n : ℕ). Pick n number) same_split in
-        let before : picked graph log old.path (suc k) number ≡ Some c = ap (λ (x : Reason). stated (case_of graph log old.reach) old.path x) (sym pick_is) ∙ states in
+        let before : picked_on graph log old.path (suc k) number ≡ Some c = ap (λ (x : Reason). stated_on (case_of graph log old.reach) old.path x) (sym pick_is) ∙ states in
         let there : (f : PathSplit) → slice_get old.path k ≡ Some f → slice_get next k ≡ Some f =
         λ f found.
         ap (λ (fs : List PathSplit). slice_get fs k) after.next_is
         ∙ slice_get-append_left front (next_alternative after.taken ∷ []) k less
         ∙ sym (ap (λ (fs : List PathSplit). slice_get fs k) after.path_is ∙ slice_get-append_left front (after.taken ∷ after.deeper) k less)
         ∙ found in
-        let now : picked graph log next (suc k) number ≡ Some c = of_same graph log (slice_get old.path k) (slice_get next k) number c there before in
-        ap (λ (x : Reason). stated (case_of graph log old.reach) next x) pick_is ∙ now
+        let now : picked_on graph log next (suc k) number ≡ Some c = of_same graph log (slice_get old.path k) (slice_get next k) number c there before in
+        ap (λ (x : Reason). stated_on (case_of graph log old.reach) next x) pick_is ∙ now
 
     stands_there : (left : Leaf) → Leaves (slice_get old.entered stay) old.leaf left
         → IsAtItsLeaf graph log (record old { path = next; entered = take stay old.entered; leaf = left })
@@ -110,8 +111,8 @@ module _ (graph : Tfpg) (log : Logbook) (old : SearchState) (at : IsAtItsLeaf gr
           allowed = all_next (IsAllowed graph log) (λ taken more allowed. allowed) old.path next after at.allowed;
           range = all_next IsInRange range_next old.path next after at.range;
           stated =
-              restated (fact (case_of graph log old.reach)) (stated (case_of graph log old.reach) old.path) (stated (case_of graph log old.reach) next) left
-              (keeps.stated (fact (case_of graph log old.reach)) (stated (case_of graph log old.reach) old.path) at.stated)
+              restated (fact (case_of graph log old.reach)) (stated_on (case_of graph log old.reach) old.path) (stated_on (case_of graph log old.reach) next) left
+              (keeps.stated (fact (case_of graph log old.reach)) (stated_on (case_of graph log old.reach) old.path) at.stated)
               (λ r c states. fact_stated graph log old.reach next r c states)
               (λ index r c there states.
               let pick = picks_are graph log 1 front index r (ap (λ (fs : List PathSplit). slice_get (picks_of graph log fs) index) (sym front_is) ∙ ap (λ (rs : List Reason). slice_get rs index) (sym reasons) ∙ there) in

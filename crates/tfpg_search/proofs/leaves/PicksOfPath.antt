@@ -10,7 +10,7 @@ use Rattle.tfpg_evidence.specs.declared.reason.Reason.{Reason}
 use Rattle.tfpg_evidence.specs.declared.reason.Reason.TheVariants.{Pick}
 use Rattle.tfpg_clause.specs.Clauses.{alternatives, constraint_at}
 use Rattle.tfpg_base.specs.Choice.{item_at}
-use Rattle.tfpg_clause.specs.Trees.{cited_from}
+use Rattle.tfpg_clause.specs.Paths.{cited_from}
 use Rattle.tfpg_clause.specs.declared.path.PathSplit.{PathSplit}
 use Rattle.tfpg_search.specs.inside.Picks.{constraint_count, picks_from, picks_of_from}
 use Rattle.tfpg_base.proofs.lists.Choices.{number_in}

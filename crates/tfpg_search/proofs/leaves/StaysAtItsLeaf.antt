@@ -19,9 +19,11 @@ use Rattle.tfpg_search.specs.inside.Picks.{IsAllowed, constraint_count, picks_fr
 use Rattle.tfpg_search.specs.SearchState.{SearchState}
 use Rattle.tfpg_search.specs.inside.AtItsLeaf.{IsAtItsLeaf}
 use Rattle.tfpg_search.specs.inside.ClauseLaws.{ClauseLaws}
+use Rattle.tfpg_clause.specs.Paths.{chosen_on}
 use Rattle.tfpg_clause.proofs.logs.StaysAllowed.{alternatives_stay}
+use Rattle.tfpg_clause.proofs.trees.Unmarked.{stated_same}
 use Rattle.tfpg_search.proofs.leaves.AtItsLeaf.{fact_stated}
-use Rattle.tfpg_clause.specs.Trees.{stated}
+use Rattle.tfpg_clause.specs.inside.MarkedTrees.{stated_on}
 use Rattle.tfpg_clause.specs.Case.{case_of}
 
 module _ (laws : ClauseLaws) (graph : Tfpg) (earlier later : Logbook) (ordered : IsOrdered later) (goes_on : GoesOn earlier later) where
@@ -58,8 +60,8 @@ module _ (laws : ClauseLaws) (graph : Tfpg) (earlier later : Logbook) (ordered :
         by None none = cc
         by (Some r) some = still r c some
 
-    all_stated : (path : List PathSplit) (leaf : Leaf) → IsStated (fact (case_of graph earlier reach)) (stated (case_of graph earlier reach) path) leaf
-        → IsStated (fact (case_of graph later reach)) (stated (case_of graph later reach) path) leaf
+    all_stated : (path : List PathSplit) (leaf : Leaf) → IsStated (fact (case_of graph earlier reach)) (stated_on (case_of graph earlier reach) path) leaf
+        → IsStated (fact (case_of graph later reach)) (stated_on (case_of graph later reach) path) leaf
     all_stated path leaf is = record {
       wider = λ r c states. fact_stated graph later reach path r c states;
       bounds = record {
@@ -69,9 +71,11 @@ module _ (laws : ClauseLaws) (graph : Tfpg) (earlier later : Logbook) (ordered :
       picks = λ index pick there. through (slice_get (pick_reasons leaf) index) pick.constraint (is.picks index pick there);
     }
       where
-        through : (o : Option Reason) (c : Constraint) → option_and_then (stated (case_of graph earlier reach) path) o ≡ Some c → option_and_then (stated (case_of graph later reach) path) o ≡ Some c
+        through : (o : Option Reason) (c : Constraint) → option_and_then (stated_on (case_of graph earlier reach) path) o ≡ Some c → option_and_then (stated_on (case_of graph later reach) path) o ≡ Some c
         through None c none = cc
-        through (Some r) c some = laws.stated_stays (case_of graph earlier reach) later path r c ordered goes_on some
+        through (Some r) c some =
+            sym (λ i. stated_same (case_of graph later reach) path i r)
+            ∙ laws.stated_stays (case_of graph earlier reach) later (chosen_on path) r c ordered goes_on ((λ i. stated_same (case_of graph earlier reach) path i r) ∙ some)
 
   -- The search stands at its leaf at the later log, whatever it has seen.
   pub carried : (search : SearchState) (seen : ℕ) → IsAtItsLeaf graph earlier search → IsAtItsLeaf graph later (record search { seen = seen })

@@ -17,7 +17,10 @@ use Rattle.tfpg_evidence.specs.declared.reason.Reason.{Reason}
 use Rattle.tfpg_evidence.specs.declared.reason.Reason.TheVariants.{Zero, Top, Unreached, From, Upto, Quiet, Pick}
 use Rattle.tfpg_clause.specs.Case.{Case, case_of}
 use Rattle.tfpg_clause.specs.Facts.{fact}
-use Rattle.tfpg_clause.specs.Trees.{picked, stated}
+use Rattle.tfpg_clause.specs.Trees.{Chosen, stated}
+use Rattle.tfpg_clause.specs.Paths.{chosen_on}
+use Rattle.tfpg_clause.specs.inside.MarkedTrees.{picked_on, stated_on}
+use Rattle.tfpg_clause.proofs.trees.Unmarked.{picked_same, stated_same}
 use Rattle.tfpg_clause.specs.declared.path.PathSplit.{PathSplit}
 use Rattle.tfpg_clause.proofs.constraints.BoundsMet.{met_at_most, says_at_most, met_at_least, says_at_least}
 use Rattle.tfpg_clause.proofs.constraints.OneLowOneHigh.{low_there, high_there}
@@ -42,7 +45,7 @@ met_if_there times (Some there) = elim (Meets-decided times there) [
   | inr fails ↦ inr (λ all. fails (all there refl))
 ]
 
-module _ (case : Case) (path : List PathSplit) where
+module _ (case : Case) (path : List Chosen) where
   -- what solves meets what each reason states there
   pub stated_met : (times : List ℕ) → SolvesAt case path times → (reason : Reason) (constraint : Constraint) → stated case path reason ≡ Some constraint → Meets times constraint
   stated_met times solves (Pick split number) constraint is = solves.picks split number constraint is
@@ -98,7 +101,7 @@ module _ (graph : Tfpg) (log : Logbook) (reach : List ℕ) (of : IsLogOf graph l
 
   -- what the reason states is met
   abbrev IsMetBy : List ℕ → Reason → Type 0
-  IsMetBy times reason = (constraint : Constraint) → stated case path reason ≡ Some constraint → Meets times constraint
+  IsMetBy times reason = (constraint : Constraint) → stated_on case path reason ≡ Some constraint → Meets times constraint
 
   -- solving, by nodes and by the picks of the path
   abbrev PartsOf : List ℕ → Type 0
@@ -113,7 +116,7 @@ module _ (graph : Tfpg) (log : Logbook) (reach : List ℕ) (of : IsLogOf graph l
       (both_decided (length graph.nodes ≤ length times) (length times ≤ length graph.nodes) (le_decided (length graph.nodes) (length times)) (le_decided (length times) (length graph.nodes)))
       (both_decided ((node : ℕ) → node < length graph.nodes → node < length graph.nodes → KeepsFacts node times) (All (IsMetBy times) (picks_of graph log path))
       (all_below (λ node. node < length graph.nodes → KeepsFacts node times) (facts_decided times) (length graph.nodes))
-      (all_members_decided (IsMetBy times) (λ reason. met_if_there times (stated case path reason)) (picks_of graph log path)))
+      (all_members_decided (IsMetBy times) (λ reason. met_if_there times (stated_on case path reason)) (picks_of graph log path)))
 
   fact_met : (times : List ℕ) → PartsOf times → (reason : Reason) (constraint : Constraint) → fact case reason ≡ Some constraint → Meets times constraint
   fact_met times parts reason constraint is = ⊎_elim
@@ -123,7 +126,7 @@ module _ (graph : Tfpg) (log : Logbook) (reach : List ℕ) (of : IsLogOf graph l
       subst (Meets times) (sym high.is) (met_at_most times high.node high.bound ((parts.1.0 high.node high.within high.within).below reason high.bound (is ∙ ap Some high.is))))
       (fact_bounds graph log of reach constraint reason is)
 
-  pick_met : (times : List ℕ) → PartsOf times → (split number : ℕ) (constraint : Constraint) → picked graph log path split number ≡ Some constraint → Meets times constraint
+  pick_met : (times : List ℕ) → PartsOf times → (split number : ℕ) (constraint : Constraint) → picked_on graph log path split number ≡ Some constraint → Meets times constraint
   pick_met times parts zero number constraint is = absurd cc
   pick_met times parts (suc before) number constraint is =
       let same : 1 + before ≡ suc before = omega arith in
@@ -131,10 +134,10 @@ module _ (graph : Tfpg) (log : Logbook) (reach : List ℕ) (of : IsLogOf graph l
       All-at (IsMetBy times) (picks_of graph log path) have.0 (Pick (suc before) number) parts.1.1 (have.1 ∙ ap (λ (n : ℕ). Some (Pick n number)) same) constraint is
 
   -- Whether times solve is decided.
-  pub solves_decided : (times : List ℕ) → IsDecided (SolvesAt case path times)
+  pub solves_decided : (times : List ℕ) → IsDecided (SolvesAt case (chosen_on path) times)
   solves_decided times =
-      same_decided (PartsOf times) (SolvesAt case path times)
-      (λ parts. record { one_each = omega (arith, parts.0.0, parts.0.1); facts = fact_met times parts; picks = pick_met times parts })
+      same_decided (PartsOf times) (SolvesAt case (chosen_on path) times)
+      (λ parts. record { one_each = omega (arith, parts.0.0, parts.0.1); facts = fact_met times parts; picks = λ split number constraint is. pick_met times parts split number constraint (sym (picked_same graph log path split number) ∙ is) })
       (λ solves. (
         (omega (arith, solves.one_each), omega (arith, solves.one_each)),
         (
@@ -142,7 +145,7 @@ module _ (graph : Tfpg) (log : Logbook) (reach : List ℕ) (of : IsLogOf graph l
             above = λ reason bound is. says_at_least times node bound (solves.facts reason (at_least node bound) is);
             below = λ reason bound is. says_at_most times node bound (solves.facts reason (at_most node (pos bound)) is);
           },
-          All-from_members (IsMetBy times) (picks_of graph log path) (λ reason member. stated_met case path times solves reason),
+          All-from_members (IsMetBy times) (picks_of graph log path) (λ reason member constraint is. stated_met case (chosen_on path) times solves reason constraint ((λ i. stated_same case path i reason) ∙ is)),
         ),
       ))
       (parts_decided times)

@@ -14,12 +14,12 @@ unsettled_there case steps = (
   λ unsettled. violates unsettled.0 unsettled.1,
   λ violates.
       let first = first_violated case.graph case.log violates.times violates.name violates.at_now violates.violated in
-      (first.0, record { path = violates.path; leaf = violates.leaf; live = record { times = violates.times; latest = violates.latest; first = first.1 } }),
+      (first.0, record { place = violates.place; leaf = violates.leaf; live = record { times = violates.times; latest = violates.latest; first = first.1 } }),
 )
   where
     violates : (name : ClauseName) → IsLive case steps name → LatestSolutionViolates case steps
     violates name live = record {
-      path = live.path;
+      place = live.place;
       leaf = live.leaf;
       times = live.live.times;
       latest = live.live.latest;

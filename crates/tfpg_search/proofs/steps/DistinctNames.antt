@@ -13,16 +13,33 @@ use Rattle.tfpg_evidence.specs.declared.clause_name.ClauseName.{ClauseName}
 use Rattle.tfpg_clause.specs.Clauses.{alternatives, constraint_at, MeetsClause, Violates}
 use Rattle.tfpg_base.specs.Choice.{item_at}
 use Rattle.tfpg_evidence.specs.declared.reason.Reason.{Reason}
+use Rattle.tfpg_clause.specs.Trees.{Chosen}
 use Rattle.tfpg_clause.specs.declared.path.PathSplit.{PathSplit}
 use Rattle.tfpg_search.specs.inside.Picks.{IsAllowed, IsInRange, AreInRange}
 use Rattle.tfpg_base.proofs.lists.Elements.{All-front, All-from_indexes, AllPairs-front}
 use Rattle.tfpg_search.proofs.steps.PathAfter.{Moved, all_after}
-use Rattle.tfpg_clause.specs.Trees.{picked, new_split, next_alternative, cited_from}
+use Rattle.tfpg_clause.specs.inside.MarkedTrees.{picked_on}
+use Rattle.tfpg_clause.specs.Paths.{chosen_on, new_split, next_alternative, cited_from}
 use Rattle.tfpg_search.specs.Live.{HasDistinctNames}
 
 -- the name of a split
 abbrev pub split_name : PathSplit → ClauseName
 split_name split = split.name
+
+-- no name stands twice on a path with marks
+abbrev pub AreDistinct : List PathSplit → Type 0
+AreDistinct path = AllPairs ◌≢◌ (map split_name path)
+
+-- marks say nothing of names
+names_chosen : (path : List PathSplit) → map (λ (chosen : Chosen). chosen.name) (chosen_on path) ≡ map split_name path
+names_chosen [] = refl
+names_chosen (split ∷ deeper) = ap (λ (ns : List ClauseName). split.name ∷ ns) (names_chosen deeper)
+
+pub chosen_distinct : (path : List PathSplit) → AreDistinct path → HasDistinctNames (chosen_on path)
+chosen_distinct path distinct = subst (AllPairs ◌≢◌) (sym (names_chosen path)) distinct
+
+pub distinct_chosen : (path : List PathSplit) → HasDistinctNames (chosen_on path) → AreDistinct path
+distinct_chosen path distinct = subst (AllPairs ◌≢◌) (names_chosen path) distinct
 
 -- ---- the splits on allowed clauses, in one of their alternatives
 
@@ -64,7 +81,7 @@ module _ (graph : Tfpg) (log : Logbook) where
 
     -- A clause that the times violate is that of no split, where they meet each pick.
     pub new_name : (path : List PathSplit) (name : ClauseName) → AreInRange path → All (IsAllowed graph log) path
-        → ((split index : ℕ) (constraint : Constraint) → picked graph log path split index ≡ Some constraint → Meets times constraint)
+        → ((split index : ℕ) (constraint : Constraint) → picked_on graph log path split index ≡ Some constraint → Meets times constraint)
         → Violates graph log times name → All (λ (n : ClauseName). n ≢ name) (map split_name path)
     new_name path name range allowed picks violates =
         All-map (λ (n : ClauseName). n ≢ name) split_name path
@@ -76,7 +93,7 @@ module _ (graph : Tfpg) (log : Logbook) where
 
 -- ---- a new split, and the next one
 
-pub distinct_push : (path : List PathSplit) (taken : PathSplit) → HasDistinctNames path → All (λ (n : ClauseName). n ≢ taken.name) (map split_name path) → HasDistinctNames (path ++ taken ∷ [])
+pub distinct_push : (path : List PathSplit) (taken : PathSplit) → AreDistinct path → All (λ (n : ClauseName). n ≢ taken.name) (map split_name path) → AreDistinct (path ++ taken ∷ [])
 distinct_push path taken distinct fresh =
     subst (AllPairs ◌≢◌) (sym (map-append split_name path (taken ∷ [])))
     (all_pairs_push ◌≢◌ (map split_name path) taken.name distinct (λ k d within. All-get_or (λ (n : ClauseName). n ≢ taken.name) (map split_name path) k d within fresh))
@@ -112,7 +129,7 @@ names_after P path after is all =
     let front = names_front path after is in
     All-front P (map split_name after) front.0 (subst (All P) front.1 all)
 
-pub distinct_after : (path after : List PathSplit) → Moved path after → HasDistinctNames path → HasDistinctNames after
+pub distinct_after : (path after : List PathSplit) → Moved path after → AreDistinct path → AreDistinct after
 distinct_after path after is distinct =
     let front = names_front path after is in
     AllPairs-front ◌≢◌ (map split_name after) front.0 (subst (AllPairs ◌≢◌) front.1 distinct)

@@ -12,10 +12,10 @@ use Rattle.tfpg_evidence.specs.declared.reason.Reason.{Reason}
 use Rattle.tfpg_evidence.specs.declared.step.Step.{Step}
 use Rattle.tfpg_evidence.specs.declared.step.Step.TheVariants.{Split, Cycle, Again}
 use Rattle.tfpg_clause.specs.Case.{Case}
-use Rattle.tfpg_clause.specs.Paths.{next_leaf, above_last, MovesTo}
+use Rattle.tfpg_clause.specs.Paths.{next_alternative, cites, also_cited, cited_from, cited_by, next_leaf, above_last, MovesTo}
 use Rattle.tfpg_clause.proofs.trees.Marks.{cited_none}
 use Rattle.tfpg_clause.specs.declared.path.PathSplit.{PathSplit}
-use Rattle.tfpg_clause.specs.Trees.{split_count, next_alternative, cites, also_cited, cited_from, cited_by}
+use Rattle.tfpg_clause.specs.Trees.{split_count}
 
 -- The front stays, its next split has one more alternative and goes on to it, and the deeper splits are left.
 pub record After (path next : List PathSplit) : Type 0 where

@@ -7,61 +7,73 @@ use Rattle.tfpg_evidence.specs.declared.clause_name.ClauseName.{ClauseName}
 use Rattle.tfpg_evidence.specs.declared.step.Step.{Step}
 use Rattle.tfpg_evidence.specs.declared.step.Step.TheVariants.{Split, Cycle, Again}
 use Rattle.tfpg_clause.specs.Case.{Case}
-use Rattle.tfpg_clause.specs.Trees.{Judged, split_count, new_split, IsReusable, IsRefutation, IsPresentLeaf}
-use Rattle.tfpg_clause.specs.Paths.{judged_by, with_step, with_steps, MovesTo}
+use Rattle.tfpg_clause.specs.Trees.{Judged, Chosen, Place, split_count, IsRefutation, IsPresentLeaf}
+use Rattle.tfpg_clause.specs.Paths.{chosen_on, IsMarkedReusable, HasPath, IsPathOf, new_split, judged_by, with_step, with_steps, MovesTo}
 use Rattle.tfpg_clause.specs.declared.path.PathSplit.{PathSplit}
-use Rattle.tfpg_search.specs.Live.{IsLiveAt, IsLive, AllowsReuse, HasDistinctNames, HasNoNameTwice}
+use Rattle.tfpg_search.specs.Live.{IsLiveAt, IsLive, IsSimpleAt, AllowsReuse, HasDistinctNames, HasNoNameTwice}
 use Rattle.tfpg_search.specs.Searched.{IsSearchStep, AreSearchSteps}
 use Rattle.tfpg_search.specs.inside.Moves.{IsSearchStepAt, Leads, LeadsTo}
 use Rattle.tfpg_search.specs.inside.Picks.{IsAllowed}
 use Rattle.tfpg_search.specs.inside.ClauseLaws.{ClauseLaws}
 use Rattle.tfpg_base.proofs.lists.Cuts.{cut_last}
-use Rattle.tfpg_search.proofs.steps.DistinctNames.{new_name, distinct_push, distinct_after, range_after, range_push}
+use Rattle.tfpg_clause.proofs.trees.Unmarked.{picked_same}
+use Rattle.tfpg_search.proofs.steps.DistinctNames.{AreDistinct, chosen_distinct, distinct_chosen, new_name, distinct_push, distinct_after, range_after, range_push}
 use Rattle.tfpg_search.proofs.steps.PathAfter.{Moved, moved_by, all_after}
 
 module _ (laws : ClauseLaws) (case : Case) where
-  module _ (path : List PathSplit) (earlier : List Judged) (leaf : IsPresentLeaf case earlier path) where
-    pub live_here : (name : ClauseName) → IsLiveAt case path name → IsLive case earlier name
-    live_here name live = record { path = path; leaf = leaf; live = live }
+  module _ (path : List PathSplit) (earlier : List Judged) (has : HasPath case earlier path) where
+    -- the present leaf, of which it is the path
+    there : (place : Place) × IsPresentLeaf case earlier place × IsPathOf path place
+    there = laws.path_is case earlier path has
+
+    pub live_here : (name : ClauseName) → IsLiveAt case (chosen_on path) name → IsLive case earlier name
+    live_here name live = record { place = there.0; leaf = there.1; live = subst (λ (p : List Chosen). IsLiveAt case p name) there.2.chosen live }
 
     -- where no subtree is reusable at this leaf, none is after the steps
-    pub none_allowed : (IsReusable path → ⊥) → AllowsReuse case earlier → ⊥
-    none_allowed none allows = none (subst IsReusable (laws.one_leaf case earlier allows.path path allows.leaf leaf) allows.reusable)
+    pub none_allowed : (IsMarkedReusable path → ⊥) → AllowsReuse case earlier → ⊥
+    none_allowed none allows =
+        let alike = laws.one_leaf case earlier allows.place there.0 allows.leaf there.1 in
+        none (there.2.reusable.1 (alike.1.0 allows.reusable))
 
     right_here : (step : Step) → IsSearchStepAt case path step → IsSearchStep case earlier step
     right_here (Split name) is = (live_here name is.0, none_allowed is.1)
-    right_here (Cycle reasons) is = (record { path = path; leaf = leaf; simple = is.0 }, none_allowed is.1)
-    right_here Again is = record { path = path; leaf = leaf; reusable = is }
+    right_here (Cycle reasons) is = (
+      record { place = there.0; leaf = there.1; simple = subst (λ (p : List Chosen). IsSimpleAt case p reasons) there.2.chosen is.0 },
+      none_allowed is.1,
+    )
+    right_here Again is = record { place = there.0; leaf = there.1; reusable = there.2.reusable.0 is }
 
-    -- the names on any path of the leaf are those on this one
-    distinct_names : (other : List PathSplit) → IsPresentLeaf case earlier other → HasDistinctNames path → HasDistinctNames other
-    distinct_names other there distinct = subst HasDistinctNames (laws.one_leaf case earlier path other leaf there) distinct
+    -- the names on the path of the present leaf are those on this one
+    distinct_names : (other : Place) → IsPresentLeaf case earlier other → AreDistinct path → HasDistinctNames other.path
+    distinct_names other leaf distinct =
+        subst HasDistinctNames (there.2.chosen ∙ (laws.one_leaf case earlier there.0 other there.1 leaf).0) (chosen_distinct path distinct)
 
-    pub distinct_path : HasNoNameTwice case earlier → HasDistinctNames path
-    distinct_path names = names earlier [] path (sym (append-nil earlier)) leaf
+    pub distinct_path : HasNoNameTwice case earlier → AreDistinct path
+    distinct_path names = distinct_chosen path (subst HasDistinctNames (sym there.2.chosen) (names earlier [] there.0 (sym (append-nil earlier)) there.1))
 
   -- ---- one step
 
-  names_push : (earlier : List Judged) (step : Judged) → HasNoNameTwice case earlier → ((path : List PathSplit) → IsPresentLeaf case (earlier ++ step ∷ []) path → HasDistinctNames path)
+  names_push : (earlier : List Judged) (step : Judged) → HasNoNameTwice case earlier → ((place : Place) → IsPresentLeaf case (earlier ++ step ∷ []) place → HasDistinctNames place.path)
       → HasNoNameTwice case (earlier ++ step ∷ [])
-  names_push earlier step names last front back path is leaf =
+  names_push earlier step names last front back place is leaf =
       elim (cut_last earlier step front back is) [
-        | inl whole ↦ last path (subst (λ (steps : List Judged). IsPresentLeaf case steps path) whole leaf)
-        | inr before ↦ names front before.rest path before.is leaf
+        | inl whole ↦ last place (subst (λ (steps : List Judged). IsPresentLeaf case steps place) whole leaf)
+        | inr before ↦ names front before.rest place before.is leaf
       ]
 
   abbrev Here : List PathSplit → List Judged → Type 0
   Here path earlier = LeadsTo case earlier (Some path)
 
   after_split : (path : List PathSplit) (earlier : List Judged) → Here path earlier → (name : ClauseName) (next : Option (List PathSplit)) → MovesTo case path (Split name) next
-      → IsLiveAt case path name → LeadsTo case (with_step earlier case.log (Split name)) next
+      → IsLiveAt case (chosen_on path) name → LeadsTo case (with_step earlier case.log (Split name)) next
   after_split path earlier here name next moves live =
       let split : PathSplit = new_split name moves.0 in
       let steps : List Judged = with_step earlier case.log (Split name) in
-      let leaf : IsPresentLeaf case steps (path ++ split ∷ []) =
-      laws.leaf_moves case earlier path (path ++ split ∷ []) (Split name) here.0 (subst (MovesTo case path (Split name)) moves.2 moves) in
-      let fresh = new_name case.graph case.log live.times path name here.2 here.3 live.latest.solves.picks live.first.violated in
-      let distinct : HasDistinctNames (path ++ split ∷ []) = distinct_push path split (distinct_path path earlier here.0 here.1) fresh in
+      let leaf : HasPath case steps (path ++ split ∷ []) =
+      laws.path_moves case earlier path (path ++ split ∷ []) (Split name) here.0 (subst (MovesTo case path (Split name)) moves.2 moves) in
+      let fresh = new_name case.graph case.log live.times path name here.2 here.3
+      (λ number index constraint is. live.latest.solves.picks number index constraint (picked_same case.graph case.log path number index ∙ is)) live.first.violated in
+      let distinct : AreDistinct (path ++ split ∷ []) = distinct_push path split (distinct_path path earlier here.0 here.1) fresh in
       subst (LeadsTo case steps) (sym moves.2) (
         leaf,
         names_push earlier (judged_by case.log (Split name)) here.1 (λ other there. distinct_names (path ++ split ∷ []) steps leaf other there distinct),
@@ -80,8 +92,8 @@ module _ (laws : ClauseLaws) (case : Case) where
   after_closing path earlier here step (Some after) closes moves =
       let steps : List Judged = with_step earlier case.log step in
       let moved : Moved path after = moved_by case path after step closes moves in
-      let leaf : IsPresentLeaf case steps after = laws.leaf_moves case earlier path after step here.0 moves in
-      let distinct : HasDistinctNames after = distinct_after path after moved (distinct_path path earlier here.0 here.1) in (
+      let leaf : HasPath case steps after = laws.path_moves case earlier path after step here.0 moves in
+      let distinct : AreDistinct after = distinct_after path after moved (distinct_path path earlier here.0 here.1) in (
         leaf,
         names_push earlier (judged_by case.log step) here.1 (λ other there. distinct_names after steps leaf other there distinct),
         range_after path after here.2 moved,

@@ -4,7 +4,7 @@ use Rattle.tfpg_graph.specs.Graph.{Tfpg}
 use Rattle.tfpg_graph.specs.Reach.{IsReach}
 use Rattle.tfpg_log.specs.Log.{Logbook}
 use Rattle.tfpg_clause.specs.Facts.{fact}
-use Rattle.tfpg_clause.specs.Trees.{stated}
+use Rattle.tfpg_clause.specs.inside.MarkedTrees.{stated_on}
 use Rattle.tfpg_search.specs.SearchState.{SearchState, case_of_search}
 use Rattle.tfpg_search.specs.inside.Leaf.{pick_reasons, IsStated}
 use Rattle.tfpg_search.specs.inside.Picks.{IsAllowed, AreInRange, HasEntered}
@@ -25,6 +25,6 @@ pub record IsAtItsLeaf (graph : Tfpg) (log : Logbook) (search : SearchState) : T
   pub variables : length search.leaf.demands.bounds ≡ length graph.nodes
   pub allowed : All (IsAllowed graph log) search.path
   pub range : AreInRange search.path
-  pub stated : IsStated (fact (case_of_search graph log search)) (stated (case_of_search graph log search) search.path)
+  pub stated : IsStated (fact (case_of_search graph log search)) (stated_on (case_of_search graph log search) search.path)
       search.leaf
   pub picks : HasEntered graph log search.path search.entered search.leaf

@@ -7,7 +7,7 @@ use Rattle.tfpg_graph.specs.Graph.{Tfpg}
 use Rattle.tfpg_log.specs.Log.{Logbook}
 use Rattle.tfpg_clause.specs.Facts.{fact}
 use Rattle.tfpg_clause.specs.Case.{Case}
-use Rattle.tfpg_clause.specs.Trees.{stated}
+use Rattle.tfpg_clause.specs.inside.MarkedTrees.{stated_on}
 use Rattle.tfpg_clause.specs.declared.path.PathSplit.{PathSplit}
 use Rattle.tfpg_base.specs.Choice.{item_at}
 use Rattle.tfpg_search.specs.inside.Leaf.{Leaf, IsStated, pick_reasons}
@@ -30,7 +30,7 @@ Leaves (Some count) old new = KeepsBounds old new × (pick_reasons new ≡ take 
 -- Constraints of the alternatives on the path were pushed, or none: all is stated still, and the picks go on from the old ones.
 pub record Pushing (case : Case) (path : List PathSplit) (old new : Leaf) : Type 0 where
   pub variables : length new.demands.bounds ≡ length old.demands.bounds
-  pub stated : IsStated (fact case) (stated case path) new
+  pub stated : IsStated (fact case) (stated_on case path) new
   pub more : (added : List Reason) × (pick_reasons new ≡ pick_reasons old ++ added)
 
 -- Where there is a constraint, it was pushed with its reason. The call returns whether there is one.

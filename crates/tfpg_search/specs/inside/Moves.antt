@@ -6,8 +6,8 @@ use Rattle.tfpg_evidence.specs.declared.clause_name.ClauseName.{ClauseName}
 use Rattle.tfpg_evidence.specs.declared.step.Step.{Step}
 use Rattle.tfpg_evidence.specs.declared.step.Step.TheVariants.{Split, Cycle, Again}
 use Rattle.tfpg_clause.specs.Case.{Case}
-use Rattle.tfpg_clause.specs.Trees.{Judged, IsRefutation, IsPresentLeaf, split_count}
-use Rattle.tfpg_clause.specs.Paths.{MovesTo, IsReusable}
+use Rattle.tfpg_clause.specs.Trees.{Judged, IsRefutation, split_count}
+use Rattle.tfpg_clause.specs.Paths.{chosen_on, IsMarkedReusable, HasPath, MovesTo}
 use Rattle.tfpg_clause.specs.declared.path.PathSplit.{PathSplit}
 use Rattle.tfpg_base.specs.declared.no_memory.NoMemory.{NoMemory}
 use Rattle.tfpg_log.specs.Explains.{Explains}
@@ -28,9 +28,9 @@ use Rattle.tfpg_search.specs.declared.search.judging.Proposed.TheVariants.{Shown
 -- The step is one that a search makes at the leaf of this path: a reuse where one is allowed, and else a live split, or a cycle
 -- in which no left side stands twice.
 abbrev pub IsSearchStepAt : Case → List PathSplit → Step → Type 0
-IsSearchStepAt case path (Split name) = IsLiveAt case path name × (IsReusable path → ⊥)
-IsSearchStepAt case path (Cycle reasons) = IsSimpleAt case path reasons × (IsReusable path → ⊥)
-IsSearchStepAt case path Again = IsReusable path
+IsSearchStepAt case path (Split name) = IsLiveAt case (chosen_on path) name × (IsMarkedReusable path → ⊥)
+IsSearchStepAt case path (Cycle reasons) = IsSimpleAt case (chosen_on path) reasons × (IsMarkedReusable path → ⊥)
+IsSearchStepAt case path Again = IsMarkedReusable path
 
 -- The steps lead from the leaf of this path to that leaf, where there is one: each is right, and one that a search makes.
 abbrev pub Leads : Case → Option (List PathSplit) → List Step → Option (List PathSplit) → Type 0
@@ -45,7 +45,7 @@ Leads case (Some path) (step ∷ steps) end =
 abbrev pub LeadsTo : Case → List Judged → Option (List PathSplit) → Type 0
 LeadsTo case steps None = IsRefutation case steps × HasNoNameTwice case steps
 LeadsTo case steps (Some path) =
-    IsPresentLeaf case steps path × HasNoNameTwice case steps × AreInRange path
+    HasPath case steps path × HasNoNameTwice case steps × AreInRange path
     × All (IsAllowed case.graph case.log) path
 
 -- The steps that a call appended lead from the leaf of the search before it to that leaf, and so many of them split.
@@ -93,13 +93,13 @@ Closing graph log call (Err no_memory) = GrowsAnyhow graph log call
 abbrev pub Loading : Tfpg → Logbook → SearchCall → Result Bool NoMemory → Type 0
 Loading graph log call (Ok true) =
     IsAtItsLeaf graph log call.new × IsLoaded graph log call.new × Grows graph log call 0 (Some call.new.path)
-    × (IsReusable call.new.path → ⊥)
+    × (IsMarkedReusable call.new.path → ⊥)
 Loading graph log call (Ok false) = Grows graph log call 0 None
 Loading graph log call (Err no_memory) = GrowsAnyhow graph log call
 
 -- What is seen at a loaded leaf: a trace that explains the log, or the clause on which a split would be live.
 abbrev pub Sees : Tfpg → Logbook → SearchState → Look → Type 0
-Sees graph log search (Violated name) = IsLiveAt (case_of_search graph log search) search.path name
+Sees graph log search (Violated name) = IsLiveAt (case_of_search graph log search) (chosen_on search.path) name
 Sees graph log search (Shown trace) = Explains graph log search.set trace
 
 -- Where a trace was shown by proposed times, it explains the log from the set.
@@ -112,7 +112,7 @@ ExplainsIfShown graph log set Outside = Unit {0}
 abbrev pub Looking : Tfpg → Logbook → SearchCall → Result (Option Look) NoMemory → Type 0
 Looking graph log call (Ok (Some look)) =
     IsAtItsLeaf graph log call.new × IsLoaded graph log call.new × Sees graph log call.new look
-    × Grows graph log call 0 (Some call.new.path) × (IsReusable call.new.path → ⊥)
+    × Grows graph log call 0 (Some call.new.path) × (IsMarkedReusable call.new.path → ⊥)
 Looking graph log call (Ok None) = Grows graph log call 0 None
 Looking graph log call (Err no_memory) = GrowsAnyhow graph log call
 
@@ -125,11 +125,11 @@ Splitting graph log call (Err no_memory) = GrowsAnyhow graph log call
 abbrev pub FoundAtLeaf : Case → ℕ → SearchState → ℕ → Option (List PathSplit) → Result Found NoMemory → Type 0
 FoundAtLeaf case budget new splits end (Ok (FoundShown trace)) =
     Explains case.graph case.log new.set trace × IsAtItsLeaf case.graph case.log new × IsLoaded case.graph case.log new
-    × (end ≡ Some new.path) × (IsReusable new.path → ⊥)
+    × (end ≡ Some new.path) × (IsMarkedReusable new.path → ⊥)
 FoundAtLeaf case budget new splits end (Ok FoundClosed) = end ≡ None
 FoundAtLeaf case budget new splits end (Ok Spent) =
-    (splits ≡ budget) × ((name : ClauseName) × IsLiveAt case new.path name) × IsAtItsLeaf case.graph case.log new
-    × IsLoaded case.graph case.log new × (end ≡ Some new.path) × (IsReusable new.path → ⊥)
+    (splits ≡ budget) × ((name : ClauseName) × IsLiveAt case (chosen_on new.path) name) × IsAtItsLeaf case.graph case.log new
+    × IsLoaded case.graph case.log new × (end ≡ Some new.path) × (IsMarkedReusable new.path → ⊥)
 FoundAtLeaf case budget new splits end (Err no_memory) = Unit {0}
 
 -- What searching on comes to.

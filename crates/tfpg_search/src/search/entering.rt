@@ -4,7 +4,7 @@ ghost use Rattle.std.specs.Prelude.{◌≡◌, ◌≤◌, ◌+◌, ◌*◌, ◌-
 ghost use Rattle.tfpg_evidence.specs.declared.reason.Reason.{Reason};
 ghost use Rattle.tfpg_evidence.specs.declared.reason.Reason.TheVariants.{Pick};
 ghost use Rattle.tfpg_clause.specs.Facts.{fact};
-ghost use Rattle.tfpg_clause.specs.Trees.{picked, stated};
+ghost use Rattle.tfpg_clause.specs.inside.MarkedTrees.{picked_on, stated_on};
 ghost use Rattle.tfpg_search.specs.inside.Leaf.{pick_reasons, IsStated};
 ghost use Rattle.tfpg_search.specs.inside.Picks.{picks_from};
 ghost use Rattle.tfpg_search.specs.SearchState.{case_of_search};
@@ -20,8 +20,8 @@ use crate::add_fault::AddFault;
 use crate::clause_laws::clause_laws;
 use crate::search::Search;
 use std::sync::ledger::Ledger;
-use tfpg_base::{NoMemory, Steps};
-use tfpg_clause::{MAX_CONSTRAINTS, picked};
+use tfpg_base::{Constraint, NoMemory, Steps};
+use tfpg_clause::{MAX_CONSTRAINTS, PathSplit, picked};
 use tfpg_graph::Graph;
 use tfpg_log::Log;
 
@@ -43,7 +43,7 @@ impl Search {
         ensures counts { work.new ≤ work.old + 3 * (length self.old.path - length self.old.entered) }
         ensures counted { CountsAlike self.old.leaf self.new.leaf work.old work.new }
         ensures closes { IfErr result
-            (Closes (stated (case_of_search graph.now log.now self.old) self.old.path)) }
+            (Closes (stated_on (case_of_search graph.now log.now self.old) self.old.path)) }
     {
         let split = self.entered_count();
         if split == self.depth() {
@@ -78,7 +78,7 @@ impl Search {
     ) -> Result<(), AddFault>
         requires variables { length self.old.leaf.demands.bounds ≡ length graph.now.nodes }
         requires stated { IsStated (fact (case_of_search graph.now log.now self.old))
-            (stated (case_of_search graph.now log.now self.old) self.old.path) self.old.leaf }
+            (stated_on (case_of_search graph.now log.now self.old) self.old.path) self.old.leaf }
         requires next { IsNext self.old.entered (length (pick_reasons self.old.leaf)) split 1 }
         ensures same { self.new ≡ record self.old { leaf = self.new.leaf } }
         ensures pushing { Pushing (case_of_search graph.now log.now self.old) self.old.path
@@ -90,7 +90,7 @@ impl Search {
         ensures counts { work.new ≤ work.old + 3 }
         ensures counted { CountsAlike self.old.leaf self.new.leaf work.old work.new }
         ensures closes { IfErr result
-            (Closes (stated (case_of_search graph.now log.now self.old) self.old.path)) }
+            (Closes (stated_on (case_of_search graph.now log.now self.old) self.old.path)) }
     {
         clause_laws();
         graph.is_always_valid();
@@ -116,23 +116,23 @@ impl Search {
     ) -> Result<bool, AddFault>
         requires variables { length self.old.leaf.demands.bounds ≡ length graph.now.nodes }
         requires stated { IsStated (fact (case_of_search graph.now log.now self.old))
-            (stated (case_of_search graph.now log.now self.old) self.old.path) self.old.leaf }
+            (stated_on (case_of_search graph.now log.now self.old) self.old.path) self.old.leaf }
         requires next { IsNext self.old.entered (length (pick_reasons self.old.leaf)) split number }
         ensures same { self.new ≡ record self.old { leaf = self.new.leaf } }
         ensures pushing { Pushing (case_of_search graph.now log.now self.old) self.old.path
             self.old.leaf self.new.leaf }
         ensures ok { IfOk result
-            (PushesOne (picked graph.now log.now self.old.path split number) (Pick split number)
+            (PushesOne (picked_on graph.now log.now self.old.path split number) (Pick split number)
             self.old.leaf self.new.leaf) }
         ensures bounds { self.new.leaf.demands.bounds ≡ self.old.leaf.demands.bounds }
         ensures counts { work.new ≤ work.old + 1 }
         ensures counted { CountsAlike self.old.leaf self.new.leaf work.old work.new }
         ensures closes { IfErr result
-            (Closes (stated (case_of_search graph.now log.now self.old) self.old.path)) }
+            (Closes (stated_on (case_of_search graph.now log.now self.old) self.old.path)) }
     {
         clause_laws();
         graph.is_always_valid();
-        let Some(constraint) = picked(graph, log, &self.path, split, number) else {
+        let Some(constraint) = picked_on(graph, log, &self.path, split, number) else {
             return Ok(false);
         };
         match self.leaf.push(constraint, split, number, work) {
@@ -167,4 +167,17 @@ impl Search {
     {
         self.leaf.entered_count()
     }
+}
+
+/// The constraint that is picked on the path, by its splits.
+fn picked_on(
+    graph: &Graph,
+    log: &Log,
+    path: &[PathSplit],
+    split: u64,
+    number: u32,
+) -> Option<Constraint>
+    ensures { result ≡ picked_on graph.now log.now path.now split number }
+{
+    picked(graph, log, path, split, number)
 }

@@ -8,8 +8,8 @@ ghost use Rattle.tfpg_base.specs.declared.constraint.Constraint.{Constraint};
 ghost use Rattle.tfpg_log.specs.Log.{IsLogOf};
 ghost use Rattle.tfpg_evidence.specs.declared.reason.Reason.{Reason};
 ghost use Rattle.tfpg_clause.specs.Facts.{fact};
-ghost use Rattle.tfpg_clause.specs.Trees.{cited_by, stated, IsReusable};
-ghost use Rattle.tfpg_clause.specs.Paths.{next_leaf, above_last};
+ghost use Rattle.tfpg_clause.specs.Paths.{chosen_on, cited_by, next_leaf, above_last, IsMarkedReusable};
+ghost use Rattle.tfpg_clause.specs.inside.MarkedTrees.{stated_on};
 ghost use Rattle.tfpg_search.specs.inside.Leaf.{pick_reasons, IsStated};
 ghost use Rattle.tfpg_search.specs.SearchState.{case_of_search};
 ghost use Rattle.tfpg_search.specs.inside.AtItsLeaf.{IsAtItsLeaf, HasEnteredAll};
@@ -122,7 +122,7 @@ impl Search {
             work.new + unset bounds self.new.leaf ≤ work.old + due bounds self.old + 1 }
         ensures counted { CountsAlike self.old.leaf self.new.leaf work.old work.new }
         ensures closes { IfErr result
-            (Closes (stated (case_of_search graph.now log.now self.old) self.old.path)) }
+            (Closes (stated_on (case_of_search graph.now log.now self.old) self.old.path)) }
     {
         self.enter(graph, log, work)?;
         if has_facts {
@@ -161,8 +161,8 @@ impl Search {
     ) -> Result<bool, NoMemory>
         requires stands { IsAtItsLeaf graph.now log.now self.old }
         requires cycle { IsSimpleCycle
-            (stated (case_of_search graph.now log.now self.old) self.old.path) reasons }
-        requires not_reusable { IsReusable self.old.path → ⊥ }
+            (stated_on (case_of_search graph.now log.now self.old) self.old.path) reasons }
+        requires not_reusable { IsMarkedReusable self.old.path → ⊥ }
         ensures keeps { KeepsSet self.old self.new }
         ensures closing { Closing graph.now log.now (call_of self.old self.new steps.old steps.new) result }
         ensures bounds { self.new.leaf.demands.bounds ≡ self.old.leaf.demands.bounds }
@@ -183,7 +183,7 @@ impl Search {
     /// Reuses the subtree of the alternative before at the present leaf, and takes the next leaf. Returns whether there is one.
     fn reuse(&mut self, graph: &Graph, log: &Log, steps: &mut StepList) -> Result<bool, NoMemory>
         requires stands { IsAtItsLeaf graph.now log.now self.old }
-        requires reusable { IsReusable self.old.path }
+        requires reusable { IsMarkedReusable self.old.path }
         ensures keeps { KeepsSet self.old self.new }
         ensures closing { Closing graph.now log.now (call_of self.old self.new steps.old steps.new) result }
         ensures bounds { self.new.leaf.demands.bounds ≡ self.old.leaf.demands.bounds }
@@ -202,7 +202,7 @@ impl Search {
 
     /// Whether a subtree is reusable at the present leaf.
     fn is_reusable(&self) -> bool
-        ensures { IsTrue result ↔ IsReusable self.now.path }
+        ensures { IsTrue result ↔ IsMarkedReusable self.now.path }
     {
         is_reusable(&self.path)
     }
@@ -236,8 +236,8 @@ impl Search {
     ) -> Result<(), NoMemory>
         requires stands { IsAtItsLeaf graph.now log.now self.old }
         requires entered { HasEnteredAll self.old }
-        requires live { IsLiveAt (case_of_search graph.now log.now self.old) self.old.path name }
-        requires not_reusable { IsReusable self.old.path → ⊥ }
+        requires live { IsLiveAt (case_of_search graph.now log.now self.old) (chosen_on self.old.path) name }
+        requires not_reusable { IsMarkedReusable self.old.path → ⊥ }
         ensures keeps { KeepsSet self.old self.new }
         ensures splitting { Splitting graph.now log.now
             (call_of self.old self.new steps.old steps.new) result }

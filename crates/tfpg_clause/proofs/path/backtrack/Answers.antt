@@ -2,8 +2,7 @@ use Rattle.std.proofs.Common.{◌≡◌, ℕ, zero, suc, ◌-◌, ◌<◌, ◌�
 use Rattle.std.specs.Prelude.{slice_set, IsSomeAnd}
 use Rattle.tfpg_base.proofs.lists.Cuts.{slice_get-last_taken}
 use Rattle.tfpg_clause.specs.declared.path.PathSplit.{PathSplit}
-use Rattle.tfpg_clause.specs.Paths.{next_leaf}
-use Rattle.tfpg_clause.specs.Trees.{next_alternative}
+use Rattle.tfpg_clause.specs.Paths.{next_alternative, next_leaf}
 use Rattle.tfpg_clause.specs.inside.UnfinishedSplits.{IsUnfinished, HasNext}
 use Rattle.tfpg_clause.proofs.trees.LeafPaths.{moved_on}
 use Rattle.tfpg_clause.proofs.path.backtrack.Goals as goal

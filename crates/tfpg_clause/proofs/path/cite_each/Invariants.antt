@@ -1,5 +1,5 @@
 use Rattle.std.proofs.Common.{◌≡◌, take}
-use Rattle.tfpg_clause.specs.Trees.{cited_by}
+use Rattle.tfpg_clause.specs.Paths.{cited_by}
 use Rattle.tfpg_clause.proofs.path.cite_each.Given as goal
 
 abbrev pub invariant-loop-reason : goal.invariant-loop-reason

@@ -15,6 +15,7 @@ use Rattle.tfpg_kernel.specs.Breaks.{fault_of, reasons_fault, CycleBreaks}
 use Rattle.tfpg_kernel.specs.inside.Chains.{chain_of, with_constraint, closing_fault, bad_of}
 use Rattle.tfpg_clause.specs.Case.{case_of}
 use Rattle.tfpg_clause.specs.Trees.{stated}
+use Rattle.tfpg_clause.specs.Paths.{chosen_on}
 use Rattle.tfpg_base.proofs.lists.Choices.{each_of-map_push, ok_or-err, ok_or-ok}
 use Rattle.tfpg_kernel.proofs.Chained.{chain_push, closes, breaks, first_fault}
 use Rattle.tfpg_kernel.proofs.cycle.check_cycle.Goals as goal
@@ -43,7 +44,7 @@ loop-reason-init c = record { constraints = []; hold = refl; chain = refl; small
 
 pub returns-in_err-constraint : goal.returns-in_err-constraint
 returns-in_err-constraint c =
-    let states : Reason → Option Constraint = stated (case_of c.args.graph.now c.args.log.now c.args.reach.now) c.args.path.now in
+    let states : Reason → Option Constraint = stated (case_of c.args.graph.now c.args.log.now c.args.reach.now) (chosen_on c.args.path.now) in
     let error = err_from_is_err_and c.from_residual.result c.from_residual.ensures.1 in
     let broken : CycleBreaks states c.args.reasons.now error.0 =
     at_fault states c.args.reasons.now c.loop-reason.reason-index (Zero 0) error.0 c.loop-reason.invariant.constraints c.loop-reason-test.true c.loop-reason.invariant.hold
@@ -52,7 +53,7 @@ returns-in_err-constraint c =
 
 pub loop-reason-preserved : goal.loop-reason-preserved
 loop-reason-preserved c =
-    let states : Reason → Option Constraint = stated (case_of c.args.graph.now c.args.log.now c.args.reach.now) c.args.path.now in
+    let states : Reason → Option Constraint = stated (case_of c.args.graph.now c.args.log.now c.args.reach.now) (chosen_on c.args.path.now) in
     let before = c.loop-reason.invariant in
     record {
       constraints = before.constraints ++ c.in_ok-constraint.constraint ∷ [];
@@ -65,7 +66,7 @@ pub returns-in-None : goal.returns-in-None
 returns-in-None c =
     let constraints = c.loop-reason.invariant.constraints in
     let chain = c.loop-reason.invariant.chain in
-    let states : Reason → Option Constraint = stated (case_of c.args.graph.now c.args.log.now c.args.reach.now) c.args.path.now in
+    let states : Reason → Option Constraint = stated (case_of c.args.graph.now c.args.log.now c.args.reach.now) (chosen_on c.args.path.now) in
     let all : take c.loop-reason.reason-index c.args.reasons.now ≡ c.args.reasons.now = take_all c.loop-reason.reason-index c.args.reasons.now (omega arith) in
     let none : closing_fault (chain_of constraints) ≡ None = ap closing_fault (sym chain) ∙ sym c.fault.ensures ∙ c.in-None.is in
     record {
@@ -78,7 +79,7 @@ pub returns-in-Some : goal.returns-in-Some
 returns-in-Some c =
     let constraints = c.loop-reason.invariant.constraints in
     let chain = c.loop-reason.invariant.chain in
-    let states : Reason → Option Constraint = stated (case_of c.args.graph.now c.args.log.now c.args.reach.now) c.args.path.now in
+    let states : Reason → Option Constraint = stated (case_of c.args.graph.now c.args.log.now c.args.reach.now) (chosen_on c.args.path.now) in
     let all : take c.loop-reason.reason-index c.args.reasons.now ≡ c.args.reasons.now = take_all c.loop-reason.reason-index c.args.reasons.now (omega arith) in
     let some : closing_fault (chain_of constraints) ≡ Some c.in-Some.fault = ap closing_fault (sym chain) ∙ sym c.in-Some.ensures in
     let broken : CycleBreaks states c.args.reasons.now (bad_of c.in-Some.fault) =

@@ -9,8 +9,9 @@ returns c =
       last_of_refutation = c.the_last_step_of_a_tree_is_right.ensures.refutation;
       last_of_partial = c.the_last_step_of_a_tree_is_right.ensures.partial;
       refutation_stays = c.a_tree_stays.ensures.refutation;
-      leaf_stays = c.a_tree_stays.ensures.leaf;
-      leaf_moves = c.a_partial_tree_grows.ensures.moves;
+      path_stays = c.a_tree_stays.ensures.path;
+      path_moves = c.a_partial_tree_grows.ensures.moves;
+      path_is = c.a_partial_tree_has_one_present_leaf.ensures.path;
       leaf_ends = c.a_partial_tree_grows.ensures.closed;
     } in
     record {

@@ -15,11 +15,13 @@ returns c =
       fact_stays = c.what_is_allowed_stays_allowed.ensures.fact;
       stated_stays = c.a_tree_stays.ensures.stated;
       partial_front = c.the_front_of_a_tree_is_a_partial_tree.ensures.partial;
-      leaf_begins = c.a_partial_tree_grows.ensures.begins;
-      leaf_moves = c.a_partial_tree_grows.ensures.moves;
+      path_begins = c.a_partial_tree_grows.ensures.begins;
+      path_moves = c.a_partial_tree_grows.ensures.moves;
       leaf_ends = c.a_partial_tree_grows.ensures.closed;
       leaf_there = leaves.there;
       one_leaf = leaves.only_one;
       leaf_stays = c.a_tree_stays.ensures.leaf;
+      path_stays = c.a_tree_stays.ensures.path;
+      path_is = leaves.path;
       finished = c.a_refutation_is_finished.ensures;
     }

@@ -3,7 +3,7 @@ use Rattle.tfpg_search.specs.inside.Counted.{unset}
 use Rattle.tfpg_search.proofs.work.CallsPaid.{unset_kept, given_at, given_kept, added_counts, entered_only}
 use Rattle.tfpg_search.proofs.leaves.MovesStayAtLeaf.{facts_stand, add_loaded, add_closes}
 use Rattle.tfpg_search.proofs.search.Search.add_all.Goals as goal
-use Rattle.tfpg_clause.specs.Trees.{stated}
+use Rattle.tfpg_clause.specs.inside.MarkedTrees.{stated_on}
 use Rattle.tfpg_clause.specs.Case.{case_of}
 
 pub returns-clause-stands : goal.returns-clause-stands
@@ -27,7 +27,7 @@ returns-clause-loaded g c =
 pub returns-clause-closes : goal.returns-clause-closes
 returns-clause-closes g c =
     add_closes c.args.graph.now c.args.log.now c.args.self.now c.enter.new.self c.enter.ensures.keeps c.enter.ensures.path c.add_facts.result
-    (c.add_facts.ensures.adds.stated (stated (case_of c.args.graph.now c.args.log.now c.enter.new.self.reach) c.enter.new.self.path) c.enter.ensures.stands.stated).closes
+    (c.add_facts.ensures.adds.stated (stated_on (case_of c.args.graph.now c.args.log.now c.enter.new.self.reach) c.enter.new.self.path) c.enter.ensures.stands.stated).closes
 
 pub returns-in_err-enter-clause-counts : goal.returns-in_err-enter-clause-counts
 returns-in_err-enter-clause-counts g c bounds given =

@@ -3,7 +3,7 @@ use Rattle.tfpg_evidence.specs.declared.reason.Reason.TheVariants.{Pick}
 use Rattle.tfpg_search.specs.inside.Leaving.{PushesOne}
 use Rattle.tfpg_search.proofs.leaves.AlternativePushed.{loop_stated, loop_next, loop_closes, step_same, step_pushing, step_last, step_picks, step_within, all_pushed}
 use Rattle.tfpg_search.proofs.search.Search.push_all.Goals as goal
-use Rattle.tfpg_clause.specs.Trees.{picked}
+use Rattle.tfpg_clause.specs.inside.MarkedTrees.{picked_on}
 
 pub push_one-requires-clause-stated : goal.push_one-requires-clause-stated
 push_one-requires-clause-stated g c =
@@ -23,7 +23,7 @@ returns-in-Ok-false-clause-ok g c =
     step_last c.args.graph.now c.args.log.now c.args.self.now c.loop-before.self c.loop-before.invariant.same c.loop-before.invariant.pushing c.push_one.new.self c.push_one.ensures.same
     c.push_one.ensures.pushing c.args.split c.loop-before.before c.loop-before.invariant.picks c.loop-before.invariant.within
     (subst
-    (λ (b : Bool). PushesOne (picked c.args.graph.now c.args.log.now c.loop-before.self.path c.args.split (c.loop-before.before + 1)) (Pick c.args.split (c.loop-before.before + 1))
+    (λ (b : Bool). PushesOne (picked_on c.args.graph.now c.args.log.now c.loop-before.self.path c.args.split (c.loop-before.before + 1)) (Pick c.args.split (c.loop-before.before + 1))
     c.loop-before.self.leaf c.push_one.new.self.leaf b) c.in-Ok-false.field-0-test c.in-Ok-false.ensures.ok)
 
 pub returns-in-Err-clause-pushing : goal.returns-in-Err-clause-pushing
@@ -39,7 +39,7 @@ pub loop-before-preserved : goal.loop-before-preserved
 loop-before-preserved g c =
     let one =
     subst
-    (λ (b : Bool). PushesOne (picked c.args.graph.now c.args.log.now c.loop-before.self.path c.args.split (c.loop-before.before + 1)) (Pick c.args.split (c.loop-before.before + 1))
+    (λ (b : Bool). PushesOne (picked_on c.args.graph.now c.args.log.now c.loop-before.self.path c.args.split (c.loop-before.before + 1)) (Pick c.args.split (c.loop-before.before + 1))
     c.loop-before.self.leaf c.push_one.new.self.leaf b) c.in-Ok-true.field-0-test c.in-Ok-true.ensures.ok in
     record {
       same =
