@@ -12,7 +12,7 @@ use Rattle.tfpg_base.specs.Bounds.{at_least, at_most}
 use Rattle.tfpg_clause.specs.Case.{Case, at_log}
 use Rattle.tfpg_clause.specs.Facts.{fact}
 use Rattle.tfpg_clause.specs.Clauses.{alternatives, count_of, alternatives_limit, IsSmall}
-use Rattle.tfpg_clause.specs.Trees.{Judged, Chosen, Place, stated, IsReusable, IsRefutation, IsPartial, IsPresentLeaf}
+use Rattle.tfpg_clause.specs.Trees.{Judged, Chosen, TreePlace, stated, IsReusable, IsRefutation, IsPartial, IsPresentLeaf}
 use Rattle.tfpg_clause.specs.Paths.{with_step, MovesTo, HasPath, IsPathOf, IsRightNext}
 use Rattle.tfpg_clause.specs.declared.path.PathSplit.{PathSplit}
 
@@ -99,24 +99,24 @@ LastLeavesEndInRefutations =
 abbrev pub PathsAreThoseOfPresentLeaves : Type 0
 PathsAreThoseOfPresentLeaves =
     (case : Case) (steps : List Judged) (path : List PathSplit) → HasPath case steps path
-    → (place : Place) × IsPresentLeaf case steps place × IsPathOf path place
+    → (place : TreePlace) × IsPresentLeaf case steps place × IsPathOf path place
 
 -- A partial tree has a present leaf.
 abbrev pub PartialTreesHaveAPresentLeaf : Type 0
 PartialTreesHaveAPresentLeaf =
     (case : Case) (steps : List Judged) → IsPartial case steps
-    → (place : Place) × IsPresentLeaf case steps place
+    → (place : TreePlace) × IsPresentLeaf case steps place
 
 -- A partial tree has no two present leaves: the path to them is one, and a subtree is reusable at both or at none.
 abbrev pub PresentLeavesAreAlone : Type 0
 PresentLeavesAreAlone =
-    (case : Case) (steps : List Judged) (one other : Place) → IsPresentLeaf case steps one
+    (case : Case) (steps : List Judged) (one other : TreePlace) → IsPresentLeaf case steps one
     → IsPresentLeaf case steps other → (one.path ≡ other.path) × (IsReusable one ↔ IsReusable other)
 
 -- A present leaf at a log is one at each log that goes on from it.
 abbrev pub PresentLeavesStay : Type 0
 PresentLeavesStay =
-    (case : Case) (later : Logbook) (steps : List Judged) (place : Place) → IsOrdered later
+    (case : Case) (later : Logbook) (steps : List Judged) (place : TreePlace) → IsOrdered later
     → GoesOn case.log later → IsPresentLeaf case steps place → IsPresentLeaf (at_log case later) steps place
 
 -- A path that steps lead to at a log is one at each log that goes on from it.

@@ -13,7 +13,7 @@ use Rattle.tfpg_evidence.specs.declared.step.Step.{Step}
 use Rattle.tfpg_evidence.specs.declared.step.Step.TheVariants.{Split, Cycle, Again}
 use Rattle.tfpg_clause.specs.Case.{Case, case_at}
 use Rattle.tfpg_clause.specs.Clauses.{count_of}
-use Rattle.tfpg_clause.specs.Trees.{Judged, Chosen, Place, IsClosedLeaf, IsReusable, IsRightStep, IsPartial, IsPresentLeaf}
+use Rattle.tfpg_clause.specs.Trees.{Judged, Chosen, TreePlace, IsClosedLeaf, IsReusable, IsRightStep, IsPartial, IsPresentLeaf}
 use Rattle.tfpg_clause.specs.declared.path.PathSplit.{PathSplit}
 
 -- the step, judged by the whole log
@@ -30,7 +30,7 @@ with_steps earlier log added = earlier ++ map (judged_by log) added
 
 -- The step that comes next after these steps is right at their present leaf.
 pub record IsRightNext (case : Case) (steps : List Judged) (next : Judged) : Type 0 where
-  pub place : Place
+  pub place : TreePlace
   pub leaf : IsPresentLeaf case steps place
   pub subtrees : ℕ
   pub right : IsRightStep (case_at case next.seen) place subtrees next.step
@@ -119,7 +119,7 @@ pub record HasPath (case : Case) (steps : List Judged) (path : List PathSplit) :
   pub led : leaf_after case (Some []) steps ≡ Some path
 
 -- The path is that of the place: the same alternatives are taken, and it is marked whether a subtree is reusable.
-pub record IsPathOf (path : List PathSplit) (place : Place) : Type 0 where
+pub record IsPathOf (path : List PathSplit) (place : TreePlace) : Type 0 where
   pub chosen : chosen_on path ≡ place.path
   pub reusable : IsMarkedReusable path ↔ IsReusable place
 

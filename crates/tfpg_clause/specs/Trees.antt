@@ -68,33 +68,33 @@ pub record Chosen : Type 0 where
 
 -- A place in a tree: the alternatives taken from the root to it; and, where an alternative comes before the last of these,
 -- the reasons of all cycles in the subtree of that one.
-pub record Place : Type 0 where
+pub record TreePlace : Type 0 where
   pub path : List Chosen
   pub before : Option (List Reason)
 
 -- the place of the root
-abbrev pub root : Place
+abbrev pub root : TreePlace
 root = record { path = []; before = None }
 
 -- the place of an alternative of a split that has this path, after a subtree with these reasons, where there is one
-abbrev pub place_in : List Chosen → ClauseName → ℕ → Option (List Reason) → Place
+abbrev pub place_in : List Chosen → ClauseName → ℕ → Option (List Reason) → TreePlace
 place_in path name alternative before =
     record { path = path ++ record { name = name; alternative = alternative } ∷ []; before = before }
 
 -- a step in its place in a tree, and how many subtrees it has
 pub record StepPlace : Type 0 where
-  pub place : Place
+  pub place : TreePlace
   pub step : Judged
   pub subtrees : ℕ
 
 -- this step, so judged, with so many subtrees, in this place
-abbrev pub step_at : Place → ℕ → Step → ℕ → StepPlace
+abbrev pub step_at : TreePlace → ℕ → Step → ℕ → StepPlace
 step_at place seen step subtrees =
     record { place = place; step = record { seen = seen; step = step }; subtrees = subtrees }
 
 -- The places of a tree, in the order of the steps: a split, and then its subtrees one after the other.
 abbrev mutual
-  pub places : Place → Tree → List StepPlace
+  pub places : TreePlace → Tree → List StepPlace
   places place (Leaf seen reasons) = step_at place seen (Cycle reasons) 0 ∷ []
   places place (Branch seen name subtrees) =
       step_at place seen (Split name) (how_many subtrees) ∷ places_from place.path name 1 None subtrees
@@ -152,13 +152,13 @@ abbrev pub IsClosedLeaf : Case → List Chosen → List Reason → Type 0
 IsClosedLeaf case path reasons = IsClosedBy (stated case path) reasons
 
 -- In this place the subtree of the alternative before is reusable: there is one, and none of its cycles picks from the split.
-abbrev pub IsReusable : Place → Type 0
+abbrev pub IsReusable : TreePlace → Type 0
 IsReusable place =
     IsSomeAnd place.before (λ reasons. (number : ℕ) → Contains reasons (Pick (length place.path) number) → ⊥)
 
 -- The step, with so many subtrees, is right in this place: a split has an allowed name, and one subtree for each
 -- alternative; a cycle closes the leaf; and a subtree is reused where one is reusable.
-abbrev pub IsRightStep : Case → Place → ℕ → Step → Type 0
+abbrev pub IsRightStep : Case → TreePlace → ℕ → Step → Type 0
 IsRightStep case place subtrees (Split name) = count_of case.graph case.log name ≡ Some subtrees
 IsRightStep case place subtrees (Cycle reasons) = IsClosedLeaf case place.path reasons
 IsRightStep case place subtrees Again = IsReusable place
@@ -182,7 +182,7 @@ pub record IsPartial (case : Case) (steps : List Judged) : Type 0 where
   pub right : All (IsRight case) (take (length steps) (places_of tree))
 
 -- This is the place of the present leaf of a partial tree: the next step would stand there.
-pub record IsPresentLeaf (case : Case) (steps : List Judged) (place : Place) : Type 0 where
+pub record IsPresentLeaf (case : Case) (steps : List Judged) (place : TreePlace) : Type 0 where
   pub partial : IsPartial case steps
   pub here : option_map (λ (next : StepPlace). next.place) (slice_get (places_of partial.tree) (length steps)) ≡
       Some place

@@ -7,7 +7,7 @@ use Rattle.tfpg_base.specs.declared.no_memory.NoMemory.{NoMemory}
 use Rattle.tfpg_base.specs.Hypothesis.{Hypothesis}
 use Rattle.tfpg_graph.specs.Graph.{Tfpg}
 use Rattle.tfpg_clause.specs.Case.{Case, case_of, at_log}
-use Rattle.tfpg_clause.specs.Trees.{Judged, Place, IsPartial, IsPresentLeaf, IsRefutation}
+use Rattle.tfpg_clause.specs.Trees.{Judged, TreePlace, IsPartial, IsPresentLeaf, IsRefutation}
 use Rattle.tfpg_hyp.specs.Views.{log_for, case_for}
 use Rattle.tfpg_search.specs.Live.{HasNoNameTwice}
 use Rattle.tfpg_search.specs.SearchState.{SearchState}
@@ -23,7 +23,7 @@ use Rattle.tfpg_engine.proofs.Ignoring.{ordered_for}
 -- ---- names on paths
 
 module _ (laws : TreeLaws) (case : Case) (later : Logbook) (ordered : IsOrdered later) (goes_on : GoesOn case.log later) where
-  front_of : (front back : List Judged) (place : Place) → IsRefutation case (front ++ back) → IsPresentLeaf (at_log case later) front place → IsPartial case front
+  front_of : (front back : List Judged) (place : TreePlace) → IsRefutation case (front ++ back) → IsPresentLeaf (at_log case later) front place → IsPartial case front
   front_of front [] place refutation leaf =
       absurd (laws.finished (at_log case later) front (laws.refutation_stays case later front ordered goes_on (subst (IsRefutation case) (append-nil front) refutation)) leaf.partial)
   front_of front (next ∷ back) place refutation leaf = laws.refutation_front case front next back refutation

@@ -11,7 +11,7 @@ use Rattle.tfpg_evidence.specs.declared.step.Step.{Step}
 use Rattle.tfpg_evidence.specs.declared.step.Step.TheVariants.{Split, Cycle, Again}
 use Rattle.tfpg_clause.specs.Case.{Case, case_at}
 use Rattle.tfpg_clause.specs.Laws.{PresentLeavesAreAlone, RefutationsAreNotPartial}
-use Rattle.tfpg_clause.specs.Trees.{Judged, Chosen, Place, stated, IsReusable, IsRightStep}
+use Rattle.tfpg_clause.specs.Trees.{Judged, Chosen, TreePlace, stated, IsReusable, IsRightStep}
 use Rattle.tfpg_kernel.specs.declared.taken.BadStep.{BadStep}
 use Rattle.tfpg_kernel.specs.Breaks.{fault_of, reasons_fault, ClosingBreaks, CycleBreaks, BreaksAt, IsFirstBroken}
 
@@ -57,19 +57,19 @@ cycle_wrong states reasons bad (inr a) constraints hold cycle =
 
 module _ (case : Case) where
   -- A step breaks one condition first.
-  pub breaks_unique : (place : Place) (step : Step) (one other : BadStep) → BreaksAt case place step one → BreaksAt case place step other → one ≡ other
+  pub breaks_unique : (place : TreePlace) (step : Step) (one other : BadStep) → BreaksAt case place step one → BreaksAt case place step other → one ≡ other
   breaks_unique place (Split name) one other a b = a.0 ∙ sym b.0
   breaks_unique place (Cycle reasons) one other a b = cycle_unique (stated case place.path) reasons one other a b
   breaks_unique place Again one other a b = a.0 ∙ sym b.0
 
   -- A step that breaks a condition is not right.
-  pub breaks_wrong : (place : Place) (subtrees : ℕ) (step : Step) (bad : BadStep) → BreaksAt case place step bad → IsRightStep case place subtrees step → ⊥
+  pub breaks_wrong : (place : TreePlace) (subtrees : ℕ) (step : Step) (bad : BadStep) → BreaksAt case place step bad → IsRightStep case place subtrees step → ⊥
   breaks_wrong place subtrees (Split name) bad breaks right = let both : None ≡ Some subtrees = sym breaks.1 ∙ right in cc
   breaks_wrong place subtrees (Cycle reasons) bad breaks right = cycle_wrong (stated case place.path) reasons bad breaks right.constraints right.hold right.negative_cycle
   breaks_wrong place subtrees Again bad breaks right = breaks.1 right
 
   -- What it breaks in a place it breaks in each place with the same path, where as much is reusable.
-  pub breaks_alike : (one other : Place) → (one.path ≡ other.path) × (IsReusable one ↔ IsReusable other) → (step : Step) (bad : BadStep) → BreaksAt case one step bad → BreaksAt case other step bad
+  pub breaks_alike : (one other : TreePlace) → (one.path ≡ other.path) × (IsReusable one ↔ IsReusable other) → (step : Step) (bad : BadStep) → BreaksAt case one step bad → BreaksAt case other step bad
   breaks_alike one other alike (Split name) bad breaks = breaks
   breaks_alike one other alike (Cycle reasons) bad breaks = subst (λ (path : List Chosen). CycleBreaks (stated case path) reasons bad) alike.0 breaks
   breaks_alike one other alike Again bad breaks = (breaks.0, λ reusable. breaks.1 (alike.1.1 reusable))

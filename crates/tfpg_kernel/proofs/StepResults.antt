@@ -5,7 +5,7 @@ use Rattle.tfpg_log.specs.Log.{Logbook, GoesOn, IsOrdered}
 use Rattle.tfpg_evidence.specs.declared.step.Step.{Step}
 use Rattle.tfpg_evidence.specs.declared.step.Step.TheVariants.{Split, Cycle, Again}
 use Rattle.tfpg_clause.specs.Case.{Case, case_of, case_at}
-use Rattle.tfpg_clause.specs.Trees.{Judged, Chosen, Place, stated, IsRefutation, IsPartial}
+use Rattle.tfpg_clause.specs.Trees.{Judged, Chosen, TreePlace, stated, IsRefutation, IsPartial}
 use Rattle.tfpg_clause.specs.Laws.{PresentLeavesAreAlone, RefutationsAreNotPartial, LastStepsOfRefutationsAreRight, LastStepsOfPartialTreesAreRight, RefutationsStay, PathsStay, PathsFollowSteps, PathsAreThoseOfPresentLeaves, LastLeavesEndInRefutations}
 use Rattle.tfpg_clause.specs.Paths.{judged_by, with_step, HasPath, IsPathOf, IsRightNext}
 use Rattle.tfpg_clause.specs.declared.path.PathSplit.{PathSplit}
@@ -73,7 +73,7 @@ module _ (laws : ResultLaws) (case : Case) where
   -- ---- a checker that is not closed
 
   -- what is broken by the marks of a path is broken at its leaf
-  breaks_there : (path : List PathSplit) (place : Place) → IsPathOf path place → (step : Step) (cause : BadStep) → BreaksOn case path step cause → BreaksAt case place step cause
+  breaks_there : (path : List PathSplit) (place : TreePlace) → IsPathOf path place → (step : Step) (cause : BadStep) → BreaksOn case path step cause → BreaksAt case place step cause
   breaks_there path place of (Split name) cause breaks = breaks
   breaks_there path place of (Cycle reasons) cause breaks = subst (λ (chosen : List Chosen). CycleBreaks (stated case chosen) reasons cause) of.chosen breaks
   breaks_there path place of Again cause breaks = (breaks.0, λ reusable. breaks.1 (of.reusable.1 reusable))

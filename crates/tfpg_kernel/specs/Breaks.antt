@@ -9,7 +9,7 @@ use Rattle.tfpg_evidence.specs.declared.step.Step.{Step}
 use Rattle.tfpg_evidence.specs.declared.step.Step.TheVariants.{Split, Cycle, Again}
 use Rattle.tfpg_clause.specs.Case.{Case, case_at}
 use Rattle.tfpg_clause.specs.Clauses.{count_of}
-use Rattle.tfpg_clause.specs.Trees.{Judged, Place, stated, IsReusable, IsRefutation, IsPresentLeaf}
+use Rattle.tfpg_clause.specs.Trees.{Judged, TreePlace, stated, IsReusable, IsRefutation, IsPresentLeaf}
 use Rattle.tfpg_base.specs.ConstraintCycle.{IsCycle, sum_of}
 use Rattle.tfpg_kernel.specs.declared.taken.BadStep.{BadStep}
 use Rattle.tfpg_kernel.specs.declared.taken.BadStep.TheVariants.{AfterClosed, NotReusable, NotAClause, NotAFact, NotOnPath, Unchained, NotNegative}
@@ -43,7 +43,7 @@ CycleBreaks stated reasons bad =
     ⊎ ((constraints : List Constraint) × (each_of (map stated reasons) ≡ Some constraints) × ClosingBreaks constraints bad)
 
 -- The step breaks this condition at a leaf in this place, and none before it.
-abbrev pub BreaksAt : Case → Place → Step → BadStep → Type 0
+abbrev pub BreaksAt : Case → TreePlace → Step → BadStep → Type 0
 BreaksAt case place (Split name) bad = (bad ≡ NotAClause) × (count_of case.graph case.log name ≡ None)
 BreaksAt case place (Cycle reasons) bad = CycleBreaks (stated case place.path) reasons bad
 BreaksAt case place Again bad = (bad ≡ NotReusable) × (IsReusable place → ⊥)
@@ -53,5 +53,5 @@ BreaksAt case place Again bad = (bad ≡ NotReusable) × (IsReusable place → �
 abbrev pub IsFirstBroken : Case → List Judged → Judged → BadStep → Type 0
 IsFirstBroken case steps next bad =
     ((bad ≡ AfterClosed) × IsRefutation case steps)
-    ⊎ ((place : Place) × IsPresentLeaf case steps place
+    ⊎ ((place : TreePlace) × IsPresentLeaf case steps place
     × BreaksAt (case_at case next.seen) place next.step bad)

@@ -5,7 +5,7 @@ use Rattle.tfpg_evidence.specs.declared.clause_name.ClauseName.{ClauseName}
 use Rattle.tfpg_clause.specs.Case.{Case}
 use Rattle.tfpg_clause.specs.Clauses.{Violates}
 use Rattle.tfpg_clause.specs.Order.{horizon_of}
-use Rattle.tfpg_clause.specs.Trees.{Judged, Chosen, Place, IsPresentLeaf}
+use Rattle.tfpg_clause.specs.Trees.{Judged, Chosen, TreePlace, IsPresentLeaf}
 use Rattle.tfpg_search.specs.Live.{IsUnsettled}
 use Rattle.tfpg_search.specs.Solutions.{SolvesAt, IsLatestAt}
 
@@ -23,7 +23,7 @@ LatestSolutionsAreAlone =
 
 -- The latest solution at the present leaf of these steps violates some allowed clause with the horizon now.
 pub record LatestSolutionViolates (case : Case) (steps : List Judged) : Type 0 where
-  pub place : Place
+  pub place : TreePlace
   pub leaf : IsPresentLeaf case steps place
   pub times : List ℕ
   pub latest : IsLatestAt case place.path times

@@ -7,7 +7,7 @@ use Rattle.tfpg_evidence.specs.declared.clause_name.ClauseName.{ClauseName}
 use Rattle.tfpg_evidence.specs.declared.reason.Reason.{Reason}
 use Rattle.tfpg_clause.specs.Order.{IsFirstViolated}
 use Rattle.tfpg_clause.specs.Case.{Case}
-use Rattle.tfpg_clause.specs.Trees.{Judged, Chosen, Place, IsPresentLeaf, IsReusable, stated}
+use Rattle.tfpg_clause.specs.Trees.{Judged, Chosen, TreePlace, IsPresentLeaf, IsReusable, stated}
 use Rattle.tfpg_search.specs.Solutions.{IsLatestAt}
 
 -- A split on the name would be live at the leaf of this path: the latest solution there violates its clause, whose horizon is
@@ -19,7 +19,7 @@ pub record IsLiveAt (case : Case) (path : List Chosen) (name : ClauseName) : Typ
 
 -- A split on the name is live after these steps: it is so at their present leaf.
 pub record IsLive (case : Case) (steps : List Judged) (name : ClauseName) : Type 0 where
-  pub place : Place
+  pub place : TreePlace
   pub leaf : IsPresentLeaf case steps place
   pub live : IsLiveAt case place.path name
 
@@ -35,13 +35,13 @@ pub record IsSimpleAt (case : Case) (path : List Chosen) (reasons : List Reason)
 
 -- In the cycle of these reasons at the present leaf no left side stands twice.
 pub record IsSimpleAfter (case : Case) (steps : List Judged) (reasons : List Reason) : Type 0 where
-  pub place : Place
+  pub place : TreePlace
   pub leaf : IsPresentLeaf case steps place
   pub simple : IsSimpleAt case place.path reasons
 
 -- After these steps a subtree is reusable: it is so at their present leaf.
 pub record AllowsReuse (case : Case) (steps : List Judged) : Type 0 where
-  pub place : Place
+  pub place : TreePlace
   pub leaf : IsPresentLeaf case steps place
   pub reusable : IsReusable place
 
@@ -52,5 +52,5 @@ HasDistinctNames path = AllPairs ◌≢◌ (map (λ (chosen : Chosen). chosen.na
 -- No clause name stands twice on a path of the tree of these steps: at none of their leaves, when it was the present one.
 abbrev pub HasNoNameTwice : Case → List Judged → Type 0
 HasNoNameTwice case steps =
-    (front back : List Judged) (place : Place) → steps ≡ front ++ back → IsPresentLeaf case front place
+    (front back : List Judged) (place : TreePlace) → steps ≡ front ++ back → IsPresentLeaf case front place
     → HasDistinctNames place.path

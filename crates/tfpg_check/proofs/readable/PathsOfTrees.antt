@@ -4,7 +4,7 @@ use Rattle.std.specs.Prelude.{slice_get}
 use Rattle.tfpg_evidence.specs.declared.clause_name.ClauseName.{ClauseName}
 use Rattle.tfpg_evidence.specs.declared.reason.Reason.{Reason}
 use Rattle.tfpg_evidence.specs.declared.step.Step.TheVariants.{Split, Cycle, Again}
-use Rattle.tfpg_clause.specs.Trees.{Tree, Leaf, Branch, Subtrees, NoMore, Next, Reused, Chosen, Place, StepPlace, how_many, place_in, step_at, places, places_from, places_of, reasons_in, root}
+use Rattle.tfpg_clause.specs.Trees.{Tree, Leaf, Branch, Subtrees, NoMore, Next, Reused, Chosen, TreePlace, StepPlace, how_many, place_in, step_at, places, places_from, places_of, reasons_in, root}
 
 -- the path of each place is not longer than this number and the places before it
 abbrev ArePathsShort : ℕ → List StepPlace → Type 0
@@ -29,7 +29,7 @@ both_short splits (first ∷ front) back short later =
     (both_short (splits + 1) front back (λ index place at. omega (arith, short (suc index) place at)) (more_short splits back later))
 
 mutual
-  tree_short : (place : Place) (tree : Tree) → ArePathsShort (length place.path) (places place tree)
+  tree_short : (place : TreePlace) (tree : Tree) → ArePathsShort (length place.path) (places place tree)
   tree_short place (Leaf seen reasons) = first_short (length place.path) (step_at place seen (Cycle reasons) 0) [] (omega arith) (none_short (length place.path + 1))
   tree_short place (Branch seen name subtrees) =
       first_short (length place.path) (step_at place seen (Split name) (how_many subtrees)) (places_from place.path name 1 None subtrees) (omega arith)
@@ -42,7 +42,7 @@ mutual
       first_short (length path + 1) (step_at (place_in path name alternative before) seen Again 0) []
       (omega (arith, length-append path (record { name = name; alternative = alternative } ∷ []))) (none_short (length path + 1 + 1))
   subtrees_short path name alternative before (Next tree others) =
-      let own : Place = place_in path name alternative before in
+      let own : TreePlace = place_in path name alternative before in
       let taken : Chosen = record { name = name; alternative = alternative } in
       both_short (length path + 1) (places own tree) (places_from path name (alternative + 1) (Some (reasons_in tree)) others)
       (λ index place at. omega (arith, length-append path (taken ∷ []), tree_short own tree index place at))

@@ -39,7 +39,7 @@ use Rattle.tfpg_clause.specs.Clauses.{IsSmall, alternatives, and_may, constraint
 use Rattle.tfpg_clause.specs.declared.limits.TheConstants.{MAX_CONSTRAINTS}
 use Rattle.tfpg_clause.specs.Facts.{from_alarm, upto_alarm}
 use Rattle.tfpg_clause.specs.Order.{span_of}
-use Rattle.tfpg_clause.specs.Trees.{Chosen, IsPartial, IsRefutation, IsRight, IsRightStep, Judged, Place, StepPlace, Tree, picked, places_of, stated, steps_of}
+use Rattle.tfpg_clause.specs.Trees.{Chosen, IsPartial, IsRefutation, IsRight, IsRightStep, Judged, TreePlace, StepPlace, Tree, picked, places_of, stated, steps_of}
 use Rattle.tfpg_clause.proofs.alternatives.SmallAlternatives.{small_clause}
 use Rattle.tfpg_clause.proofs.logs.StaysAllowed.{allowed_by_now, must_has_window}
 use Rattle.tfpg_hyp.specs.Rounds.{HasEvidence}
@@ -155,7 +155,7 @@ module _ (graph : Tfpg) (valid : IsValid graph) (log : Logbook) (within : IsWith
   -- ---- steps
 
   -- a right step names what has small numbers
-  right_small : (reach : List ℕ) (place : Place) (subtrees : ℕ) → length place.path ≤ MAX_LINE_NUMBER → (step : Step) → IsRightStep (case_of graph log reach) place subtrees step → HasSmallStep step
+  right_small : (reach : List ℕ) (place : TreePlace) (subtrees : ℕ) → length place.path ≤ MAX_LINE_NUMBER → (step : Step) → IsRightStep (case_of graph log reach) place subtrees step → HasSmallStep step
   right_small reach place subtrees short (Split name) right =
       let clause = option_map-some length (alternatives graph log name) subtrees right in
       allowed_small name clause.0 clause.1

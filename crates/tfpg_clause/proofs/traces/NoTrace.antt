@@ -26,7 +26,7 @@ use Rattle.tfpg_base.proofs.lists.Written.{slice_get-push_cases}
 use Rattle.tfpg_clause.specs.Facts.{fact}
 use Rattle.tfpg_clause.specs.Clauses.{alternatives, count_of, constraint_at, MeetsClause}
 use Rattle.tfpg_clause.specs.Case.{Case, case_of, case_at}
-use Rattle.tfpg_clause.specs.Trees.{Judged, Tree, Leaf, Branch, Subtrees, NoMore, Next, Reused, Chosen, Place, StepPlace, how_many, reasons_in, reasons_in_all, root, place_in, step_at, places, places_from, picked, stated, IsClosedLeaf, IsReusable, IsRight, IsRefutation}
+use Rattle.tfpg_clause.specs.Trees.{Judged, Tree, Leaf, Branch, Subtrees, NoMore, Next, Reused, Chosen, TreePlace, StepPlace, how_many, reasons_in, reasons_in_all, root, place_in, step_at, places, places_from, picked, stated, IsClosedLeaf, IsReusable, IsRight, IsRefutation}
 use Rattle.tfpg_clause.proofs.traces.TraceAgrees.{of_trace}
 use Rattle.tfpg_clause.proofs.constraints.CycleNotNegative.{not_negative}
 use Rattle.tfpg_clause.proofs.traces.FactsMet.{fact_is_met}
@@ -165,7 +165,7 @@ module _ (case : Case) (ordered : IsOrdered case.log) (numbers : List ℕ)
 
     mutual
       -- No numbers meet all facts, all clauses, and what the cycles of a tree cite on its path.
-      no_tree : (place : Place) (tree : Tree) → All (IsRight case) (places place tree) → MeetsCited place.path (reasons_in tree) → ⊥
+      no_tree : (place : TreePlace) (tree : Tree) → All (IsRight case) (places place tree) → MeetsCited place.path (reasons_in tree) → ⊥
       no_tree place (Leaf seen reasons) right met = no_cited_leaf place.path seen reasons met (All-head (IsRight case) (step_at place seen (Cycle reasons) 0) [] right)
       no_tree place (Branch seen name subtrees) right met =
           let first : StepPlace = step_at place seen (Split name) (how_many subtrees) in
@@ -186,14 +186,14 @@ module _ (case : Case) (ordered : IsOrdered case.log) (numbers : List ℕ)
       no_subtrees path name alternative before (Reused seen others) k within right met meets none =
           none (All-head (IsRight case) (step_at (place_in path name alternative before) seen Again 0) [] right)
       no_subtrees path name alternative before (Next tree others) zero within right met meets none =
-          let own : Place = place_in path name alternative before in
+          let own : TreePlace = place_in path name alternative before in
           let taken : Chosen = record { name = name; alternative = alternative } in
           let reasons : List Reason = reasons_in tree in
           let number : alternative + 0 ≡ alternative = omega arith in
           no_tree own tree (All-front (IsRight case) (places own tree) (places_from path name (alternative + 1) (Some reasons) others) right)
           (meets_more path taken reasons (meets_first path reasons (reasons_in_all others) met) (λ cited member. subst (MeetsAlternative name) number meets))
       no_subtrees path name alternative before (Next tree others) (suc k) within right met meets none =
-          let own : Place = place_in path name alternative before in
+          let own : TreePlace = place_in path name alternative before in
           let taken : Chosen = record { name = name; alternative = alternative } in
           let reasons : List Reason = reasons_in tree in
           let number : alternative + suc k ≡ alternative + 1 + k = omega arith in

@@ -2,7 +2,7 @@
 use Rattle.std.proofs.Common.{◌≡◌, ◌↔◌, List, [], ◌∷◌, ◌++◌, sym, subst, ◌∙◌}
 use Rattle.std.proofs.lemmas.Option.{same_Some}
 use Rattle.tfpg_clause.specs.Case.{Case, case_at}
-use Rattle.tfpg_clause.specs.Trees.{Judged, Place, IsReusable, IsRefutation, IsPartial, IsPresentLeaf}
+use Rattle.tfpg_clause.specs.Trees.{Judged, TreePlace, IsReusable, IsRefutation, IsPartial, IsPresentLeaf}
 use Rattle.tfpg_clause.specs.Paths.{HasPath, IsPathOf, IsRightNext}
 use Rattle.tfpg_clause.specs.inside.MarkedTrees.{IsMarkedLeaf, IsMarkedNext}
 use Rattle.tfpg_clause.specs.declared.path.PathSplit.{PathSplit}
@@ -26,11 +26,11 @@ module _ (case : Case) where
       subst (IsMarkedLeaf case steps) same there.1
 
   -- A path that steps lead to is that of their present leaf.
-  pub place_of_path : (steps : List Judged) (path : List PathSplit) → HasPath case steps path → (place : Place) × IsPresentLeaf case steps place × IsPathOf path place
+  pub place_of_path : (steps : List Judged) (path : List PathSplit) → HasPath case steps path → (place : TreePlace) × IsPresentLeaf case steps place × IsPathOf path place
   place_of_path steps path has = leaf_unmarked case steps path (leaf_of_path steps path has)
 
   -- There is one present leaf.
-  pub one_leaf : (steps : List Judged) (one other : Place) → IsPresentLeaf case steps one → IsPresentLeaf case steps other → (one.path ≡ other.path) × (IsReusable one ↔ IsReusable other)
+  pub one_leaf : (steps : List Judged) (one other : TreePlace) → IsPresentLeaf case steps one → IsPresentLeaf case steps other → (one.path ≡ other.path) × (IsReusable one ↔ IsReusable other)
   one_leaf steps one other first second =
       let own = leaf_marked case steps one first in
       let also = leaf_marked case steps other second in

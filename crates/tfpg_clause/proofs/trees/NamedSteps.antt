@@ -25,7 +25,7 @@ use Rattle.tfpg_evidence.specs.RoundOf.{IsReasonOf, IsClauseOf, IsStepOf}
 use Rattle.tfpg_clause.specs.Clauses.{alternatives, and_may, or_must}
 use Rattle.tfpg_clause.proofs.rules.RulesMet.{may_holds, must_holds}
 use Rattle.tfpg_clause.specs.Case.{Case, case_at}
-use Rattle.tfpg_clause.specs.Trees.{stated, IsRightStep, Judged, Chosen, Place, StepPlace, IsRight, IsRefutation, IsPartial, places_of}
+use Rattle.tfpg_clause.specs.Trees.{stated, IsRightStep, Judged, Chosen, TreePlace, StepPlace, IsRight, IsRefutation, IsPartial, places_of}
 
 -- ---- clauses
 
@@ -62,7 +62,7 @@ stated_named case path of (Quiet event node) constraint is =
 stated_named case path of (Pick split index) constraint is = tt
 
 -- a right step names only what the graph has
-right_named : (case : Case) (place : Place) (subtrees : ℕ) → IsLogOf case.graph case.log → (step : Step) → IsRightStep case place subtrees step
+right_named : (case : Case) (place : TreePlace) (subtrees : ℕ) → IsLogOf case.graph case.log → (step : Step) → IsRightStep case place subtrees step
     → IsStepOf (sizes_of case.graph) step
 right_named case place subtrees of (Split name) right =
     let clause = option_map-some length (alternatives case.graph case.log name) subtrees right in

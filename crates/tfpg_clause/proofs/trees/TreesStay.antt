@@ -21,7 +21,7 @@ use Rattle.tfpg_clause.specs.Case.{Case, at_log, case_at}
 use Rattle.tfpg_clause.specs.declared.path.PathSplit.{PathSplit}
 use Rattle.tfpg_clause.specs.Facts.{fact}
 use Rattle.tfpg_clause.specs.Clauses.{alternatives, count_of, constraint_at}
-use Rattle.tfpg_clause.specs.Trees.{Judged, Chosen, Place, StepPlace, picked, stated, IsClosedLeaf, IsRight, IsRightStep, IsRefutation, IsPartial, IsPresentLeaf}
+use Rattle.tfpg_clause.specs.Trees.{Judged, Chosen, TreePlace, StepPlace, picked, stated, IsClosedLeaf, IsRight, IsRightStep, IsRefutation, IsPartial, IsPresentLeaf}
 use Rattle.tfpg_clause.specs.Paths.{new_split, leaf_next, leaf_after, HasPath}
 use Rattle.tfpg_clause.proofs.logs.StaysAllowed.{clause_stays, alternatives_stay, fact_stays}
 use Rattle.tfpg_clause.proofs.trees.LeafPaths.{after_none}
@@ -97,7 +97,7 @@ module _ (case : Case) (later : Logbook) (ordered : IsOrdered later) (goes_on : 
   }
 
   -- a step that is right stays right
-  pub step_stays : (place : Place) (subtrees : ℕ) (step : Step) → IsRightStep case place subtrees step → IsRightStep (at_log case later) place subtrees step
+  pub step_stays : (place : TreePlace) (subtrees : ℕ) (step : Step) → IsRightStep case place subtrees step → IsRightStep (at_log case later) place subtrees step
   step_stays place subtrees (Split name) right = count_stays name subtrees right
   step_stays place subtrees (Cycle reasons) right = closed_stays place.path reasons right
   step_stays place subtrees Again right = right
@@ -120,7 +120,7 @@ module _ (case : Case) (later : Logbook) (ordered : IsOrdered later) (goes_on : 
       record { tree = partial.tree; more = partial.more; unfinished = partial.unfinished; steps_are = partial.steps_are; right = right_stays _ partial.right }
 
   -- A partial tree keeps its present leaf.
-  pub leaf_stays : (steps : List Judged) (place : Place) → IsPresentLeaf case steps place → IsPresentLeaf (at_log case later) steps place
+  pub leaf_stays : (steps : List Judged) (place : TreePlace) → IsPresentLeaf case steps place → IsPresentLeaf (at_log case later) steps place
   unfolding partial_stays
   leaf_stays steps place leaf = record { partial = partial_stays steps leaf.partial; here = leaf.here }
 

@@ -18,7 +18,7 @@ use Rattle.tfpg_evidence.specs.declared.step.Step.TheVariants.{Split, Cycle, Aga
 use Rattle.tfpg_clause.specs.Case.{Case, case_at}
 use Rattle.tfpg_clause.specs.Facts.{fact}
 use Rattle.tfpg_clause.specs.Clauses.{alternatives, constraint_at}
-use Rattle.tfpg_clause.specs.Trees.{Judged, Tree, Leaf, Branch, Subtrees, NoMore, Next, Reused, Chosen, Place, StepPlace, how_many, reasons_in, root, place_in, places, places_from, places_of, picked, stated, stated_with, IsClosedBy, IsClosedLeaf, IsReusable, IsRight, IsRightStep, IsRefutation, IsPartial, IsPresentLeaf}
+use Rattle.tfpg_clause.specs.Trees.{Judged, Tree, Leaf, Branch, Subtrees, NoMore, Next, Reused, Chosen, TreePlace, StepPlace, how_many, reasons_in, root, place_in, places, places_from, places_of, picked, stated, stated_with, IsClosedBy, IsClosedLeaf, IsReusable, IsRight, IsRightStep, IsRefutation, IsPartial, IsPresentLeaf}
 use Rattle.tfpg_clause.specs.Paths.{chosen_on, is_pick_of, cites, new_split, cited_from, cited_by, IsPathOf}
 use Rattle.tfpg_clause.specs.inside.MarkedTrees.{MarkedPlace, after_subtree, marked_places, marked_from, marked_places_of, picked_on, stated_on, IsClosedOn, IsMarkedStep, IsMarkedRight, IsMarkedRefutation, IsMarkedPartial, IsMarkedLeaf}
 use Rattle.tfpg_clause.specs.declared.path.PathSplit.{PathSplit}
@@ -142,7 +142,7 @@ next_reusable path chosen split reasons same uncited =
 
 mutual
   -- The places of a tree are its marked places.
-  pub tree_same : (path : List PathSplit) (place : Place) (tree : Tree) → IsPathOf path place → SamePlaces (marked_places path tree) (places place tree)
+  pub tree_same : (path : List PathSplit) (place : TreePlace) (tree : Tree) → IsPathOf path place → SamePlaces (marked_places path tree) (places place tree)
   tree_same path place (Leaf seen reasons) of = (record { path_of = of; step = refl; subtrees = refl }, tt)
   tree_same path place (Branch seen name subtrees) of = (
     record { path_of = of; step = refl; subtrees = refl },
@@ -158,7 +158,7 @@ mutual
   subtrees_same path chosen split before same uncited reuse (Next tree others) =
       let reasons : List Reason = reasons_in tree in
       let next : PathSplit = after_subtree (length path + 1) reasons split in
-      let own : Place = place_in chosen split.name split.alternative before in
+      let own : TreePlace = place_in chosen split.name split.alternative before in
       both_same (marked_places (path ++ split ∷ []) tree) (places own tree) (marked_from (cited_by reasons path) next others)
       (places_from chosen split.name (split.alternative + 1) (Some reasons) others)
       (tree_same (path ++ split ∷ []) own tree (path_in path chosen split before same reuse))
@@ -185,7 +185,7 @@ steps_same (marked ∷ more) (next ∷ others) same = λ i. same.0.step i ∷ st
 
 module _ (case : Case) where
   -- a step is right in a place where it is right at the leaf of its path
-  pub right_step : (path : List PathSplit) (place : Place) (subtrees : ℕ) → IsPathOf path place → (step : Step) → IsMarkedStep case path subtrees step ↔ IsRightStep case place subtrees step
+  pub right_step : (path : List PathSplit) (place : TreePlace) (subtrees : ℕ) → IsPathOf path place → (step : Step) → IsMarkedStep case path subtrees step ↔ IsRightStep case place subtrees step
   right_step path place subtrees of (Split name) = (λ right. right, λ right. right)
   right_step path place subtrees of (Cycle reasons) = (
     λ closed. subst (λ (chosen : List Chosen). IsClosedLeaf case chosen reasons) of.chosen (closed_by case path reasons closed),
@@ -195,7 +195,7 @@ module _ (case : Case) where
 
 place_there : (marked : List MarkedPlace) (all : List StepPlace) → SamePlaces marked all → (index : ℕ) (path : List PathSplit)
     → option_map (λ (place : MarkedPlace). place.path) (slice_get marked index) ≡ Some path
-    → (place : Place) × (option_map (λ (next : StepPlace). next.place) (slice_get all index) ≡ Some place) × IsPathOf path place
+    → (place : TreePlace) × (option_map (λ (next : StepPlace). next.place) (slice_get all index) ≡ Some place) × IsPathOf path place
 place_there [] all same index path is = cc
 place_there (marked ∷ more) [] same index path is = absurd same
 place_there (marked ∷ more) (next ∷ others) same zero path is =
@@ -203,7 +203,7 @@ place_there (marked ∷ more) (next ∷ others) same zero path is =
     (next.place, refl, subst (λ (p : List PathSplit). IsPathOf p next.place) own same.0.path_of)
 place_there (marked ∷ more) (next ∷ others) same (suc index) path is = place_there more others same.1 index path is
 
-path_there : (marked : List MarkedPlace) (all : List StepPlace) → SamePlaces marked all → (index : ℕ) (place : Place)
+path_there : (marked : List MarkedPlace) (all : List StepPlace) → SamePlaces marked all → (index : ℕ) (place : TreePlace)
     → option_map (λ (next : StepPlace). next.place) (slice_get all index) ≡ Some place
     → (path : List PathSplit) × (option_map (λ (m : MarkedPlace). m.path) (slice_get marked index) ≡ Some path) × IsPathOf path place
 path_there marked [] same index place is = cc
@@ -283,7 +283,7 @@ module _ (case : Case) where
   -- ---- the present leaf
 
   -- The leaf of a marked path is the present leaf,
-  pub leaf_unmarked : (steps : List Judged) (path : List PathSplit) → IsMarkedLeaf case steps path → (place : Place) × IsPresentLeaf case steps place × IsPathOf path place
+  pub leaf_unmarked : (steps : List Judged) (path : List PathSplit) → IsMarkedLeaf case steps path → (place : TreePlace) × IsPresentLeaf case steps place × IsPathOf path place
   unfolding partial_unmarked
   leaf_unmarked steps path leaf =
       let tree : Tree = leaf.partial.tree in
@@ -291,7 +291,7 @@ module _ (case : Case) where
       (there.0, record { partial = partial_unmarked steps leaf.partial; here = there.1 }, there.2)
 
   -- and the present leaf has a marked path.
-  pub leaf_marked : (steps : List Judged) (place : Place) → IsPresentLeaf case steps place → (path : List PathSplit) × IsMarkedLeaf case steps path × IsPathOf path place
+  pub leaf_marked : (steps : List Judged) (place : TreePlace) → IsPresentLeaf case steps place → (path : List PathSplit) × IsMarkedLeaf case steps path × IsPathOf path place
   unfolding partial_marked
   leaf_marked steps place leaf =
       let tree : Tree = leaf.partial.tree in

@@ -11,7 +11,7 @@ use Rattle.tfpg_log.specs.Log.{Logbook, GoesOn, IsOrdered, first_events}
 use Rattle.tfpg_evidence.specs.declared.reason.Reason.TheVariants.{Zero, Top}
 use Rattle.tfpg_base.specs.Bounds.{at_most, at_least}
 use Rattle.tfpg_clause.specs.Facts.{fact}
-use Rattle.tfpg_clause.specs.Trees.{Judged, Place, IsPartial, IsPresentLeaf}
+use Rattle.tfpg_clause.specs.Trees.{Judged, TreePlace, IsPartial, IsPresentLeaf}
 use Rattle.tfpg_clause.specs.inside.MarkedTrees.{stated_on}
 use Rattle.tfpg_clause.specs.Laws.{FrontsOfPartialTreesArePartial, PartialTreesHaveAPresentLeaf, PresentLeavesAreAlone, PresentLeavesStay}
 use Rattle.tfpg_clause.specs.declared.path.PathSplit.{PathSplit}
@@ -31,13 +31,13 @@ use Rattle.tfpg_clause.proofs.trees.PresentLeaf.{leaf_of_none}
 -- Without a step no name stands twice, since the one present leaf is the root.
 pub none_twice : (case : Case) → HasNoNameTwice case []
 none_twice case [] back place is leaf =
-    subst HasDistinctNames (ap (λ (p : Place). p.path) (sym (leaf_of_none case place leaf))) (λ i j d before inside. absurd (omega (arith, inside)))
+    subst HasDistinctNames (ap (λ (p : TreePlace). p.path) (sym (leaf_of_none case place leaf))) (λ i j d before inside. absurd (omega (arith, inside)))
 none_twice case (first ∷ front) back place is leaf = cc
 
 module _ (leaf_there : PartialTreesHaveAPresentLeaf) (one_leaf : PresentLeavesAreAlone) (leaf_stays : PresentLeavesStay)
     (case : Case) (later : Logbook) (ordered : IsOrdered later) (goes_on : GoesOn case.log later) (steps : List Judged) where
   -- No name stands twice at a log that goes on, where each front that has a present leaf there was a partial tree before.
-  pub names_stay : ((front back : List Judged) (place : Place) → steps ≡ front ++ back → IsPresentLeaf (at_log case later) front place → IsPartial case front)
+  pub names_stay : ((front back : List Judged) (place : TreePlace) → steps ≡ front ++ back → IsPresentLeaf (at_log case later) front place → IsPartial case front)
       → HasNoNameTwice case steps → HasNoNameTwice (at_log case later) steps
   names_stay fronts names front back place is leaf =
       let there = leaf_there case front (fronts front back place is leaf) in

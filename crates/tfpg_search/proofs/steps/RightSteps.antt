@@ -7,7 +7,7 @@ use Rattle.tfpg_evidence.specs.declared.clause_name.ClauseName.{ClauseName}
 use Rattle.tfpg_evidence.specs.declared.step.Step.{Step}
 use Rattle.tfpg_evidence.specs.declared.step.Step.TheVariants.{Split, Cycle, Again}
 use Rattle.tfpg_clause.specs.Case.{Case}
-use Rattle.tfpg_clause.specs.Trees.{Judged, Chosen, Place, split_count, IsRefutation, IsPresentLeaf}
+use Rattle.tfpg_clause.specs.Trees.{Judged, Chosen, TreePlace, split_count, IsRefutation, IsPresentLeaf}
 use Rattle.tfpg_clause.specs.Paths.{chosen_on, IsMarkedReusable, HasPath, IsPathOf, new_split, judged_by, with_step, with_steps, MovesTo}
 use Rattle.tfpg_clause.specs.declared.path.PathSplit.{PathSplit}
 use Rattle.tfpg_search.specs.Live.{IsLiveAt, IsLive, IsSimpleAt, AllowsReuse, HasDistinctNames, HasNoNameTwice}
@@ -23,7 +23,7 @@ use Rattle.tfpg_search.proofs.steps.PathAfter.{Moved, moved_by, all_after}
 module _ (laws : ClauseLaws) (case : Case) where
   module _ (path : List PathSplit) (earlier : List Judged) (has : HasPath case earlier path) where
     -- the present leaf, of which it is the path
-    there : (place : Place) × IsPresentLeaf case earlier place × IsPathOf path place
+    there : (place : TreePlace) × IsPresentLeaf case earlier place × IsPathOf path place
     there = laws.path_is case earlier path has
 
     pub live_here : (name : ClauseName) → IsLiveAt case (chosen_on path) name → IsLive case earlier name
@@ -44,7 +44,7 @@ module _ (laws : ClauseLaws) (case : Case) where
     right_here Again is = record { place = there.0; leaf = there.1; reusable = there.2.reusable.0 is }
 
     -- the names on the path of the present leaf are those on this one
-    distinct_names : (other : Place) → IsPresentLeaf case earlier other → AreDistinct path → HasDistinctNames other.path
+    distinct_names : (other : TreePlace) → IsPresentLeaf case earlier other → AreDistinct path → HasDistinctNames other.path
     distinct_names other leaf distinct =
         subst HasDistinctNames (there.2.chosen ∙ (laws.one_leaf case earlier there.0 other there.1 leaf).0) (chosen_distinct path distinct)
 
@@ -53,7 +53,7 @@ module _ (laws : ClauseLaws) (case : Case) where
 
   -- ---- one step
 
-  names_push : (earlier : List Judged) (step : Judged) → HasNoNameTwice case earlier → ((place : Place) → IsPresentLeaf case (earlier ++ step ∷ []) place → HasDistinctNames place.path)
+  names_push : (earlier : List Judged) (step : Judged) → HasNoNameTwice case earlier → ((place : TreePlace) → IsPresentLeaf case (earlier ++ step ∷ []) place → HasDistinctNames place.path)
       → HasNoNameTwice case (earlier ++ step ∷ [])
   names_push earlier step names last front back place is leaf =
       elim (cut_last earlier step front back is) [
