@@ -1,24 +1,20 @@
 -- What a log shows, one that ignores more monitors shows too. So a hypothesis with more members fits where one with fewer does.
-use Rattle.std.proofs.Common.{◌≡◌, ℕ, ◌-◌, ◌&&◌, Bool, true, false, not, leb, List, refl, sym, ap, ◌∙◌}
+use Rattle.std.proofs.Common.{ℕ, List, IsTrue, inl, inr, ⊎_elim}
 use Rattle.std.specs.Prelude.{Contains}
-use Rattle.std.specs.Bool.{then_some}
-use Rattle.std.proofs.lemmas.Bool.{false≢true}
 use Rattle.std.proofs.lemmas.List.Elements.{All-contains, All-weaker}
 use Rattle.tfpg_base.specs.declared.activation.Activation.{Activation}
 use Rattle.tfpg_base.specs.Set.{IsSubset}
 use Rattle.tfpg_base.specs.Hypothesis.{Hypothesis}
 use Rattle.tfpg_graph.specs.declared.edge.Edge.{Edge}
-use Rattle.tfpg_graph.specs.Graph.{Tfpg, edges_into, lag_or_zero}
+use Rattle.tfpg_graph.specs.Graph.{Tfpg, edges_into}
 use Rattle.tfpg_graph.specs.Reach.{is_among}
 use Rattle.tfpg_graph.proofs.lemmas.reach.Reaches.{among-from_Contains, Contains-from_among}
 use Rattle.tfpg_log.specs.declared.event.Event.{Event}
 use Rattle.tfpg_log.specs.declared.event.Event.TheVariants.{Alarm, Silent, Sweep, Tick, Mode}
-use Rattle.tfpg_log.specs.Log.{Logbook, ignoring, first_events, interval_before}
+use Rattle.tfpg_log.specs.Log.{Logbook, ignoring, first_events}
 use Rattle.tfpg_log.specs.Rules.{HasAge, IsDue, KeepsMay, KeepsMust, KeepsRules}
 use Rattle.tfpg_log.specs.Explains.{ShowsAlarm, ShowsSilence, Shows, Explains}
 use Rattle.tfpg_log.proofs.causes.LargerSets.{larger_explains}
-use Rattle.tfpg_log.proofs.events.AlarmIntervals.{interval_is}
-use Rattle.tfpg_log.proofs.events.SilenceTimes.{inactive_says}
 use Rattle.tfpg_hyp.specs.Views.{log_for, HypothesisFits}
 
 -- ---- the rules do not see what is ignored
@@ -55,29 +51,16 @@ module _ (graph : Tfpg) (log : Logbook) (trace : List Activation) (few many : Li
 -- ---- what is shown
 
 module _ (graph : Tfpg) (trace : List Activation) (few many : List ℕ) (fewer : IsSubset few many) where
-  -- a node that the one log hears, the other hears too
-  heard_by : (node : ℕ) (b : Bool) → is_among few node ≡ b → is_among many node ≡ false → is_among few node ≡ is_among many node
-  heard_by node true is heard =
-      absurd (false≢true (sym heard ∙ among-from_Contains many node (All-contains (Contains many) few node fewer (Contains-from_among few node is))))
-  heard_by node false is heard = is ∙ sym heard
-
-  heard : (node : ℕ) → is_among many node ≡ false → is_among few node ≡ is_among many node
-  heard node quiet = heard_by node (is_among few node) refl quiet
+  -- a node that the one log ignores, the other ignores too
+  ignores : (node : ℕ) → IsTrue (is_among few node) → IsTrue (is_among many node)
+  ignores node is = among-from_Contains many node (All-contains (Contains many) few node fewer (Contains-from_among few node is))
 
   module _ (before : Logbook) where
     shows_alarm : (node time : ℕ) → ShowsAlarm graph (ignoring before few) trace node time → ShowsAlarm graph (ignoring before many) trace node time
-    shows_alarm node time shown = (
-      shown.0,
-      λ interval left.
-          shown.1 interval
-          (ap (λ b. then_some (not b) (interval_before (lag_or_zero graph node) time)) (heard node (interval_is graph (ignoring before many) node time interval left).heard) ∙ left),
-    )
+    shows_alarm node time shown = (shown.0, ⊎_elim (λ ignored. inl (ignores node ignored)) (λ active. inr active) shown.1)
 
     shows_silence : (node time : ℕ) → ShowsSilence graph (ignoring before few) trace node time → ShowsSilence graph (ignoring before many) trace node time
-    shows_silence node time shown until says active =
-        shown until
-        (ap (λ b. then_some (not b && leb (lag_or_zero graph node).least time) (time - (lag_or_zero graph node).least)) (heard node (inactive_says graph (ignoring before many) node time until says).heard) ∙ says)
-        active
+    shows_silence node time shown = ⊎_elim (λ ignored. inl (ignores node ignored)) (λ quiet. inr quiet) shown
 
     -- What a trace shows of an event, it shows where more is ignored.
     shows_more : (event : Event) → Shows graph (ignoring before few) trace event → Shows graph (ignoring before many) trace event

@@ -11,3 +11,4 @@ pub mod SilentNodes
 pub mod Order
 pub mod Indexes
 pub mod PastKept
+pub mod ShownByLookUp

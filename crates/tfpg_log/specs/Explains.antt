@@ -1,29 +1,29 @@
 -- When a trace shows an event and explains a log, and which sets of failure modes fit it.
-use Rattle.std.specs.Prelude.{◌≡◌, ℕ, ◌≤◌, List, All, Contains, IsTrue, Some, IsNone, slice_get}
+use Rattle.std.specs.Prelude.{◌≡◌, ℕ, ◌+◌, ◌-◌, ◌≤◌, ◌⊎◌, List, All, Contains, IsTrue, Some, IsNone, slice_get}
 use Rattle.tfpg_base.specs.declared.activation.Activation.{Activation}
 use Rattle.tfpg_base.specs.Trace.{time_of}
-use Rattle.tfpg_graph.specs.Graph.{Tfpg, is_monitored, is_kind_at, is_failure, failure_at}
+use Rattle.tfpg_graph.specs.declared.kind.Lag.{Lag}
+use Rattle.tfpg_graph.specs.Graph.{Tfpg, lag_or_zero, is_monitored, is_kind_at, is_failure, failure_at}
 use Rattle.tfpg_log.specs.declared.event.Event.{Event}
 use Rattle.tfpg_log.specs.declared.event.Event.TheVariants.{Alarm, Silent, Sweep, Tick, Mode}
-use Rattle.tfpg_log.specs.declared.interval.Interval.{Interval}
-use Rattle.tfpg_log.specs.Log.{Logbook, now_of, first_events, alarm_of, alarm_interval, inactive_until}
+use Rattle.tfpg_log.specs.Log.{Logbook, now_of, first_events, is_ignored, alarm_of}
 use Rattle.tfpg_log.specs.Rules.{IsActive, KeepsRules, IsTraceOf}
 
--- the node became active at one of the instants
-abbrev pub IsActivatedIn : List Activation → ℕ → Interval → Type 0
-IsActivatedIn trace node interval =
-    (active : ℕ) × (time_of trace node ≡ Some active) × (interval.earliest ≤ active) × (active ≤ interval.latest)
+-- the node became active at most the greatest lag before a time, and at least the least; what is before 0 counts as 0
+abbrev pub IsActivatedBefore : List Activation → ℕ → Lag → ℕ → Type 0
+IsActivatedBefore trace node lag time =
+    (active : ℕ) × (time_of trace node ≡ Some active) × (time - lag.most ≤ active) × (active ≤ time - lag.least)
 
--- The node is monitored, and became active at one of the instants that its alarm at this time leaves.
+-- The node is monitored; its monitor is ignored, or the node became active so long before this time as its lag says.
 abbrev pub ShowsAlarm : Tfpg → Logbook → List Activation → ℕ → ℕ → Type 0
 ShowsAlarm graph log trace node time =
     IsTrue (is_monitored graph node)
-    × ((interval : Interval) → alarm_interval graph log node time ≡ Some interval → IsActivatedIn trace node interval)
+    × (IsTrue (is_ignored log node) ⊎ IsActivatedBefore trace node (lag_or_zero graph node) time)
 
--- The node is not active by the instant up to which a silence of it at this time says so.
+-- The node's monitor is ignored, or the node is not active its least lag before this time, if there is such an instant.
 abbrev pub ShowsSilence : Tfpg → Logbook → List Activation → ℕ → ℕ → Type 0
 ShowsSilence graph log trace node time =
-    (until : ℕ) → inactive_until graph log node time ≡ Some until → IsActive trace node until → ⊥
+    IsTrue (is_ignored log node) ⊎ ((x : ℕ) → x + (lag_or_zero graph node).least ≡ time → IsActive trace node x → ⊥)
 
 -- The trace shows an event after this log. A sweep is a silence of each monitored node without an alarm so far.
 abbrev pub Shows : Tfpg → Logbook → List Activation → Event → Type 0

@@ -1,6 +1,7 @@
--- What a log keeps beside its events, and what the code reads. No public clause reaches it.
+-- What a log keeps beside its events, what the code reads, and what is shown by look-ups. No public clause reaches it.
 pub mod SpanIndex
 pub mod ActiveModes
 pub mod NodeEvents
 pub mod LogIndex
 pub mod LogLine
+pub mod ShownByLookUp

@@ -7,20 +7,21 @@ ghost use Rattle.tfpg_base.specs.Lines.{lines_of, HasNoLineEnd, is_too_long};
 ghost use Rattle.tfpg_base.specs.Trace.{time_of};
 ghost use Rattle.tfpg_base.specs.Words.{line_of};
 ghost use Rattle.tfpg_graph.specs.declared.edge.Edge.{Edge};
-ghost use Rattle.tfpg_graph.specs.Graph.{Tfpg, is_active_in, edges_into};
+ghost use Rattle.tfpg_graph.specs.Graph.{Tfpg, is_active_in, is_monitored, edges_into};
 ghost use Rattle.tfpg_graph.specs.Reach.{Reaches};
 ghost use Rattle.tfpg_graph.specs.Valid.{IsValid};
 ghost use Rattle.tfpg_log.specs.declared.event.Event.{Event};
 ghost use Rattle.tfpg_log.specs.declared.event.Offered.TheVariants.{Accepted};
+ghost use Rattle.tfpg_log.specs.declared.interval.Interval.{Interval};
 ghost use Rattle.tfpg_log.specs.declared.span.Span.{Span};
 ghost use Rattle.tfpg_log.specs.declared.span.Window.{Window};
-ghost use Rattle.tfpg_log.specs.Log.{Logbook, GoesOn, IsLogOf, IsOrdered, now_of, event_at, alarm_of, alarm_event, mode_at, quiet_at, is_active_at};
+ghost use Rattle.tfpg_log.specs.Log.{Logbook, GoesOn, IsLogOf, IsOrdered, now_of, event_at, alarm_of, alarm_event, alarm_interval, inactive_until, mode_at, quiet_at, is_active_at};
 ghost use Rattle.tfpg_log.specs.Quiet.{IsLastQuiet};
 ghost use Rattle.tfpg_log.specs.LastAlarm.{IsLastAlarm};
 ghost use Rattle.tfpg_log.specs.Rules.{IsActive, HasAge, IsAge};
 ghost use Rattle.tfpg_log.specs.Spans.{span_number, span_at, are_active_at, window_of, joint_of};
 ghost use Rattle.tfpg_log.specs.Runs.{IsSpanOf, IsWindowRound};
-ghost use Rattle.tfpg_log.specs.Explains.{Explains, Fits};
+ghost use Rattle.tfpg_log.specs.Explains.{Explains, Fits, ShowsAlarm, ShowsSilence};
 ghost use Rattle.tfpg_log.specs.Accepted.{reply_to};
 ghost use Rattle.tfpg_log.specs.AcceptedLog.{AreAccepted};
 ghost use Rattle.tfpg_log.specs.EventLines.{IsNextEvent, AreNextEvents, event_words, event_line};
@@ -99,6 +100,21 @@ pub fn the_last_silence_has_the_greatest_time()
     ensures { (graph : Tfpg) (log : Logbook) (node number : ℕ) → IsLastQuiet graph log node (Some number) →
         IsOrdered log → (time other earlier : ℕ) → quiet_at graph log number node ≡ Some time →
         quiet_at graph log other node ≡ Some earlier → earlier ≤ time }
+{}
+
+/// What a trace shows of alarms and silences is what the look-ups of a log say. It shows an alarm of a monitored node that
+/// became active at one of the instants that the alarm leaves, and a silence of a node that is not active by the instant up
+/// to which the silence says so. If a look-up finds nothing, no more is asked.
+pub fn what_is_shown_is_what_is_looked_up()
+    ensures alarm { (graph : Tfpg) (log : Logbook) (trace : List Activation) (node time : ℕ) →
+        ShowsAlarm graph log trace node time
+        ↔ (IsTrue (is_monitored graph node)
+        × ((interval : Interval) → alarm_interval graph log node time ≡ Some interval →
+        (active : ℕ) × (time_of trace node ≡ Some active)
+        × (interval.earliest ≤ active) × (active ≤ interval.latest))) }
+    ensures silence { (graph : Tfpg) (log : Logbook) (trace : List Activation) (node time : ℕ) →
+        ShowsSilence graph log trace node time
+        ↔ ((until : ℕ) → inactive_until graph log node time ≡ Some until → IsActive trace node until → ⊥) }
 {}
 
 /// Nothing outside a set's reach becomes active: a trace that explains a log from a set activates only nodes that the

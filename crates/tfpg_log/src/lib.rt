@@ -8,8 +8,9 @@
 //! - [`MAX_EVENTS`] and [`MAX_MODE_CHANGES`] say how much a log may have.
 //! - [`Span`] is a run of instants of one mode, and [`Window`] a run of spans in which an edge is active.
 //! - [`laws`] has what the definitions come to: what ages, spans and windows are in other words, how ages follow from
-//!   windows, which events a node's alarm and its last silence are, that nothing becomes active outside a set's reach, that
-//!   a larger set explains what a smaller one does, and that a log keeps its past.
+//!   windows, which events a node's alarm and its last silence are, that what is shown of these is what is looked up, that
+//!   nothing becomes active outside a set's reach, that a larger set explains what a smaller one does, and that a log keeps
+//!   its past.
 //!
 //! Its definitions, in `specs/`, are those that every crate above stands on: the mode of an instant, the age of an
 //! edge, the propagation rules, and which sets of failure modes fit the log.

@@ -11,7 +11,9 @@ use Rattle.tfpg_log.specs.declared.event.Event.TheVariants.{Alarm, Silent, Sweep
 use Rattle.tfpg_log.specs.declared.interval.Interval.{Interval}
 use Rattle.tfpg_log.specs.Log.{Logbook, alarm_of, alarm_interval, inactive_until, silence_time}
 use Rattle.tfpg_log.specs.Rules.{IsActive}
-use Rattle.tfpg_log.specs.Explains.{IsActivatedIn, ShowsAlarm, ShowsSilence, Shows}
+use Rattle.tfpg_log.specs.Explains.{ShowsAlarm, ShowsSilence, Shows}
+use Rattle.tfpg_log.specs.inside.ShownByLookUp.{IsActivatedIn, KeepsInterval, KeepsInactive}
+use Rattle.tfpg_log.proofs.events.ShownByLookUp.{alarm_is_shown, silence_is_shown}
 use Rattle.tfpg_trace.specs.declared.verdict.Verdict.{Verdict}
 use Rattle.tfpg_trace.specs.declared.verdict.Verdict.TheVariants as verdict
 use Rattle.tfpg_trace.specs.inside.Shown.{IsNotShown}
@@ -34,9 +36,10 @@ module _ (graph : Tfpg) (trace : List Activation) where
   -- Whether an alarm is shown is decided.
   alarm_decided : (before : Logbook) (node time : ℕ) → IsDecided (ShowsAlarm graph before trace node time)
   alarm_decided before node time =
-      both_decided (IsTrue (is_monitored graph node))
-      ((interval : Interval) → alarm_interval graph before node time ≡ Some interval → IsActivatedIn trace node interval) (test_decided (is_monitored graph node))
-      (each_decided (IsActivatedIn trace node) (alarm_interval graph before node time) (activated_decided node))
+      same_decided (IsTrue (is_monitored graph node) × KeepsInterval graph before trace node time) (ShowsAlarm graph before trace node time)
+      (alarm_is_shown graph before trace node time).1 (alarm_is_shown graph before trace node time).0
+      (both_decided (IsTrue (is_monitored graph node)) (KeepsInterval graph before trace node time) (test_decided (is_monitored graph node))
+      (each_decided (IsActivatedIn trace node) (alarm_interval graph before node time) (activated_decided node)))
 
   module _ (before : Logbook) (event : Event) where
     -- ---- silences
@@ -44,8 +47,10 @@ module _ (graph : Tfpg) (trace : List Activation) where
     -- Whether a silence is shown is decided.
     silence_decided : (node time : ℕ) → IsDecided (ShowsSilence graph before trace node time)
     silence_decided node time =
-        each_decided (λ until. IsActive trace node until → ⊥) (inactive_until graph before node time)
-        (λ until. not_decided (IsActive trace node until) (active_decided trace node until))
+        same_decided (KeepsInactive graph before trace node time) (ShowsSilence graph before trace node time)
+        (silence_is_shown graph before trace node time).1 (silence_is_shown graph before trace node time).0
+        (each_decided (λ until. IsActive trace node until → ⊥) (inactive_until graph before node time)
+        (λ until. not_decided (IsActive trace node until) (active_decided trace node until)))
 
     -- the event is a silence of the node that is not shown
     abbrev IsLoud : ℕ → Type 0

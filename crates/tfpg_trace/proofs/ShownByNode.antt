@@ -2,21 +2,20 @@
 -- the last are enough, and of its silences the last.
 use Rattle.std.proofs.Common.{◌≡◌, ℕ, zero, suc, ◌+◌, ◌-◌, ◌<◌, List, length, Some, None, IsTrue, refl, sym, ap, ◌∙◌, subst, inl, inr, arith, slice_get}
 use Rattle.std.specs.Prelude.{is_none, not, option_and_then}
-use Rattle.std.specs.Bool.{then_some}
 use Rattle.std.proofs.lemmas.Bool.{cases_lt, and_from, eq-eqb, cond-true}
 use Rattle.std.proofs.lemmas.Option.{option_and_then_some}
 use Rattle.tfpg_base.specs.declared.activation.Activation.{Activation}
 use Rattle.tfpg_base.specs.Trace.{time_of}
 use Rattle.tfpg_base.proofs.lists.Elements.{All-at}
 use Rattle.tfpg_base.proofs.lists.Sequences.{below_or_last}
-use Rattle.tfpg_graph.specs.Graph.{Tfpg, lag_or_zero, is_monitored}
+use Rattle.tfpg_graph.specs.Graph.{Tfpg, is_monitored}
 use Rattle.tfpg_graph.proofs.NodeAt.{monitored_within}
 use Rattle.tfpg_log.specs.declared.event.Event.{Event}
 use Rattle.tfpg_log.specs.declared.event.Event.TheVariants.{Alarm, Silent, Sweep, Tick, Mode}
-use Rattle.tfpg_log.specs.declared.interval.Interval.{Interval}
-use Rattle.tfpg_log.specs.Log.{Logbook, IsLogOf, IsEventOf, event_at, first_events, time_of_event, alarm_of, alarm_interval, interval_before, inactive_until, is_silence_of, silence_time, silence_at}
-use Rattle.tfpg_log.specs.Explains.{IsActivatedIn, ShowsAlarm, ShowsSilence, Shows, ShowsAll}
+use Rattle.tfpg_log.specs.Log.{Logbook, IsLogOf, IsEventOf, event_at, first_events, time_of_event, alarm_of, inactive_until, is_silence_of, silence_time, silence_at}
+use Rattle.tfpg_log.specs.Explains.{ShowsAlarm, ShowsSilence, Shows, ShowsAll}
 use Rattle.tfpg_log.proofs.events.AlarmIntervals.{interval_is}
+use Rattle.tfpg_log.proofs.events.ShownByLookUp.{shows_alarm_heard, shows_alarm_from_interval, shows_silence_by_instant, shows_silence_from_instant}
 use Rattle.tfpg_log.proofs.events.SilenceTimes.{quiet_by}
 use Rattle.tfpg_trace.specs.inside.Shown.{AreAlarmTimes, IsQuietLongest, ShowsAlarmsOf, ShowsSilencesOf, ShowsNode}
 use Rattle.tfpg_trace.proofs.Explained.{shows_quiet}
@@ -25,26 +24,18 @@ module _ (graph : Tfpg) (log : Logbook) (trace : List Activation) where
   module _ (node : ℕ) where
     -- ---- alarms
 
-    -- An alarm that is shown leaves the instants that its lag says, where any leaves some.
-    left_there : (time other : ℕ) (interval : Interval) → alarm_interval graph log node other ≡ Some interval → ShowsAlarm graph log trace node time
-        → IsActivatedIn trace node (interval_before (lag_or_zero graph node) time)
-    left_there time other interval left shows =
-        shows.1 (interval_before (lag_or_zero graph node) time)
-        (ap (λ b. then_some (not b) (interval_before (lag_or_zero graph node) time)) (interval_is graph log node other interval left).heard)
-
     -- Where the first and the last alarm are shown, so are those between.
     pub alarms_shown : (first last : ℕ) → AreAlarmTimes log node first last → ShowsAlarm graph log trace node first → ShowsAlarm graph log trace node last
         → ShowsAlarmsOf graph log trace node
-    alarms_shown first last are shows_first shows_last time alarm = (
-      shows_first.0,
-      λ interval left.
-          (let is = interval_is graph log node time interval left in
-          let low = left_there first time interval left shows_first in
-          let high = left_there last time interval left shows_last in
-          let same : low.0 ≡ high.0 = cc (low.1, high.1) in
-          let within = are.between time alarm in
-          (low.0, low.1, omega (arith, is.earliest, same, high.2, within.1), omega (arith, is.latest, low.3, within.0))),
-    )
+    alarms_shown first last are shows_first shows_last time alarm =
+        shows_alarm_from_interval graph log trace node time shows_first.0
+        (λ interval left.
+        let is = interval_is graph log node time interval left in
+        let low = shows_alarm_heard graph log trace node first is.heard shows_first in
+        let high = shows_alarm_heard graph log trace node last is.heard shows_last in
+        let same : low.0 ≡ high.0 = cc (low.1, high.1) in
+        let within = are.between time alarm in
+        (low.0, low.1, omega (arith, is.earliest, same, high.2, within.1), omega (arith, is.latest, low.3, within.0)))
 
     -- ---- silences
 
@@ -87,9 +78,11 @@ module _ (graph : Tfpg) (log : Logbook) (trace : List Activation) where
 
   module _ (of : IsLogOf graph log) (nodes : ShowNodesBefore (length graph.nodes)) where
     silence_shown : (number node time : ℕ) → IsTrue (is_monitored graph node) → silence_at graph log number node ≡ Some time → ShowsSilence graph log trace node time
-    silence_shown number node time monitored silent until said =
+    silence_shown number node time monitored silent =
+        shows_silence_from_instant graph log trace node time
+        (λ until said.
         (nodes node (monitored_within graph node monitored)).silences until
-        (number, ap (option_and_then (inactive_until graph log node)) silent ∙ said)
+        (number, ap (option_and_then (inactive_until graph log node)) silent ∙ said))
 
     event_shown : (index : ℕ) (event : Event) → slice_get log.events index ≡ Some event → IsEventOf graph event → Shows graph (first_events log index) trace event
     event_shown index (Alarm time node) at own = (nodes node (monitored_within graph node own)).alarms time (suc index, at)
@@ -125,5 +118,5 @@ module _ (graph : Tfpg) (log : Logbook) (trace : List Activation) where
       alarms = λ time is. alarm_shown is.0 time is.1;
       silences = λ until is.
           let by = quiet_by graph log node is.0 until is.1 in
-          quiet_shown is.0 by.time by.silent until by.until_is;
+          shows_silence_by_instant graph log trace node by.time (quiet_shown is.0 by.time by.silent) until by.until_is;
     }

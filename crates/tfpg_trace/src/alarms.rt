@@ -1,7 +1,8 @@
 //! Whether a trace shows an alarm.
 
 ghost use Rattle.std.specs.Prelude.{◌<◌, ◌↔◌, length, IsTrue};
-ghost use Rattle.tfpg_log.specs.Explains.{IsActivatedIn, ShowsAlarm};
+ghost use Rattle.tfpg_log.specs.Explains.{ShowsAlarm};
+ghost use Rattle.tfpg_log.specs.inside.ShownByLookUp.{IsActivatedIn};
 
 use crate::trace_table::TraceTable;
 use tfpg_graph::Graph;

@@ -1,6 +1,6 @@
 -- What the last event shows at once.
 use Rattle.std.proofs.Common.{◌≡◌, ℕ, suc, ◌+◌, ◌<◌, ◌≤◌, true, not, ◌&&◌, leb, ltb, List, [], ◌∷◌, ◌++◌, length, refl, sym, ap, subst, ◌∙◌, ⊎_elim, arith, pos}
-use Rattle.std.specs.Prelude.{◌+ℤ◌, ◌<ℤ◌, neg_ℤ, All, IfSome, Option, Some, option_and_then, option_map, slice_get}
+use Rattle.std.specs.Prelude.{◌+ℤ◌, ◌<ℤ◌, neg_ℤ, All, IfSome, IsTrue, Option, Some, option_and_then, option_map, slice_get}
 use Rattle.std.specs.Bool.{then_some}
 use Rattle.std.proofs.lemmas.Bool.{and_from, le-leb, lt-ltb, false_from_ne_true}
 use Rattle.std.proofs.lemmas.Int.{ints}
@@ -13,7 +13,7 @@ use Rattle.tfpg_base.specs.Hypothesis.{Hypothesis}
 use Rattle.tfpg_base.specs.declared.activation.Activation.{Activation}
 use Rattle.tfpg_base.proofs.lists.Elements.{All-at}
 use Rattle.tfpg_base.proofs.lists.Written.{slice_get-push_cases, slice_get-push_last}
-use Rattle.tfpg_graph.specs.Graph.{Tfpg}
+use Rattle.tfpg_graph.specs.Graph.{Tfpg, is_monitored}
 use Rattle.tfpg_graph.specs.Reach.{is_among}
 use Rattle.tfpg_graph.proofs.NodeAt.{monitored_within}
 use Rattle.tfpg_graph.proofs.lemmas.reach.Reaches.{Contains-from_among}
@@ -21,10 +21,12 @@ use Rattle.tfpg_log.specs.declared.event.Event.{Event}
 use Rattle.tfpg_log.specs.declared.event.Event.TheVariants.{Alarm, Silent, Sweep, Tick, Mode}
 use Rattle.tfpg_log.specs.declared.interval.Interval.{Interval}
 use Rattle.tfpg_log.specs.Explains.{Explains, Shows}
+use Rattle.tfpg_log.specs.inside.ShownByLookUp.{KeepsInterval, KeepsInactive}
 use Rattle.tfpg_log.specs.Log.{Logbook, IsEventOf, IsLogOf, event_at, first_events, ignoring, mode_at, now_of, time_of_event, with_event}
 use Rattle.tfpg_log.proofs.changes.ModeChanges.{mode_after-append}
 use Rattle.tfpg_log.proofs.events.AlarmIntervals.{interval_is}
 use Rattle.tfpg_log.proofs.events.Events.{now-with_event}
+use Rattle.tfpg_log.proofs.events.ShownByLookUp.{shows_alarm_from_interval, shows_silence_from_instant}
 use Rattle.tfpg_evidence.specs.declared.reason.Reason.TheVariants.{Unreached, Upto}
 use Rattle.tfpg_evidence.specs.declared.step.Step.{Step}
 use Rattle.tfpg_evidence.specs.declared.step.Step.TheVariants.{Cycle}
@@ -117,6 +119,15 @@ refuted case set budget found steps is refutes = record {
 }
 
 -- ---- a trace that shows the event
+
+module _ (graph : Tfpg) (log : Logbook) (trace : List Activation) (event : Event) (time node : ℕ) where
+  -- An alarm whose node became active at one of the instants that it leaves is shown.
+  pub answers_alarm : event ≡ Alarm time node → IsTrue (is_monitored graph node) → KeepsInterval graph log trace node time → ShowsAnswer graph log trace event
+  answers_alarm is monitored keeps = subst (ShowsAnswer graph log trace) (sym is) (shows_alarm_from_interval graph log trace node time monitored keeps)
+
+  -- A silence whose node is not active by the instant up to which it says so is shown.
+  pub answers_silence : event ≡ Silent time node → KeepsInactive graph log trace node time → ShowsAnswer graph log trace event
+  answers_silence is keeps = subst (ShowsAnswer graph log trace) (sym is) (shows_silence_from_instant graph log trace node time keeps)
 
 module _ (graph : Tfpg) (earlier : Logbook) (trace : List Activation) where
   -- a silence and an alarm change no mode

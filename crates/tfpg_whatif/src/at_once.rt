@@ -1,10 +1,9 @@
 //! Outcomes that the last event shows at once, without a search.
 
 ghost use Rattle.std.specs.Prelude.{◌≡◌, ◌↔◌, ℕ, List, IfOk, IfSome, IsTrue, Some};
-ghost use Rattle.tfpg_log.specs.declared.interval.Interval.{Interval};
-ghost use Rattle.tfpg_log.specs.Explains.{IsActivatedIn, ShowsSilence};
-ghost use Rattle.tfpg_log.specs.Log.{Logbook, IsLogOf, alarm_interval, with_event};
+ghost use Rattle.tfpg_log.specs.Log.{Logbook, IsLogOf, with_event};
 ghost use Rattle.tfpg_log.specs.Rules.{IsActive};
+ghost use Rattle.tfpg_log.specs.inside.ShownByLookUp.{IsActivatedIn, KeepsInterval, KeepsInactive};
 ghost use Rattle.tfpg_clause.specs.Case.{case_of};
 ghost use Rattle.tfpg_whatif.specs.Outcomes.{HasOutcomeEvidence};
 ghost use Rattle.tfpg_whatif.specs.inside.Asking.{IsShown};
@@ -123,9 +122,9 @@ fn shows_answer(graph: &Graph, log: &Log, trace: &Trace, event: Event) -> bool
     }
 }
 
-/// Whether the trace shows a silence of the node at this time.
+/// Whether the trace shows what a silence of the node at this time says.
 fn shows_silence(graph: &Graph, log: &Log, trace: &Trace, node: u32, time: u64) -> bool
-    ensures { IsTrue result → ShowsSilence graph.now log.now trace.now node time }
+    ensures { IsTrue result → KeepsInactive graph.now log.now trace.now node time }
 {
     match log.inactive_until(graph, node, time) {
         Some(until) => !is_active(trace, node, until),
@@ -145,8 +144,7 @@ fn is_active(trace: &Trace, node: u32, instant: u64) -> bool
 
 /// Whether the trace shows what an alarm of the node at this time says.
 fn shows_alarm(graph: &Graph, log: &Log, trace: &Trace, node: u32, time: u64) -> bool
-    ensures { IsTrue result → (interval : Interval) →
-        alarm_interval graph.now log.now node time ≡ Some interval → IsActivatedIn trace.now node interval }
+    ensures { IsTrue result → KeepsInterval graph.now log.now trace.now node time }
 {
     match log.alarm_interval(graph, node, time) {
         Some(interval) => is_activated_in(trace, node, interval),

@@ -20,11 +20,13 @@ use Rattle.tfpg_graph.proofs.NodeAt.{monitored_within}
 use Rattle.tfpg_log.specs.declared.event.Event.{Event}
 use Rattle.tfpg_log.specs.declared.event.Event.TheVariants.{Alarm, Silent, Sweep, Tick, Mode}
 use Rattle.tfpg_log.specs.Log.{Logbook, now_of, first_events, time_of_event, alarm_among, alarm_of, is_ignored, interval_before, alarm_interval, inactive_until, silence_time, silence_at, quiet_at, IsLogOf, IsEventOf, IsOrdered}
-use Rattle.tfpg_log.specs.Explains.{Explains, IsActivatedIn, Shows, ShowsAll, ShowsSilence}
+use Rattle.tfpg_log.specs.Explains.{Explains, Shows, ShowsAll, ShowsSilence}
+use Rattle.tfpg_log.specs.inside.ShownByLookUp.{KeepsInterval}
 use Rattle.tfpg_log.specs.Rules.{IsActive}
 use Rattle.tfpg_log.specs.declared.interval.Interval.{Interval}
 use Rattle.tfpg_log.proofs.causes.InReach.{trace_in_reach}
 use Rattle.tfpg_log.proofs.events.Order.{event_by_now}
+use Rattle.tfpg_log.proofs.events.ShownByLookUp.{shows_alarm_by_interval, shows_alarm_from_interval, shows_silence_by_instant, shows_silence_from_instant}
 use Rattle.tfpg_log.proofs.events.SilenceTimes.{quiet_by}
 use Rattle.tfpg_evidence.specs.declared.reason.Reason.{Reason}
 use Rattle.tfpg_evidence.specs.declared.reason.Reason.TheVariants.{Zero, Top, Unreached, From, Upto, Quiet, Pick}
@@ -98,7 +100,7 @@ module _ (graph : Tfpg) (log : Logbook) (set reach : List ℕ) (is_reach : IsRea
     from_met : (index : ℕ) (event : Event) (stated : Constraint) → slice_get log.events index ≡ Some event → from_alarm graph log event ≡ Some stated → Meets numbers stated
     from_met index (Alarm time node) stated at is =
         let told = option_map-some (λ (interval : Interval). at_least node interval.earliest) (alarm_interval graph log node time) stated is in
-        let shows = (explains.shows index (Alarm time node) at).1 told.0 told.1 in
+        let shows = shows_alarm_by_interval graph log trace node time (explains.shows index (Alarm time node) at) told.0 told.1 in
         subst (Meets numbers) told.2
         (met_at_least numbers node told.0.earliest (omega (arith, agree.number_is node shows.0 shows.1, shows.2)))
     from_met index (Silent time node) stated at is = absurd cc
@@ -109,7 +111,7 @@ module _ (graph : Tfpg) (log : Logbook) (set reach : List ℕ) (is_reach : IsRea
     upto_met : (index : ℕ) (event : Event) (stated : Constraint) → slice_get log.events index ≡ Some event → upto_alarm graph log event ≡ Some stated → Meets numbers stated
     upto_met index (Alarm time node) stated at is =
         let told = option_map-some (λ (interval : Interval). at_most node (pos interval.latest)) (alarm_interval graph log node time) stated is in
-        let shows = (explains.shows index (Alarm time node) at).1 told.0 told.1 in
+        let shows = shows_alarm_by_interval graph log trace node time (explains.shows index (Alarm time node) at) told.0 told.1 in
         subst (Meets numbers) told.2 (met_at_most numbers node told.0.latest (omega (arith, agree.number_is node shows.0 shows.1, shows.3)))
     upto_met index (Silent time node) stated at is = absurd cc
     upto_met index (Sweep time) stated at is = absurd cc
@@ -127,7 +129,7 @@ module _ (graph : Tfpg) (log : Logbook) (set reach : List ℕ) (is_reach : IsRea
           | inl later ↦ omega (arith, later)
           | inr early ↦
               absurd
-              (silent.shown until by.until_is
+              (shows_silence_by_instant graph log trace node by.time silent.shown until by.until_is
               (active_from (length graph.nodes) (now_of log) trace numbers agree node until silent.within
               (omega (arith, event_by_now log index event ordered at, silent.at, by.says.is)) early))
         ])
@@ -178,14 +180,15 @@ module _ (graph : Tfpg) (log : Logbook) (set reach : List ℕ) (is_reach : IsRea
 
     silence_kept : (index : ℕ) (event : Event) (node time : ℕ) → slice_get log.events index ≡ Some event → silence_time graph (first_events log index) event node ≡ Some time
         → ShowsSilence graph (first_events log index) trace node time
-    silence_kept index event node time at is until says =
-        quiet_kept (suc index) node until (ap (option_and_then (inactive_until graph log node)) (silence_of graph log index node event at ∙ is) ∙ says)
+    silence_kept index event node time at is =
+        shows_silence_from_instant graph log trace node time
+        (λ until says. quiet_kept (suc index) node until (ap (option_and_then (inactive_until graph log node)) (silence_of graph log index node event at ∙ is) ∙ says))
 
     event_is_shown : (index : ℕ) (event : Event) → slice_get log.events index ≡ Some event → IsEventOf graph event → Shows graph (first_events log index) trace event
     event_is_shown index (Alarm time node) at own =
         let from : fact (case_of graph log reach) (From (suc index)) ≡ from_alarm graph log (Alarm time node) = ap (option_and_then (from_alarm graph log)) at in
         let upto : fact (case_of graph log reach) (Upto (suc index)) ≡ upto_alarm graph log (Alarm time node) = ap (option_and_then (upto_alarm graph log)) at in
-        let told : (interval : Interval) → alarm_interval graph log node time ≡ Some interval → IsActivatedIn trace node interval = λ interval is. (
+        let told : KeepsInterval graph log trace node time = λ interval is. (
         let since = says_at_least numbers node interval.earliest (met (From (suc index)) (at_least node interval.earliest)
         (from ∙ ap (option_map (λ (i : Interval). at_least node i.earliest)) is)) in
         let till = says_at_most numbers node interval.latest (met (Upto (suc index)) (at_most node (pos interval.latest))
@@ -197,7 +200,7 @@ module _ (graph : Tfpg) (log : Logbook) (set reach : List ℕ) (is_reach : IsRea
           since,
           till,
         )) in
-        (own, told)
+        shows_alarm_from_interval graph log trace node time own told
     event_is_shown index (Silent time node) at own =
         silence_kept index (Silent time node) node time at (ap (λ (b : Bool). cond b (Some time) None) (eq-eqb node node refl))
     event_is_shown index (Sweep time) at own = λ node monitored none.

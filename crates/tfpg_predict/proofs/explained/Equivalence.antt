@@ -1,7 +1,6 @@
 -- A trace explains the probed log exactly where, without the probe, it explains the continued log, gives the node a time by the
 -- bound, and gives the probe that same time.
-use Rattle.std.proofs.Common.{◌≡◌, ◌≢◌, ℕ, ◌+◌, ◌-◌, ◌<◌, ◌≤◌, ◌==◌, ◌&&◌, leb, Bool, true, false, not, List, [], ◌∷◌, ◌++◌, length, Contains, Some, IsTrue, slice_get, ⊎_elim, inl, inr, ◌⊎◌, refl, sym, ap, ◌∙◌, subst, arith}
-use Rattle.std.specs.Bool.{then_some}
+use Rattle.std.proofs.Common.{◌≡◌, ◌≢◌, ℕ, ◌+◌, ◌-◌, ◌<◌, ◌≤◌, ◌==◌, Bool, true, false, not, List, [], ◌∷◌, ◌++◌, length, Contains, Some, IsTrue, slice_get, ⊎_elim, inl, inr, ◌⊎◌, refl, sym, ap, ◌∙◌, subst, arith}
 use Rattle.std.proofs.lemmas.Bool.{cases_eq, cases_lt, false≢true, ne_eqb}
 use Rattle.std.proofs.lemmas.List.{length_push}
 use Rattle.std.proofs.lemmas.List.Elements.{All-contains, Contains-append_left, Contains-push, Contains-push_cases}
@@ -20,13 +19,13 @@ use Rattle.tfpg_graph.proofs.NodeAt.{monitored_within}
 use Rattle.tfpg_graph.proofs.lemmas.reach.Reaches.{Contains-from_among}
 use Rattle.tfpg_log.specs.declared.event.Event.{Event}
 use Rattle.tfpg_log.specs.declared.event.Event.TheVariants.{Alarm, Silent, Sweep, Tick, Mode}
-use Rattle.tfpg_log.specs.Log.{Logbook, event_at, first_events, now_of, mode_at, is_ignored, interval_before, alarm_interval, inactive_until, silence_at}
+use Rattle.tfpg_log.specs.Log.{Logbook, event_at, first_events, now_of, mode_at, is_ignored, silence_at}
 use Rattle.tfpg_log.specs.Rules.{IsTraceOf, KeepsRulesOf}
-use Rattle.tfpg_log.specs.Explains.{Explains, IsActivatedIn, IsMember, Shows, ShowsAlarm, ShowsSilence}
+use Rattle.tfpg_log.specs.Explains.{Explains, IsActivatedBefore, IsMember, Shows, ShowsAlarm, ShowsSilence}
 use Rattle.tfpg_log.proofs.changes.ModeChanges.{mode_after-append}
 use Rattle.tfpg_log.proofs.events.Events.{now-with_event}
 use Rattle.tfpg_log.proofs.events.AlarmIntervals.{interval_is}
-use Rattle.tfpg_log.proofs.events.SilenceTimes.{inactive_says, says_inactive}
+use Rattle.tfpg_log.proofs.events.ShownByLookUp.{shows_alarm_heard, shows_alarm_from_interval}
 use Rattle.tfpg_log.proofs.events.SilentNodes.{event_own, silent_within}
 use Rattle.tfpg_predict.specs.LeastTime.{Lookahead, continued, ExplainsContinued}
 use Rattle.tfpg_predict.specs.Probed.{probe_lag, without_probe, IsProbedTrace, IsProbeable}
@@ -105,19 +104,6 @@ module _ (asked : Lookahead) (bound : ℕ) (name : List ℕ) (valid : IsValid as
           All-contains (λ node. IsTrue (is_monitored graph node)) log.ignored probe able.of.ignored (Contains-from_among log.ignored probe is) in
           let within = monitored_within graph probe monitored in absurd (omega (arith, within))
 
-  -- ---- what alarms and silences say in both
-
-  interval_same : (node time : ℕ) → node < probe → alarm_interval next later node time ≡ alarm_interval graph log node time
-  interval_same node time within = ap (λ (l : Lag). then_some (not (is_ignored log node)) (interval_before l time)) (lag_before graph name asked.node lag node within)
-
-  inactive_same : (node time : ℕ) → node < probe → inactive_until next later node time ≡ inactive_until graph log node time
-  inactive_same node time within =
-      ap (λ (l : Lag). then_some (not (is_ignored log node) && leb l.least time) (time - l.least)) (lag_before graph name asked.node lag node within)
-
-  -- the instants that an alarm leaves, where another one of the node leaves any
-  interval_there : (node time : ℕ) → is_ignored log node ≡ false → alarm_interval graph log node time ≡ Some (interval_before (lag_or_zero graph node) time)
-  interval_there node time heard = ap (λ (b : Bool). then_some (not b) (interval_before (lag_or_zero graph node) time)) heard
-
   module _ (set : List ℕ) (trace : List Activation) where
     abbrev rest : List Activation
     rest = without_probe probe trace
@@ -134,38 +120,39 @@ module _ (asked : Lookahead) (bound : ℕ) (name : List ℕ) (valid : IsValid as
           (there.0, explains.shows there.0 event (slice_get-contains later.events event there))
 
       kept_alarm : (node time : ℕ) → node < probe → is_ignored log node ≡ false → Contains kept (Alarm time node)
-          → IsActivatedIn trace node (interval_before (lag_or_zero graph node) time)
+          → IsActivatedBefore trace node (lag_or_zero graph node) time
       kept_alarm node time within heard among =
           let shown : ShowsAlarm next later trace node time = (kept_shown (Alarm time node) among).1 in
-          shown.1 (interval_before (lag_or_zero graph node) time) (interval_same node time within ∙ interval_there node time heard)
+          subst (λ (l : Lag). IsActivatedBefore trace node l time) (lag_before graph name asked.node lag node within) (shows_alarm_heard next later trace node time heard shown)
 
       alarm_back : (number time node : ℕ) → event_at log number ≡ Some (Alarm time node) → ShowsAlarm graph log rest node time
       alarm_back number time node at =
           let monitored : IsTrue (is_monitored graph node) = event_own graph log number (Alarm time node) able.of at in
-          let within = monitored_within graph node monitored in (
-            monitored,
-            λ interval is.
-                let leaves = interval_is graph log node time interval is in
-                let between = keeps.alarms number time node at in
-                let one = kept_alarm node between.first within leaves.heard between.first_in in
-                let two = kept_alarm node between.last within leaves.heard between.last_in in
-                let same : two.0 ≡ one.0 = same_Some two.0 one.0 (sym two.1 ∙ one.1) in
-                let from = between.from in let till = between.upto in
-                let earliest = leaves.earliest in let latest = leaves.latest in
-                let upper = one.3 in let lower = two.2 in
-                (one.0, rest_time node within ∙ one.1, omega (arith, till, earliest, lower, same), omega (arith, from, latest, upper)),
-          )
+          let within = monitored_within graph node monitored in
+          shows_alarm_from_interval graph log rest node time monitored
+          (λ interval is.
+          let leaves = interval_is graph log node time interval is in
+          let between = keeps.alarms number time node at in
+          let one = kept_alarm node between.first within leaves.heard between.first_in in
+          let two = kept_alarm node between.last within leaves.heard between.last_in in
+          let same : two.0 ≡ one.0 = same_Some two.0 one.0 (sym two.1 ∙ one.1) in
+          let from = between.from in let till = between.upto in
+          let earliest = leaves.earliest in let latest = leaves.latest in
+          let upper = one.3 in let lower = two.2 in
+          (one.0, rest_time node within ∙ one.1, omega (arith, till, earliest, lower, same), omega (arith, from, latest, upper)))
 
       silence_back : (number time node : ℕ) → silence_at graph log number node ≡ Some time → ShowsSilence graph log rest node time
-      silence_back number time node is until says active =
+      silence_back number time node is =
           let within = silent_within graph log number node time able.of is in
           let by = keeps.silences number time node is in
-          let said = inactive_says graph log node time until says in
-          let till = by.upto in let late = said.late in let until_is = said.is in
+          let till = by.upto in
+          let least : (lag_or_zero next node).least ≡ (lag_or_zero graph node).least = ap (λ (l : Lag). l.least) (lag_before graph name asked.node lag node within) in
           let shown : ShowsSilence next later trace node by.last = (kept_shown (Silent by.last node) by.last_in).1 in
-          shown (by.last - (lag_or_zero graph node).least)
-          (inactive_same node by.last within ∙ says_inactive graph log node by.last said.heard (omega (arith, late, till)))
-          (active.0, sym (rest_time node within) ∙ active.1, let before = active.2 in omega (arith, before, until_is, till))
+          ⊎_elim (λ ignored. inl ignored)
+          (λ quiet. inr (λ x before active.
+          let upto_x = active.2 in
+          quiet (by.last - (lag_or_zero graph node).least) (omega (arith, least, before, till)) (active.0, sym (rest_time node within) ∙ active.1, omega (arith, upto_x, before, till))))
+          shown
 
       explained : ExplainsContinued asked set rest
       explained = record {
@@ -192,13 +179,11 @@ module _ (asked : Lookahead) (bound : ℕ) (name : List ℕ) (valid : IsValid as
       }
 
       -- the probe shows its alarm
-      probe_shown : IsActivatedIn trace probe (interval_before lag asked.to)
+      probe_shown : IsActivatedBefore trace probe lag asked.to
       probe_shown =
           let there : Contains later.events (Alarm asked.to probe) = Contains-push kept (Alarm asked.to probe) in
           let shown : ShowsAlarm next later trace probe asked.to = explains.shows there.0 (Alarm asked.to probe) (slice_get-contains later.events (Alarm asked.to probe) there) in
-          shown.1 (interval_before lag asked.to)
-          ((λ i. then_some (not (is_ignored log probe)) (interval_before (lag_probe graph name asked.node lag i) asked.to))
-          ∙ ap (λ (b : Bool). then_some (not b) (interval_before lag asked.to)) probe_heard)
+          subst (λ (l : Lag). IsActivatedBefore trace probe l asked.to) (lag_probe graph name asked.node lag) (shows_alarm_heard next later trace probe asked.to probe_heard shown)
 
       pub from_probed : IsProbedTrace asked bound set trace
       from_probed =
@@ -230,15 +215,19 @@ module _ (asked : Lookahead) (bound : ℕ) (name : List ℕ) (valid : IsValid as
           let shown = heard.alarms number time node at in
           let within = monitored_within graph node shown.0 in (
             monitored_before graph name asked.node lag node within ∙ shown.0,
-            λ interval says.
-                let active = shown.1 interval (sym (interval_same node time within) ∙ says) in
-                (active.0, sym (rest_time node within) ∙ active.1, active.2, active.3),
+            ⊎_elim (λ ignored. inl ignored)
+                (λ active. inr (subst (λ (l : Lag). IsActivatedBefore trace node l time) (sym (lag_before graph name asked.node lag node within))
+                (active.0, sym (rest_time node within) ∙ active.1, active.2, active.3)))
+                shown.1,
           )
 
       silence_on : (number time node : ℕ) → silence_at graph log number node ≡ Some time → ShowsSilence next later trace node time
-      silence_on number time node silent until says active =
+      silence_on number time node silent =
           let within = silent_within graph log number node time able.of silent in
-          heard.silences number time node silent until (sym (inactive_same node time within) ∙ says) (active.0, rest_time node within ∙ active.1, active.2)
+          ⊎_elim (λ ignored. inl ignored)
+          (λ quiet. inr (λ x before active.
+          quiet x (ap (λ (l : Lag). x + l.least) (sym (lag_before graph name asked.node lag node within)) ∙ before) (active.0, rest_time node within ∙ active.1, active.2)))
+          (heard.silences number time node silent)
 
       said_shown : (event : Event) → IsSaidBy graph log event → (index : ℕ) → Shows next (first_events later index) trace event
       said_shown (Alarm time node) said index = alarm_on said.0 time node said.1
@@ -250,12 +239,9 @@ module _ (asked : Lookahead) (bound : ℕ) (name : List ℕ) (valid : IsValid as
       probe_alarm : ShowsAlarm next later trace probe asked.to
       probe_alarm = (
         monitored_probe graph name asked.node lag,
-        λ interval says.
-            let leaves = interval_is next later probe asked.to interval says in
-            let earliest : interval.earliest ≡ asked.to - asked.to = leaves.earliest ∙ ap (λ (l : Lag). asked.to - l.most) (lag_probe graph name asked.node lag) in
-            let latest : interval.latest ≡ asked.to - (asked.to - bound) = leaves.latest ∙ ap (λ (l : Lag). asked.to - l.least) (lag_probe graph name asked.node lag) in
-            let till = is.by_bound in
-            (is.time, is.probe, omega (arith, earliest), omega (arith, latest, till, upto)),
+        inr
+            (subst (λ (l : Lag). IsActivatedBefore trace probe l asked.to) (sym (lag_probe graph name asked.node lag))
+            (let till = is.by_bound in (is.time, is.probe, omega arith, omega (arith, till, upto)))),
       )
 
       event_shown : (index : ℕ) (event : Event) → slice_get later.events index ≡ Some event → Shows next (first_events later index) trace event

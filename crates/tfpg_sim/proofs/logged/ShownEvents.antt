@@ -1,21 +1,19 @@
 -- The simulated trace shows each event of the simulated log.
-use Rattle.std.proofs.Common.{◌≡◌, ℕ, ◌≤◌, ⊎_elim, ◌-◌, List, [], ◌∷◌, ◌++◌, length, get_or, All, Contains, IsTrue, Option, Some, None, is_some, unwrap_or, ◌+◌, refl, sym, ap, ◌∙◌, subst, arith}
+use Rattle.std.proofs.Common.{◌≡◌, ℕ, ◌≤◌, inr, ⊎_elim, ◌-◌, List, [], ◌∷◌, ◌++◌, length, get_or, All, Contains, IsTrue, Option, Some, None, is_some, unwrap_or, ◌+◌, refl, sym, ap, ◌∙◌, subst, arith}
 use Rattle.std.specs.Prelude.{find}
 use Rattle.std.proofs.lemmas.Bool.{eq-eqb, leb-false, false≢true}
 use Rattle.std.proofs.lemmas.List.Elements.{All-contains, Contains-append_cases}
 use Rattle.tfpg_base.proofs.lists.Elements.{Contains-cons_cases}
 use Rattle.tfpg_base.proofs.lists.Choices.{is_some-option_map}
 use Rattle.tfpg_base.specs.declared.activation.Activation.{Activation}
-use Rattle.std.proofs.lemmas.Option.{same_Some}
 use Rattle.tfpg_graph.specs.Graph.{Tfpg, lag_at, lag_or_zero, lag_up_to}
 use Rattle.tfpg_graph.specs.Valid.{IsValid}
 use Rattle.tfpg_graph.specs.declared.kind.Lag.{Lag}
 use Rattle.tfpg_log.specs.declared.event.Event.{Event}
 use Rattle.tfpg_log.specs.declared.event.Event.TheVariants as event
-use Rattle.tfpg_log.specs.Log.{is_alarm_of, alarm_among, time_of_event, interval_before}
-use Rattle.tfpg_log.proofs.events.SilenceTimes.{inactive_says}
+use Rattle.tfpg_log.specs.Log.{is_alarm_of, alarm_among, time_of_event}
 use Rattle.tfpg_base.proofs.lists.FirstFound.{find-Contains}
-use Rattle.tfpg_log.specs.Explains.{IsActivatedIn, Shows}
+use Rattle.tfpg_log.specs.Explains.{IsActivatedBefore, Shows}
 use Rattle.tfpg_log.specs.LogOfLines.{log_of_events}
 use Rattle.tfpg_graph.proofs.NodeAt.{monitored_within}
 use Rattle.tfpg_sim.specs.declared.draws.Lateness.{Lateness}
@@ -57,19 +55,17 @@ module _ (graph : Tfpg) (valid : IsValid graph) (entries : List Entry) (script :
       let earliest : time - own.lag.most ≤ alarm.active = omega (arith, between.1, alarm.due, own.upto_most) in
       let latest : alarm.active ≤ time - own.lag.least = omega (arith, between.0, alarm.due, own.least) in (
         ap is_some own.is,
-        λ interval said.
-            subst (IsActivatedIn trace node) (same_Some (interval_before (lag_or_zero graph node) time) interval said)
-            (subst (λ lag. IsActivatedIn trace node (interval_before lag time)) (sym (lag_there graph node own.lag own.is))
+        inr
+            (subst (λ (lag : Lag). IsActivatedBefore trace node lag time) (sym (lag_there graph node own.lag own.is))
             (alarm.active, alarm.active_is, earliest, latest)),
       )
   shown front back (event.Silent time node) are is = absurd is
-  shown front back (event.Sweep time) are is = λ node monitored unalarmed until said active.
+  shown front back (event.Sweep time) are is = λ node monitored unalarmed. inr (λ x is_least active.
       let within = monitored_within graph node monitored in
       let late = monitored_lateness graph number node monitored in
       let own = lateness_within graph number valid node late.0 within late.1 in
-      let says = inactive_says graph (log_of_events front) node time until said in
       let least : (lag_or_zero graph node).least ≡ late.0.least = ap (λ (lag : Lag). lag.least) (lag_there graph node own.lag own.is) ∙ sym own.least in
-      let asked : active.0 + late.0.least ≤ time = omega (arith, says.late, says.is, active.2, least) in
+      let asked : active.0 + late.0.least ≤ time = omega (arith, is_least, active.2, least) in
       let due : ℕ = due_time entries active.0 late.0 in
       let early : due ≤ time = due_by_sweep entries active.0 late.0 time (sweep_early (active.0 + late.0.least) time entries (in_order graph entries script) is.0 asked) in
       let at = alarm_comes entries trace (get_or lates node None) node (time_so_far entries) late.0 active.0 late.1 active.1 (omega (arith, early, is.1)) in
@@ -83,6 +79,6 @@ module _ (graph : Tfpg) (valid : IsValid graph) (entries : List Entry) (script :
       let later = leb-false due time (All-contains (Precedes (event.Sweep time)) back (event.Alarm due node) order after) in
       absurd (omega arith))
       (Contains-cons_cases (event.Sweep time) back (event.Alarm due node) rest))
-      (Contains-append_cases front (event.Sweep time ∷ back) (event.Alarm due node) (subst (λ es. Contains es (event.Alarm due node)) are there))
+      (Contains-append_cases front (event.Sweep time ∷ back) (event.Alarm due node) (subst (λ es. Contains es (event.Alarm due node)) are there)))
   shown front back (event.Tick time) are is = tt
   shown front back (event.Mode time mode) are is = tt
