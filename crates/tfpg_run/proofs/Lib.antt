@@ -1,5 +1,6 @@
 -- Lemmas that several commands need.
 pub mod Refused
+pub mod AskedInOrder
 pub mod LogTexts
 pub mod Stops
 pub mod PlannedNumbers

@@ -13,7 +13,7 @@ use Rattle.tfpg_run.specs.convert.Converting.{IsFaultFrom}
 use Rattle.tfpg_run.specs.inside.convert.Refusals.{IsRefusalFrom}
 
 -- there is a file of this name
-abbrev IsThere : ShelfState → List ℕ → Type 0
+abbrev pub IsThere : ShelfState → List ℕ → Type 0
 IsThere shelf name = (text : List ℕ) × HasFile shelf name text
 
 -- ---- files of a shelf that has the same
@@ -36,7 +36,7 @@ module _ (before mid : ShelfState) (name : List ℕ) (same : mid.files ≡ befor
 -- ---- what was fetched
 
 -- nothing yet
-fetched_none : (before now : ShelfState) → now.faults ≡ before.faults → now.asked ≡ before.asked → Fetched [] before now
+pub fetched_none : (before now : ShelfState) → now.faults ≡ before.faults → now.asked ≡ before.asked → Fetched [] before now
 fetched_none before now calm same = record {
   files = All-nil (IsThere before);
   asked = go before.asked same;

@@ -4,6 +4,7 @@ pub mod Fetch
 pub mod Ends
 pub mod EndsOf
 pub mod Run
+pub mod FilesAsked
 pub mod Completeness
 pub mod TooMany
 -- What they say of each command, in folders named like those of the source.

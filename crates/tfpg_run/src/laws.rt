@@ -1,7 +1,7 @@
 //! What the definitions of reports, of fleets, of runs and of conversions come to, as functions that do nothing: each says its
 //! laws in its clauses.
 
-ghost use Rattle.std.specs.Prelude.{◌≡◌, ℕ, List, [], Contains, Some, Ok, true, false, slice_get};
+ghost use Rattle.std.specs.Prelude.{◌≡◌, ℕ, List, [], Contains, Some, Result, Ok, true, false, slice_get};
 ghost use Rattle.tfpg_base.specs.declared.terms.Terms.{Terms};
 ghost use Rattle.tfpg_base.specs.Hypothesis.{believing};
 ghost use Rattle.tfpg_base.specs.Lines.{lines_of};
@@ -27,9 +27,11 @@ ghost use Rattle.tfpg_run.specs.diagnose.InTime.{BlocksComeInTime};
 ghost use Rattle.tfpg_diagnose.specs.BlockFindings.{HasSettledRoundInBlock};
 ghost use Rattle.tfpg_run.specs.fleet.Answers.{Answer, blocks_for};
 ghost use Rattle.tfpg_run.specs.fleet.FleetOutput.{AreAnswers, FleetProblem};
-ghost use Rattle.tfpg_words.specs.Meaning.{Check, Diagnose};
+ghost use Rattle.tfpg_words.specs.Meaning.{Check, Diagnose, Meaning};
+ghost use Rattle.tfpg_words.specs.declared.usage_cause.UsageCause.{UsageCause};
 ghost use Rattle.tfpg_run.specs.declared.end.End.{End};
 ghost use Rattle.tfpg_run.specs.Completeness.{CanBeDone, IsCompleted, NothingFails};
+ghost use Rattle.tfpg_run.specs.FilesAsked.{AsksInOrder, named_files};
 ghost use Rattle.tfpg_run.specs.Run.{RunEnds};
 ghost use Rattle.tfpg_run.specs.check.AfterDiagnosis.{FollowsDiagnosis};
 
@@ -74,6 +76,13 @@ pub fn a_vehicle_is_diagnosed_as_if_alone()
 /// that has a graph has written the whole report of the lines that came whole by then, and told its rounds.
 pub fn each_block_is_written_before_the_next_line_is_taken()
     ensures { BlocksComeInTime }
+{}
+
+/// A run asks the shelf for no file but those that its words name, in their order, and for none after the first that is missing or too long.
+/// So LOG is not asked for where there is no GRAPH.
+pub fn files_are_asked_for_in_order()
+    ensures { (meant : Result Meaning UsageCause) (before now : World) (end : End) → RunEnds meant before now end →
+        AsksInOrder (named_files meant) before.shelf now.shelf }
 {}
 
 /// What a diagnosis has written that is done is accepted by `check`, with the same graph file, and with a log file that has the lines of the
