@@ -22,6 +22,10 @@ cat > "$made/header.c" << 'END'
 typedef char answer_is_as_in_the_library[sizeof(tfpg_answer) == 32 && offsetof(tfpg_answer, cause) == 4 && offsetof(tfpg_answer, line) == 8
     && offsetof(tfpg_answer, count) == 16 && offsetof(tfpg_answer, count_high) == 24 ? 1 : -1];
 typedef char session_is_as_in_the_library[sizeof(tfpg_session) == 16 && offsetof(tfpg_session, held) == 8 ? 1 : -1];
+typedef char result_is_as_in_the_library[sizeof(tfpg_result) == 56 && offsetof(tfpg_result, line) == 8 && offsetof(tfpg_result, last) == 16
+    && offsetof(tfpg_result, now) == 32 && offsetof(tfpg_result, ranked) == 40 && offsetof(tfpg_result, open) == 52 ? 1 : -1];
+typedef char ranked_is_as_in_the_library[sizeof(tfpg_ranked) == 96 && offsetof(tfpg_ranked, doubts) == 8 && offsetof(tfpg_ranked, cost) == 72
+    && offsetof(tfpg_ranked, hypothesis) == 80 && offsetof(tfpg_ranked, active) == 92 ? 1 : -1];
 extern tfpg_session kept;
 tfpg_session kept = TFPG_SESSION;
 END
@@ -34,7 +38,7 @@ compile() {
     done
 }
 
-mine=("$top/bench/statuses.c" "$top/bench/causes.c" "$top/bench/pool_test.c" "$top/bench/measure.c" "$top/bench/renew_test.c")
+mine=("$top/bench/statuses.c" "$top/bench/numbers.c" "$top/bench/causes.c" "$top/bench/pool_test.c" "$top/bench/measure.c" "$top/bench/renew_test.c")
 for compiler in gcc clang; do
     if ! command -v "$compiler" > /dev/null; then
         printf '%s is not there, and is left out\n' "$compiler"

@@ -3,6 +3,7 @@
 #
 # - Runs them on each example log, and compares what they write with what the program writes, byte for byte.
 # - Does so once more with `examples/pool.c` in place of `malloc`, and with pools that are too small.
+# - Compares the numbers of sessions, which took lines or events, with the lines of reports, for each example log and for 10,000 random lines.
 # - Fills sessions, and compares what `examples/renew.c` says in the end with what is said of the same log without that. Compares what looser
 #   graphs reject with what is rejected.
 # - Lets reads fail, at once and in a line.
@@ -51,6 +52,8 @@ wanted() {
 link_with examples/report.c report -g -fsanitize=address,undefined
 link_with examples/embed.c embed -g -fsanitize=address,undefined
 link_with examples/renew.c renew -g -fsanitize=address,undefined
+link_with examples/monitor.c monitor -g -fsanitize=address,undefined
+link_with bench/numbers.c numbers -g -fsanitize=address,undefined
 link_with_pool examples/report.c report_pool 24
 link_with_pool examples/embed.c embed_pool 24
 link_with_pool bench/statuses.c statuses_pool 24
@@ -69,6 +72,42 @@ rejected() {
     awk '/^rejected / { print $2 }' "$1" | LC_ALL=C sort -u
 }
 
+# Compares what the numbers of a session say of a log, with `k` 2 and this doubt, with the report that the program writes, or that is wanted.
+try_numbers() {
+    local graph=$1 log=$2 name=$3 doubt=$4
+    if [ "$alone" ]; then
+        [ "$doubt" = 0 ] || return 0
+        wanted "$graph" "$log" > "$made/written"
+    else
+        "$top/tfpg" diagnose --doubt "$doubt" "$graph" < "$log" > "$made/written"
+    fi
+    "$made/numbers" "$graph" 2 "$doubt" 1000 < "$log" > "$made/said" || differs "$name: numbers that contradict"
+    grep -E '^(round|ranked|at|counts|refused) ' "$made/written" | diff - "$made/said" > "$made/text" || differs "$name: numbers"
+}
+
+# 10,000 lines with the names of a graph, of which many are refused.
+random_log() {
+    awk -v seed="$2" '
+        $1 == "mode" { mode[modes++] = $2 }
+        $1 == "or" || $1 == "and" || $1 == "failure" { node[nodes++] = $2 }
+        END {
+            srand(seed)
+            for (line = 1; line <= 10000; line++) {
+                now += int(rand() * 300)
+                kind = int(rand() * 40)
+                name = node[int(rand() * nodes)]
+                at = kind == 39 ? now - 1000 : now
+                if (kind < 1) print at, "alarm", name
+                else if (kind < 6) print at, "silent", name
+                else if (kind < 12) print at, "sweep"
+                else if (kind < 14) print at, "mode", rand() < 0.9 ? mode[int(rand() * modes)] : "Nowhere"
+                else if (kind < 15) print at, "alarm Nobody"
+                else if (kind < 16) print at
+                else print at, "tick"
+            }
+        }' "$1"
+}
+
 # The graph of this log.
 graph_of() {
     local name
@@ -82,6 +121,7 @@ for log in "$top"/examples/*.log; do
     wanted "$graph" "$log" > "$made/wanted"
     "$made/report" "$graph" "$log" 2> "$made/judged" | cmp -s - "$made/wanted" || differs "$name"
     "$made/embed" "$graph" < "$log" | cmp -s - "$made/wanted" || differs "$name, line by line"
+    for doubt in 0 1; do try_numbers "$graph" "$log" "$name, doubt $doubt" "$doubt"; done
     cmp -s "$made/judged" <(echo "accepted $(grep -c '^counts ' "$made/wanted")") || differs "$name, judged"
     "$made/report_pool" "$graph" "$log" 2> "$made/judged" | cmp -s - "$made/wanted" || differs "$name, by a pool"
     "$made/embed_pool" "$graph" < "$log" | cmp -s - "$made/wanted" || differs "$name, line by line and by a pool"
@@ -163,6 +203,14 @@ for program in embed renew; do
     cmp -s "$made/text" "$made/wanted" || differs "a cut log, by $program: the report"
 done
 
+# Random lines, by numbers. The example of a program that reads no text ends well, and says one thing of each line and of the tick after them.
+for seed in 1 2; do
+    random_log "$top/examples/satellite.tfpg" "$seed" > "$made/log"
+    try_numbers "$top/examples/satellite.tfpg" "$made/log" "random lines $seed" 0
+done
+"$made/monitor" "$top/examples/pump.tfpg" FilterClog < "$top/examples/pump.log" > "$made/text" 2> "$made/said" || differs 'the monitor: the status'
+[ "$(grep -c '^line ' "$made/text")" = $(($(wc -l < "$top/examples/pump.log") + 1)) ] || differs 'the monitor: its lines'
+
 # The names of the header for the causes of a graph, or of a report.
 causes_of() {
     sed -nE "s/^    TFPG_$1_([A-Z_]*) = .*/\1/p" "$top/include/tfpg.h"
@@ -195,7 +243,7 @@ statuses_of() {
     sed -nE "s/$1/\\1 \\2/p" "$2" | sort
 }
 diff <(statuses_of '^pub const ([A-Z_]*): u32 = ([0-9]*);' "$top/crates/tfpg_embed/src/status.rt") \
-    <(statuses_of '^    TFPG_([A-Z_]*) = ([0-9]*),?' "$top/include/tfpg.h" | grep -v '^GRAPH_\|^REPORT_') || differs 'the numbers of the header'
+    <(statuses_of '^    TFPG_([A-Z_]*) = ([0-9]*),?' "$top/include/tfpg.h" | grep -v '^GRAPH_\|^REPORT_\|^LOG_') || differs 'the numbers of the header'
 
 # The numbers of the causes of a graph or of a report: in the library, and in the header.
 numbers_of() {
@@ -204,6 +252,10 @@ numbers_of() {
 numbers_in_header() {
     sed -nE "s/^    TFPG_$1_([A-Z_]*) = ([0-9]*),?$/\2 \1/p" "$top/include/tfpg.h"
 }
+refusals_of() {
+    sed -nE 's/^ *Refus[a-zA-Z]*::([A-Za-z]*)( \{ last: _ \})? => ([0-9]+),$/\3 \1/p' "$top/crates/tfpg_embed/src/results.rt" | grep -v '^0 ' | sort -n | as_in_header
+}
+diff <(refusals_of) <(numbers_in_header LOG) || differs 'the numbers of the refusals'
 diff <(numbers_of Graph) <(numbers_in_header GRAPH) || differs 'the numbers of the causes of a graph'
 diff <(numbers_of Check | grep -v 'BAD_MAP\|BAD_SCRIPT') <(numbers_in_header REPORT) || differs 'the numbers of the causes of a report'
 

@@ -50,12 +50,53 @@ static void try_texts(void) {
     expect("a bad graph, judged", tfpg_check(TEXT(bad), TEXT(""), TEXT(head)), TFPG_BAD_GRAPH, TFPG_GRAPH_DUPLICATE_NAME, 3, 0);
 }
 
+/* Calls of an open session that has taken no line, by numbers. */
+static void try_numbers(tfpg_session *session) {
+    static const tfpg_result nothing;
+    tfpg_result result;
+    tfpg_ranked ranked;
+    uint64_t times[2] = {1, 2};
+    uint32_t index = 7;
+    memset(&result, 1, sizeof result);
+    expect("the result before a line", tfpg_result_of(session, &result), TFPG_DONE, 0, 0, 0);
+    if (memcmp(&result, &nothing, sizeof result)) wrong++, puts("the result before a line is another");
+    expect("ranked before a line", tfpg_ranked_at(session, 0, &ranked, times, 2), TFPG_NO_SUCH, 0, 0, 0);
+    expect("an alarm of no node", tfpg_event(session, 5, TFPG_ALARM, 2), TFPG_DONE, 0, 0, 0);
+    tfpg_result_of(session, &result);
+    if (result.refusal != TFPG_LOG_UNKNOWN_NAME || result.line != 1 || result.round) wrong++, puts("an alarm of no node is taken");
+    expect("an alarm of a failure mode", tfpg_event(session, 5, TFPG_ALARM, 0), TFPG_DONE, 0, 0, 0);
+    tfpg_result_of(session, &result);
+    if (result.refusal != TFPG_LOG_NOT_MONITORED) wrong++, puts("an alarm of a failure mode is taken");
+    expect("an event of no kind", tfpg_event(session, 5, 6, 0), TFPG_DONE, 0, 0, 0);
+    tfpg_result_of(session, &result);
+    if (result.refusal != TFPG_LOG_BAD_LINE) wrong++, puts("an event of no kind is taken");
+    expect("an alarm", tfpg_event(session, 5, TFPG_ALARM, 1), TFPG_DONE, 0, 0, 0);
+    tfpg_result_of(session, &result);
+    if (result.refusal || !result.changed || result.line != 4 || result.round != 1 || result.now != 5 || result.ranked != 1)
+        wrong++, puts("an alarm brings another round");
+    expect("no room for the times", tfpg_ranked_at(session, 0, &ranked, times, 1), TFPG_ROOM_TOO_SMALL, 0, 0, 2);
+    if (times[0] != 1) wrong++, puts("a time was written without room");
+    expect("what is ranked", tfpg_ranked_at(session, 0, &ranked, times, 2), TFPG_DONE, 0, 0, 2);
+    if (ranked.failures != 1 || ranked.cost != 1 || ranked.hypothesis != 1 || ranked.active != 2 || times[0] > 5)
+        wrong++, puts("another is ranked");
+    expect("what is ranked after it", tfpg_ranked_at(session, 1, &ranked, times, 2), TFPG_NO_SUCH, 0, 0, 0);
+    expect("the index of a name", tfpg_index(session, TFPG_FAILURE_NAME, TEXT("F"), &index), TFPG_DONE, 0, 0, 0);
+    if (index != 0) wrong++, puts("the index of a name is another");
+    expect("the index of no failure mode", tfpg_index(session, TFPG_FAILURE_NAME, TEXT("A"), &index), TFPG_NO_SUCH, 0, 0, 0);
+    expect("the name of a node", tfpg_name(session, TFPG_NODE_NAME, 1, room, 1), TFPG_DONE, 0, 0, 1);
+    expect("no room for a name", tfpg_name(session, TFPG_NODE_NAME, 1, room, 0), TFPG_ROOM_TOO_SMALL, 0, 0, 1);
+    expect("the name of no mode", tfpg_name(session, TFPG_MODE_NAME, 1, room, sizeof room), TFPG_NO_SUCH, 0, 0, 0);
+    expect("the name of no kind", tfpg_name(session, 0, 0, room, sizeof room), TFPG_NO_SUCH, 0, 0, 0);
+}
+
 /* Calls of a session. */
 static void try_session(void) {
     static const char refused[] = "refused 1 BadLine\n", inside[] = "refused 2 BadLine\n";
     tfpg_session session = TFPG_SESSION;
     expect("a line before it is open", tfpg_line(&session, TEXT("1 tick")), TFPG_ENDED, 0, 0, 0);
     expect("a block before it is open", tfpg_block(&session, room, sizeof room), TFPG_ENDED, 0, 0, 0);
+    expect("an event before it is open", tfpg_event(&session, 1, TFPG_TICK, 0), TFPG_ENDED, 0, 0, 0);
+    expect("a name before it is open", tfpg_name(&session, TFPG_NODE_NAME, 0, room, sizeof room), TFPG_ENDED, 0, 0, 0);
     tfpg_close(&session);
     expect("opened", tfpg_open(&session, TEXT(graph), 1, 0, 1000), TFPG_DONE, 0, 0, sizeof head - 1);
     expect("no room for its first line", tfpg_block(&session, room, 3), TFPG_ROOM_TOO_SMALL, 0, 0, sizeof head - 1);
@@ -69,6 +110,7 @@ static void try_session(void) {
     expect("opened by a bad graph", tfpg_open(&session, TEXT(bad), 1, 0, 1000), TFPG_BAD_GRAPH, TFPG_GRAPH_DUPLICATE_NAME, 3, 0);
     expect("a line after that", tfpg_line(&session, TEXT("1 tick")), TFPG_ENDED, 0, 0, 0);
     expect("opened once more", tfpg_open(&session, TEXT(graph), 1, 0, 1000), TFPG_DONE, 0, 0, sizeof head - 1);
+    try_numbers(&session);
     tfpg_close(&session);
     tfpg_close(&session);
     expect("a block after the end", tfpg_block(&session, room, sizeof room), TFPG_ENDED, 0, 0, 0);

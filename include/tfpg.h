@@ -36,7 +36,7 @@ extern "C" {
 #endif
 
 /* The version of this header. It rises with each change of a declaration or a number in it. The library does not say which one it has. */
-#define TFPG_HEADER_VERSION 1
+#define TFPG_HEADER_VERSION 2
 
 /* How a call ended. Where more than one cause holds, the first one is said, in the order of the program: a number out of its range, a fault
  * of the graph, too many hypotheses, a log that is too long. `tfpg_check` says first that a log is too long, then a fault of the graph, and
@@ -62,7 +62,9 @@ enum tfpg_status {
     /* The text has `count` bytes, and the room fewer. Nothing was written. */
     TFPG_ROOM_TOO_SMALL = 9,
     /* The session is closed. */
-    TFPG_ENDED = 10
+    TFPG_ENDED = 10,
+    /* There is no such kind, name, index or rank. Nothing was written. */
+    TFPG_NO_SUCH = 11
 };
 
 /* What is wrong with a graph, in the words of `docs/formats.md`. */
@@ -112,6 +114,29 @@ enum tfpg_report_cause {
     TFPG_REPORT_ENDS_EARLY = 18
 };
 
+/* Why the log refuses a line, in the words of `docs/formats.md`. 0 is none of them: the line brought a round. */
+enum tfpg_refusal {
+    TFPG_LOG_BAD_LINE = 1,
+    TFPG_LOG_BAD_NUMBER = 2,
+    TFPG_LOG_TIME_TOO_LARGE = 3,
+    TFPG_LOG_TIME_BACK = 4,
+    TFPG_LOG_UNKNOWN_NAME = 5,
+    TFPG_LOG_NOT_MONITORED = 6,
+    TFPG_LOG_NOT_A_MODE = 7,
+    TFPG_LOG_LOG_FULL = 8,
+    TFPG_LOG_MODES_FULL = 9,
+    TFPG_LOG_TOO_LONG = 10
+};
+
+/* What has names: nodes by their numbers, failure modes by their positions, and modes, each counted from 0 in the order of the graph. */
+enum tfpg_name_kind { TFPG_NODE_NAME = 1, TFPG_FAILURE_NAME = 2, TFPG_MODE_NAME = 3 };
+
+/* The kinds of event. */
+enum tfpg_event_kind { TFPG_ALARM = 1, TFPG_SILENT = 2, TFPG_SWEEP = 3, TFPG_TICK = 4, TFPG_MODE = 5 };
+
+/* The time of a node that is never active. It is above each time of a log. */
+#define TFPG_NEVER UINT64_C(1000000000001)
+
 /* What a call answers. What a status says nothing of is 0. */
 typedef struct {
     uint32_t status;     /* a `tfpg_status` */
@@ -141,7 +166,7 @@ tfpg_answer tfpg_check(const uint8_t *graph, size_t graph_count, const uint8_t *
 /* A diagnosis that takes one line of a log after the other.
  *
  * A session is closed or open. One whose bytes are all 0 is closed, as TFPG_SESSION is, and it has to be that before the first call. From
- * then on a program only hands its address to the four calls below, and to one of them at a time. It may move a session, if it uses the old
+ * then on a program only hands its address to the calls below, and to one of them at a time. It may move a session, if it uses the old
  * place no more. It may not copy one, since both copies would own the same memory, and neither read nor write what is in it. */
 typedef struct {
     bool is_open;
@@ -162,10 +187,10 @@ tfpg_answer tfpg_open(tfpg_session *session, const uint8_t *graph, size_t graph_
 /* Takes the next line of the log, without its line end. The text of the session is then the block of this line, and `count` is the
  * number of its bytes. The first line of the report, and then the blocks, one after the other, are the report of the lines so far.
  *
- * A line that the log refuses is done too, and the status does not say so: its block is `refused LINE CAUSE`, where LINE counts the calls
- * from 1, and for the cause `TimeBack` there is a fourth word, the time of the last event. Always refused are a line of more than 4,096
- * bytes, as `TooLong`, an empty one, and one with a line end inside, which is one line here and more in a text. So leave out the line end
- * that `fgets` keeps.
+ * A line that the log refuses is done too, and the status does not say so: `tfpg_result_of` does, and the block is `refused LINE CAUSE`.
+ * LINE counts the calls from 1, and for the cause `TimeBack` there is a fourth word, the time of the last event. Always refused are a line
+ * of more than 4,096 bytes, as `TooLong`, an empty one, and one with a line end inside, which is one line here and more in a text. So leave
+ * out the line end that `fgets` keeps.
  *
  * Once 65,536 lines are accepted, each further one is refused: as `LogFull`, if it has no other cause. Once 1,024 of them change the mode,
  * each further change of the mode is refused: as `ModesFull`, if it has no other cause. Lines of the other kinds are then taken as before,
@@ -183,11 +208,94 @@ tfpg_answer tfpg_line(tfpg_session *session, const uint8_t *line, size_t line_co
  * TFPG_DONE, TFPG_ROOM_TOO_SMALL, TFPG_ENDED */
 tfpg_answer tfpg_block(tfpg_session *session, uint8_t *room, size_t room_count);
 
+/* Takes an event as `tfpg_line` takes its line, `TIME KIND NAME`, where NAME is the name of the node or the mode of this index. What comes
+ * of it is what comes of that line, but `count` is 0: `tfpg_block` has the block, and `tfpg_result_of` its numbers. An index that nothing
+ * has is refused as a name that nothing has, and a kind that is none as a line that is none. A sweep and a tick have no index. The call
+ * makes the line for itself.
+ *
+ * TFPG_DONE, TFPG_NO_MEMORY, TFPG_ENDED */
+tfpg_answer tfpg_event(tfpg_session *session, uint64_t time, uint32_t kind, uint32_t index);
+
+/* What the last line brought, and the numbers of the last round. Before the first line all is 0, and before the first round nothing is
+ * ranked. */
+typedef struct {
+    uint32_t refusal; /* why the last line was refused, a `tfpg_refusal`; 0: it brought a round */
+    uint32_t changed; /* 1: it brought one that ranks other hypotheses than the round before it, or in another order. Else 0 */
+    uint64_t line;    /* its number, from 1 */
+    uint64_t last;    /* if it was refused as TimeBack, the time of the last event. Else 0 */
+    uint64_t round;   /* the number of the last round, from 1; 0: there is none yet. A refused line leaves it and what follows */
+    uint64_t now;     /* the time of its event */
+    uint32_t ranked;  /* how many hypotheses it ranks, */
+    uint32_t covered; /* how many are covered by these, */
+    uint32_t rejected;
+    uint32_t open;
+} tfpg_result;
+
+/* Says what the last line brought. The session is the same after this call and the next three.
+ *
+ * TFPG_DONE, TFPG_ENDED */
+tfpg_answer tfpg_result_of(tfpg_session *session, tfpg_result *result);
+
+/* A ranked hypothesis. All other bits are 0. */
+typedef struct {
+    uint64_t failures;   /* bit p: the failure mode of position p is in it */
+    uint64_t doubts[8];  /* bit n % 64 of doubts[n / 64]: it doubts the monitor of node n */
+    uint64_t cost;
+    uint32_t hypothesis; /* its number */
+    uint32_t alarmed;    /* so many of the monitored nodes in its reach that it believes have an alarm, */
+    uint32_t monitored;  /* of so many; 1 of 1 if there is none */
+    uint32_t active;     /* how many nodes are active in its trace */
+} tfpg_ranked;
+
+/* Says which hypothesis the last round ranks at this place, 0 for the best, and when each node of its trace became active, or TFPG_NEVER:
+ * `times[n]` is that of node n. `count` is the number of nodes. With a `times_count` of 0 no time is written, and else there has to be room
+ * for all of them.
+ *
+ * TFPG_DONE, TFPG_NO_SUCH, TFPG_ROOM_TOO_SMALL, TFPG_ENDED */
+tfpg_answer tfpg_ranked_at(tfpg_session *session, uint32_t rank, tfpg_ranked *ranked, uint64_t *times, size_t times_count);
+
+/* Finds the index of what has this name. TFPG_DONE, TFPG_NO_SUCH, TFPG_ENDED */
+tfpg_answer tfpg_index(tfpg_session *session, uint32_t kind, const uint8_t *name, size_t name_count, uint32_t *index);
+
+/* Writes the name of what has this index to the front of the room. `count` is the number of its bytes, at most 32, also if the room is too
+ * small. There is no byte 0 after it.
+ *
+ * TFPG_DONE, TFPG_NO_SUCH, TFPG_ROOM_TOO_SMALL, TFPG_ENDED */
+tfpg_answer tfpg_name(tfpg_session *session, uint32_t kind, uint32_t index, uint8_t *room, size_t room_count);
+
 /* Closes the session, and gives its memory back. A closed session stays closed. */
 void tfpg_close(tfpg_session *session);
 
 #ifdef __cplusplus
 }
 #endif
+
+/* The name of a status: that of `tfpg_status` without `TFPG_`, and "?" for a number that is none. The library exports no pointer, so this
+ * and the next one are C. */
+static inline const char *tfpg_status_name(uint32_t status) {
+    static const char *const names[] = {"DONE", "NOT_ACCEPTED", "OUT_OF_RANGE", "BAD_GRAPH", "TOO_MANY_HYPOTHESES", "?", "?",
+                                        "TOO_MUCH_INPUT", "NO_MEMORY", "ROOM_TOO_SMALL", "ENDED", "NO_SUCH"};
+    return status < sizeof names / sizeof *names ? names[status] : "?";
+}
+
+/* The name of a cause in `docs/formats.md`: of a graph with TFPG_BAD_GRAPH, of a report with TFPG_NOT_ACCEPTED, and with TFPG_DONE why a
+ * line is refused. "-" for 0, and "?" for what is none. */
+static inline const char *tfpg_cause_name(uint32_t status, uint32_t cause) {
+    static const char *const graph[] = {
+        "-", "BadHeader", "BadLine", "BadName", "DuplicateName", "UnknownName", "BadNumber", "NumberTooLarge", "MinOverMax",
+        "EdgeIntoFailure", "SelfEdge", "DuplicateEdge", "NoModes", "NoIncoming", "ZeroCycle", "TooManyNodes", "TooManyFailures",
+        "TooManyEdges", "TooManyModes", "TooManyIncoming", "MissingEnd", "AfterEnd"};
+    static const char *const report[] = {
+        "-", "AfterClosed", "NotReusable", "NotAClause", "NotAFact", "NotOnPath", "Unchained", "NotNegative", "BadReport", "Surplus",
+        "WrongRound", "WrongHypothesis", "WrongRanked", "NotATrace", "WrongOpen", "WrongRejected", "WrongStatus", "WrongCounts",
+        "EndsEarly"};
+    static const char *const refusal[] = {
+        "-", "BadLine", "BadNumber", "TimeTooLarge", "TimeBack", "UnknownName", "NotMonitored", "NotAMode", "LogFull", "ModesFull",
+        "TooLong"};
+    if (status == TFPG_BAD_GRAPH) return cause < sizeof graph / sizeof *graph ? graph[cause] : "?";
+    if (status == TFPG_NOT_ACCEPTED) return cause < sizeof report / sizeof *report ? report[cause] : "?";
+    if (status == TFPG_DONE) return cause < sizeof refusal / sizeof *refusal ? refusal[cause] : "?";
+    return cause == 0 ? "-" : "?";
+}
 
 #endif

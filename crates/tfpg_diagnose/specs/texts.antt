@@ -2,4 +2,5 @@
 pub mod Opening
 pub mod Reports
 pub mod Checks
+pub mod Latest
 pub mod Sessions

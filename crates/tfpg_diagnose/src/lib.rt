@@ -5,7 +5,7 @@
 //! last round.
 //!
 //! For programs that have no files and no streams there are calls over texts: [`diagnose_texts`], [`check_texts`], and a [`Session`] that
-//! takes the lines of a log one by one. [`laws`] says that a rejected hypothesis stays rejected.
+//! takes the lines of a log one by one and keeps the [`Latest`] of them. [`laws`] says that a rejected hypothesis stays rejected.
 //!
 //! ```
 //! let mut session = Session::open(alloc, graph_text, terms)?;
@@ -38,4 +38,6 @@ pub use diagnosis::Diagnosis;
 pub use fault::CheckFault;
 pub use report::write_report;
 pub use report_lines::judge_report;
-pub use texts::{CheckTextsFault, OpenFault, ReportFault, Session, check_texts, diagnose_texts};
+pub use texts::{
+    CheckTextsFault, Latest, OpenFault, ReportFault, Session, check_texts, diagnose_texts,
+};

@@ -1,6 +1,6 @@
 //! The block of a line of the log.
 
-ghost use Rattle.std.specs.Prelude.{◌≡◌, ◌≤◌, None, IfOk, IfSome, length};
+ghost use Rattle.std.specs.Prelude.{◌≡◌, ◌≤◌, None, Some, IfOk, IfSome, length};
 ghost use Rattle.tfpg_base.specs.declared.limits.TheConstants.{LONGEST_LINE};
 ghost use Rattle.tfpg_evidence.specs.RoundOf.{IsRoundOf};
 ghost use Rattle.tfpg_graph.specs.Graph.{Tfpg, sizes_of};
@@ -8,7 +8,7 @@ ghost use Rattle.tfpg_report.specs.Blocks.{refused_text, round_text};
 ghost use Rattle.tfpg_check.specs.Report.{Progress};
 ghost use Rattle.tfpg_base.specs.declared.terms.Terms.{Terms};
 ghost use Rattle.tfpg_diagnose.specs.EngineReports.{EngineReports};
-ghost use Rattle.tfpg_diagnose.specs.inside.LineBlocks.{HasBlock, IsBlockWithin, IsEngineReady, IsUntold, numbered};
+ghost use Rattle.tfpg_diagnose.specs.inside.LineBlocks.{IsEngineReady, BringsBlock, numbered};
 
 use std::alloc::Global;
 use std::sync::ledger::Ledger;
@@ -21,11 +21,12 @@ use tfpg_hyp::laws::{
 };
 use tfpg_report::{RefusedLine, refused, render};
 
-/// The block of a line: its text, and its round if it brought one.
+/// The block of a line: its text, and the round that the line brought, or why it was refused.
 #[derive(Drop)]
 pub(crate) struct LineBlock {
     pub(crate) text: Vec<u8>,
     pub(crate) round: Option<Round>,
+    pub(crate) refusal: Option<RefusedLine>,
 }
 
 /// The block of a line of this number and text, for a line that is not too long.
@@ -37,13 +38,13 @@ pub(crate) fn line_block<L: Ledger>(
     work: &mut Steps<L>,
 ) -> Result<LineBlock, NoMemory>
     requires { IsEngineReady engine.old }
+    ensures graph { engine.new.graph ≡ engine.old.graph }
     ensures of_graph { IfOk result (λ block. IfSome block.round (IsRoundOf (sizes_of engine.new.graph))) }
     ensures block { (graph : Tfpg) (terms : Terms) (before : Progress) →
         EngineReports graph terms engine.old before
         → length text.now ≤ LONGEST_LINE → IfOk result
-        (λ block. (has : HasBlock graph terms before (numbered number text.now) block.text.items engine.new)
-        × IsUntold block.round has.block engine.old engine.new
-        × IsBlockWithin graph before text.now has.block work.old work.new) }
+        (λ block. BringsBlock graph terms before (numbered number text.now) block.text.items block.round block.refusal
+        engine.old engine.new work.old work.new) }
 {
     rounds_say_which_sets_fit();
     statuses_are_those_of_minimal_sets();
@@ -57,6 +58,7 @@ pub(crate) fn line_block<L: Ledger>(
             Ok(LineBlock {
                 text,
                 round: Some(round),
+                refusal: None,
             })
         }
     }
@@ -68,11 +70,16 @@ pub(crate) fn refused_block(
     number: u64,
     cause: RefusedLine,
 ) -> Result<LineBlock, NoMemory>
-    ensures { IfOk result (λ block. (block.text.items ≡ refused_text number cause) × (block.round ≡ None)) }
+    ensures { IfOk result (λ block.
+        (block.text.items ≡ refused_text number cause) × (block.round ≡ None) × (block.refusal ≡ Some cause)) }
 {
     let mut text = Vec::new(alloc);
     refused(number, cause, &mut text)?;
-    Ok(LineBlock { text, round: None })
+    Ok(LineBlock {
+        text,
+        round: None,
+        refusal: Some(cause),
+    })
 }
 
 /// The block of a round.

@@ -16,6 +16,8 @@ use Rattle.tfpg_embed.specs.declared.answer.TfpgAnswer.{TfpgAnswer}
 use Rattle.tfpg_embed.specs.declared.session.open_session.OpenSession.{OpenSession}
 use Rattle.tfpg_embed.specs.declared.status.TheConstants.{DONE, ENDED}
 use Rattle.tfpg_embed.specs.Answers.{answer_of_event_fault, answer_of_open_fault, answer_with, counted}
+use Rattle.tfpg_embed.specs.EventLines.{event_line}
+use Rattle.tfpg_embed.specs.Events.{AnswersEvent, event_line_for}
 use Rattle.tfpg_embed.specs.Sessions.{AnswersLine, AnswersOpen, IsNewlyOpen}
 
 -- a value is no error
@@ -88,6 +90,17 @@ module _ (line : List ℕ) (old new : Option OpenSession) (answer : TfpgAnswer) 
         closed = refl;
         answer_is = answer_is;
       })
+
+-- what comes of the line of an event for the session that the handle held
+pub event_answered : (time kind index : ℕ) (old new : Option OpenSession) (answer : TfpgAnswer) (before : OpenSession) → Some before ≡ old
+    → AnswersEvent (event_line before.session.engine.graph time kind index) old new answer → AnswersEvent (event_line_for old time kind index) old new answer
+event_answered time kind index old new answer before had answers =
+    subst (λ (o : Option OpenSession). AnswersEvent (event_line_for o time kind index) old new answer) had answers
+
+-- the answer of an event without a block says nothing of a count
+pub uncounted : (fault : EventFault) → answer_of_event_fault fault ≡ record (answer_of_event_fault fault) { count = 0 }
+uncounted event.NoMemory = refl
+uncounted event.Ended = refl
 
 module _ (graph : List ℕ) (terms : Terms) (new : Option OpenSession) (answer : TfpgAnswer) where
   -- a session that is opened

@@ -7,3 +7,11 @@ pub mod TextCalls
 -- What a handle of a session owns, and what the calls of a session come to.
 pub mod Holding
 pub mod Sessions
+-- What the calls come to that ask a session, its numbers, those of a ranked hypothesis, and names.
+pub mod Asked
+pub mod Results
+pub mod Ranking
+pub mod Names
+-- The line of an event that is given by numbers, and what comes of it.
+pub mod EventLines
+pub mod Events

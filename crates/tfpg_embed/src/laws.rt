@@ -1,25 +1,40 @@
 //! Laws about the definitions of this crate: public functions that do nothing.
 
-ghost use Rattle.std.specs.Prelude.{◌≡◌, ◌∷◌, [], ℕ, List, All, flat_map};
+ghost use Rattle.std.specs.Prelude.{◌≡◌, ◌∷◌, [], ℕ, List, All, Some, flat_map};
 ghost use Rattle.tfpg_base.specs.Lines.{HasNoLineEnd, lines_of, with_line_end};
 ghost use Rattle.tfpg_base.specs.declared.terms.Terms.{Terms};
 ghost use Rattle.tfpg_graph.specs.Graph.{Tfpg};
+ghost use Rattle.tfpg_graph.specs.Valid.{IsValid};
 ghost use Rattle.tfpg_graph.specs.declared.cause.GraphCause.{GraphCause};
 ghost use Rattle.tfpg_check.specs.declared.cause.CheckCause.{CheckCause};
 ghost use Rattle.tfpg_diagnose.specs.texts.Opening.{GivesGraphOf};
 ghost use Rattle.tfpg_diagnose.specs.texts.Reports.{IsReportOfTexts};
 ghost use Rattle.tfpg_diagnose.specs.texts.Sessions.{SessionRepresents, SessionState};
 ghost use Rattle.tfpg_embed.specs.Causes.{check_cause_number, graph_cause_number};
-ghost use Rattle.tfpg_embed.specs.declared.status.TheConstants.{DONE, NOT_ACCEPTED, OUT_OF_RANGE, BAD_GRAPH, TOO_MANY_HYPOTHESES, TOO_MUCH_INPUT, NO_MEMORY, ROOM_TOO_SMALL, ENDED};
+ghost use Rattle.tfpg_embed.specs.Names.{index_in, name_in};
+ghost use Rattle.tfpg_embed.specs.declared.status.TheConstants.{DONE, NOT_ACCEPTED, OUT_OF_RANGE, BAD_GRAPH, TOO_MANY_HYPOTHESES, TOO_MUCH_INPUT, NO_MEMORY, ROOM_TOO_SMALL, ENDED, NO_SUCH};
+
+use tfpg_graph::laws::a_node_is_found_by_its_name;
 
 /// A law: the statuses are these numbers, and a number says one cause of a graph, and one of a report. The numbers of causes are the rows of
 /// `graph_cause_number` and `check_cause_number`. `include/tfpg.h` has all of them once more, and `bench/embed.sh` compares them.
 pub fn each_number_says_one_thing()
-    ensures statuses { DONE ∷ NOT_ACCEPTED ∷ OUT_OF_RANGE ∷ BAD_GRAPH ∷ TOO_MANY_HYPOTHESES ∷ TOO_MUCH_INPUT ∷ NO_MEMORY ∷ ROOM_TOO_SMALL ∷ ENDED ∷ []
-        ≡ 0 ∷ 1 ∷ 2 ∷ 3 ∷ 4 ∷ 7 ∷ 8 ∷ 9 ∷ 10 ∷ [] }
+    ensures statuses { DONE ∷ NOT_ACCEPTED ∷ OUT_OF_RANGE ∷ BAD_GRAPH ∷ TOO_MANY_HYPOTHESES ∷ TOO_MUCH_INPUT ∷ NO_MEMORY ∷ ROOM_TOO_SMALL ∷ ENDED
+        ∷ NO_SUCH ∷ [] ≡ 0 ∷ 1 ∷ 2 ∷ 3 ∷ 4 ∷ 7 ∷ 8 ∷ 9 ∷ 10 ∷ 11 ∷ [] }
     ensures graph_causes { (cause other : GraphCause) → graph_cause_number cause ≡ graph_cause_number other → cause ≡ other }
     ensures report_causes { (cause other : CheckCause) → check_cause_number cause ≡ check_cause_number other → cause ≡ other }
 {}
+
+/// A law: in a valid graph what has a name is found by it, and what is found by a name has it. So `tfpg_index` and `tfpg_name` lead to each
+/// other.
+pub fn names_and_indexes_lead_to_each_other()
+    ensures found { (graph : Tfpg) (kind index : ℕ) (name : List ℕ) → IsValid graph →
+        name_in graph kind index ≡ Some name → index_in graph kind name ≡ Some index }
+    ensures named { (graph : Tfpg) (kind index : ℕ) (name : List ℕ) →
+        index_in graph kind name ≡ Some index → name_in graph kind index ≡ Some name }
+{
+    a_node_is_found_by_its_name();
+}
 
 /// A law: lines that have no line end inside are the lines of the text in which each is followed by one. So what a session returned for them,
 /// its first line and then the blocks, is a report of that text.

@@ -1,8 +1,10 @@
 //! The diagnoser for C: a static library, whose header is `include/tfpg.h`.
 //!
 //! [`tfpg_report`] writes the report of a whole log into a room, and [`tfpg_check`] judges one. A [`TfpgSession`] takes one line after
-//! the other: [`tfpg_open`] opens it, [`tfpg_line`] takes a line, [`tfpg_block`] writes the block of the line into a room, and
-//! [`tfpg_close`] closes it. Each call but the last answers by a [`TfpgAnswer`], whose status is [`DONE`] or another of the constants.
+//! the other: [`tfpg_open`] opens it, [`tfpg_line`] takes a line and [`tfpg_event`] an event without a text, [`tfpg_block`] writes the block
+//! of the line into a room, and [`tfpg_close`] closes it. What the block says is had as numbers too: [`tfpg_result_of`] has those of the last
+//! line and the last round, [`tfpg_ranked_at`] those of a hypothesis that this ranks, and [`tfpg_index`] and [`tfpg_name`] lead from names to
+//! indexes and back. Each call but `tfpg_close` answers by a [`TfpgAnswer`], whose status is [`DONE`] or another of the constants.
 //! What opens, takes a line, reports or judges calls `tfpg_diagnose`, and its clause says what came of that.
 //!
 //! [`laws`] says that the statuses are the numbers that the header has.
@@ -17,16 +19,27 @@
 #![tactic(auto)]
 
 mod answer;
+mod event_lines;
+mod kinds;
 pub mod laws;
+mod names;
+mod ranking;
+mod results;
 mod room;
 mod session;
 mod status;
 mod text_calls;
 
 pub use answer::TfpgAnswer;
-pub use session::{TfpgSession, tfpg_block, tfpg_close, tfpg_line, tfpg_open};
+pub use kinds::{ALARM, FAILURE_NAME, MODE, MODE_NAME, NODE_NAME, SILENT, SWEEP, TICK};
+pub use ranking::TfpgRanked;
+pub use results::TfpgResult;
+pub use session::{
+    TfpgSession, tfpg_block, tfpg_close, tfpg_event, tfpg_index, tfpg_line, tfpg_name, tfpg_open,
+    tfpg_ranked_at, tfpg_result_of,
+};
 pub use status::{
-    BAD_GRAPH, DONE, ENDED, NO_MEMORY, NOT_ACCEPTED, OUT_OF_RANGE, ROOM_TOO_SMALL,
+    BAD_GRAPH, DONE, ENDED, NO_MEMORY, NO_SUCH, NOT_ACCEPTED, OUT_OF_RANGE, ROOM_TOO_SMALL,
     TOO_MANY_HYPOTHESES, TOO_MUCH_INPUT,
 };
 pub use text_calls::{tfpg_check, tfpg_report};

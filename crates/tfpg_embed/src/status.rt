@@ -26,3 +26,6 @@ pub const ROOM_TOO_SMALL: u32 = 9;
 
 /// The handle is closed, or its session ended when memory ran out.
 pub const ENDED: u32 = 10;
+
+/// There is no such kind, name, index or rank. Nothing is written.
+pub const NO_SUCH: u32 = 11;

@@ -21,6 +21,7 @@ use Rattle.tfpg_engine.specs.EngineState.{EngineState, GivesRound, Brings, Count
 use Rattle.tfpg_engine.specs.Work.{IsRoundLimit, IsRoundWithin}
 use Rattle.tfpg_engine.specs.declared.told.Told.{Told}
 use Rattle.tfpg_engine.specs.declared.told.Told.TheVariants as told
+use Rattle.tfpg_log.specs.declared.refused_line.RefusedLine.{RefusedLine}
 use Rattle.tfpg_log.specs.declared.refused_line.RefusedLine.TheVariants.{TooLong, Offer}
 use Rattle.tfpg_report.specs.Blocks.{RefusedBlock, RoundBlock, refused_text, round_text}
 use Rattle.tfpg_report.proofs.WrittenLines.{written_alone, written_refusal}
@@ -28,7 +29,7 @@ use Rattle.tfpg_check.specs.Report.{Progress, IsBlockOf, event_of_line, event_of
 use Rattle.tfpg_check.proofs.Progressing.{progress_with}
 use Rattle.tfpg_diagnose.specs.RightReport.{RoundSays}
 use Rattle.tfpg_diagnose.specs.EngineReports.{EngineReports}
-use Rattle.tfpg_diagnose.specs.inside.LineBlocks.{HasBlock, IsBlockWithin, IsUntold, numbered}
+use Rattle.tfpg_diagnose.specs.inside.LineBlocks.{BringsBlock, HasBlock, NumberedLine, numbered}
 
 -- what a line gives that is not too long
 pub short_line : (graph : Tfpg) (log : Logbook) (line : List ℕ) (reply : Offered) → length line ≤ LONGEST_LINE → reply_to graph log line ≡ reply → event_of_line graph log line ≡ event_of_reply reply
@@ -161,13 +162,13 @@ module _ (graph : Tfpg) (terms : Terms) (before : Progress) (number : ℕ) (line
 
     -- the same, with the calls that they took
     pub refused_within : (refusal : Refusal) (refuses : reply_to old.graph old.log line ≡ Refused refusal) (same : new ≡ old) (text : bytes ≡ refused_text number (Offer refusal)) (start end : ℕ) → end ≡ start
-        → (has : HasBlock graph terms before (numbered number line) bytes new) × IsUntold None has.block old new × IsBlockWithin graph before line has.block start end
+        → BringsBlock graph terms before (numbered number line) bytes None (Some (Offer refusal)) old new start end
     refused_within refusal refuses same text start end none =
-        (block_of_refusal refusal refuses same text, (refl, refl, ap (λ (engine : EngineState). engine.log) same), (0, refl, omega (arith, none)))
+        (block_of_refusal refusal refuses same text, (refl, refl, ap (λ (engine : EngineState). engine.log) same), (0, refl, omega (arith, none)), refl)
 
     pub round_within : (round : Round) (gives : GivesRound number line before.rounds round old new) (says : RoundSays old.graph old.terms before.rounds new.log round)
         (same_graph : new.graph ≡ old.graph) (same_terms : new.terms ≡ old.terms) (text : bytes ≡ round_text new.graph round) (start end : ℕ) → IsRoundWithin new.graph new.log before.rounds round start end
-        → (has : HasBlock graph terms before (numbered number line) bytes new) × IsUntold (Some round) has.block old new × IsBlockWithin graph before line has.block start end
+        → BringsBlock graph terms before (numbered number line) bytes (Some round) None old new start end
     round_within round gives says same_graph same_terms text start end within =
         let event = gives.event in
         let accepted : reply_to graph before.log line ≡ Accepted event =
@@ -181,14 +182,14 @@ module _ (graph : Tfpg) (terms : Terms) (before : Progress) (number : ℕ) (line
             gives.round_is.number,
           ),
           (within.0, subst₂ (λ (g : Tfpg) (l : Logbook). IsRoundLimit g l before.rounds round within.0) (same_graph ∙ reports.graph_is) (log_is ∙ sym after_is) within.1, within.2),
+          refl,
         )
 
--- the same for a round that is none
-pub refused_for : (graph : Tfpg) (terms : Terms) (before : Progress) (number : ℕ) (line bytes : List ℕ) (old new : EngineState) (start end : ℕ) (round : Option Round) → round ≡ None
-    → ((has : HasBlock graph terms before (numbered number line) bytes new) × IsUntold None has.block old new × IsBlockWithin graph before line has.block start end)
-    → (has : HasBlock graph terms before (numbered number line) bytes new) × IsUntold round has.block old new × IsBlockWithin graph before line has.block start end
-refused_for graph terms before number line bytes old new start end round none is =
-    subst (λ (r : Option Round). (has : HasBlock graph terms before (numbered number line) bytes new) × IsUntold r has.block old new × IsBlockWithin graph before line has.block start end) (sym none) is
+-- the same for a round that is none, and a cause that is this one
+pub refused_for : (graph : Tfpg) (terms : Terms) (before : Progress) (line : NumberedLine) (bytes : List ℕ) (old new : EngineState) (start end : ℕ) (round : Option Round) (refusal cause : Option RefusedLine)
+    → round ≡ None → refusal ≡ cause → BringsBlock graph terms before line bytes None cause old new start end → BringsBlock graph terms before line bytes round refusal old new start end
+refused_for graph terms before line bytes old new start end round refusal cause none same is =
+    subst₂ (λ (r : Option Round) (why : Option RefusedLine). BringsBlock graph terms before line bytes r why old new start end) (sym none) (sym same) is
 
 -- ---- the calls of an event
 

@@ -4,6 +4,7 @@ use Rattle.tfpg_graph.specs.Graph.{Tfpg}
 use Rattle.tfpg_graph.specs.Valid.{IsValid}
 use Rattle.tfpg_evidence.specs.declared.round.Round.{Round}
 use Rattle.tfpg_engine.specs.EngineState.{EngineState, EngineRepresents}
+use Rattle.tfpg_log.specs.declared.refused_line.RefusedLine.{RefusedLine}
 use Rattle.tfpg_report.specs.Blocks.{Block, RoundBlock, block_text}
 use Rattle.tfpg_check.specs.Report.{Progress, IsBlock, progress_after, rounds_of}
 use Rattle.tfpg_base.specs.declared.terms.Terms.{Terms}
@@ -11,6 +12,7 @@ use Rattle.tfpg_diagnose.specs.RightReport.{BlockSays}
 use Rattle.tfpg_diagnose.specs.TellsPanels.{losses_in}
 use Rattle.tfpg_diagnose.specs.Work.{IsBlockLimit}
 use Rattle.tfpg_diagnose.specs.EngineReports.{EngineReports}
+use Rattle.tfpg_diagnose.specs.texts.Latest.{refusal_in}
 
 -- a line of the input with its number
 pub record NumberedLine : Type 0 where
@@ -47,3 +49,11 @@ abbrev pub IsUntold : Option Round → Block → EngineState → EngineState →
 IsUntold None block old new = (rounds_of block ≡ []) × (losses_in block ≡ []) × (new.log ≡ old.log)
 IsUntold (Some round) block old new =
     (block ≡ RoundBlock round []) × (length old.log.events < round.number) × (round.number ≡ length new.log.events)
+
+-- These bytes are the block of a line, which brought this round, or was refused for this cause, from the one engine to the other. For it the
+-- count of calls went from one number to the other.
+abbrev pub BringsBlock : Tfpg → Terms → Progress → NumberedLine → List ℕ → Option Round → Option RefusedLine → EngineState → EngineState
+    → ℕ → ℕ → Type 0
+BringsBlock graph terms before line bytes round refusal old new start end =
+    (has : HasBlock graph terms before line bytes new) × IsUntold round has.block old new
+    × IsBlockWithin graph before line.text has.block start end × (refusal ≡ refusal_in has.block)

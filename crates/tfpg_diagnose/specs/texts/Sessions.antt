@@ -1,5 +1,5 @@
 -- A session: a diagnosis that takes the lines of a log one by one.
-use Rattle.std.specs.Prelude.{◌≡◌, ◌≤◌, ℕ, ◌+◌, List, [], length, flat_map, Option, Some}
+use Rattle.std.specs.Prelude.{◌≡◌, ◌≤◌, ℕ, ◌+◌, ◌-◌, List, [], length, flat_map, Option, Some, None}
 use Rattle.tfpg_base.specs.declared.terms.Terms.{Terms}
 use Rattle.tfpg_graph.specs.Graph.{Tfpg}
 use Rattle.tfpg_log.specs.LogOfLines.{log_of_lines}
@@ -8,18 +8,26 @@ use Rattle.tfpg_engine.specs.EngineState.{EngineState, EngineRepresents}
 use Rattle.tfpg_report.specs.Blocks.{Block, block_text, head_text}
 use Rattle.tfpg_check.specs.Report.{rounds_of}
 use Rattle.tfpg_diagnose.specs.Work.{IsBlockLimit}
+use Rattle.tfpg_diagnose.specs.declared.texts.latest.Latest.{Latest}
+use Rattle.tfpg_diagnose.specs.texts.Latest.{latest_after}
 use Rattle.tfpg_diagnose.specs.texts.Opening.{GivesGraphOf}
 use Rattle.tfpg_diagnose.specs.texts.Reports.{IsPlainReport}
 
--- What contracts see of a session: its engine, the number of its next line, and how many counted calls it made for the lines that it took.
--- Once memory has run out there is no next line.
+-- What contracts see of a session: its engine, the number of its next line, how many counted calls it made for the lines that it took, and
+-- what came last. Once memory has run out there is no next line.
 pub record SessionState : Type 0 where
   pub engine : EngineState
   pub next : Option ℕ
   pub calls : ℕ
+  pub latest : Latest
+
+-- how many lines a session took that can take one more: the number before that of its next line
+abbrev pub lines_before : Option ℕ → ℕ
+lines_before None = 0
+lines_before (Some next) = next - 1
 
 -- The session represents these lines and bytes: its engine is of this graph and on these terms and took these lines, and the bytes that it
--- returned, the first line and then the blocks, one after the other, are a report of these lines.
+-- returned, the first line and then the blocks, one after the other, are a report of these lines. It keeps what came last in these blocks.
 pub record SessionRepresents (graph : Tfpg) (terms : Terms) (lines : List (List ℕ)) (bytes : List ℕ) (session : SessionState) : Type 0 where
   pub report : IsPlainReport graph terms lines bytes
   pub next_is : session.next ≡ Some (length lines + 1)
@@ -27,6 +35,7 @@ pub record SessionRepresents (graph : Tfpg) (terms : Terms) (lines : List (List 
   pub terms_is : session.engine.terms ≡ terms
   pub log_is : session.engine.log ≡ log_of_lines graph lines
   pub represents : EngineRepresents session.engine (flat_map rounds_of report.blocks)
+  pub latest_is : session.latest ≡ latest_after report.blocks
 
 -- The session is of the graph that the text spells, took no line, made no counted call, and returned the first line of a report.
 pub record IsNewSession (graph_text : List ℕ) (terms : Terms) (session : SessionState) : Type 0 where

@@ -7,8 +7,10 @@ ghost use Rattle.tfpg_evidence.specs.declared.round.Round.{Round};
 ghost use Rattle.tfpg_engine.specs.EngineState.{EngineRepresents};
 ghost use Rattle.tfpg_diagnose.specs.texts.Opening.{IsOpenFault};
 ghost use Rattle.tfpg_diagnose.specs.texts.Sessions.{CountsBlock, SessionRepresents};
+ghost use Rattle.tfpg_embed.specs.EventLines.{event_line};
 ghost use Rattle.tfpg_embed.specs.Sessions.{IsNewlyOpen};
 
+use crate::event_lines::event_line;
 use std::alloc::Global;
 use tfpg_base::{NoMemory, Terms};
 use tfpg_diagnose::{OpenFault, Session};
@@ -46,6 +48,38 @@ impl OpenSession {
     {
         self.text = self.session.line(alloc, line)?;
         Ok(self.text.len() as u64)
+    }
+
+    /// The same for the line of an event of this kind at this time, for the node or the mode of this index.
+    pub(super) fn event(
+        &mut self,
+        alloc: Global,
+        time: u64,
+        kind: u32,
+        index: u32,
+    ) -> Result<u64, EventFault>
+        ensures block { (graph : Tfpg) (terms : Terms) (lines : List (List ℕ)) (bytes : List ℕ) →
+            SessionRepresents graph terms lines bytes self.old.session →
+            IfOk result (λ _. SessionRepresents graph terms (lines ++ event_line self.old.session.engine.graph time kind index ∷ [])
+            (bytes ++ self.new.text.items) self.new.session) }
+        ensures work { (rounds : List Round) → EngineRepresents self.old.session.engine rounds →
+            IfOk result (λ _. CountsBlock self.old.session.engine rounds (event_line self.old.session.engine.graph time kind index)
+            self.new.text.items self.old.session.calls self.new.session.calls) }
+        ensures count { IfOk result (λ count. count ≡ length self.new.text.items) }
+        ensures ended { (result ≡ Err EventFault.Ended) ↔ (self.old.session.next ≡ None) }
+    {
+        if self.session.has_ended() {
+            return Err(EventFault::Ended);
+        }
+        let text = event_line(alloc, self.session.graph(), time, kind, index)?;
+        self.line(alloc, &text)
+    }
+
+    /// The session.
+    pub(super) fn session(&self) -> &Session
+        ensures { result.now ≡ self.now.session }
+    {
+        &self.session
     }
 
     /// The text that it returned last.

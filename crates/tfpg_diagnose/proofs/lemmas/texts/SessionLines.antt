@@ -1,6 +1,7 @@
 -- A session, one line after another.
 use Rattle.std.proofs.Common.{◌≡◌, ℕ, ◌+◌, ◌<◌, List, [], ◌∷◌, ◌++◌, length, Option, Some, None, refl, sym, ap, subst, ◌∙◌, arith}
 use Rattle.std.proofs.lemmas.List.{append-nil, length_push}
+use Rattle.std.proofs.lemmas.List.Sums.{fold_push}
 use Rattle.std.proofs.lemmas.List.Concat.{flat_map-append}
 use Rattle.tfpg_base.specs.declared.terms.Terms.{Terms}
 use Rattle.tfpg_base.specs.declared.limits.TheConstants.{LONGEST_LINE, MAX_LINE_NUMBER}
@@ -9,7 +10,7 @@ use Rattle.tfpg_graph.specs.Valid.{IsValid}
 use Rattle.tfpg_evidence.specs.declared.round.Round.{Round}
 use Rattle.tfpg_engine.specs.EngineState.{EngineState}
 use Rattle.tfpg_log.specs.declared.refused_line.RefusedLine.TheVariants.{TooLong}
-use Rattle.tfpg_report.specs.Blocks.{Block, RefusedBlock, head_text, refused_text}
+use Rattle.tfpg_report.specs.Blocks.{Block, RefusedBlock, RoundBlock, head_text, refused_text}
 use Rattle.tfpg_check.specs.Report.{HasReports, Progress, progress_of}
 use Rattle.tfpg_check.proofs.Progressing.{progress_of-push}
 use Rattle.tfpg_report.proofs.WrittenLines.{written_refusal}
@@ -18,14 +19,17 @@ use Rattle.tfpg_diagnose.specs.EngineReports.{EngineReports}
 use Rattle.tfpg_diagnose.specs.inside.LineBlocks.{HasBlock, IsBlockWithin, IsEngineReady, IsUntold, numbered}
 use Rattle.tfpg_diagnose.specs.inside.texts.Opened.{IsNewEngineOf}
 use Rattle.tfpg_diagnose.specs.inside.texts.SessionKeeps.{HasPlainBlock}
+use Rattle.tfpg_diagnose.specs.declared.line_blocks.LineBlock.{LineBlock}
+use Rattle.tfpg_diagnose.specs.declared.texts.latest.Latest.{Latest}
+use Rattle.tfpg_diagnose.specs.texts.Latest.{latest_after, latest_with, latest_with_block, nothing_yet, refusal_in, round_in}
 use Rattle.tfpg_diagnose.specs.texts.Sessions.{CountsBlock, IsNewSession, SessionRepresents, SessionState}
 use Rattle.tfpg_diagnose.proofs.lemmas.LineBlocks.{block_of_long_line}
 use Rattle.tfpg_diagnose.proofs.lemmas.NextBlocks.{AreBlocks-none, AreBlocks-push, RoundsSay-none, RoundsSay-push, report_text-push}
 
 -- a session of a new engine has returned the first line
-pub new_session : (graph_text : List ℕ) (terms : Terms) (engine : EngineState) → IsNewEngineOf graph_text terms engine → (calls : ℕ) → calls ≡ 0
-    → IsNewSession graph_text terms (record { engine = engine; next = Some 1; calls = calls })
-new_session graph_text terms engine new calls none = record {
+pub new_session : (graph_text : List ℕ) (terms : Terms) (engine : EngineState) → IsNewEngineOf graph_text terms engine → (calls : ℕ) → calls ≡ 0 → (latest : Latest) → latest ≡ nothing_yet
+    → IsNewSession graph_text terms (record { engine = engine; next = Some 1; calls = calls; latest = latest })
+new_session graph_text terms engine new calls none latest nothing = record {
   graph = engine.graph;
   gives = new.gives;
   represents = record {
@@ -45,6 +49,7 @@ new_session graph_text terms engine new calls none = record {
     terms_is = new.terms_is;
     log_is = new.log_is;
     represents = new.represents;
+    latest_is = nothing;
   };
   no_calls = none;
 }
@@ -59,13 +64,19 @@ module _ (graph : Tfpg) (terms : Terms) (lines : List (List ℕ)) (bytes : List 
   pub reports_so_far : EngineReports graph terms old.engine (progress_of graph lines Blocks)
   reports_so_far = record { graph_is = so_far.graph_is; terms_is = so_far.terms_is; log_is = so_far.log_is; represents = so_far.represents }
 
-  module _ (number : ℕ) (at : old.next ≡ Some number) (few : number < MAX_LINE_NUMBER) (line block : List ℕ) (engine : EngineState)
+  module _ (number : ℕ) (at : old.next ≡ Some number) (few : number < MAX_LINE_NUMBER) (line : List ℕ) (block : LineBlock) (engine : EngineState)
       (is : HasPlainBlock graph terms (progress_of graph lines Blocks) (numbered number line) block engine) where
     number_is : number ≡ 1 + length lines
     number_is = let same : Some number ≡ Some (length lines + 1) = sym at ∙ so_far.next_is in let e : number ≡ length lines + 1 = cc in omega (arith, e)
 
-    pub session_with_line : (next calls : ℕ) → next ≡ number + 1 → SessionRepresents graph terms (lines ++ line ∷ []) (bytes ++ block) (record { engine = engine; next = Some next; calls = calls })
-    session_with_line next calls next_is =
+    -- what came last, after this block
+    latest_now : (latest : Latest) → latest ≡ latest_with old.latest block.round block.refusal → latest ≡ latest_after (Blocks ++ is.has.block ∷ [])
+    latest_now latest noted =
+        noted ∙ (λ i. latest_with (so_far.latest_is i) (is.round_is i) (is.refusal_is i)) ∙ sym (fold_push latest_with_block nothing_yet Blocks is.has.block)
+
+    pub session_with_line : (next calls : ℕ) → next ≡ number + 1 → (latest : Latest) → latest ≡ latest_with old.latest block.round block.refusal
+        → SessionRepresents graph terms (lines ++ line ∷ []) (bytes ++ block.text.items) (record { engine = engine; next = Some next; calls = calls; latest = latest })
+    session_with_line next calls next_is latest noted =
         let step = progress_of-push graph lines Blocks line is.has.block in
         let reports = subst (EngineReports graph terms engine) (sym step) is.has.reports in
         let so_far_is = so_far.report.report in
@@ -87,19 +98,28 @@ module _ (graph : Tfpg) (terms : Terms) (lines : List (List ℕ)) (bytes : List 
           terms_is = reports.terms_is;
           log_is = reports.log_is;
           represents = reports.represents;
+          latest_is = latest_now latest noted;
         }
 
 -- ---- the block of a line
 
 -- one that is too long
-pub long_block : (graph : Tfpg) (terms : Terms) (before : Progress) (number : ℕ) (line bytes : List ℕ) (engine : EngineState) → LONGEST_LINE < length line → EngineReports graph terms engine before
-    → bytes ≡ refused_text number TooLong → HasPlainBlock graph terms before (numbered number line) bytes engine
-long_block graph terms before number line bytes engine long reports text = record { has = block_of_long_line graph terms before number line bytes engine long reports text; no_losses = refl }
+pub long_block : (graph : Tfpg) (terms : Terms) (before : Progress) (number : ℕ) (line : List ℕ) (block : LineBlock) (engine : EngineState) → LONGEST_LINE < length line → EngineReports graph terms engine before
+    → block.text.items ≡ refused_text number TooLong → block.round ≡ None → block.refusal ≡ Some TooLong → HasPlainBlock graph terms before (numbered number line) block engine
+long_block graph terms before number line block engine long reports text none cause =
+    record { has = block_of_long_line graph terms before number line block.text.items engine long reports text; no_losses = refl; round_is = none; refusal_is = cause }
+
+-- the round of a block that no panel was told yet
+round_shown : (round : Option Round) (block : Block) (old new : EngineState) → IsUntold round block old new → round ≡ round_in block
+round_shown None (RefusedBlock number cause) old new is = refl
+round_shown None (RoundBlock told losses) old new is = let e : told ∷ [] ≡ [] = is.0 in cc
+round_shown (Some told) block old new is = sym (ap round_in is.0)
 
 -- one that no panel was told yet
-pub untold_block : (graph : Tfpg) (terms : Terms) (before : Progress) (number : ℕ) (line bytes : List ℕ) (old new : EngineState) (round : Option Round)
-    (has : HasBlock graph terms before (numbered number line) bytes new) → IsUntold round has.block old new → HasPlainBlock graph terms before (numbered number line) bytes new
-untold_block graph terms before number line bytes old new round has untold = record { has = has; no_losses = by round untold }
+pub untold_block : (graph : Tfpg) (terms : Terms) (before : Progress) (number : ℕ) (line : List ℕ) (block : LineBlock) (old new : EngineState) (has : HasBlock graph terms before (numbered number line) block.text.items new)
+    → IsUntold block.round has.block old new → block.refusal ≡ refusal_in has.block → HasPlainBlock graph terms before (numbered number line) block new
+untold_block graph terms before number line block old new has untold cause =
+    record { has = has; no_losses = by block.round untold; round_is = round_shown block.round has.block old new untold; refusal_is = cause }
   where
     by : (round : Option Round) → IsUntold round has.block old new → losses_in has.block ≡ []
     by None is = is.1

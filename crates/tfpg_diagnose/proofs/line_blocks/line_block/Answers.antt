@@ -4,6 +4,7 @@ use Rattle.tfpg_evidence.specs.RoundOf.{IsRoundOf}
 use Rattle.tfpg_evidence.specs.declared.round.Round.{Round}
 use Rattle.tfpg_report.specs.Blocks.{round_text}
 use Rattle.std.proofs.lemmas.Result.{IfOk-weaker}
+use Rattle.tfpg_diagnose.specs.inside.LineBlocks.{numbered}
 use Rattle.tfpg_diagnose.proofs.lemmas.LineBlocks.{brings_refusal, brings_round, refused_within, round_within, counts_refusal, counts_round, refused_for, round_is_of_graph, round_says}
 use Rattle.tfpg_diagnose.proofs.line_blocks.line_block.Goals as goal
 
@@ -23,7 +24,7 @@ returns-in-Refused-clause-block g c graph terms before reports short =
     let brings = brings_refusal c.args.number c.args.text.now before.rounds c.in-Refused.refusal c.args.engine.now c.event.new.self c.in_ok-refusal.field-0 c.in-Refused.is
     (c.in_ok-refusal.ensures.brings before.rounds reports.represents) in
     IfOk-weaker c.refused_block.result _ _ (λ block e.
-    refused_for graph terms before c.args.number c.args.text.now block.text.items c.args.engine.now c.event.new.self c.args.work.now c.event.new.work block.round e.1
+    refused_for graph terms before (numbered c.args.number c.args.text.now) block.text.items c.args.engine.now c.event.new.self c.args.work.now c.event.new.work block.round block.refusal _ e.1 e.2
     (refused_within graph terms before c.args.number c.args.text.now block.text.items c.args.engine.now c.event.new.self short reports c.in-Refused.refusal brings.0 brings.1 e.0 c.args.work.now c.event.new.work
     (counts_refusal c.event.new.self before.rounds c.in-Refused.refusal c.in_ok-refusal.field-0 c.args.work.now c.event.new.work c.in-Refused.is (c.in_ok-refusal.ensures.work before.rounds reports.represents))))
     c.refused_block.ensures
