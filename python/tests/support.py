@@ -16,7 +16,8 @@ EXAMPLES = TOP / "examples"
 sys.path.insert(0, str(TOP / "python"))
 
 from tfpg.__main__ import main  # noqa: E402
-from tfpg.program import NoProgram, find_program  # noqa: E402
+from tfpg.faults import NoProgram  # noqa: E402
+from tfpg.program import find_program  # noqa: E402
 
 TINY = ["tfpg 1", "mode Run", "mode Stop", "failure Leak 2", "failure Jam 3", "or Hidden hidden", "or Wet watch 5000",
     "edge Leak Hidden 10 20 *",

@@ -1,0 +1,88 @@
+"""Finds the library, and binds its calls once."""
+
+from __future__ import annotations
+
+import ctypes
+import os
+from ctypes import c_char_p, c_size_t, c_uint32, c_uint64, c_void_p
+from functools import lru_cache
+from pathlib import Path
+from typing import Any, Callable, Dict, List, Tuple
+
+from ..faults import NoLibrary
+from ..program import checkout
+from .layouts import Answer
+
+VARIABLE = "TFPG_LIBRARY"
+FILE = "libtfpg.so"
+
+PLACE = c_void_p  # an address as a number, which is the fastest to hand over
+TEXT: List[Any] = [c_char_p, c_size_t]
+ROOM: List[Any] = [PLACE, c_size_t]
+TERMS: List[Any] = [c_uint32, c_uint32, c_uint64]
+
+# What each call answers, and the types of its words. A test compares them with the header.
+CALLS: Dict[str, Tuple[Any, List[Any]]] = {
+    "tfpg_report": (Answer, TEXT + TEXT + TERMS + ROOM),
+    "tfpg_check": (Answer, TEXT + TEXT + TEXT),
+    "tfpg_open": (Answer, [PLACE] + TEXT + TERMS),
+    "tfpg_line": (Answer, [PLACE] + TEXT),
+    "tfpg_block": (Answer, [PLACE] + ROOM),
+    "tfpg_close": (None, [PLACE]),
+}
+RESULTS: Dict[str, Tuple[Any, List[Any]]] = {
+    "tfpg_event": (Answer, [PLACE, c_uint64, c_uint32, c_uint32]),
+    "tfpg_result_of": (Answer, [PLACE, PLACE]),
+    "tfpg_ranked_at": (Answer, [PLACE, c_uint32, PLACE, PLACE, c_size_t]),
+    "tfpg_index": (Answer, [PLACE, c_uint32] + TEXT + [PLACE]),
+    "tfpg_name": (Answer, [PLACE, c_uint32, c_uint32] + ROOM),
+}
+
+Call = Callable[..., Any]
+
+
+class Library:
+    """The calls of a library. `has_results` says whether it has those that answer by numbers, as from version 2 of the header on."""
+
+    def __init__(self, path: str) -> None:
+        try:
+            calls = ctypes.CDLL(path)
+        except OSError as fault:
+            raise NoLibrary(f"{path} is not loaded: {fault}") from None
+        self.path = path
+        self.has_results = hasattr(calls, "tfpg_result_of")
+        bound = {name: bind(calls, name, *types) for name, types in {**CALLS, **(RESULTS if self.has_results else {})}.items()}
+        self.report, self.check, self.open = bound["tfpg_report"], bound["tfpg_check"], bound["tfpg_open"]
+        self.line, self.block, self.close = bound["tfpg_line"], bound["tfpg_block"], bound["tfpg_close"]
+        if self.has_results:
+            self.event, self.result_of, self.ranked_at = bound["tfpg_event"], bound["tfpg_result_of"], bound["tfpg_ranked_at"]
+            self.index, self.name = bound["tfpg_index"], bound["tfpg_name"]
+
+
+def bind(calls: ctypes.CDLL, name: str, answer: Any, words: List[Any]) -> Call:
+    """A call with its types, or NoLibrary if there is none of this name."""
+    try:
+        call = getattr(calls, name)
+    except AttributeError:
+        raise NoLibrary(f"{calls._name} has no {name}, so it is no library of tfpg") from None
+    call.restype, call.argtypes = answer, words
+    return call  # type: ignore[no-any-return]
+
+
+def find_library() -> str:
+    """TFPG_LIBRARY, or libtfpg.so beside the package, or where python/build-library leaves it in the checkout, in this order."""
+    named = os.environ.get(VARIABLE)
+    if named:
+        return named
+    top = checkout()
+    places = [Path(__file__).resolve().parents[1]] + ([top / "crates" / "tfpg_embed" / "out"] if top is not None else [])
+    for place in places:
+        if (place / FILE).is_file():
+            return str(place / FILE)
+    raise NoLibrary(f"there is no {FILE}: make it by python/build-library in a checkout, or set {VARIABLE} to it")
+
+
+@lru_cache(maxsize=None)
+def library() -> Library:
+    """The library, which is found and loaded at the first use."""
+    return Library(find_library())

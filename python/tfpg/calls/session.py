@@ -1,0 +1,148 @@
+"""A session: a diagnosis that takes the lines of a log one by one."""
+
+from __future__ import annotations
+
+import ctypes
+import re
+import threading
+import weakref
+from operator import index as whole
+from typing import Dict, Iterator, Optional, Tuple, Type, Union
+
+from ..faults import LineRefused
+from ..reading.texts import LONGEST_LINE, NUMBER
+from .answers import Answered, Refused, Round
+from .blocks import Blocks
+from .endings import Terms, fault_of
+from .graph import Graph
+from .layouts import Answer, EventKind, Handle, NameKind, Status
+from .library import Library, library
+from .numbers import Numbers
+from .texts import Line, Log, line_bytes, line_text, log_lines
+
+MOST_OF_C = 2**64 - 1
+TIMED = re.compile(rb"(%s)( .*)" % NUMBER.pattern.encode(), re.S)
+KINDS = {"alarm": (EventKind.ALARM, NameKind.NODE_NAME), "silent": (EventKind.SILENT, NameKind.NODE_NAME),
+         "mode": (EventKind.MODE, NameKind.MODE_NAME)}
+
+
+class Session:
+    """A diagnosis of a graph that takes one line of a log after the other, on terms as `diagnose` has them.
+
+    Each line has an answer: a `Round`, or a `Refused` if the log refuses it. A strict session raises LineRefused instead. The origin is
+    subtracted from the time of each line, and added to the times of the answers. Threads may share a session: a line and its answer go
+    together. Its memory is given back at the end of `with`, by `close`, or with the object."""
+
+    def __init__(self, graph: Graph, k: int = 2, doubt: int = 0, budget: int = 1000, origin: int = 0, strict: bool = False) -> None:
+        self.graph, self.origin, self.strict = graph, origin, strict
+        self._calls, self._handle, self._lock = library(), Handle(), threading.Lock()
+        self._place = ctypes.addressof(self._handle)
+        self._end = weakref.finalize(self, close, self._calls, self._handle)
+        self._end.atexit = False
+        self._terms = Terms(k, doubt, budget)
+        self._done(self._calls.open(self._place, graph.text, len(graph.text), *self._terms.numbers()))
+        self._head = self._text()
+        self._numbers = Numbers(self._calls, self._place, origin) if self._calls.has_results else None
+        self._blocks = Blocks(graph, self._head, origin)
+        self._events: Dict[Tuple[str, str], Tuple[int, int]] = {}
+        if self._numbers is not None:
+            self._events = {("sweep", ""): (EventKind.SWEEP, 0), ("tick", ""): (EventKind.TICK, 0)}
+
+    def __enter__(self) -> "Session":
+        return self
+
+    def __exit__(self, kind: Optional[Type[BaseException]], fault: Optional[BaseException], trace: object) -> None:
+        self.close()
+
+    def close(self) -> None:
+        """Closes the session. A closed one stays closed."""
+        with self._lock:
+            self._end()
+
+    @property
+    def head(self) -> str:
+        """The first line of the session's report, with its line end."""
+        return self._head.decode("ascii")
+
+    @property
+    def block(self) -> str:
+        """What the report says of the last line, and before any line its first line. Times in it are less the origin."""
+        with self._lock:
+            return self._text().decode("ascii")
+
+    def line(self, line: Line) -> Answered:
+        """Takes the next line of the log. Its line end, if it has one, is left out."""
+        content = line_bytes(line)
+        given = shifted(content, self.origin) if self.origin else content
+        with self._lock:
+            answer = self._calls.line(self._place, given, len(given))
+            return self._brought(answer, content)
+
+    def event(self, time: int, kind: str, name: str = "") -> Answered:
+        """Takes an event, as if it were the line `TIME KIND NAME`, or `TIME KIND` without a name."""
+        since = whole(time) - self.origin
+        event = self._events.get((kind, name)) or self._found(kind, name)
+        if event is None or not 0 <= since <= MOST_OF_C:
+            return self.line(event_text(time, kind, name))
+        with self._lock:
+            answer = self._calls.event(self._place, since, *event)
+            return self._brought(answer, (time, kind, name))
+
+    def rounds(self, lines: Log) -> Iterator[Answered]:
+        """Takes the lines of a text, a file by its path, an open file or a list, and has the answer of each before it takes the next."""
+        return map(self.line, log_lines(lines))
+
+    def _done(self, answer: Answer) -> None:
+        if answer.status != Status.DONE:
+            raise fault_of(answer, self.graph, self._terms)
+
+    def _brought(self, answer: Answer, said: Union[bytes, Tuple[int, str, str]]) -> Answered:
+        """The answer of a line, or of an event, that was taken."""
+        if answer.status:
+            self._done(answer)
+        found = self._numbers.brought() if self._numbers is not None else self._blocks.brought(self._text())
+        if isinstance(found, Round):
+            return found
+        text = line_text(said) if isinstance(said, bytes) else event_text(*said)
+        refused = Refused(found.line, found.cause, text, found.last, self.graph.declared, self.origin)
+        if self.strict:
+            raise LineRefused(refused)
+        return refused
+
+    def _found(self, kind: str, name: str) -> Optional[Tuple[int, int]]:
+        """The numbers of an event. There are none for one that only a line can say, and that the log then refuses."""
+        if self._numbers is None or kind not in KINDS:
+            return None
+        event, names = KINDS[kind]
+        with self._lock:
+            found = self._numbers.index_of(names, name)
+        if found is None:
+            return None
+        self._events[kind, name] = event, found
+        return event, found
+
+    def _text(self) -> bytes:
+        """The text of the session."""
+        room = ctypes.create_string_buffer(4096)
+        answer = self._calls.block(self._place, room, len(room))
+        while answer.status == Status.ROOM_TOO_SMALL:
+            room = ctypes.create_string_buffer(answer.count)
+            answer = self._calls.block(self._place, room, len(room))
+        self._done(answer)
+        return ctypes.string_at(room, answer.count)
+
+
+def close(calls: Library, handle: Handle) -> None:
+    """Gives the memory of a session back."""
+    calls.close(ctypes.addressof(handle))
+
+
+def event_text(time: int, kind: str, name: str) -> str:
+    """An event as a line."""
+    return f"{time} {kind} {name}" if name else f"{time} {kind}"
+
+
+def shifted(line: bytes, origin: int) -> bytes:
+    """A line with its time less an origin. One that is too long, or begins with no number, stays as it is."""
+    said = TIMED.fullmatch(line) if len(line) <= LONGEST_LINE else None
+    return b"%d%b" % (int(said[1]) - origin, said[2]) if said else line
