@@ -7,6 +7,7 @@ from struct import Struct
 from typing import Dict, List, NamedTuple, Optional, Tuple, Union
 
 from ..lint.explaining import line_explanation
+from ..lint.forms import spoken
 from ..lint.refusals import Explanation
 from ..reading.graphs import DeclaredGraph
 from ..reading.texts import MOST_TIME, is_number, text_of
@@ -122,7 +123,7 @@ def by_origin(said: Explanation, cause: str, origin: int) -> Explanation:
     if cause == "BadNumber":
         return Explanation(f"The time {word.text} is before the origin {origin}.", word)
     if cause == "TimeTooLarge" and origin:
-        return Explanation(f"A time is at most {MOST_TIME} milliseconds after the origin {origin}, and {word.text} is above it.", word)
+        return Explanation(f"A time is at most {spoken(MOST_TIME)} milliseconds after the origin {origin}, and {word.text} is above it.", word)
     if cause == "TimeTooLarge":
         return Explanation(said.sentence, word, said.hints + ["A session subtracts its `origin` from each time."])
     return said

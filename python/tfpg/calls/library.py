@@ -16,7 +16,7 @@ from .layouts import Answer
 VARIABLE = "TFPG_LIBRARY"
 FILE = "libtfpg.so"
 
-PLACE = c_void_p  # an address as a number, which is the fastest to hand over
+PLACE = c_void_p
 TEXT: List[Any] = [c_char_p, c_size_t]
 ROOM: List[Any] = [PLACE, c_size_t]
 TERMS: List[Any] = [c_uint32, c_uint32, c_uint64]
@@ -29,8 +29,6 @@ CALLS: Dict[str, Tuple[Any, List[Any]]] = {
     "tfpg_line": (Answer, [PLACE] + TEXT),
     "tfpg_block": (Answer, [PLACE] + ROOM),
     "tfpg_close": (None, [PLACE]),
-}
-RESULTS: Dict[str, Tuple[Any, List[Any]]] = {
     "tfpg_event": (Answer, [PLACE, c_uint64, c_uint32, c_uint32]),
     "tfpg_result_of": (Answer, [PLACE, PLACE]),
     "tfpg_ranked_at": (Answer, [PLACE, c_uint32, PLACE, PLACE, c_size_t]),
@@ -42,7 +40,10 @@ Call = Callable[..., Any]
 
 
 class Library:
-    """The calls of a library. `has_results` says whether it has those that answer by numbers, as from version 2 of the header on."""
+    """The calls of a library. `has_results` says whether it has those that answer by numbers, as from version 2 of the header on.
+
+    `line`, `event`, `result_of` and `ranked_at` take C values of the right types alone, which are made once: to make them of numbers takes
+    longer than the call. The others take numbers, bytes and rooms."""
 
     def __init__(self, path: str) -> None:
         try:
@@ -50,23 +51,25 @@ class Library:
         except OSError as fault:
             raise NoLibrary(f"{path} is not loaded: {fault}") from None
         self.path = path
+        self.report, self.check, self.open = bind(calls, "tfpg_report"), bind(calls, "tfpg_check"), bind(calls, "tfpg_open")
+        self.block, self.close, self.line = bind(calls, "tfpg_block"), bind(calls, "tfpg_close"), bind(calls, "tfpg_line", False)
         self.has_results = hasattr(calls, "tfpg_result_of")
-        bound = {name: bind(calls, name, *types) for name, types in {**CALLS, **(RESULTS if self.has_results else {})}.items()}
-        self.report, self.check, self.open = bound["tfpg_report"], bound["tfpg_check"], bound["tfpg_open"]
-        self.line, self.block, self.close = bound["tfpg_line"], bound["tfpg_block"], bound["tfpg_close"]
         if self.has_results:
-            self.event, self.result_of, self.ranked_at = bound["tfpg_event"], bound["tfpg_result_of"], bound["tfpg_ranked_at"]
-            self.index, self.name = bound["tfpg_index"], bound["tfpg_name"]
+            self.event, self.result_of = bind(calls, "tfpg_event", False), bind(calls, "tfpg_result_of", False)
+            self.ranked_at = bind(calls, "tfpg_ranked_at", False)
+            self.index, self.name = bind(calls, "tfpg_index"), bind(calls, "tfpg_name")
 
 
-def bind(calls: ctypes.CDLL, name: str, answer: Any, words: List[Any]) -> Call:
-    """A call with its types, or NoLibrary if there is none of this name."""
+def bind(calls: ctypes.CDLL, name: str, converts: bool = True) -> Call:
+    """A call, which converts its words or takes C values alone. NoLibrary, if there is none of this name."""
     try:
-        call = getattr(calls, name)
+        call = calls[name]
     except AttributeError:
         raise NoLibrary(f"{calls._name} has no {name}, so it is no library of tfpg") from None
-    call.restype, call.argtypes = answer, words
-    return call  # type: ignore[no-any-return]
+    call.restype, words = CALLS[name]
+    if converts:
+        call.argtypes = words
+    return call
 
 
 def find_library() -> str:

@@ -6,7 +6,7 @@ import ctypes
 from typing import List, Optional, Tuple, Union
 
 from .answers import Names, Ranked, Round, Why
-from .layouts import LOG_CAUSES, NameKind, RankedNumbers, ResultNumbers, Status, numbers_in
+from .layouts import LOG_CAUSES, Handle, NameKind, RankedNumbers, ResultNumbers, Status, numbers_in
 from .library import Library
 
 unpack_result = numbers_in(ResultNumbers).unpack_from
@@ -16,37 +16,35 @@ LONGEST_NAME = 32
 
 
 class Numbers:
-    """Reads the numbers of an open session. The rooms for them are made once, and what is ranked as before is not read again."""
+    """Reads the numbers of an open session. The rooms for them are made once, and of what is ranked as before nothing is made again."""
 
-    def __init__(self, calls: Library, place: int, origin: int) -> None:
-        self.calls, self.place, self.origin = calls, place, origin
+    def __init__(self, calls: Library, handle: Handle, origin: int) -> None:
+        self.calls, self.session, self.origin = calls, ctypes.byref(handle), origin
         self.names = Names(self.names_of(NameKind.NODE_NAME), self.names_of(NameKind.FAILURE_NAME), origin)
-        self.count = len(self.names.nodes)
-        self.result = ResultNumbers()
-        self.result_place = ctypes.addressof(self.result)
-        self.room = ctypes.create_string_buffer(RANKED_SIZE + 8 * self.count)
-        self.room_place = ctypes.addressof(self.room)
-        self.ranking: Tuple[Ranked, ...] = ()
+        self.result, self.room = ResultNumbers(), ctypes.create_string_buffer(RANKED_SIZE + 8 * len(self.names.nodes))
+        self.result_room = ctypes.byref(self.result)
+        self.rooms = ctypes.byref(self.room), ctypes.byref(self.room, RANKED_SIZE), ctypes.c_size_t(len(self.names.nodes))
         self.contents: List[bytes] = []
+        self.ranking: Tuple[Ranked, ...] = ()
 
     def names_of(self, kind: NameKind) -> Tuple[str, ...]:
         """All names of a kind, by their numbers."""
         room, names = ctypes.create_string_buffer(LONGEST_NAME), []
-        answer = self.calls.name(self.place, kind, 0, room, LONGEST_NAME)
+        answer = self.calls.name(self.session, kind, 0, room, LONGEST_NAME)
         while answer.status == Status.DONE:
             names.append(ctypes.string_at(room, answer.count).decode("ascii"))
-            answer = self.calls.name(self.place, kind, len(names), room, LONGEST_NAME)
+            answer = self.calls.name(self.session, kind, len(names), room, LONGEST_NAME)
         return tuple(names)
 
     def index_of(self, kind: NameKind, name: str) -> Optional[int]:
         """The number of what has this name, or nothing if nothing has it."""
         index, text = ctypes.c_uint32(), name.encode("utf-8", "surrogateescape")
-        answer = self.calls.index(self.place, kind, text, len(text), ctypes.addressof(index))
+        answer = self.calls.index(self.session, kind, text, len(text), ctypes.byref(index))
         return index.value if answer.status == Status.DONE else None
 
     def brought(self) -> Union[Round, Why]:
         """What the last line brought."""
-        self.calls.result_of(self.place, self.result_place)
+        self.calls.result_of(self.session, self.result_room)
         refusal, changed, line, last, number, now, ranked, covered, rejected, left = unpack_result(self.result)
         if refusal:
             cause = LOG_CAUSES[refusal]
@@ -55,10 +53,10 @@ class Numbers:
 
     def ranked(self, count: int) -> Tuple[Ranked, ...]:
         """The ranking of the last round."""
-        place, room = self.room_place, self.room
+        ranked_at, session, room, rooms = self.calls.ranked_at, self.session, self.room, self.rooms
         contents = []
         for rank in range(count):
-            self.calls.ranked_at(self.place, rank, place, place + RANKED_SIZE, self.count)
+            ranked_at(session, rank, *rooms)
             contents.append(room.raw)
         if contents != self.contents:
             known = dict(zip(self.contents, self.ranking))

@@ -6,6 +6,7 @@ import ctypes
 import re
 import threading
 import weakref
+from ctypes import c_uint32
 from operator import index as whole
 from typing import Dict, Iterator, Optional, Tuple, Type, Union
 
@@ -36,17 +37,17 @@ class Session:
     def __init__(self, graph: Graph, k: int = 2, doubt: int = 0, budget: int = 1000, origin: int = 0, strict: bool = False) -> None:
         self.graph, self.origin, self.strict = graph, origin, strict
         self._calls, self._handle, self._lock = library(), Handle(), threading.Lock()
-        self._place = ctypes.addressof(self._handle)
+        self._session, self._time, self._count = ctypes.byref(self._handle), ctypes.c_uint64(), ctypes.c_size_t()
         self._end = weakref.finalize(self, close, self._calls, self._handle)
         self._end.atexit = False
         self._terms = Terms(k, doubt, budget)
-        self._done(self._calls.open(self._place, graph.text, len(graph.text), *self._terms.numbers()))
+        self._done(self._calls.open(self._session, graph.text, len(graph.text), *self._terms.numbers()))
         self._head = self._text()
-        self._numbers = Numbers(self._calls, self._place, origin) if self._calls.has_results else None
+        self._numbers = Numbers(self._calls, self._handle, origin) if self._calls.has_results else None
         self._blocks = Blocks(graph, self._head, origin)
-        self._events: Dict[Tuple[str, str], Tuple[int, int]] = {}
+        self._events: Dict[Tuple[str, str], Tuple[c_uint32, c_uint32]] = {}
         if self._numbers is not None:
-            self._events = {("sweep", ""): (EventKind.SWEEP, 0), ("tick", ""): (EventKind.TICK, 0)}
+            self._events = {("sweep", ""): (c_uint32(EventKind.SWEEP), c_uint32()), ("tick", ""): (c_uint32(EventKind.TICK), c_uint32())}
 
     def __enter__(self) -> "Session":
         return self
@@ -75,8 +76,8 @@ class Session:
         content = line_bytes(line)
         given = shifted(content, self.origin) if self.origin else content
         with self._lock:
-            answer = self._calls.line(self._place, given, len(given))
-            return self._brought(answer, content)
+            self._count.value = len(given)
+            return self._brought(self._calls.line(self._session, given, self._count), content)
 
     def event(self, time: int, kind: str, name: str = "") -> Answered:
         """Takes an event, as if it were the line `TIME KIND NAME`, or `TIME KIND` without a name."""
@@ -85,8 +86,8 @@ class Session:
         if event is None or not 0 <= since <= MOST_OF_C:
             return self.line(event_text(time, kind, name))
         with self._lock:
-            answer = self._calls.event(self._place, since, *event)
-            return self._brought(answer, (time, kind, name))
+            self._time.value = since
+            return self._brought(self._calls.event(self._session, self._time, *event), (time, kind, name))
 
     def rounds(self, lines: Log) -> Iterator[Answered]:
         """Takes the lines of a text, a file by its path, an open file or a list, and has the answer of each before it takes the next."""
@@ -109,7 +110,7 @@ class Session:
             raise LineRefused(refused)
         return refused
 
-    def _found(self, kind: str, name: str) -> Optional[Tuple[int, int]]:
+    def _found(self, kind: str, name: str) -> Optional[Tuple[c_uint32, c_uint32]]:
         """The numbers of an event. There are none for one that only a line can say, and that the log then refuses."""
         if self._numbers is None or kind not in KINDS:
             return None
@@ -118,23 +119,23 @@ class Session:
             found = self._numbers.index_of(names, name)
         if found is None:
             return None
-        self._events[kind, name] = event, found
-        return event, found
+        self._events[kind, name] = c_uint32(event), c_uint32(found)
+        return self._events[kind, name]
 
     def _text(self) -> bytes:
         """The text of the session."""
         room = ctypes.create_string_buffer(4096)
-        answer = self._calls.block(self._place, room, len(room))
+        answer = self._calls.block(self._session, room, len(room))
         while answer.status == Status.ROOM_TOO_SMALL:
             room = ctypes.create_string_buffer(answer.count)
-            answer = self._calls.block(self._place, room, len(room))
+            answer = self._calls.block(self._session, room, len(room))
         self._done(answer)
         return ctypes.string_at(room, answer.count)
 
 
 def close(calls: Library, handle: Handle) -> None:
     """Gives the memory of a session back."""
-    calls.close(ctypes.addressof(handle))
+    calls.close(ctypes.byref(handle))
 
 
 def event_text(time: int, kind: str, name: str) -> str:
