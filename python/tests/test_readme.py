@@ -1,4 +1,4 @@
-"""The runs that README.md shows, beside what the commands write. `...` stands for any lines."""
+"""The runs that README.md shows, beside what the commands write, and its programs, beside what they print. `...` stands for any lines."""
 
 import os
 import re
@@ -8,9 +8,10 @@ import tempfile
 import unittest
 from pathlib import Path
 
-from support import EXAMPLES, TOP
+from support import EXAMPLES, TOP, library_words
 from tfpg.program import find_program
 
+PROGRAM = re.compile(r"^```python\n(.*?)^```\n(?:\n[^`\n][^`]*?)?\n```\n(.*?)^```$", re.M | re.S)
 BLOCK = re.compile(r"^```\n(\$ .*?)^```$", re.M | re.S)
 
 
@@ -42,6 +43,16 @@ class Readme(unittest.TestCase):
                     self.assertRegex(written(command, folder), re.compile(rf"\A{shape}\Z", re.S))
                 count += 1
         self.assertGreaterEqual(count, 3)
+
+    @unittest.skipIf(library_words(), library_words())
+    def test_each_program(self):
+        for name, folder in (("python/README.md", "python"), ("README.md", "")):
+            for program, shown in PROGRAM.findall((TOP / name).read_text(encoding="utf-8")):
+                with self.subTest(name=name):
+                    words = {**os.environ, "PYTHONPATH": str(TOP / "python"), "PYTHONDONTWRITEBYTECODE": "1"}
+                    ran = subprocess.run([sys.executable, "-W", "error", "-c", program], cwd=TOP / folder, env=words,
+                                         stdout=subprocess.PIPE, check=True)
+                    self.assertEqual(ran.stdout.decode(), shown)
 
 
 if __name__ == "__main__":
