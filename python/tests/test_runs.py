@@ -55,7 +55,8 @@ class Predicted(unittest.TestCase):
             with self.assertRaises(tfpg.UnknownNode) as raised:
                 tfpg.predict(graph, LOG, node)
             self.assertEqual(raised.exception.name, node)
-        for terms, said in (({"ahead": -1}, "ahead is from 0 to 1000000000000, and -1 is not"), ({"k": 65}, "k is from 0 to 64, and 65 is not")):
+        for terms, said in (({"ahead": -1}, "ahead is from 0 to 1000000000000, and -1 is not"),
+                            ({"k": 65}, "k is from 0 to 64, and 65 is not")):
             with self.assertRaisesRegex(tfpg.OutOfRange, said):
                 tfpg.predict(graph, LOG, "LowFlow", **terms)
         with self.assertRaises(tfpg.BadGraph) as raised:

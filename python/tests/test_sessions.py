@@ -97,7 +97,8 @@ class Sessions(unittest.TestCase):
         for number in range(LOGS):
             draw = random.Random(number)
             graph = draw.choice(systems)
-            lines, terms = random_log(draw, graph), {"k": draw.choice((1, 2)), "doubt": draw.choice((0, 0, 1)), "budget": draw.choice((2, 1000))}
+            terms = {"k": draw.choice((1, 2)), "doubt": draw.choice((0, 0, 1)), "budget": draw.choice((2, 1000))}
+            lines = random_log(draw, graph)
             with self.subTest(number=number):
                 found = wanted(graph, text(lines).encode(), **terms)
                 with tfpg.Session(graph, **terms) as session:
@@ -130,6 +131,8 @@ class Sessions(unittest.TestCase):
         with tfpg.Session(graph) as session:
             self.assertEqual([session.line(line).cause for line in ("5 tick\n\n", "5 tick\n6 tick", "5 tick" + " " * 5000)],
                              ["BadLine", "BadLine", "TooLong"])
+            self.assertEqual([session.event(5, *words).cause for words in (("alarm", "Wet\n"), ("alarm", "Wet Wet"), ("tick\n", ""))],
+                             ["UnknownName", "BadLine", "BadLine"])
             with self.assertRaises(ValueError):
                 list(session.rounds("pump.log"))
 

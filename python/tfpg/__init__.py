@@ -1,5 +1,5 @@
-"""tfpg for test benches and crews: sessions and reports by the library, what the program refuses, what a report says in words, and a picture
-of a ranking.
+"""tfpg for test benches and crews: sessions and reports, what the program refuses, what a report says in words, and a picture of a
+ranking.
 
 This package is no part of the proved program. It calls the library, or runs the program, and judges nothing itself.
 """

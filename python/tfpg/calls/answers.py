@@ -123,7 +123,8 @@ def by_origin(said: Explanation, cause: str, origin: int) -> Explanation:
     if cause == "BadNumber":
         return Explanation(f"The time {word.text} is before the origin {origin}.", word)
     if cause == "TimeTooLarge" and origin:
-        return Explanation(f"A time is at most {spoken(MOST_TIME)} milliseconds after the origin {origin}, and {word.text} is above it.", word)
+        limit = f"{spoken(MOST_TIME)} milliseconds after the origin {origin}"
+        return Explanation(f"A time is at most {limit}, and {word.text} is above it.", word)
     if cause == "TimeTooLarge":
         return Explanation(said.sentence, word, said.hints + ["A session subtracts its `origin` from each time."])
     return said

@@ -31,6 +31,7 @@ class Terms:
 
 
 def fitting(number: int, bits: int) -> int:
+    """A number as one of so many bits."""
     return number if 0 <= number < 1 << bits else (1 << bits) - 1
 
 

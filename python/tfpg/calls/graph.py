@@ -20,10 +20,12 @@ JSON_FAULTS = {
 
 
 class Graph:
-    """A graph: its text as bytes, and what the lines of that declare, in their order. Whether it spells a graph, the calls say that take it.
+    """A graph: its text as bytes, and what the lines of that declare, in their order. Whether it spells a graph, the calls say that
+    take it.
 
-    `modes` are the names of the modes, `nodes` the failure modes and discrepancies, and `edges` the edges, whose ends and modes are numbers:
-    `graph.nodes[edge.source].name`. `failures` and `monitored` are the names of the nodes that can fail, and of those with a monitor."""
+    `modes` are the names of the modes, `nodes` the failure modes and discrepancies, and `edges` the edges, whose ends and modes are
+    numbers: `graph.nodes[edge.source].name`. `failures` and `monitored` are the names of the failure modes, and of the nodes with a
+    monitor."""
 
     def __init__(self, text: Text) -> None:
         self.text = text_bytes(text)

@@ -3,6 +3,7 @@
 from __future__ import annotations
 
 import ctypes
+import os
 import re
 import threading
 import weakref
@@ -38,7 +39,7 @@ class Session:
         self.graph, self.origin, self.strict = graph, origin, strict
         self._calls, self._handle, self._lock = library(), Handle(), threading.Lock()
         self._session, self._time, self._count = ctypes.byref(self._handle), ctypes.c_uint64(), ctypes.c_size_t()
-        self._end = weakref.finalize(self, close, self._calls, self._handle)
+        self._end = weakref.finalize(self, close, self._calls, self._handle, os.getpid())
         self._end.atexit = False
         self._terms = Terms(k, doubt, budget)
         self._done(self._calls.open(self._session, graph.text, len(graph.text), *self._terms.numbers()))
@@ -73,18 +74,14 @@ class Session:
 
     def line(self, line: Line) -> Answered:
         """Takes the next line of the log. Its line end, if it has one, is left out."""
-        content = line_bytes(line)
-        given = shifted(content, self.origin) if self.origin else content
-        with self._lock:
-            self._count.value = len(given)
-            return self._brought(self._calls.line(self._session, given, self._count), content)
+        return self._line(line_bytes(line))
 
     def event(self, time: int, kind: str, name: str = "") -> Answered:
         """Takes an event, as if it were the line `TIME KIND NAME`, or `TIME KIND` without a name."""
         since = whole(time) - self.origin
         event = self._events.get((kind, name)) or self._found(kind, name)
         if event is None or not 0 <= since <= MOST_OF_C:
-            return self.line(event_text(time, kind, name))
+            return self._line(event_text(time, kind, name).encode("utf-8", "surrogateescape"))
         with self._lock:
             self._time.value = since
             return self._brought(self._calls.event(self._session, self._time, *event), (time, kind, name))
@@ -92,6 +89,13 @@ class Session:
     def rounds(self, lines: Log) -> Iterator[Answered]:
         """Takes the lines of a text, a file by its path, an open file or a list, and has the answer of each before it takes the next."""
         return map(self.line, log_lines(lines))
+
+    def _line(self, content: bytes) -> Answered:
+        """Takes these bytes as a line."""
+        given = shifted(content, self.origin) if self.origin else content
+        with self._lock:
+            self._count.value = len(given)
+            return self._brought(self._calls.line(self._session, given, self._count), content)
 
     def _done(self, answer: Answer) -> None:
         if answer.status != Status.DONE:
@@ -133,9 +137,10 @@ class Session:
         return ctypes.string_at(room, answer.count)
 
 
-def close(calls: Library, handle: Handle) -> None:
-    """Gives the memory of a session back."""
-    calls.close(ctypes.byref(handle))
+def close(calls: Library, handle: Handle, process: int) -> None:
+    """Gives the memory of a session back, but in no fork of the process that opened it, where the header allows no call."""
+    if os.getpid() == process:
+        calls.close(ctypes.byref(handle))
 
 
 def event_text(time: int, kind: str, name: str) -> str:

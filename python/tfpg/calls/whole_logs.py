@@ -10,13 +10,13 @@ from .layouts import Answer, Status
 from .library import library
 from .texts import Log, Text, log_bytes, text_bytes
 
-FIRST_ROOM = 1 << 16
+LEAST_ROOM, MOST_ROOM, ROOM_FOR_BYTE = 1 << 16, 1 << 28, 64  # of the first try, which mostly suffices
 
 
 def report(graph: Graph, log: Log, k: int = 2, doubt: int = 0, budget: int = 1000) -> str:
     """The report of a log, byte for byte as `diagnose` writes it."""
     calls, lines, terms = library(), log_bytes(log), Terms(k, doubt, budget)
-    size, answer = FIRST_ROOM, Answer(Status.ROOM_TOO_SMALL)
+    size, answer = min(max(LEAST_ROOM, ROOM_FOR_BYTE * len(lines)), MOST_ROOM), Answer(Status.ROOM_TOO_SMALL)
     while answer.status == Status.ROOM_TOO_SMALL:
         room = ctypes.create_string_buffer(size)
         answer = calls.report(graph.text, len(graph.text), lines, len(lines), *terms.numbers(), room, size)

@@ -24,10 +24,12 @@ def run_on(command: str, options: Sequence[str], graph: Graph, log: Log, names: 
 
 
 def options_of(terms: Terms) -> List[str]:
+    """Terms as words of a command line."""
     return [f"--k={terms.k}", f"--doubt={terms.doubt}", f"--budget={terms.budget}"]
 
 
 def lines_written(ended: Ended) -> List[str]:
+    """The lines of an output."""
     return lines_of(text_of(ended.output))
 
 

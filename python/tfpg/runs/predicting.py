@@ -61,6 +61,7 @@ def forecast(lines: List[str]) -> Forecast:
 
 
 def out_of_range(terms: Terms, ahead: int) -> OutOfRange:
+    """Which numbers of a prediction are outside their limits."""
     limits = OPTIONS["--ahead"]
     if limits.least <= ahead <= limits.greatest:
         return terms.fault()
