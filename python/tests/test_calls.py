@@ -74,10 +74,10 @@ class Whole(unittest.TestCase):
                 self.assertEqual(tfpg.report(graph, log.read_text(encoding="ascii").splitlines()), said)
 
     def test_a_report_that_is_longer_than_the_first_room(self):
-        graph = tfpg.Graph(text(["tfpg 1", "mode M", *(f"failure F{n} 1" for n in range(64)), "or D watch 0",
-                                 *(f"edge F{n} D 0 1 *" for n in range(32)), "end"]))
-        said = tfpg.report(graph, text([f"{time} alarm D" for time in range(80)]), k=1)
-        self.assertEqual((said.count("\nround "), len(said) > 1 << 16), (80, True))
+        graph = tfpg.Graph(text(["tfpg 1", "mode M", *(f"failure F{n:031} 1" for n in range(32)), "or D watch 900",
+                                 *(f"edge F{n:031} D 0 1 *" for n in range(32)), "end"]))
+        said = tfpg.report(graph, text([f"{time} alarm D" for time in range(20)]), k=1)
+        self.assertEqual((said.count("\nround "), len(said) > 1 << 16), (20, True))
 
     def test_what_is_not_accepted(self):
         graph, log, report = tfpg.Graph.load(PUMP), EXAMPLES / "pump.log", (EXAMPLES / "pump.report").read_text(encoding="ascii")
