@@ -20,6 +20,7 @@ class Numbers:
 
     def __init__(self, calls: Library, handle: Handle, origin: int) -> None:
         self.calls, self.session, self.origin = calls, ctypes.byref(handle), origin
+        self.result_of, self.ranked_at = calls.result_of, calls.ranked_at
         self.names = Names(self.names_of(NameKind.NODE_NAME), self.names_of(NameKind.FAILURE_NAME), origin)
         self.result, self.room = ResultNumbers(), ctypes.create_string_buffer(RANKED_SIZE + 8 * len(self.names.nodes))
         self.result_room = ctypes.byref(self.result)
@@ -44,7 +45,7 @@ class Numbers:
 
     def brought(self) -> Union[Round, Why]:
         """What the last line brought."""
-        self.calls.result_of(self.session, self.result_room)
+        self.result_of(self.session, self.result_room)
         refusal, changed, line, last, number, now, ranked, covered, rejected, left = unpack_result(self.result)
         if refusal:
             cause = LOG_CAUSES[refusal]
@@ -53,7 +54,7 @@ class Numbers:
 
     def ranked(self, count: int) -> Tuple[Ranked, ...]:
         """The ranking of the last round."""
-        ranked_at, session, room, rooms = self.calls.ranked_at, self.session, self.room, self.rooms
+        ranked_at, session, room, rooms = self.ranked_at, self.session, self.room, self.rooms
         contents = []
         for rank in range(count):
             ranked_at(session, rank, *rooms)
