@@ -4,8 +4,8 @@
     bench/session.py [LINES]
 
 For each log it prints the microseconds of processor time that a line takes, the least of five runs over LINES lines, 10,000 without the
-word: of `tfpg_event` alone, with words that are made once and no look at what came of it; of `event` with its Round; and of `rounds` over
-lines as bytes. The logs are those of the examples, or none, and then ticks. "64 failure modes" has 512 nodes and 2,048 edges, two alarms,
+word: of `tfpg_event` alone, or `tfpg_line` in a library without that, with words that are made before and no look at what came of it; of
+`event` with its Round; and of `rounds` over lines as bytes. The logs are those of the examples, or none, and then ticks. "64 failure modes" has 512 nodes and 2,048 edges, two alarms,
 and `k` 1. It needs the library, which python/build-library makes.
 """
 import ctypes
@@ -51,13 +51,15 @@ def main():
     count = int(sys.argv[1]) if len(sys.argv) > 1 else 10000
 
     def by_call(session, last):
-        call, handle, at = session._calls.event, session._session, ctypes.c_uint64(last)
-        kind, index = ctypes.c_uint32(EventKind.TICK), ctypes.c_uint32(0)
+        call, handle, times = session._calls.line, session._session, range(last, last + count)
+        words = [(b"%d tick" % now, ctypes.c_size_t(len(b"%d tick" % now))) for now in times]
+        if session._calls.has_results:
+            call = session._calls.event
+            words = [(ctypes.c_uint64(now), ctypes.c_uint32(EventKind.TICK), ctypes.c_uint32()) for now in times]
 
         def run():
-            for now in range(last, last + count):
-                at.value = now
-                call(handle, at, kind, index)
+            for one in words:
+                call(handle, *one)
         return run, count
 
     def by_event(session, last):
