@@ -14,7 +14,7 @@ from typing import Dict, Iterator, Optional, Tuple, Type, Union
 from ..faults import LineRefused
 from ..reading.texts import LONGEST_LINE, NUMBER
 from .answers import Answered, Refused, Round
-from .blocks import Blocks
+from .blocks import Blocks, text_of_session
 from .endings import Terms, fault_of
 from .graph import Graph
 from .layouts import Answer, EventKind, Handle, NameKind, Status
@@ -44,10 +44,10 @@ class Session:
         self._terms = Terms(k, doubt, budget)
         self._done(self._calls.open(self._session, graph.text, len(graph.text), *self._terms.numbers()))
         self._head = self._text()
-        self._numbers = Numbers(self._calls, self._handle, origin) if self._calls.has_results else None
-        self._blocks = Blocks(graph, self._head, origin)
+        self._reader: Union[Numbers, Blocks] = Blocks(self._calls, self._handle, graph, self._head, origin)
         self._events: Dict[Tuple[str, str], Tuple[c_uint32, c_uint32]] = {}
-        if self._numbers is not None:
+        if self._calls.has_results:
+            self._reader = Numbers(self._calls, self._handle, origin)
             self._events = {("sweep", ""): (c_uint32(EventKind.SWEEP), c_uint32()), ("tick", ""): (c_uint32(EventKind.TICK), c_uint32())}
 
     def __enter__(self) -> "Session":
@@ -105,7 +105,7 @@ class Session:
         """The answer of a line, or of an event, that was taken."""
         if answer.status:
             self._done(answer)
-        found = self._numbers.brought() if self._numbers is not None else self._blocks.brought(self._text())
+        found = self._reader.brought()
         if isinstance(found, Round):
             return found
         text = line_text(said) if isinstance(said, bytes) else event_text(*said)
@@ -116,11 +116,11 @@ class Session:
 
     def _found(self, kind: str, name: str) -> Optional[Tuple[c_uint32, c_uint32]]:
         """The numbers of an event. There are none for one that only a line can say, and that the log then refuses."""
-        if self._numbers is None or kind not in KINDS:
+        if isinstance(self._reader, Blocks) or kind not in KINDS:
             return None
         event, names = KINDS[kind]
         with self._lock:
-            found = self._numbers.index_of(names, name)
+            found = self._reader.index_of(names, name)
         if found is None:
             return None
         self._events[kind, name] = c_uint32(event), c_uint32(found)
@@ -128,13 +128,9 @@ class Session:
 
     def _text(self) -> bytes:
         """The text of the session."""
-        room = ctypes.create_string_buffer(4096)
-        answer = self._calls.block(self._session, room, len(room))
-        while answer.status == Status.ROOM_TOO_SMALL:
-            room = ctypes.create_string_buffer(answer.count)
-            answer = self._calls.block(self._session, room, len(room))
+        answer, text = text_of_session(self._calls, self._handle)
         self._done(answer)
-        return ctypes.string_at(room, answer.count)
+        return text
 
 
 def close(calls: Library, handle: Handle, process: int) -> None:
