@@ -59,7 +59,7 @@ class Loading(unittest.TestCase):
 
     def test_where_it_is(self):
         with unittest.mock.patch.dict("os.environ", {"TFPG_LIBRARY": "here.so"}):
-            self.assertEqual(find_library(), "here.so")
+            self.assertEqual(find_library(), str(Path("here.so").absolute()))
 
 
 @unittest.skipIf(library_words(), library_words())

@@ -3,7 +3,7 @@
 import unittest
 
 import tfpg
-from support import EXAMPLES, files, text, tiny
+from support import EXAMPLES, files, library_words, text, tiny
 from tfpg.program import run_program
 from tfpg.reading.texts import lines_of, text_of
 
@@ -65,6 +65,16 @@ class Predicted(unittest.TestCase):
 
 
 class Explained(unittest.TestCase):
+    @unittest.skipIf(library_words(), library_words())
+    def test_what_is_ranked_explains_the_log(self):
+        for system, name in SYSTEMS:
+            graph, log = tfpg.Graph.load(EXAMPLES / f"{system}.tfpg"), EXAMPLES / f"{name}.log"
+            with tfpg.Session(graph, k=1, doubt=1) as session:
+                *_, last = (answer for answer in session.rounds(log) if isinstance(answer, tfpg.Round))
+            for ranked in last.ranked:
+                with self.subTest(name=name, set=ranked.set):
+                    self.assertTrue(tfpg.explain(graph, log, ranked.map).explains)
+
     def test_verdicts(self):
         graph = tfpg.Graph.load(PUMP)
         self.assertEqual(tfpg.explain(graph, LOG, EXAMPLES / "pump-filter.map").sentence, "The history explains the log.")

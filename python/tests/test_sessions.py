@@ -182,6 +182,8 @@ class Refusals(unittest.TestCase):
     def test_times_are_whole(self):
         with tfpg.Session(tfpg.Graph(tiny())) as session, self.assertRaises(TypeError):
             session.event(5.0, "tick")
+        with self.assertRaises(TypeError):
+            tfpg.Session(tfpg.Graph(tiny()), origin=0.5)
 
 
 @unittest.skipIf(library_words(), library_words())

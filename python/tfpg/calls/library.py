@@ -77,7 +77,7 @@ def find_library() -> str:
     """TFPG_LIBRARY, or libtfpg.so beside the package, or where python/build-library leaves it in the checkout, in this order."""
     named = os.environ.get(VARIABLE)
     if named:
-        return named
+        return os.path.abspath(named)
     top = checkout()
     places = [Path(__file__).resolve().parents[1]] + ([top / "crates" / "tfpg_embed" / "out"] if top is not None else [])
     for place in places:

@@ -36,7 +36,7 @@ class Session:
     together. Its memory is given back at the end of `with`, by `close`, or with the object."""
 
     def __init__(self, graph: Graph, k: int = 2, doubt: int = 0, budget: int = 1000, origin: int = 0, strict: bool = False) -> None:
-        self.graph, self.origin, self.strict = graph, origin, strict
+        self.graph, self.origin, self.strict = graph, whole(origin), strict
         self._calls, self._handle, self._lock = library(), Handle(), threading.Lock()
         self._session, self._time, self._count = ctypes.byref(self._handle), ctypes.c_uint64(), ctypes.c_size_t()
         self._end = weakref.finalize(self, close, self._calls, self._handle, os.getpid())
