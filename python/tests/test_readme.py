@@ -30,6 +30,12 @@ def written(command, folder):
     return subprocess.run(["sh", "-c", command], cwd=folder, env=words, stdout=subprocess.PIPE, check=False).stdout.decode()
 
 
+def printed(*words, folder=TOP):
+    """What Python prints, run with these words. A warning is an error."""
+    names = {**os.environ, "PYTHONPATH": str(TOP / "python"), "PYTHONDONTWRITEBYTECODE": "1"}
+    return subprocess.run([sys.executable, "-W", "error", *words], cwd=folder, env=names, stdout=subprocess.PIPE, check=True).stdout.decode()
+
+
 class Readme(unittest.TestCase):
     def test_each_run(self):
         with tempfile.TemporaryDirectory(prefix="tfpg-python-") as top:
@@ -47,12 +53,15 @@ class Readme(unittest.TestCase):
     @unittest.skipIf(library_words(), library_words())
     def test_each_program(self):
         for name, folder in (("python/README.md", "python"), ("README.md", "")):
-            for program, shown in PROGRAM.findall((TOP / name).read_text(encoding="utf-8")):
+            programs = PROGRAM.findall((TOP / name).read_text(encoding="utf-8"))
+            self.assertEqual(len(programs), 1)
+            for program, shown in programs:
                 with self.subTest(name=name):
-                    words = {**os.environ, "PYTHONPATH": str(TOP / "python"), "PYTHONDONTWRITEBYTECODE": "1"}
-                    ran = subprocess.run([sys.executable, "-W", "error", "-c", program], cwd=TOP / folder, env=words,
-                                         stdout=subprocess.PIPE, check=True)
-                    self.assertEqual(ran.stdout.decode(), shown)
+                    self.assertEqual(printed("-c", program, folder=TOP / folder), shown)
+
+    @unittest.skipIf(library_words(), library_words())
+    def test_the_test_bench(self):
+        self.assertEqual(printed(str(EXAMPLES / "testbench.py")), (EXAMPLES / "testbench.txt").read_text(encoding="ascii"))
 
 
 if __name__ == "__main__":
