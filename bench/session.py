@@ -4,9 +4,9 @@
     bench/session.py [LINES]
 
 For each log it prints the microseconds of processor time that a line takes, the least of five runs over LINES lines, 10,000 without the
-word: of `tfpg_event` alone, or `tfpg_line` in a library without that, with words that are made before and no look at what came of it; of
-`event` with its Round; and of `rounds` over lines as bytes. The logs are those of the examples, or none, and then ticks. "64 failure modes" has 512 nodes and 2,048 edges, two alarms,
-and `k` 1. It needs the library, which python/build-library makes.
+word: of `tfpg_event` alone, or `tfpg_line` in a library without that, with words that are made before and no look at what came of it;
+of `event` with its Round; and of `rounds` over lines as bytes. The logs are those of the examples, or none, and then ticks. "64 failure
+modes" has 512 nodes and 2,048 edges, two alarms, and `k` 1. It needs the library, which python/build-library makes.
 """
 import ctypes
 import random
