@@ -16,7 +16,9 @@ EXAMPLES = TOP / "examples"
 sys.path.insert(0, str(TOP / "python"))
 
 from tfpg.__main__ import main  # noqa: E402
-from tfpg.program import NoProgram, find_program  # noqa: E402
+from tfpg.calls.library import library  # noqa: E402
+from tfpg.faults import NoLibrary, NoProgram  # noqa: E402
+from tfpg.program import find_program  # noqa: E402
 
 TINY = ["tfpg 1", "mode Run", "mode Stop", "failure Leak 2", "failure Jam 3", "or Hidden hidden", "or Wet watch 5000",
     "edge Leak Hidden 10 20 *",
@@ -94,3 +96,13 @@ def program_words() -> str:
     except NoProgram as fault:
         return str(fault)
     return "" if status == 0 else said.strip()
+
+
+@lru_cache(maxsize=None)
+def library_words() -> str:
+    """Why there is no library to load, or nothing if there is one."""
+    try:
+        library()
+    except NoLibrary as fault:
+        return str(fault)
+    return ""

@@ -1,4 +1,4 @@
-"""The runs that README.md shows, beside what the commands write. `...` stands for any lines."""
+"""The runs that README.md shows, beside what the commands write, and its programs, beside what they print. `...` stands for any lines."""
 
 import os
 import re
@@ -8,9 +8,10 @@ import tempfile
 import unittest
 from pathlib import Path
 
-from support import EXAMPLES, TOP
+from support import EXAMPLES, TOP, library_words
 from tfpg.program import find_program
 
+PROGRAM = re.compile(r"^```python\n(.*?)^```\n(?:\n[^`\n][^`]*?)?\n```\n(.*?)^```$", re.M | re.S)
 BLOCK = re.compile(r"^```\n(\$ .*?)^```$", re.M | re.S)
 
 
@@ -29,6 +30,12 @@ def written(command, folder):
     return subprocess.run(["sh", "-c", command], cwd=folder, env=words, stdout=subprocess.PIPE, check=False).stdout.decode()
 
 
+def printed(*words, folder=TOP):
+    """What Python prints, run with these words. A warning is an error."""
+    names = {**os.environ, "PYTHONPATH": str(TOP / "python"), "PYTHONDONTWRITEBYTECODE": "1"}
+    return subprocess.run([sys.executable, "-W", "error", *words], cwd=folder, env=names, stdout=subprocess.PIPE, check=True).stdout.decode()
+
+
 class Readme(unittest.TestCase):
     def test_each_run(self):
         with tempfile.TemporaryDirectory(prefix="tfpg-python-") as top:
@@ -42,6 +49,19 @@ class Readme(unittest.TestCase):
                     self.assertRegex(written(command, folder), re.compile(rf"\A{shape}\Z", re.S))
                 count += 1
         self.assertGreaterEqual(count, 3)
+
+    @unittest.skipIf(library_words(), library_words())
+    def test_each_program(self):
+        for name, folder in (("python/README.md", "python"), ("README.md", "")):
+            programs = PROGRAM.findall((TOP / name).read_text(encoding="utf-8"))
+            self.assertEqual(len(programs), 1)
+            for program, shown in programs:
+                with self.subTest(name=name):
+                    self.assertEqual(printed("-c", program, folder=TOP / folder), shown)
+
+    @unittest.skipIf(library_words(), library_words())
+    def test_the_test_bench(self):
+        self.assertEqual(printed(str(EXAMPLES / "testbench.py")), (EXAMPLES / "testbench.txt").read_text(encoding="ascii"))
 
 
 if __name__ == "__main__":

@@ -8,7 +8,8 @@ from unittest import mock
 from support import EXAMPLES, TOP, files, run
 from tfpg.brief.paper import Paper
 from tfpg.lint.refusals import underlined
-from tfpg.program import NoProgram, find_program, run_program
+from tfpg.faults import NoProgram
+from tfpg.program import find_program, run_program
 from tfpg.reading.texts import shown, words_of
 from tfpg.saying.times import duration_words, start_of, time_words
 

@@ -1,6 +1,24 @@
-"""tfpg for test benches and crews: what the program refuses, what a report says in words, and a picture of a ranking.
+"""tfpg for test benches and crews: sessions and reports, what the program refuses, what a report says in words, and a picture of a
+ranking.
 
-This package is no part of the proved program. It runs the program and reads what that writes, and judges nothing itself.
+This package is no part of the proved program. It calls the library, or runs the program, and judges nothing itself.
 """
 
+from .calls.answers import Ranked, Refused, Round
+from .calls.graph import Graph
+from .calls.session import Session
+from .calls.whole_logs import check, report
+from .faults import (BadGraph, Error, LineRefused, LogFull, NoLibrary, NoMemory, NoProgram, NotAccepted, OutOfRange, SessionClosed,
+                     TooManyHypotheses, TooMuchInput, UnknownNode)
+from .reading.graphs import Edge, Node
+from .runs.asking import Question, Questions, ask
+from .runs.explaining import Verdict, explain
+from .runs.predicting import Forecast, Prediction, predict
+
 __version__ = "0.1.0"
+
+__all__ = [
+    "BadGraph", "Edge", "Error", "Forecast", "Graph", "LineRefused", "LogFull", "NoLibrary", "NoMemory", "NoProgram", "Node", "NotAccepted",
+    "OutOfRange", "Prediction", "Question", "Questions", "Ranked", "Refused", "Round", "Session", "SessionClosed", "TooManyHypotheses",
+    "TooMuchInput", "UnknownNode", "Verdict", "ask", "check", "explain", "predict", "report",
+]

@@ -7,9 +7,10 @@ import sys
 from typing import Callable, Dict, List, Sequence
 
 from .brief.command import brief
+from .faults import NoProgram
 from .lint.command import lint
 from .plot.command import plot
-from .program import NO_TRIAL, NoProgram, NoReport
+from .program import NO_TRIAL, NoReport
 from .reading.texts import BadText
 
 COMMANDS: Dict[str, Callable[[Sequence[str]], int]] = {"lint": lint, "brief": brief, "plot": plot}

@@ -9,13 +9,11 @@ from dataclasses import dataclass
 from pathlib import Path
 from typing import List, Optional, Sequence, Tuple
 
+from .faults import NoProgram
+
 VARIABLE = "TFPG_PROGRAM"
 OWN_LINE = b"tfpg: "  # begins what the script `tfpg` itself says beside the program
 NO_TRIAL = 70
-
-
-class NoProgram(Exception):
-    """There is no program to run, or it did not end by itself."""
 
 
 class NoReport(Exception):

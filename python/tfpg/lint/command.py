@@ -5,9 +5,8 @@ from __future__ import annotations
 import argparse
 import os
 from collections import Counter
-from functools import partial
 from pathlib import Path
-from typing import Callable, List, Sequence, Tuple
+from typing import List, Sequence, Tuple
 
 from ..program import Ended, file_words, run_program
 from ..reading.graphs import graph_of
@@ -15,9 +14,7 @@ from ..reading.reports import Refused, read_report
 from ..reading.texts import lines_of, read_text, text_of
 from .command_words import words_in_line
 from .ends import end_sentence
-from .graph_lines import explain_graph_line
-from .graph_wholes import CAUSES, explain_whole
-from .log_lines import explain_log_line
+from .explaining import explained, graph_explanation, line_explanation
 from .refusals import Explanation, Refusal, refusal_lines, wrapped
 from .usage import explain_node, explain_words, graph_file
 
@@ -70,19 +67,7 @@ def graph_refusal(graph: str, number: int, cause: str) -> Refusal:
     """The refusal of a graph, with what a beginner needs to mend it."""
     lines = lines_of(read_text(graph))
     text = lines[number - 1] if 0 < number <= len(lines) else None
-    place = f"{graph} line {number}"
-    if number == 0:
-        return Refusal(place, cause, None, Explanation("There is no room for one node and one edge more, which predict needs."))
-    explain = explain_whole if cause in CAUSES else explain_graph_line
-    return Refusal(place, cause, text, explained(lambda: explain(lines, number, cause)))
-
-
-def explained(explain: Callable[[], Explanation]) -> Explanation:
-    """An explanation; or only that there is none, of a cause that is not known here or a file that has changed meanwhile."""
-    try:
-        return explain()
-    except (KeyError, IndexError, StopIteration):
-        return Explanation("The program refuses this, and no sentence for it is known here.")
+    return Refusal(f"{graph} line {number}", cause, text, graph_explanation(lines, number, cause))
 
 
 def lint_log(graph: str, log: str, tell_all: bool) -> Tuple[int, List[str]]:
@@ -105,7 +90,7 @@ def _refused_lines(graph: str, log: str, lines: Sequence[str], refused: Sequence
     declared, told = graph_of(read_text(graph)), refused if tell_all else refused[:MOST_TOLD]
     said: List[str] = []
     for one in told:
-        explanation = explained(partial(explain_log_line, declared, lines, one.line, one.cause, one.time))
+        explanation = line_explanation(declared, lines, one.line, one.cause, one.time)
         said += refusal_lines(Refusal(f"{log} line {one.line}", one.cause, lines[one.line - 1], explanation))
     left = refused[len(told):]
     if left:

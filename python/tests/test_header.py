@@ -1,0 +1,81 @@
+"""The layouts, the numbers and the calls of `tfpg.calls`, beside those that `include/tfpg.h` declares."""
+
+import ctypes
+import re
+import unittest
+
+from support import TOP
+from tfpg.calls import layouts
+from tfpg.calls.library import CALLS
+
+HEADER = re.sub(r"/\*.*?\*/", "", (TOP / "include" / "tfpg.h").read_text(encoding="utf-8"), flags=re.S)
+EARLIER = "the header is of an earlier version, without "
+FIELDS = {"bool": ctypes.c_bool, "uint32_t": ctypes.c_uint32, "uint64_t": ctypes.c_uint64, "uint8_t *": ctypes.c_void_p}
+WORDS = {"size_t": ctypes.c_size_t, "uint32_t": ctypes.c_uint32, "uint64_t": ctypes.c_uint64, "const uint8_t *": ctypes.c_char_p}
+ENUMS = {
+    "tfpg_status": ("TFPG_", layouts.Status),
+    "tfpg_graph_cause": ("TFPG_GRAPH_", layouts.GRAPH_CAUSES),
+    "tfpg_report_cause": ("TFPG_REPORT_", layouts.REPORT_CAUSES),
+    "tfpg_refusal": ("TFPG_LOG_", layouts.LOG_CAUSES),
+    "tfpg_event_kind": ("TFPG_", layouts.EventKind),
+    "tfpg_name_kind": ("TFPG_", layouts.NameKind),
+}
+
+
+def found(pattern):
+    """What the header has of this form."""
+    return re.search(pattern, HEADER, re.S)
+
+
+def typed(declared, types, otherwise=None):
+    """The name and the type of a declared field or word."""
+    kind, name, count = re.fullmatch(r"\s*((?:const )?\w+ \*?)(\w+)(?:\[(\d+)\])?", declared, re.S).groups()
+    one = types.get(kind.strip() if kind.strip() in types else kind, otherwise)
+    return name, one * int(count) if count else one
+
+
+def fields_of(body):
+    """The fields of a struct. Those of one type may stand together."""
+    for declared in filter(str.strip, body.split(";")):
+        first, *more = declared.split(",")
+        yield typed(first, FIELDS)
+        for name in more:
+            yield typed(f"{first.split()[0]} {name.strip()}", FIELDS)
+
+
+class Header(unittest.TestCase):
+    def test_layouts(self):
+        for name, layout in layouts.LAYOUTS.items():
+            with self.subTest(name=name):
+                body = found(rf"typedef struct \{{([^}}]*)\}} {name};") or self.skipTest(EARLIER + name)
+                self.assertEqual([tuple(field) for field in layout._fields_], list(fields_of(body[1])))
+
+    def test_numbers_that_are_read_at_once_have_no_hole(self):
+        for layout in (layouts.ResultNumbers, layouts.RankedNumbers):
+            self.assertEqual(layouts.numbers_in(layout).size, ctypes.sizeof(layout))
+
+    def test_numbers(self):
+        for name, (prefix, known) in ENUMS.items():
+            with self.subTest(name=name):
+                body = found(rf"enum {name} \{{([^}}]*)\}}") or self.skipTest(EARLIER + name)
+                declared = {one[1]: int(one[2]) for one in re.finditer(prefix + r"(\w+) = (\d+)", body[1])}
+                if isinstance(known, dict):
+                    self.assertEqual({number: "".join(map(str.capitalize, cause.split("_"))) for cause, number in declared.items()}, known)
+                else:
+                    later = {} if found("TFPG_NO_SUCH") or name != "tfpg_status" else {"NO_SUCH": 11}
+                    self.assertEqual({**declared, **later}, {one.name: int(one) for one in known})
+
+    def test_never(self):
+        never = found(r"#define TFPG_NEVER UINT64_C\((\d+)\)") or self.skipTest(EARLIER + "TFPG_NEVER")
+        self.assertEqual(int(never[1]), layouts.NEVER)
+
+    def test_calls(self):
+        for name, (answer, words) in CALLS.items():
+            with self.subTest(name=name):
+                declared = found(rf"(\w+) {name}\(([^)]*)\);") or self.skipTest(EARLIER + name)
+                self.assertEqual(declared[1], "void" if answer is None else "tfpg_answer")
+                self.assertEqual([typed(word, WORDS, ctypes.c_void_p)[1] for word in declared[2].split(",")], words)
+
+
+if __name__ == "__main__":
+    unittest.main()

@@ -1,0 +1,130 @@
+"""What a line brings to a session: a round with its ranked hypotheses, or why the line is refused."""
+
+from __future__ import annotations
+
+from dataclasses import dataclass, field
+from struct import Struct
+from typing import Dict, List, NamedTuple, Optional, Tuple, Union
+
+from ..lint.explaining import line_explanation
+from ..lint.forms import spoken
+from ..lint.refusals import Explanation
+from ..reading.graphs import DeclaredGraph
+from ..reading.texts import MOST_TIME, is_number, text_of
+from .layouts import NEVER
+
+
+@dataclass(frozen=True)
+class Names:
+    """The names of a graph by their numbers, as the library has them, and the origin of the times of a session."""
+
+    nodes: Tuple[str, ...]
+    failures: Tuple[str, ...]
+    origin: int
+
+
+@dataclass(frozen=True)
+class Ranked:
+    """A ranked hypothesis: its number, the names of its failure modes and of the nodes whose monitors it doubts, its cost, and how many of
+    the monitored nodes in its reach whose monitors it believes have an alarm, of how many."""
+
+    hypothesis: int
+    failures: Tuple[str, ...]
+    doubts: Tuple[str, ...]
+    cost: int
+    alarmed: int
+    monitored: int
+    times: bytes = field(repr=False)  # of each node, as the library writes them
+    names: Names = field(repr=False, compare=False)
+
+    @property
+    def set(self) -> str:
+        """Its set, as reports spell it."""
+        return ",".join(self.failures + tuple("!" + name for name in self.doubts)) or "-"
+
+    @property
+    def trace(self) -> Dict[str, int]:
+        """When each node of its trace became active, in the order of the nodes."""
+        names, origin = self.names.nodes, self.names.origin
+        times = Struct(f"={len(names)}Q").unpack(self.times)
+        return {name: time + origin for name, time in zip(names, times) if time != NEVER}
+
+    @property
+    def map(self) -> str:
+        """Its set and its trace as a text that `explain` reads. Its times are less the origin."""
+        origin = self.names.origin
+        return f"set {self.set}\n" + "".join(f"at {name} {time - origin}\n" for name, time in self.trace.items())
+
+
+class Round(NamedTuple):
+    """What an accepted line brought: the number of the round, that of the line, the time, whether other hypotheses are ranked than in the
+    round before or in another order, the ranked ones, best first, and how many are covered, rejected so far, and open."""
+
+    number: int
+    line: int
+    now: int
+    changed: bool
+    ranked: Tuple[Ranked, ...]
+    covered: int
+    rejected: int
+    open: int
+
+    @property
+    def best(self) -> Optional[Ranked]:
+        """The first of the ranked hypotheses."""
+        return self.ranked[0] if self.ranked else None
+
+
+class Why(NamedTuple):
+    """Why a line was refused: its number, the cause, and with TimeBack the time of the last event."""
+
+    line: int
+    cause: str
+    last: Optional[int]
+
+
+@dataclass(frozen=True)
+class Refused:
+    """A line that the log refused, which changed nothing: its number, the cause, its text, and with TimeBack the time of the last event."""
+
+    line: int
+    cause: str
+    text: str
+    last: Optional[int]
+    graph: DeclaredGraph = field(repr=False, compare=False)
+    origin: int = field(repr=False, compare=False)
+
+    @property
+    def sentence(self) -> str:
+        """Why it is refused, in a sentence."""
+        return self.explanation.sentence
+
+    @property
+    def hints(self) -> List[str]:
+        """What is wrong with its form, and what would be right."""
+        return self.explanation.hints
+
+    @property
+    def explanation(self) -> Explanation:
+        """What `lint` says of the line."""
+        line = text_of(self.text.encode("utf-8", "surrogateescape"))
+        said = line_explanation(self.graph, [line], 1, self.cause, self.last)
+        return by_origin(said, self.cause, self.origin)
+
+
+Answered = Union[Round, Refused]
+
+
+def by_origin(said: Explanation, cause: str, origin: int) -> Explanation:
+    """An explanation of a line whose time is taken less an origin."""
+    word = said.word
+    if word is None or not is_number(word.text):
+        return said
+    if cause == "BadNumber":
+        return Explanation(f"The time {word.text} is before the origin {origin}.", word)
+    if cause == "TimeTooLarge" and origin:
+        limit = f"{spoken(MOST_TIME)} milliseconds after the origin {origin}"
+        return Explanation(f"A time is at most {limit}, and {word.text} is above it.", word)
+    if cause == "TimeTooLarge":
+        return Explanation(said.sentence, word, said.hints + ["A session subtracts its `origin` from each time."])
+    return said

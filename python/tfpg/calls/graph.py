@@ -1,0 +1,87 @@
+"""A graph as callers have it: its text, and what its lines declare."""
+
+from __future__ import annotations
+
+import json
+import os
+from typing import Any, Dict, List, Tuple, Union
+
+from ..faults import BadGraph
+from ..lint.explaining import graph_explanation
+from ..program import file_words, run_program
+from ..reading.graphs import DeclaredGraph, Edge, Node, graph_of
+from ..reading.texts import lines_of, shown, text_of
+from .texts import Text, text_bytes
+
+JSON_FAULTS = {
+    "BadLine": "It is no JSON, or has not the shape of a graph: docs/formats.md has it under \"Graph as JSON\".",
+    "BadName": "A name of a mode, of a node or in an edge has not the form of a name.",
+}
+
+
+class Graph:
+    """A graph: its text as bytes, and what the lines of that declare, in their order. Whether it spells a graph, the calls say that
+    take it.
+
+    `modes` are the names of the modes, `nodes` the failure modes and discrepancies, and `edges` the edges, whose ends and modes are
+    numbers: `graph.nodes[edge.source].name`. `failures` and `monitored` are the names of the failure modes, and of the nodes with a
+    monitor."""
+
+    def __init__(self, text: Text) -> None:
+        self.text = text_bytes(text)
+        self.declared: DeclaredGraph = graph_of(text_of(self.text))
+        self.modes: Tuple[str, ...] = tuple(self.declared.modes)
+        self.nodes: Tuple[Node, ...] = tuple(self.declared.nodes)
+        self.edges: Tuple[Edge, ...] = tuple(self.declared.edges)
+        self.failures: Tuple[str, ...] = tuple(map(self.declared.name, self.declared.failures))
+        self.monitored: Tuple[str, ...] = tuple(map(self.declared.name, self.declared.monitored))
+
+    @classmethod
+    def load(cls, path: Union[str, "os.PathLike[str]"]) -> "Graph":
+        """The graph of a file, which has its text, or JSON. Of JSON the program makes a text, or says why it is no graph."""
+        name = os.fspath(path)
+        with open(name, "rb") as file:
+            content = file.read()
+        return cls(graph_text(name, content) if content.lstrip(b" \t\r\n").startswith(b"{") else content)
+
+    def __repr__(self) -> str:
+        return f"<tfpg.Graph of {len(self.nodes)} nodes and {len(self.edges)} edges>"
+
+    def node(self, name: str) -> Node:
+        """The node of this name, or KeyError."""
+        return self.nodes[self.declared.number_of[name]]
+
+    def fault(self, line: int, cause: str) -> BadGraph:
+        """Why this graph is refused."""
+        return bad_graph(lines_of(text_of(self.text)), line, cause)
+
+
+def bad_graph(lines: List[str], line: int, cause: str) -> BadGraph:
+    """Why a graph of these lines is refused."""
+    text = shown(lines[line - 1]) if 0 < line <= len(lines) else ""
+    return BadGraph(line, cause, text, graph_explanation(lines, line, cause).sentence)
+
+
+def graph_text(name: str, content: bytes) -> bytes:
+    """The text of a graph that a file has as JSON."""
+    ended = run_program(["convert", "--json", *file_words(name)])
+    if ended.status == 0:
+        return ended.output
+    line, cause = ended.cause
+    if ended.line.startswith("graph ") and line:
+        raise bad_graph(lines_said(json.loads(content)), line, cause)
+    raise BadGraph(0, cause, "", JSON_FAULTS.get(cause, f"The program says: {ended.line}"))
+
+
+def lines_said(graph: Dict[str, Any]) -> List[str]:
+    """The lines of the text that JSON of the right shape stands for."""
+    lines = ["tfpg 2"] + [f"mode {name}" for name in graph["modes"]]
+    for node in graph["nodes"]:
+        lag = node.get("lag")
+        what = f"watch {node.get('least', 0)} {lag}" if lag is not None else "hidden"
+        lines.append(f"{node['kind']} {node['name']} {node['rarity'] if node['kind'] == 'failure' else what}")
+    for edge in graph["edges"]:
+        modes, greatest = edge["modes"], edge["max"]
+        where = "*" if modes is None else ",".join(modes) or "-"
+        lines.append(f"edge {edge['from']} {edge['to']} {edge['min']} {'inf' if greatest is None else greatest} {where}")
+    return lines + ["end"]

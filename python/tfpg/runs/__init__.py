@@ -1,0 +1,1 @@
+"""Runs of the program whose answers are read as data: `ask`, `predict` and `explain`."""
