@@ -4,9 +4,9 @@
     bench/session.py [LINES]
 
 For each log it prints the microseconds of processor time that a line takes, the least of five runs over LINES lines, 10,000 without the
-word: of `tfpg_event` alone, or `tfpg_line` in a library without that, with words that are made before and no look at what came of it;
-of `event` with its Round; and of `rounds` over lines as bytes. The logs are those of the examples, or none, and then ticks. "64 failure
-modes" has 512 nodes and 2,048 edges, two alarms, and `k` 1. It needs the library, which python/build-library makes.
+word: of `tfpg_event` alone, with words that are made before and no look at what came of it; of `event` with its Round; and of `rounds`
+over lines as bytes. The logs are those of the examples, or none, and then ticks. "64 failure modes" has 512 nodes and 2,048 edges, two
+alarms, and `k` 1. It needs the library, which python/build-library makes.
 """
 import ctypes
 import random
@@ -51,11 +51,8 @@ def main():
     count = int(sys.argv[1]) if len(sys.argv) > 1 else 10000
 
     def by_call(session, last):
-        call, handle, times = session._calls.line, session._session, range(last, last + count)
-        words = [(b"%d tick" % now, ctypes.c_size_t(len(b"%d tick" % now))) for now in times]
-        if session._calls.has_results:
-            call = session._calls.event
-            words = [(ctypes.c_uint64(now), ctypes.c_uint32(EventKind.TICK), ctypes.c_uint32()) for now in times]
+        call, handle = session._calls.event, session._session
+        words = [(ctypes.c_uint64(now), ctypes.c_uint32(EventKind.TICK), ctypes.c_uint32()) for now in range(last, last + count)]
 
         def run():
             for one in words:

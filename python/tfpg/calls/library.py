@@ -40,7 +40,7 @@ Call = Callable[..., Any]
 
 
 class Library:
-    """The calls of a library. `has_results` says whether it has those that answer by numbers, as from version 2 of the header on.
+    """The calls of a library.
 
     `line`, `event`, `result_of` and `ranked_at` take C values of the right types alone, which are made once: to make them of numbers takes
     longer than the call. The others take numbers, bytes and rooms. Other threads run during the calls that may take long, and wait for
@@ -54,11 +54,9 @@ class Library:
         self.path = path
         self.report, self.check, self.open = bind(calls, "tfpg_report"), bind(calls, "tfpg_check"), bind(calls, "tfpg_open")
         self.line, self.block, self.close = bind(calls, "tfpg_line", False), bind(reads, "tfpg_block"), bind(calls, "tfpg_close")
-        self.has_results = hasattr(calls, "tfpg_result_of")
-        if self.has_results:
-            self.event, self.result_of = bind(calls, "tfpg_event", False), bind(reads, "tfpg_result_of", False)
-            self.ranked_at = bind(reads, "tfpg_ranked_at", False)
-            self.index, self.name = bind(reads, "tfpg_index"), bind(reads, "tfpg_name")
+        self.event, self.result_of = bind(calls, "tfpg_event", False), bind(reads, "tfpg_result_of", False)
+        self.ranked_at = bind(reads, "tfpg_ranked_at", False)
+        self.index, self.name = bind(reads, "tfpg_index"), bind(reads, "tfpg_name")
 
 
 def bind(calls: ctypes.CDLL, name: str, converts: bool = True) -> Call:

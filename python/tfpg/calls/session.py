@@ -14,7 +14,6 @@ from typing import Dict, Iterator, Optional, Tuple, Type, Union
 from ..faults import LineRefused
 from ..reading.texts import LONGEST_LINE, NUMBER
 from .answers import Answered, Refused, Round
-from .blocks import Blocks, text_of_session
 from .endings import Terms, fault_of
 from .graph import Graph
 from .layouts import Answer, EventKind, Handle, NameKind, Status
@@ -23,6 +22,7 @@ from .numbers import Numbers
 from .texts import Line, Log, line_bytes, line_text, log_lines
 
 MOST_OF_C = 2**64 - 1
+FIRST_ROOM = 4096
 TIMED = re.compile(rb"(%s)( .*)" % NUMBER.pattern.encode(), re.S)
 KINDS = {"alarm": (EventKind.ALARM, NameKind.NODE_NAME), "silent": (EventKind.SILENT, NameKind.NODE_NAME),
          "mode": (EventKind.MODE, NameKind.MODE_NAME)}
@@ -43,12 +43,9 @@ class Session:
         self._end.atexit = False
         self._terms = Terms(k, doubt, budget)
         self._done(self._calls.open(self._session, graph.text, len(graph.text), *self._terms.numbers()))
-        self._head = self._text()
-        self._reader: Union[Numbers, Blocks] = Blocks(self._calls, self._handle, graph, self._head, origin)
-        self._events: Dict[Tuple[str, str], Tuple[c_uint32, c_uint32]] = {}
-        if self._calls.has_results:
-            self._reader = Numbers(self._calls, self._handle, origin)
-            self._events = {("sweep", ""): (c_uint32(EventKind.SWEEP), c_uint32()), ("tick", ""): (c_uint32(EventKind.TICK), c_uint32())}
+        self._head, self._numbers = self._text(), Numbers(self._calls, self._handle, self.origin)
+        self._events: Dict[Tuple[str, str], Tuple[c_uint32, c_uint32]] = {
+            ("sweep", ""): (c_uint32(EventKind.SWEEP), c_uint32()), ("tick", ""): (c_uint32(EventKind.TICK), c_uint32())}
 
     def __enter__(self) -> "Session":
         return self
@@ -105,7 +102,7 @@ class Session:
         """The answer of a line, or of an event, that was taken."""
         if answer.status:
             self._done(answer)
-        found = self._reader.brought()
+        found = self._numbers.brought()
         if isinstance(found, Round):
             return found
         text = line_text(said) if isinstance(said, bytes) else event_text(*said)
@@ -116,11 +113,11 @@ class Session:
 
     def _found(self, kind: str, name: str) -> Optional[Tuple[c_uint32, c_uint32]]:
         """The numbers of an event. There are none for one that only a line can say, and that the log then refuses."""
-        if isinstance(self._reader, Blocks) or kind not in KINDS:
+        if kind not in KINDS:
             return None
         event, names = KINDS[kind]
         with self._lock:
-            found = self._reader.index_of(names, name)
+            found = self._numbers.index_of(names, name)
         if found is None:
             return None
         self._events[kind, name] = c_uint32(event), c_uint32(found)
@@ -128,9 +125,13 @@ class Session:
 
     def _text(self) -> bytes:
         """The text of the session."""
-        answer, text = text_of_session(self._calls, self._handle)
+        size, answer = FIRST_ROOM, Answer(Status.ROOM_TOO_SMALL)
+        while answer.status == Status.ROOM_TOO_SMALL:
+            room = ctypes.create_string_buffer(size)
+            answer = self._calls.block(self._session, room, size)
+            size = answer.count
         self._done(answer)
-        return text
+        return ctypes.string_at(room, answer.count)
 
 
 def close(calls: Library, handle: Handle, process: int) -> None:
