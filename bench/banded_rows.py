@@ -1,0 +1,104 @@
+#!/usr/bin/env python3
+"""Diagnoses banded draws, and asks z3 the same where it is installed.
+
+    bench/banded_rows.py [--draws N] [--sizes N..] [--k N..] [--budgets N..] [--z3 SECONDS] PROGRAM
+
+PROGRAM is a built program, as crates/tfpg/out/tfpg. The draws are those of `banded.py`. A line for each number of nodes, each `k` and
+each budget has sums over the draws: splits, open findings of all rounds and of the last one, and processor seconds of the program. With
+--z3 it goes on with what z3 says of each hypothesis that the last round does not cover, in at most so many seconds each: how many fit, do
+not fit, or are not known, z3's seconds, and how often z3 and the program contradict each other, which must be 0.
+"""
+
+import argparse
+import resource
+import subprocess
+import sys
+import tempfile
+from collections import Counter
+from pathlib import Path
+
+HERE = Path(__file__).resolve().parent
+CONTRADICTIONS = {("ranked", "unsat"), ("rejected", "sat")}
+
+
+def diagnosed(program, graph, log, k, budget):
+    """The lines of a report, and the processor seconds of the run."""
+    before = resource.getrusage(resource.RUSAGE_CHILDREN)
+    words = [program, "diagnose", "--k", str(k), "--budget", str(budget), graph]
+    ran = subprocess.run(words, stdin=log.open("rb"), stdout=subprocess.PIPE, check=True)
+    after = resource.getrusage(resource.RUSAGE_CHILDREN)
+    seconds = after.ru_utime + after.ru_stime - before.ru_utime - before.ru_stime
+    return ran.stdout.decode().splitlines(), seconds
+
+
+def last_statuses(lines):
+    """The status of each hypothesis that the last round does not cover, by its failure modes."""
+    statuses = {}
+    for line in lines:
+        words = line.split(" ")
+        if words[0] == "round":
+            # A rejected hypothesis is listed in the round that rejects it, and stays rejected.
+            statuses = {members: status for members, status in statuses.items() if status == "rejected"}
+        elif words[0] in ("ranked", "open", "rejected"):
+            statuses[words[-1]] = words[0]
+    return statuses
+
+
+def said_by_z3(graph, log, statuses, seconds):
+    """How often z3 says what of which status, and how long it took."""
+    from banded_z3 import Case
+
+    case = Case(graph.read_text(), log.read_text())
+    names = [line.split(" ")[1] for line in graph.read_text().splitlines() if line.startswith("failure ")]
+    said, total = Counter(), 0.0
+    for members, status in statuses.items():
+        positions = [] if members == "-" else [names.index(name) for name in members.split(",")]
+        answer, took = case.ask([case.failures[position] for position in positions], seconds)
+        said[status, answer] += 1
+        total += took
+    return said, total
+
+
+def show_row(words, folder, size, k, budget):
+    """Prints the sums over the draws. Answers how many contradictions there are."""
+    splits = open_findings = open_at_end = 0
+    seconds = of_z3 = 0.0
+    said = Counter()
+    for draw in range(words.draws):
+        graph, log = folder / f"{size}-{draw}.tfpg", folder / f"{size}-{draw}.log"
+        lines, took = diagnosed(words.program, graph, log, k, budget)
+        kinds = Counter(line.split(" ")[0] for line in lines)
+        counts = [line for line in lines if line.startswith("counts ")]
+        splits, open_findings, seconds = splits + kinds["split"], open_findings + kinds["open"], seconds + took
+        open_at_end += int(counts[-1].split(" ")[-1])
+        if words.z3:
+            more, took = said_by_z3(graph, log, last_statuses(lines), words.z3)
+            said, of_z3 = said + more, of_z3 + took
+    row = f"{size} nodes, k {k}, budget {budget}: {splits} splits, {open_findings} open, {open_at_end} at the end, {seconds:.2f} s"
+    wrong = sum(said[pair] for pair in CONTRADICTIONS)
+    if words.z3:
+        answers = Counter()
+        for (_, answer), count in said.items():
+            answers[answer] += count
+        row += f"; z3: {answers['sat']} fit, {answers['unsat']} do not, {answers['unknown']} unknown, {of_z3:.2f} s, {wrong} contradictions"
+    print(row, flush=True)
+    return wrong
+
+
+def main():
+    parser = argparse.ArgumentParser(description=__doc__, formatter_class=argparse.RawDescriptionHelpFormatter)
+    parser.add_argument("--draws", type=int, default=24)
+    parser.add_argument("--sizes", type=int, nargs="+", default=[40, 60, 150])
+    parser.add_argument("--k", type=int, nargs="+", default=[1, 2])
+    parser.add_argument("--budgets", type=int, nargs="+", default=[1000])
+    parser.add_argument("--z3", type=float, metavar="SECONDS")
+    parser.add_argument("program", metavar="PROGRAM")
+    words = parser.parse_args()
+    with tempfile.TemporaryDirectory() as name:
+        subprocess.run([sys.executable, HERE / "banded.py", name, str(words.draws)], check=True)
+        rows = [(size, k, budget) for size in words.sizes for k in words.k for budget in words.budgets]
+        return 1 if sum(show_row(words, Path(name), *row) for row in rows) else 0
+
+
+if __name__ == "__main__":
+    sys.exit(main())
