@@ -229,13 +229,17 @@ sys.exit(subprocess.run(sys.argv[3:], stdin=reader).returncode)' "$@"
 fails 'a folder as log, whole' "$made/report" "$graph" "$top/examples"
 [ ! -s "$made/text" ] || differs 'a folder as log, whole: a report'
 fails 'a folder as log, line by line' "$made/embed" "$graph" < "$top/examples"
+fails 'a folder as log, by the monitor' "$made/monitor" "$graph" FilterClogged < "$top/examples"
 fails 'a folder as graph, line by line' "$made/embed" "$top/examples" < "$top/examples/pump.log"
+fails 'a folder as graph, by the monitor' "$made/monitor" "$top/examples" FilterClogged < "$top/examples/pump.log"
 head -n 2 "$top/examples/pump.log" > "$made/log"
 wanted "$graph" "$made/log" > "$made/wanted"
 for program in embed renew; do
     fails "a cut log, by $program" cut_after "$top/examples/pump.log" 39 "$made/$program" "$graph"
     cmp -s "$made/text" "$made/wanted" || differs "a cut log, by $program: the report"
 done
+fails 'a cut log, by the monitor' cut_after "$top/examples/pump.log" 39 "$made/monitor" "$graph" FilterClogged
+[ "$(grep -c '^line ' "$made/text")" = 3 ] || differs 'a cut log, by the monitor: its lines and the tick'
 
 # Random lines, by numbers, and all names.
 for seed in 1 2; do
