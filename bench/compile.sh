@@ -1,7 +1,8 @@
 #!/usr/bin/env bash
 # Compiles the header and the C programs of `examples` in C99, C11, C17 and C++11 to C++20, and those of `bench` in C99 and C17, by gcc and by
-# clang, where they are there. Each warning counts as an error. Then tries `examples/pool.c` by itself, under the sanitizers, and which lines
-# `examples/renew.c` keeps. It needs no library and no toolchain but these compilers. Ends with status 1 where something differs.
+# clang, where they are there. Each warning counts as an error. Then tries `examples/pool.c` by itself, under the sanitizers, which lines
+# `examples/renew.c` keeps, and whether the names that the header says are those of its numbers and of `docs/formats.md`. It needs no library
+# and no toolchain but these compilers. Ends with status 1 where something differs.
 set -eu
 
 top=$(dirname "$(dirname "$(readlink -f "${BASH_SOURCE[0]}")")")
@@ -29,6 +30,40 @@ typedef char ranked_is_as_in_the_library[sizeof(tfpg_ranked) == 96 && offsetof(t
 extern tfpg_session kept;
 tfpg_session kept = TFPG_SESSION;
 END
+
+# Prints what the header says of each number of a status or a cause up to 30.
+cat > "$made/names.c" << 'END'
+#include "tfpg.h"
+#include <stdio.h>
+int main(void) {
+    for (uint32_t number = 0; number <= 30; number++)
+        printf("STATUS %u %s\nGRAPH %u %s\nREPORT %u %s\nLOG %u %s\n", number, tfpg_status_name(number), number,
+               tfpg_cause_name(TFPG_BAD_GRAPH, number), number, tfpg_cause_name(TFPG_NOT_ACCEPTED, number), number,
+               tfpg_cause_name(TFPG_DONE, number));
+    printf("no cause %s\na cause %s\n", tfpg_cause_name(TFPG_ENDED, 0), tfpg_cause_name(TFPG_ENDED, 1));
+    return 0;
+}
+END
+
+# The same by the enumerations of the header.
+names_in_header() {
+    sed -nE 's/^    TFPG_(GRAPH|REPORT|LOG)_([A-Z_]*) = ([0-9]+),?$/\1 \3 \2/p; t; s/^    TFPG_([A-Z_]*) = ([0-9]+),?$/STATUS \2 \1/p' \
+        "$top/include/tfpg.h"
+    printf '%s -\n' 'GRAPH 0' 'REPORT 0' 'LOG 0' 'no cause'
+}
+
+# Compares what a program says, which this compiler made of that, with the enumerations and with `docs/formats.md`.
+try_names() {
+    local cause
+    "$1" -std=c99 -g -O1 -fsanitize=address,undefined -fno-sanitize-recover=all -I "$top/include" -o "$made/names" "$made/names.c"
+    "$made/names" > "$made/all" || differs "the names of the header, by $1"
+    grep -v ' ?$' "$made/all" > "$made/said"
+    sed -E '/^STATUS/! { s/([a-z])([A-Z])/\1_\2/g; s/(_[A-Z])([A-Z])/\1_\2/g; s/ ([A-Za-z_]*)$/ \U\1/ }' "$made/said" | LC_ALL=C sort |
+        diff <(names_in_header | LC_ALL=C sort) - || differs "the names of the header and its numbers, by $1"
+    for cause in $(sed -nE 's/^(GRAPH|REPORT|LOG) [0-9]+ ([A-Za-z]+)$/\2/p' "$made/said"); do
+        grep -q "\`$cause\`" "$top/docs/formats.md" || differs "$cause is not in docs/formats.md"
+    done
+}
 
 # Compiles these files by this compiler in this language.
 compile() {
@@ -61,6 +96,7 @@ for compiler in gcc clang; do
     done
     "$compiler" -std=c99 -g -O1 -fsanitize=address,undefined -fno-sanitize-recover=all -I "$top/include" -o "$made/renew" "$top/bench/renew_test.c"
     "$made/renew" 1000 1 || differs "what is kept of a log, by $compiler"
+    try_names "$compiler"
 done
 
 exit "$status"

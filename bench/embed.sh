@@ -3,7 +3,8 @@
 #
 # - Runs them on each example log, and compares what they write with what the program writes, byte for byte.
 # - Does so once more with `examples/pool.c` in place of `malloc`, and with pools that are too small.
-# - Compares the numbers of sessions, which took lines or events, with the lines of reports, for each example log and for 10,000 random lines.
+# - Compares the numbers of sessions, which took lines or events, with the lines of reports, for each example log and for 20,000 random lines.
+#   Compares what `examples/monitor.c` says of each example log with its report, and all names of the graphs with those of the graphs' texts.
 # - Fills sessions, and compares what `examples/renew.c` says in the end with what is said of the same log without that. Compares what looser
 #   graphs reject with what is rejected.
 # - Lets reads fail, at once and in a line.
@@ -108,6 +109,38 @@ random_log() {
         }' "$1"
 }
 
+# Each name of a graph with its kind and its index, by the graph's text.
+names_of() {
+    awk '$1 ~ /^(failure|or|and)$/ { print "node", nodes++, $2 }' "$1"
+    awk '$1 == "failure" { print "failure", failures++, $2 }' "$1"
+    awk '$1 == "mode" { print "mode", modes++, $2 }' "$1"
+}
+
+# What a report says of each line: why it was refused, and what the last round ranks, with a star where this failure mode is in the set.
+monitored() {
+    awk -v watched="$2" '
+        /^round / { said = "" }
+        /^ranked / {
+            star = index("," $8 ",", "," watched ",") ? "*" : " "
+            gsub(",", " ", $8)
+            said = said star " cost " $4 " robust " $6 ":" ($8 == "-" ? "" : " " $8) "\n"
+        }
+        /^refused / { printf "refused %s\n%s", $3, said }
+        /^counts / { printf "refused -\n%s", said }' "$1"
+}
+
+# Compares what the monitor says of a log, and of the tick that it adds, with the report.
+try_monitor() {
+    local graph=$1 log=$2 name=$3 failure
+    failure=$(awk '$1 == "failure" { print $2; exit }' "$graph")
+    { cat "$log"; awk '/^round / { now = $4 } END { print now + 0, "tick" }' "$made/wanted"; } > "$made/log"
+    wanted "$graph" "$made/log" > "$made/written"
+    "$made/monitor" "$graph" "$failure" < "$log" > "$made/text" 2> "$made/said" || differs "$name, the monitor: the status"
+    [ "$(cat "$made/said")" = 'monitor: DONE -' ] || differs "$name, the monitor: its last words"
+    sed -E 's/^line [0-9]+ refused ([A-Za-z-]+) changed .*/refused \1/; s/^([ *]) [0-9a-f]+ /\1 /' "$made/text" |
+        diff <(monitored "$made/written" "$failure") - || differs "$name, the monitor"
+}
+
 # The graph of this log.
 graph_of() {
     local name
@@ -122,6 +155,7 @@ for log in "$top"/examples/*.log; do
     "$made/report" "$graph" "$log" 2> "$made/judged" | cmp -s - "$made/wanted" || differs "$name"
     "$made/embed" "$graph" < "$log" | cmp -s - "$made/wanted" || differs "$name, line by line"
     for doubt in 0 1; do try_numbers "$graph" "$log" "$name, doubt $doubt" "$doubt"; done
+    try_monitor "$graph" "$log" "$name"
     cmp -s "$made/judged" <(echo "accepted $(grep -c '^counts ' "$made/wanted")") || differs "$name, judged"
     "$made/report_pool" "$graph" "$log" 2> "$made/judged" | cmp -s - "$made/wanted" || differs "$name, by a pool"
     "$made/embed_pool" "$graph" < "$log" | cmp -s - "$made/wanted" || differs "$name, line by line and by a pool"
@@ -195,21 +229,27 @@ sys.exit(subprocess.run(sys.argv[3:], stdin=reader).returncode)' "$@"
 fails 'a folder as log, whole' "$made/report" "$graph" "$top/examples"
 [ ! -s "$made/text" ] || differs 'a folder as log, whole: a report'
 fails 'a folder as log, line by line' "$made/embed" "$graph" < "$top/examples"
+fails 'a folder as log, by the monitor' "$made/monitor" "$graph" FilterClogged < "$top/examples"
 fails 'a folder as graph, line by line' "$made/embed" "$top/examples" < "$top/examples/pump.log"
+fails 'a folder as graph, by the monitor' "$made/monitor" "$top/examples" FilterClogged < "$top/examples/pump.log"
 head -n 2 "$top/examples/pump.log" > "$made/log"
 wanted "$graph" "$made/log" > "$made/wanted"
 for program in embed renew; do
     fails "a cut log, by $program" cut_after "$top/examples/pump.log" 39 "$made/$program" "$graph"
     cmp -s "$made/text" "$made/wanted" || differs "a cut log, by $program: the report"
 done
+fails 'a cut log, by the monitor' cut_after "$top/examples/pump.log" 39 "$made/monitor" "$graph" FilterClogged
+[ "$(grep -c '^line ' "$made/text")" = 3 ] || differs 'a cut log, by the monitor: its lines and the tick'
 
-# Random lines, by numbers. The example of a program that reads no text ends well, and says one thing of each line and of the tick after them.
+# Random lines, by numbers, and all names.
 for seed in 1 2; do
     random_log "$top/examples/satellite.tfpg" "$seed" > "$made/log"
     try_numbers "$top/examples/satellite.tfpg" "$made/log" "random lines $seed" 0
 done
-"$made/monitor" "$top/examples/pump.tfpg" FilterClog < "$top/examples/pump.log" > "$made/text" 2> "$made/said" || differs 'the monitor: the status'
-[ "$(grep -c '^line ' "$made/text")" = $(($(wc -l < "$top/examples/pump.log") + 1)) ] || differs 'the monitor: its lines'
+for graph in "$top"/examples/*.tfpg; do
+    "$made/numbers" "$graph" > "$made/said" || differs "$(basename "$graph"): names that do not lead back"
+    names_of "$graph" | diff - "$made/said" || differs "$(basename "$graph"): names"
+done
 
 # The names of the header for the causes of a graph, or of a report.
 causes_of() {
@@ -259,14 +299,15 @@ diff <(refusals_of) <(numbers_in_header LOG) || differs 'the numbers of the refu
 diff <(numbers_of Graph) <(numbers_in_header GRAPH) || differs 'the numbers of the causes of a graph'
 diff <(numbers_of Check | grep -v 'BAD_MAP\|BAD_SCRIPT') <(numbers_in_header REPORT) || differs 'the numbers of the causes of a report'
 
-# The library asks for memory by the three functions, and for what compilers ask for. No instruction needs a newer processor than others.
+# The library asks for memory by the three functions, and for what compilers ask for. No instruction needs a newer processor than x86-64-v2 is.
 nm "$library" 2> "$made/said" | awk 'NF == 2 && $1 == "U" { print $2 }' | LC_ALL=C sort -u > "$made/wanted"
 nm "$library" 2> "$made/said" | awk 'NF == 3 { print $3 }' | LC_ALL=C sort -u | LC_ALL=C comm -23 "$made/wanted" - > "$made/asked"
 [ "$(grep -cxE 'rattle_(alloc|realloc|dealloc)' "$made/asked")" = 3 ] || differs 'how the library asks for memory'
 if grep -vxE 'rattle_(alloc|realloc|dealloc)|mem(cpy|move|set|cmp)|_GLOBAL_OFFSET_TABLE_' "$made/asked"; then
     differs 'what else the library asks for'
 fi
-if objdump -d "$library" | grep '%[yz]mm' > "$made/text"; then differs 'the instructions of the library'; fi
+newer='v[a-z0-9]+|mulx|pdep|pext|andn|bextr|bls[ir]|blsmsk|shlx|sarx|shrx|rorx|lzcnt|movbe'
+if objdump -d --no-show-raw-insn "$library" | grep -E "%[yz]mm|^ +[0-9a-f]+:[[:space:]]+($newer) "; then differs 'the instructions of the library'; fi
 
 strip -g -o "$made/small.a" "$library"
 printf 'library: %s bytes, asks for %s\n' "$(stat -c %s "$made/small.a")" "$(tr '\n' ' ' < "$made/asked")"

@@ -2,15 +2,18 @@
  *
  *   measure NAME GRAPH K LOG
  *
- * Opens a session of the graph with this k, gives it each line of the log and asks for each block. Then makes the report of the same log at
- * once, of its first 1,000 lines at most, and judges it. Prints two lines of fields between bars, in which NAME stands first:
+ * Opens a session of the graph with this k, gives it each line of the log and asks for each block. Gives the log to a second session, each
+ * other tick as an event, and asks for the numbers of each line. Then makes the report of the same log at once, of its first 1,000 lines at
+ * most, and judges it. Prints three lines of fields between bars, in which NAME stands first:
  *
  * - `memory`: the bytes that the library has once the session is open, and after 1,000, 16,384 and 65,536 accepted lines, or `-`; the most
  *   that it had at once, where a block that is made larger counts as two; the same where each block takes the least power of two that holds
  *   it, as in `examples/pool.c`; and the calls of the three functions for memory for a line and its block, on average.
  * - `time`: the lines; the microseconds of `tfpg_line`, on average, of the 99th of 100, and at worst; those of `tfpg_block`, on average; the
- *   microseconds of `tfpg_open`; and the bytes of stack of the calls of the session, and of `tfpg_report` and `tfpg_check`. It is time of
+ *   microseconds of `tfpg_open`; and the bytes of stack of the calls of the sessions, and of `tfpg_report` and `tfpg_check`. It is time of
  *   the processor, so it leaves out what other programs took meanwhile.
+ * - `numbers`: the ticks; the microseconds of one by `tfpg_line`, and of one by `tfpg_event`; and those of all numbers of a line, by
+ *   `tfpg_result_of` and a `tfpg_ranked_at` with its times for each rank, all on average. If asking took memory, it is said.
  *
  * It defines the three functions itself, over `malloc`. So it is linked with the library alone. The calls run in threads whose stacks are
  * painted before. What is counted as stack has some 200 bytes of this program.
@@ -180,6 +183,60 @@ static void *run_session(void *unused) {
     return unused;
 }
 
+/* Whether a line is a tick, and when. */
+static bool is_tick(size_t begin, size_t end, uint64_t *time) {
+    static const char after[] = " tick";
+    char digits[24];
+    size_t count = end - begin - (sizeof after - 1);
+    if (end - begin < sizeof after || count >= sizeof digits) return false;
+    if (memcmp(history.bytes + begin + count, after, sizeof after - 1)) return false;
+    memcpy(digits, history.bytes + begin, count);
+    digits[count] = 0;
+    *time = strtoull(digits, NULL, 10);
+    return true;
+}
+
+/* Asks a session for all numbers of its last line. */
+static void ask(tfpg_session *session) {
+    static uint64_t active[512];
+    tfpg_result result;
+    tfpg_ranked ranked;
+    expect_done("result", tfpg_result_of(session, &result));
+    for (uint32_t rank = 0; rank < result.ranked; rank++) expect_done("ranked", tfpg_ranked_at(session, rank, &ranked, active, 512));
+}
+
+/* What was found of a session that takes each other tick as an event. */
+static size_t ticks[2];
+static uint64_t tick_time[2], ask_time;
+static unsigned long calls_of_asking;
+
+static void *run_events(void *unused) {
+    uint8_t here = 0;
+    tfpg_session session = TFPG_SESSION;
+    size_t number = 0;
+    stack_begin = &here;
+    expect_done("open", tfpg_open(&session, graph.bytes, graph.count, k, 0, 1000));
+    for (size_t begin = 0, end; begin < history.count && number < MOST_LINES; begin = end + 1, number++) {
+        uint64_t time = 0, begun, asked;
+        bool ticks_here, by_event;
+        end = end_of_line(begin);
+        ticks_here = is_tick(begin, end, &time);
+        by_event = ticks_here && ticks[0] > ticks[1];
+        begun = nanoseconds();
+        expect_done("event", by_event ? tfpg_event(&session, time, TFPG_TICK, 0)
+                                      : tfpg_line(&session, history.bytes + begin, end - begin));
+        asked = nanoseconds();
+        if (ticks_here) ticks[by_event]++, tick_time[by_event] += asked - begun;
+        calls = 0;
+        ask(&session);
+        ask_time += nanoseconds() - asked;
+        calls_of_asking += calls;
+    }
+    tfpg_close(&session);
+    left += taken;
+    return unused;
+}
+
 static void *run_report(void *unused) {
     uint8_t here = 0;
     size_t end = 0;
@@ -236,18 +293,32 @@ static void print_time(void) {
            (double)open_time / 1e3, stack_of_session, stack_of_report);
 }
 
+static double microseconds(uint64_t all, size_t of) {
+    return of ? (double)all / (double)of / 1e3 : 0;
+}
+
+static void print_numbers(void) {
+    printf("numbers | %s | %zu | %.1f | %.1f | %.1f |\n", name, ticks[0] + ticks[1], microseconds(tick_time[0], ticks[0]),
+           microseconds(tick_time[1], ticks[1]), microseconds(ask_time, lines));
+    if (calls_of_asking) printf("%s: %lu calls for memory while asking\n", name, calls_of_asking);
+}
+
 int main(int count, char **words) {
+    size_t stack_of_events;
     if (count != 5) return TFPG_OUT_OF_RANGE;
     name = words[1];
     graph = text_of(words[2]);
     k = (uint32_t)strtoul(words[3], NULL, 10);
     history = text_of(words[4]);
     stack_of_session = stack_used(run_session);
+    stack_of_events = stack_used(run_events);
+    if (stack_of_events > stack_of_session) stack_of_session = stack_of_events;
     stack_of_report = stack_used(run_report);
     if (lines == 0) return TFPG_OUT_OF_RANGE;
     print_memory();
     print_time();
+    print_numbers();
     free(graph.bytes);
     free(history.bytes);
-    return left != 0;
+    return left != 0 || calls_of_asking != 0;
 }

@@ -1,6 +1,6 @@
 #!/usr/bin/env bash
-# Says what a session from C takes, as two tables for `docs/c.md`: memory over a log of 65,600 lines, of which 65,536 are accepted, and time
-# and stack over 10,000 lines:
+# Says what a session from C takes, as three tables for `docs/c.md`: memory over a log of 65,600 lines, of which 65,536 are accepted; time and
+# stack over 10,000 lines; and over the same lines the time of a tick and of its numbers:
 #
 #   bench/measure.sh [LINES [LIBRARY]]
 #
@@ -90,4 +90,8 @@ echo
 echo '| Session | Lines | A line, microseconds | 99th of 100 | Worst | Its block | To open | Stack, bytes | Report and check, stack |'
 echo '|---|---|---|---|---|---|---|---|---|'
 sed -n 's/^time //p' "$made/short"
-grep -v '^memory \|^time ' "$made/long" "$made/short" || true
+echo
+echo '| Session | Ticks | A tick by a line, microseconds | By an event | The numbers of a line |'
+echo '|---|---|---|---|---|'
+sed -n 's/^numbers //p' "$made/short"
+grep -v '^memory \|^time \|^numbers ' "$made/long" "$made/short" || true

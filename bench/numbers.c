@@ -1,9 +1,11 @@
-/* Writes what the numbers of a session say of a log, in the lines of a report, without those of evidence:
+/* Writes what the numbers of a session say of a log, in the lines of a report, without those of evidence. Or writes all names of a graph:
  *
  *   numbers GRAPH K DOUBT BUDGET < LOG
+ *   numbers GRAPH
  *
- * Two sessions take the log: one its lines, the other its events, where a line says one. Prints each block in which they differ, and each
- * number that contradicts another, and ends with how many there were. 70: the graph is not there.
+ * Two sessions take the log: one its lines, the other its events, where a line says one. Prints each line of which they say two things, each
+ * number that contradicts another, and each name that does not lead back, and ends with how many there were. 70: the graph is not there. 71:
+ * it cannot be opened.
  */
 #include "tfpg.h"
 
@@ -13,7 +15,7 @@
 #include <string.h>
 
 static tfpg_session lines = TFPG_SESSION, events = TFPG_SESSION;
-static uint8_t graph[1 << 22], one_block[1 << 22], other_block[1 << 22], line[4200];
+static uint8_t graph[1 << 24], one_block[1 << 22], other_block[1 << 22], line[4200];
 static uint64_t times[512];
 static uint32_t order[4096], order_before[4096];
 static int wrong;
@@ -31,6 +33,17 @@ static void print_name(uint32_t kind, uint32_t index) {
     size_t count = (size_t)tfpg_name(&events, kind, index, name, sizeof name).count;
     if (tfpg_index(&events, kind, name, count, &again).status != TFPG_DONE || again != index) complain(0, "a name leads elsewhere");
     printf("%.*s", (int)count, (char *)name);
+}
+
+/* Prints each name, with its kind and its index. */
+static void print_names(void) {
+    static const char *const kinds[] = {"", "node", "failure", "mode"};
+    for (uint32_t kind = TFPG_NODE_NAME; kind <= TFPG_MODE_NAME; kind++)
+        for (uint32_t index = 0; tfpg_name(&events, kind, index, line, 0).status == TFPG_ROOM_TOO_SMALL; index++) {
+            printf("%s %" PRIu32 " ", kinds[kind], index);
+            print_name(kind, index);
+            putchar('\n');
+        }
 }
 
 /* Prints the members of a ranked hypothesis. */
@@ -70,8 +83,9 @@ static uint32_t print_ranked(uint64_t at) {
 
 /* Prints what the last line brought. */
 static void print_result(uint32_t *ranked_before) {
-    tfpg_result result;
-    if (tfpg_result_of(&events, &result).status != TFPG_DONE) complain(0, "no result");
+    tfpg_result result, of_line;
+    if (tfpg_result_of(&events, &result).status || tfpg_result_of(&lines, &of_line).status) complain(0, "no result");
+    if (memcmp(&result, &of_line, sizeof result)) complain(result.line, "the numbers of the event");
     if (result.refusal) {
         printf("refused %" PRIu64 " %s", result.line, tfpg_cause_name(TFPG_DONE, result.refusal));
         if (result.refusal == TFPG_LOG_TIME_BACK) printf(" %" PRIu64, result.last);
@@ -105,23 +119,26 @@ static bool is_event(const char *text, uint64_t *time, uint32_t *kind, uint32_t 
 }
 
 int main(int count, char **words) {
-    FILE *file = count == 5 ? fopen(words[1], "rb") : NULL;
+    FILE *file = count == 2 || count == 5 ? fopen(words[1], "rb") : NULL;
     size_t end = file ? fread(graph, 1, sizeof graph, file) : 0;
-    uint32_t k, doubt, kind, index, ranked = 0;
-    uint64_t budget, time, number = 0;
+    uint32_t k = 0, doubt = 0, kind, index, ranked = 0;
+    uint64_t budget = 1, time, number = 0;
     if (!file || !feof(file)) return 70;
-    k = (uint32_t)strtoul(words[2], NULL, 10), doubt = (uint32_t)strtoul(words[3], NULL, 10), budget = strtoull(words[4], NULL, 10);
+    if (count == 5)
+        k = (uint32_t)strtoul(words[2], NULL, 10), doubt = (uint32_t)strtoul(words[3], NULL, 10), budget = strtoull(words[4], NULL, 10);
     if (tfpg_open(&lines, graph, end, k, doubt, budget).status || tfpg_open(&events, graph, end, k, doubt, budget).status) return 71;
-    while (fgets((char *)line, sizeof line, stdin)) {
+    if (count == 2) print_names();
+    while (count == 5 && fgets((char *)line, sizeof line, stdin)) {
         size_t length = strcspn((char *)line, "\n");
         line[length] = 0, number++;
         tfpg_answer given = tfpg_line(&lines, line, length);
         tfpg_answer also = is_event((char *)line, &time, &kind, &index) ? tfpg_event(&events, time, kind, index)
                                                                         : tfpg_line(&events, line, length);
-        if (given.status != TFPG_DONE || also.status != TFPG_DONE) complain(number, "the status");
+        if (given.status || also.status) complain(number, "the status");
         given = tfpg_block(&lines, one_block, sizeof one_block);
         also = tfpg_block(&events, other_block, sizeof other_block);
-        if (given.count != also.count || memcmp(one_block, other_block, given.count)) complain(number, "the block of the event");
+        if (given.status || also.status || given.count != also.count || memcmp(one_block, other_block, given.count))
+            complain(number, "the block of the event");
         print_result(&ranked);
     }
     tfpg_close(&lines);

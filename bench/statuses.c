@@ -12,7 +12,7 @@
 static const char graph[] = "tfpg 1\nmode N\nfailure F 1\nor A watch 0\nedge F A 1 3 *\nend\n";
 static const char bad[] = "tfpg 1\nmode N\nmode N\nend\n";
 static const char head[] = "report 2 k 1 doubt 0 budget 1000\n";
-static uint8_t room[4096];
+static uint8_t room[4096], ones[4097];
 static int wrong;
 
 /* A text and how many bytes it has. */
@@ -55,7 +55,7 @@ static void try_numbers(tfpg_session *session) {
     static const tfpg_result nothing;
     tfpg_result result;
     tfpg_ranked ranked;
-    uint64_t times[2] = {1, 2};
+    uint64_t times[3] = {1, 2, 3};
     uint32_t index = 7;
     memset(&result, 1, sizeof result);
     expect("the result before a line", tfpg_result_of(session, &result), TFPG_DONE, 0, 0, 0);
@@ -77,16 +77,80 @@ static void try_numbers(tfpg_session *session) {
     expect("no room for the times", tfpg_ranked_at(session, 0, &ranked, times, 1), TFPG_ROOM_TOO_SMALL, 0, 0, 2);
     if (times[0] != 1) wrong++, puts("a time was written without room");
     expect("what is ranked", tfpg_ranked_at(session, 0, &ranked, times, 2), TFPG_DONE, 0, 0, 2);
-    if (ranked.failures != 1 || ranked.cost != 1 || ranked.hypothesis != 1 || ranked.active != 2 || times[0] > 5)
+    if (ranked.failures != 1 || ranked.cost != 1 || ranked.hypothesis != 1 || ranked.active != 2 || times[0] > 4 || times[1] != 5)
         wrong++, puts("another is ranked");
+    expect("what is ranked, without times", tfpg_ranked_at(session, 0, &ranked, times, 0), TFPG_DONE, 0, 0, 2);
+    memset(&ranked, 1, sizeof ranked);
     expect("what is ranked after it", tfpg_ranked_at(session, 1, &ranked, times, 2), TFPG_NO_SUCH, 0, 0, 0);
+    expect("no rank and no room", tfpg_ranked_at(session, UINT32_MAX, &ranked, times, 1), TFPG_NO_SUCH, 0, 0, 0);
+    if (memcmp(&ranked, ones, sizeof ranked)) wrong++, puts("what is not ranked was written");
+    expect("more room than nodes", tfpg_ranked_at(session, 0, &ranked, times, 3), TFPG_DONE, 0, 0, 2);
+    if (times[2] != 3) wrong++, puts("a time after the last node was written");
     expect("the index of a name", tfpg_index(session, TFPG_FAILURE_NAME, TEXT("F"), &index), TFPG_DONE, 0, 0, 0);
     if (index != 0) wrong++, puts("the index of a name is another");
     expect("the index of no failure mode", tfpg_index(session, TFPG_FAILURE_NAME, TEXT("A"), &index), TFPG_NO_SUCH, 0, 0, 0);
-    expect("the name of a node", tfpg_name(session, TFPG_NODE_NAME, 1, room, 1), TFPG_DONE, 0, 0, 1);
+    expect("the index of no name", tfpg_index(session, TFPG_NODE_NAME, TEXT(""), &index), TFPG_NO_SUCH, 0, 0, 0);
+    expect("the index of no kind", tfpg_index(session, 4, TEXT("A"), &index), TFPG_NO_SUCH, 0, 0, 0);
+    if (index != 0) wrong++, puts("an index of nothing was written");
+    room[0] = room[1] = '?';
     expect("no room for a name", tfpg_name(session, TFPG_NODE_NAME, 1, room, 0), TFPG_ROOM_TOO_SMALL, 0, 0, 1);
+    if (room[0] != '?') wrong++, puts("a name was written without room");
+    expect("the name of a node", tfpg_name(session, TFPG_NODE_NAME, 1, room, 2), TFPG_DONE, 0, 0, 1);
+    if (room[0] != 'A' || room[1] != '?') wrong++, puts("the name of a node is another");
     expect("the name of no mode", tfpg_name(session, TFPG_MODE_NAME, 1, room, sizeof room), TFPG_NO_SUCH, 0, 0, 0);
     expect("the name of no kind", tfpg_name(session, 0, 0, room, sizeof room), TFPG_NO_SUCH, 0, 0, 0);
+}
+
+/* The session is to say that its last line was refused for this cause, which carries this time, and that the line left this round. */
+static void expect_refused(tfpg_session *session, tfpg_answer answer, enum tfpg_refusal cause, uint64_t last, uint64_t round) {
+    tfpg_result result;
+    tfpg_result_of(session, &result);
+    if (answer.status == TFPG_DONE && result.refusal == cause && result.last == last && result.round == round && !result.changed) return;
+    printf("refused as %s: status %u, refusal %u, time %llu, round %llu\n", tfpg_cause_name(TFPG_DONE, cause), answer.status,
+           result.refusal, (unsigned long long)result.last, (unsigned long long)result.round);
+    wrong++;
+}
+
+/* Each cause for which a log refuses a line, of a session that has taken none. Of more than one that holds the first is said. */
+static void try_refusals(tfpg_session *session) {
+    expect_refused(session, tfpg_line(session, TEXT("tick 1")), TFPG_LOG_BAD_LINE, 0, 0);
+    expect_refused(session, tfpg_line(session, TEXT("1 tick\n")), TFPG_LOG_BAD_LINE, 0, 0);
+    expect_refused(session, tfpg_line(session, TEXT("01 tick")), TFPG_LOG_BAD_NUMBER, 0, 0);
+    expect_refused(session, tfpg_line(session, ones, 4097), TFPG_LOG_TOO_LONG, 0, 0);
+    expect_refused(session, tfpg_line(session, ones, 4096), TFPG_LOG_BAD_LINE, 0, 0);
+    expect_refused(session, tfpg_event(session, UINT64_MAX, 0, 0), TFPG_LOG_BAD_LINE, 0, 0);
+    expect_refused(session, tfpg_event(session, UINT64_MAX, TFPG_TICK, 0), TFPG_LOG_TIME_TOO_LARGE, 0, 0);
+    expect_refused(session, tfpg_event(session, TFPG_NEVER, TFPG_ALARM, 2), TFPG_LOG_TIME_TOO_LARGE, 0, 0);
+    for (uint64_t number = 1; number <= 1024; number++)
+        if (tfpg_event(session, 7, TFPG_MODE, 0).status != TFPG_DONE) wrong++, puts("a change of mode is not taken");
+    expect_refused(session, tfpg_event(session, 6, TFPG_SILENT, 2), TFPG_LOG_TIME_BACK, 7, 1024);
+    expect_refused(session, tfpg_event(session, 7, TFPG_SILENT, 2), TFPG_LOG_UNKNOWN_NAME, 0, 1024);
+    expect_refused(session, tfpg_event(session, 7, TFPG_SILENT, 0), TFPG_LOG_NOT_MONITORED, 0, 1024);
+    expect_refused(session, tfpg_event(session, 7, TFPG_MODE, UINT32_MAX), TFPG_LOG_NOT_A_MODE, 0, 1024);
+    expect_refused(session, tfpg_event(session, 7, TFPG_MODE, 0), TFPG_LOG_MODES_FULL, 0, 1024);
+    for (uint64_t number = 1025; number <= 65536; number++)
+        if (tfpg_event(session, number, number % 2 ? TFPG_TICK : TFPG_SWEEP, UINT32_MAX).status != TFPG_DONE)
+            wrong++, puts("an event is not taken");
+    expect_refused(session, tfpg_event(session, 65536, TFPG_TICK, 0), TFPG_LOG_LOG_FULL, 0, 65536);
+    expect_refused(session, tfpg_event(session, 65536, TFPG_MODE, 0), TFPG_LOG_LOG_FULL, 0, 65536);
+    expect_refused(session, tfpg_event(session, 65535, TFPG_TICK, 0), TFPG_LOG_TIME_BACK, 65536, 65536);
+}
+
+/* Calls by numbers of a session that is closed. They write nothing. */
+static void try_closed(tfpg_session *session) {
+    tfpg_result result;
+    tfpg_ranked ranked;
+    uint64_t times[2] = {1, 2};
+    uint32_t index = 7;
+    memset(&result, 1, sizeof result);
+    memset(&ranked, 1, sizeof ranked);
+    room[0] = '?';
+    expect("a result of a closed one", tfpg_result_of(session, &result), TFPG_ENDED, 0, 0, 0);
+    expect("what a closed one ranks", tfpg_ranked_at(session, 0, &ranked, times, 1), TFPG_ENDED, 0, 0, 0);
+    expect("an index of a closed one", tfpg_index(session, 0, TEXT("A"), &index), TFPG_ENDED, 0, 0, 0);
+    expect("a name of a closed one", tfpg_name(session, 0, 0, room, sizeof room), TFPG_ENDED, 0, 0, 0);
+    if (memcmp(&result, ones, sizeof result) || memcmp(&ranked, ones, sizeof ranked) || times[0] != 1 || index != 7 || room[0] != '?')
+        wrong++, puts("a closed session writes");
 }
 
 /* Calls of a session. */
@@ -96,7 +160,7 @@ static void try_session(void) {
     expect("a line before it is open", tfpg_line(&session, TEXT("1 tick")), TFPG_ENDED, 0, 0, 0);
     expect("a block before it is open", tfpg_block(&session, room, sizeof room), TFPG_ENDED, 0, 0, 0);
     expect("an event before it is open", tfpg_event(&session, 1, TFPG_TICK, 0), TFPG_ENDED, 0, 0, 0);
-    expect("a name before it is open", tfpg_name(&session, TFPG_NODE_NAME, 0, room, sizeof room), TFPG_ENDED, 0, 0, 0);
+    try_closed(&session);
     tfpg_close(&session);
     expect("opened", tfpg_open(&session, TEXT(graph), 1, 0, 1000), TFPG_DONE, 0, 0, sizeof head - 1);
     expect("no room for its first line", tfpg_block(&session, room, 3), TFPG_ROOM_TOO_SMALL, 0, 0, sizeof head - 1);
@@ -111,12 +175,16 @@ static void try_session(void) {
     expect("a line after that", tfpg_line(&session, TEXT("1 tick")), TFPG_ENDED, 0, 0, 0);
     expect("opened once more", tfpg_open(&session, TEXT(graph), 1, 0, 1000), TFPG_DONE, 0, 0, sizeof head - 1);
     try_numbers(&session);
+    expect("opened to be filled", tfpg_open(&session, TEXT(graph), 1, 0, 1000), TFPG_DONE, 0, 0, sizeof head - 1);
+    try_refusals(&session);
     tfpg_close(&session);
+    try_closed(&session);
     tfpg_close(&session);
     expect("a block after the end", tfpg_block(&session, room, sizeof room), TFPG_ENDED, 0, 0, 0);
 }
 
 int main(void) {
+    memset(ones, 1, sizeof ones);
     try_texts();
     try_session();
     return wrong;

@@ -40,7 +40,7 @@ static uint64_t print_result(uint32_t watched, clock_t took) {
 }
 
 int main(int count, char **words) {
-    static uint8_t graph[1 << 22], line[4097];
+    static uint8_t graph[1 << 24], line[4097];
     FILE *file = count == 3 ? fopen(words[1], "rb") : NULL;
     uint32_t watched = 0;
     uint64_t now = 0;

@@ -22,7 +22,8 @@
  *
  * Nothing checks what a C program passes. The library's statements hold for texts, rooms and sessions that are there.
  *
- * The library is built for x86-64 and its System V calling convention, as Linux has it. The header is C99 and later, and C++11 and later.
+ * The library is built for processors of x86-64-v2, which have `popcnt` and SSE4.2, and for the System V calling convention, as Linux has it.
+ * The header is C99 and later, and C++11 and later.
  */
 #ifndef TFPG_H
 #define TFPG_H
