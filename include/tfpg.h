@@ -3,9 +3,10 @@
  * Texts are bytes, given by a pointer and their number. `docs/formats.md` has the text of a graph, of a log and of a report. Times in
  * them are milliseconds. A text needs no byte 0 at its end. A pointer is never NULL, also where the number is 0.
  *
- * Memory: a call reads the texts that it is given only while it runs, and keeps no pointer to them; nothing writes them meanwhile. Rooms
- * and sessions are the caller's, and a call writes nothing else of the caller's. A room overlaps no text and no session of the same call,
- * and nothing else reads or writes them while the call runs. A call took at most 22 KB of stack; 100 KB are ample.
+ * Memory: a call reads the texts that it is given only while it runs, and keeps no pointer to them; nothing writes them meanwhile. What a
+ * call writes is the caller's: a session, a room, a result, a ranked hypothesis, times, an index. It writes nothing else of the caller's.
+ * Each of these overlaps nothing else of the same call, and nothing else reads or writes them while the call runs. A call took at most
+ * 22 KB of stack; 100 KB are ample.
  *
  * The library takes memory of its own, and says so if there is none. `tfpg_report` and `tfpg_check` give all of it back before they return.
  * An open session has memory until it is closed. What is in this memory is the library's: a program reads, writes and calls nothing of it.
@@ -60,7 +61,7 @@ enum tfpg_status {
     TFPG_TOO_MUCH_INPUT = 7,
     /* Memory ran out. */
     TFPG_NO_MEMORY = 8,
-    /* The text has `count` bytes, and the room fewer. Nothing was written. */
+    /* The text has `count` bytes, and the room fewer; or there are `count` nodes, and room for fewer times. Nothing was written. */
     TFPG_ROOM_TOO_SMALL = 9,
     /* The session is closed. */
     TFPG_ENDED = 10,
@@ -143,7 +144,7 @@ typedef struct {
     uint32_t status;     /* a `tfpg_status` */
     uint32_t cause;      /* why a graph or a report is refused: a `tfpg_graph_cause` or a `tfpg_report_cause` */
     uint64_t line;       /* at which line, counted from 1 */
-    uint64_t count;      /* how many bytes a text has, or how many rounds, or the last 64 bits of a number of hypotheses */
+    uint64_t count;      /* how many bytes a text has, how many rounds or nodes there are, or the last 64 bits of a number of hypotheses */
     uint64_t count_high; /* the first 64 bits of that number */
 } tfpg_answer;
 
@@ -211,8 +212,8 @@ tfpg_answer tfpg_block(tfpg_session *session, uint8_t *room, size_t room_count);
 
 /* Takes an event as `tfpg_line` takes its line, `TIME KIND NAME`, where NAME is the name of the node or the mode of this index. What comes
  * of it is what comes of that line, but `count` is 0: `tfpg_block` has the block, and `tfpg_result_of` its numbers. An index that nothing
- * has is refused as a name that nothing has, and a kind that is none as a line that is none. A sweep and a tick have no index. The call
- * makes the line for itself.
+ * has is refused as a name that nothing has, an unknown kind as `BadLine`; as with lines, an earlier cause comes first. A sweep and a tick
+ * have no index. The call makes the line for itself.
  *
  * TFPG_DONE, TFPG_NO_MEMORY, TFPG_ENDED */
 tfpg_answer tfpg_event(tfpg_session *session, uint64_t time, uint32_t kind, uint32_t index);
@@ -221,9 +222,10 @@ tfpg_answer tfpg_event(tfpg_session *session, uint64_t time, uint32_t kind, uint
  * ranked. */
 typedef struct {
     uint32_t refusal; /* why the last line was refused, a `tfpg_refusal`; 0: it brought a round */
-    uint32_t changed; /* 1: it brought one that ranks other hypotheses than the round before it, or in another order. Else 0 */
+    uint32_t changed; /* 1: it brought one that ranks other hypotheses than the round before it, or in another order, or it brought the
+                       * first round, and that ranks some. Else 0 */
     uint64_t line;    /* its number, from 1 */
-    uint64_t last;    /* if it was refused as TimeBack, the time of the last event. Else 0 */
+    uint64_t last;    /* if it was refused as TimeBack, the time of the last event. Else 0. It says nothing of the last round */
     uint64_t round;   /* the number of the last round, from 1; 0: there is none yet. A refused line leaves it and what follows */
     uint64_t now;     /* the time of its event */
     uint32_t ranked;  /* how many hypotheses it ranks, */
@@ -232,12 +234,13 @@ typedef struct {
     uint32_t open;
 } tfpg_result;
 
-/* Says what the last line brought. The session is the same after this call and the next three.
+/* Says what the last line brought. `tfpg_result_of`, `tfpg_ranked_at`, `tfpg_index` and `tfpg_name` leave the session as it was, and take no
+ * memory.
  *
  * TFPG_DONE, TFPG_ENDED */
 tfpg_answer tfpg_result_of(tfpg_session *session, tfpg_result *result);
 
-/* A ranked hypothesis. All other bits are 0. */
+/* A ranked hypothesis. The bits that are said to be set are set, and no others. */
 typedef struct {
     uint64_t failures;   /* bit p: the failure mode of position p is in it */
     uint64_t doubts[8];  /* bit n % 64 of doubts[n / 64]: it doubts the monitor of node n */
@@ -249,8 +252,8 @@ typedef struct {
 } tfpg_ranked;
 
 /* Says which hypothesis the last round ranks at this place, 0 for the best, and when each node of its trace became active, or TFPG_NEVER:
- * `times[n]` is that of node n. `count` is the number of nodes. With a `times_count` of 0 no time is written, and else there has to be room
- * for all of them.
+ * `times[n]` is that of node n. `count` is the number of nodes. With a `times_count` of 0 no time is written, though `times` is not NULL even
+ * then; else there has to be room for all of them.
  *
  * TFPG_DONE, TFPG_NO_SUCH, TFPG_ROOM_TOO_SMALL, TFPG_ENDED */
 tfpg_answer tfpg_ranked_at(tfpg_session *session, uint32_t rank, tfpg_ranked *ranked, uint64_t *times, size_t times_count);
