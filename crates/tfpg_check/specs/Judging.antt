@@ -54,8 +54,8 @@ abbrev pub WasClosed : RoundBasis → ℕ → Type 0
 WasClosed basis number = AreClosed basis number (basis.steps number)
 
 -- The tree of the hypothesis is closed, in this round or an earlier one.
-abbrev pub IsClosed : RoundBasis → ReadRound → ℕ → Type 0
-IsClosed basis read number =
+abbrev pub IsClosedByRound : RoundBasis → ReadRound → ℕ → Type 0
+IsClosedByRound basis read number =
     AreClosed basis number (with_steps (basis.steps number) basis.log (steps_read read number))
 
 -- The first line of the round is that of the line of this number of the log.
@@ -116,7 +116,7 @@ pub record HasRankedPartIn (basis : RoundBasis) (read : ReadRound) (hypothesis :
 -- robustness and place are right, and no proper part of it is ranked.
 pub record MayBeRanked (basis : RoundBasis) (read : ReadRound) (before : List RankedLine) (r : RankedLine) : Type 0 where
   pub listed : IsNumberOf basis r.number (hypothesis_ranked r)
-  pub not_closed : IsClosed basis read r.number → ⊥
+  pub not_closed : IsClosedByRound basis read r.number → ⊥
   pub cost : r.cost ≡ cost_of basis.graph (hypothesis_ranked r)
   pub reach : List ℕ
   pub reach_is : IsReachOf basis.graph (hypothesis_ranked r) reach
@@ -143,7 +143,7 @@ IsOpenLine read number = (named : NamedSet) × Contains read.unsettled named × 
 pub record MayBeOpen (basis : RoundBasis) (read : ReadRound) (before : List NamedSet) (named : NamedSet) : Type 0 where
   pub rising : All (λ (earlier : NamedSet). earlier.number < named.number) before
   pub listed : IsNumberOf basis named.number (hypothesis_named named)
-  pub not_closed : IsClosed basis read named.number → ⊥
+  pub not_closed : IsClosedByRound basis read named.number → ⊥
   pub not_ranked : IsRankedLine read named.number → ⊥
   pub no_part : HasRankedPartIn basis read (hypothesis_named named) → ⊥
   pub spent : split_count (steps_read read named.number) ≡ basis.terms.budget
@@ -158,14 +158,14 @@ pub record NumberedHypothesis : Type 0 where
   pub hypothesis : Hypothesis
 
 -- what the line of a set names
-abbrev pub named_by : NamedSet → NumberedHypothesis
-named_by named = record { number = named.number; hypothesis = hypothesis_named named }
+abbrev pub named_hypothesis : NamedSet → NumberedHypothesis
+named_hypothesis named = record { number = named.number; hypothesis = hypothesis_named named }
 
 -- These are the hypotheses whose trees were closed in this round, by rising numbers.
 pub record AreNewlyClosed (basis : RoundBasis) (read : ReadRound) (closed : List NumberedHypothesis) : Type 0 where
   pub rising : AllPairs (λ (earlier later : NumberedHypothesis). earlier.number < later.number) closed
   pub exact : (number : ℕ) (hypothesis : Hypothesis) → Contains closed (record { number = number; hypothesis = hypothesis })
-      ↔ (IsNumberOf basis number hypothesis × IsClosed basis read number × (WasClosed basis number → ⊥))
+      ↔ (IsNumberOf basis number hypothesis × IsClosedByRound basis read number × (WasClosed basis number → ⊥))
 
 -- The rejected lines are not those of the hypotheses whose trees were closed in this round: they differ first at this index. The
 -- line is the one there, and else that of the counts.
@@ -173,7 +173,7 @@ pub record RejectedFails (basis : RoundBasis) (read : ReadRound) (line : ℕ) (w
   pub closed : List NumberedHypothesis
   pub are : AreNewlyClosed basis read closed
   pub index : ℕ
-  pub differ : DifferFirstAt (map named_by read.rejected) closed index
+  pub differ : DifferFirstAt (map named_hypothesis read.rejected) closed index
   pub at : unwrap_or (option_map (λ (named : NamedSet). named.first_line) (slice_get read.rejected index)) read.counts_line ≡ line
   pub cause_is : why ≡ cause.WrongRejected
 
@@ -181,7 +181,7 @@ pub record RejectedFails (basis : RoundBasis) (read : ReadRound) (line : ℕ) (w
 -- a proper part of it is ranked. The tests before let it have one alone.
 abbrev pub HasStatus : RoundBasis → ReadRound → ℕ → Hypothesis → Type 0
 HasStatus basis read number hypothesis =
-    IsClosed basis read number
+    IsClosedByRound basis read number
     ⊎ (IsRankedLine read number
     ⊎ (IsOpenLine read number
     ⊎ ((steps_read read number ≡ []) × HasRankedPartIn basis read hypothesis)))
@@ -198,7 +198,7 @@ pub record AreRightCounts (basis : RoundBasis) (read : ReadRound) : Type 0 where
   pub unsettled : read.counts.unsettled ≡ length read.unsettled
   pub closed : List ℕ
   pub rising : AllPairs (λ (earlier later : ℕ). earlier < later) closed
-  pub exact : (number : ℕ) → Contains closed number ↔ IsClosed basis read number
+  pub exact : (number : ℕ) → Contains closed number ↔ IsClosedByRound basis read number
   pub rejected : read.counts.rejected ≡ length closed
   pub all : read.counts.ranked + read.counts.covered + read.counts.rejected + read.counts.unsettled ≡ length basis.hypotheses
 

@@ -9,7 +9,7 @@ use Rattle.tfpg_report.specs.declared.read_round.RankedLine.{RankedLine}
 use Rattle.tfpg_report.specs.declared.read_round.ReadRound.{ReadRound}
 use Rattle.tfpg_report.specs.ReadRounds.{hypothesis_ranked}
 use Rattle.tfpg_check.specs.Tests.{HoldInTurn}
-use Rattle.tfpg_check.specs.Judging.{RoundBasis, BeginsWell, MayHaveSteps, MayBeRanked, MayBeOpen, AreNewlyClosed, EachHasStatus, AreRightCounts, named_by}
+use Rattle.tfpg_check.specs.Judging.{RoundBasis, BeginsWell, MayHaveSteps, MayBeRanked, MayBeOpen, AreNewlyClosed, EachHasStatus, AreRightCounts, named_hypothesis}
 
 -- The part may stand there, and its steps go on with those before, as a partial tree or to a refutation.
 pub record PartPasses (basis : RoundBasis) (before : List Part) (part : Part) : Type 0 where
@@ -30,6 +30,6 @@ pub record RoundPasses (basis : RoundBasis) (line : ℕ) (read : ReadRound) : Ty
   pub parts : HoldInTurn (PartPasses basis) read.parts
   pub ranked : HoldInTurn (RankedPasses basis read) read.ranked
   pub unsettled : HoldInTurn (MayBeOpen basis read) read.unsettled
-  pub rejected : AreNewlyClosed basis read (map named_by read.rejected)
+  pub rejected : AreNewlyClosed basis read (map named_hypothesis read.rejected)
   pub statuses : EachHasStatus basis read
   pub counts : AreRightCounts basis read

@@ -26,7 +26,9 @@
 //!
 //! # Proved, and by which clause
 //!
-//! - A refutation leaves no trace, and numbers that meet all facts and clauses give a trace: its laws.
+//! - A refutation leaves no trace, and numbers that meet all facts and clauses give a trace, which meets them: the laws
+//!   [`a_refutation_leaves_no_trace`](laws::a_refutation_leaves_no_trace), `numbers_that_meet_all_give_a_trace` and
+//!   `traces_meet_facts_and_clauses`.
 //! - The first clause violated: `violated`, `first`, `rules`.
 //!
 //! # Not proved

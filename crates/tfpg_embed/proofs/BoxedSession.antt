@@ -16,14 +16,14 @@ use Rattle.std_heap.specs.contracts.GlobalAllocator.TheImpl.{ghosts, dict}
 use Rattle.std_heap.proofs.Global.TheLaws as heap
 use Rattle.tfpg_embed.specs.contracts.session.open_session.OpenSession as Opened
 use Rattle.tfpg_embed.proofs.session.open_session.OpenSession.TheLaws as opened
-use Rattle.tfpg_embed.specs.contracts.session.parts.Parts as Parts
+use Rattle.tfpg_embed.specs.contracts.session.parts.BoxParts as BoxParts
 use Rattle.tfpg_embed.specs.contracts.session.held.Held as Held
 
 abbrev pub E : Bx
 E = record { row = Opened.the_row; laws = opened.the_row_laws; al = record { row = Heap.the_row; laws = heap.the_row_laws; g = ghosts; d = dict; drops = impl [] tnil dnil } }
 
 abbrev pub FromParts : Slot 0
-FromParts = plain (λ _. Parts.the_row Opened.the_row Heap.the_row ghosts)
+FromParts = plain (λ _. BoxParts.the_row Opened.the_row Heap.the_row ghosts)
 
 abbrev pub FromHeld : Slot 0
 FromHeld = plain (λ _. Held.the_row)

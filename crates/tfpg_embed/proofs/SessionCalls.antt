@@ -16,7 +16,7 @@ use Rattle.tfpg_embed.specs.declared.answer.TfpgAnswer.{TfpgAnswer}
 use Rattle.tfpg_embed.specs.declared.session.open_session.OpenSession.{OpenSession}
 use Rattle.tfpg_embed.specs.declared.status.TheConstants.{DONE, ENDED}
 use Rattle.tfpg_embed.specs.Answers.{answer_of_event_fault, answer_of_open_fault, answer_with, counted}
-use Rattle.tfpg_embed.specs.EventLines.{event_line}
+use Rattle.tfpg_embed.specs.EventLines.{line_of_event}
 use Rattle.tfpg_embed.specs.Events.{AnswersEvent, event_line_for}
 use Rattle.tfpg_embed.specs.Sessions.{AnswersLine, AnswersOpen, IsNewlyOpen}
 
@@ -93,7 +93,7 @@ module _ (line : List ℕ) (old new : Option OpenSession) (answer : TfpgAnswer) 
 
 -- what comes of the line of an event for the session that the handle held
 pub event_answered : (time kind index : ℕ) (old new : Option OpenSession) (answer : TfpgAnswer) (before : OpenSession) → Some before ≡ old
-    → AnswersEvent (event_line before.session.engine.graph time kind index) old new answer → AnswersEvent (event_line_for old time kind index) old new answer
+    → AnswersEvent (line_of_event before.session.engine.graph time kind index) old new answer → AnswersEvent (event_line_for old time kind index) old new answer
 event_answered time kind index old new answer before had answers =
     subst (λ (o : Option OpenSession). AnswersEvent (event_line_for o time kind index) old new answer) had answers
 

@@ -10,8 +10,8 @@ no_name = codes "xxxxxxxxxxxxxxxxxxxxxxxxxxxxxxxxx"
 
 -- The words of the line of an event of this kind at this time, for the node or the mode of this index. If none has it, there is a word in the
 -- place of its name that is no name. If there is no such kind, there is the time alone.
-abbrev pub event_words : Tfpg → ℕ → ℕ → ℕ → List (List ℕ)
-event_words graph time kind index =
+abbrev pub words_of_event : Tfpg → ℕ → ℕ → ℕ → List (List ℕ)
+words_of_event graph time kind index =
     if kind == ALARM then decimal time ∷ codes "alarm" ∷ unwrap_or (name_at graph index) no_name ∷ []
     else (if kind == SILENT then decimal time ∷ codes "silent" ∷ unwrap_or (name_at graph index) no_name ∷ []
     else (if kind == SWEEP then decimal time ∷ codes "sweep" ∷ []
@@ -20,5 +20,5 @@ event_words graph time kind index =
     else decimal time ∷ []))))
 
 -- the line of that event
-abbrev pub event_line : Tfpg → ℕ → ℕ → ℕ → List ℕ
-event_line graph time kind index = line_of (event_words graph time kind index)
+abbrev pub line_of_event : Tfpg → ℕ → ℕ → ℕ → List ℕ
+line_of_event graph time kind index = line_of (words_of_event graph time kind index)

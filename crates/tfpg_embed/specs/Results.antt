@@ -50,9 +50,9 @@ last_time (Some line.TooLong) = 0
 last_time (Some (line.Offer why)) = time_of_refusal why
 
 -- the number of a round, 0 if there is none
-abbrev pub number_in : Option Round → ℕ
-number_in None = 0
-number_in (Some round) = round.number
+abbrev pub number_of_round : Option Round → ℕ
+number_of_round None = 0
+number_of_round (Some round) = round.number
 
 -- the time of its event
 abbrev pub now_in : Option Round → ℕ
@@ -73,7 +73,7 @@ result_numbers session =
       changed = if session.latest.is_changed then 1 else 0;
       line = lines_before session.next;
       last = last_time session.latest.refusal;
-      round = number_in session.latest.round;
+      round = number_of_round session.latest.round;
       now = now_in session.latest.round;
       ranked = (counts_in session.latest.round).ranked;
       covered = (counts_in session.latest.round).covered;

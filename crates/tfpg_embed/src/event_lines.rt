@@ -3,7 +3,7 @@
 ghost use Rattle.std.specs.Prelude.{◌≡◌, IfOk, slice_get, unwrap_or};
 ghost use Rattle.tfpg_base.specs.Append.{Appends};
 ghost use Rattle.tfpg_graph.specs.Graph.{name_at};
-ghost use Rattle.tfpg_embed.specs.EventLines.{event_line, no_name};
+ghost use Rattle.tfpg_embed.specs.EventLines.{line_of_event, no_name};
 
 use crate::kinds::{ALARM, MODE, SILENT, SWEEP, TICK};
 use crate::names::{mode_name, node_name};
@@ -20,7 +20,7 @@ pub(crate) fn event_line(
     kind: u32,
     index: u32,
 ) -> Result<Vec<u8>, NoMemory>
-    ensures { IfOk result (λ line. line.items ≡ event_line graph.now time kind index) }
+    ensures { IfOk result (λ line. line.items ≡ line_of_event graph.now time kind index) }
 {
     let mut line = Vec::new(alloc);
     append_event(graph, time, kind, index, &mut line)?;
@@ -35,7 +35,7 @@ fn append_event(
     index: u32,
     into: &mut Vec<u8>,
 ) -> Result<(), NoMemory>
-    ensures { Appends result into.old.items into.new.items (event_line graph.now time kind index) }
+    ensures { Appends result into.old.items into.new.items (line_of_event graph.now time kind index) }
 {
     let mut digits = Buffer::new();
     let time = digits.format(time).as_bytes();

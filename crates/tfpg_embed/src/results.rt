@@ -1,7 +1,7 @@
 //! What came last in a session, as numbers.
 
 ghost use Rattle.std.specs.Prelude.{◌≡◌, if◌then◌else◌};
-ghost use Rattle.tfpg_embed.specs.Results.{counts_in, last_time, now_in, number_in, refusal_number, refused_number, result_numbers, time_of_refusal, why_number};
+ghost use Rattle.tfpg_embed.specs.Results.{counts_in, last_time, now_in, number_of_round, refusal_number, refused_number, result_numbers, time_of_refusal, why_number};
 
 use tfpg_diagnose::{Latest, Session};
 use tfpg_evidence::Counts;
@@ -127,7 +127,7 @@ fn time_of_refusal(refusal: Refusal) -> u64
 
 /// The number of the last round, 0 if there is none.
 fn number_in(latest: &Latest) -> u32
-    ensures { result ≡ number_in latest.now.round }
+    ensures { result ≡ number_of_round latest.now.round }
 {
     match &latest.round {
         Some(round) => round.number,

@@ -22,7 +22,7 @@ use Rattle.tfpg_search.specs.Work.{IsWorkLimit}
 use Rattle.tfpg_search.specs.declared.found.Found.{Found}
 use Rattle.tfpg_search.specs.declared.found.Found.TheVariants.{Shown, Closed, Spent}
 use Rattle.tfpg_engine.specs.declared.slot.Slot.{Slot}
-use Rattle.tfpg_engine.specs.EngineState.{is_rejected_slot, seen_by}
+use Rattle.tfpg_engine.specs.EngineState.{is_rejected_slot, events_seen}
 use Rattle.tfpg_engine.specs.Work.{is_worked_on}
 use Rattle.tfpg_engine.specs.inside.NewFindings.{status_by}
 use Rattle.tfpg_engine.specs.inside.SlotWork.{IsLimitWhere, IsWithin, IsSlotLimit, IsSlotWithin, IsLimitBySlots, AreSlotsWithin}
@@ -36,7 +36,7 @@ pub rejected_within : (case : Case) (slot : Slot) (count number : ℕ) (set doub
     → written ≡ record { number = number; set = set; doubts = doubts; steps = []; status = status.Rejected } → IsSlotWithin case slot count count written
 rejected_within case slot count number set doubts written rejected is = (
   0,
-  subst (λ (f : Finding). IsSlotLimit case slot f 0) (sym is) (subst (λ (b : Bool). IsLimitWhere (is_worked_on b status.Rejected) case (seen_by slot) 0 0) (sym rejected) refl),
+  subst (λ (f : Finding). IsSlotLimit case slot f 0) (sym is) (subst (λ (b : Bool). IsLimitWhere (is_worked_on b status.Rejected) case (events_seen slot) 0 0) (sym rejected) refl),
   omega arith,
 )
 
@@ -57,21 +57,21 @@ searched_worked_on cost robust Spent = refl
 
 -- a searched one costs at most the limit of its search
 pub searched_within : (there : (case : Case) (seen steps : ℕ) → (limit : ℕ) × IsWorkLimit case seen steps limit) (graph : Tfpg) (log : Logbook) (hypothesis : Hypothesis) (reach own : List ℕ) (slot : Slot)
-    → log.ignored ≡ hypothesis.doubts → own ≡ reach → is_rejected_slot slot ≡ false → (seen : ℕ) → seen ≡ seen_by slot → (steps none : List Step) → none ≡ []
+    → log.ignored ≡ hypothesis.doubts → own ≡ reach → is_rejected_slot slot ≡ false → (seen : ℕ) → seen ≡ events_seen slot → (steps none : List Step) → none ≡ []
     → (cost : ℕ) (robust : Fraction) (found : Found) (status : Status) → status ≡ status_by cost robust found → (number : ℕ) (written : Finding)
     → written ≡ record { number = number; set = hypothesis.set; doubts = hypothesis.doubts; steps = steps; status = status } → (before after : ℕ)
     → ((limit : ℕ) → IsWorkLimit (case_of graph log own) seen (length steps - length none) limit → after ≤ before + limit)
     → IsSlotWithin (case_for graph log hypothesis reach) slot before after written
 searched_within there graph log hypothesis reach own slot ignores same_reach fresh seen is_seen steps none is_none cost robust found status is_status number written is_written before after work =
     let case : Case = case_for graph log hypothesis reach in
-    let has = there case (seen_by slot) (length steps) in
+    let has = there case (events_seen slot) (length steps) in
     let worked : is_worked_on (is_rejected_slot slot) status ≡ true = ap (λ (b : Bool). is_worked_on b status) fresh ∙ ap (is_worked_on false) is_status ∙ searched_worked_on cost robust found in
     let same_case : case ≡ case_of graph log own = λ i. case_of graph (sym (own_log log hypothesis.doubts ignores) i) (sym same_reach i) in
     let same_length : length steps ≡ length steps - length none = omega (arith, ap length is_none) in (
       has.0,
-      subst (λ (f : Finding). IsSlotLimit case slot f has.0) (sym is_written) (subst (λ (b : Bool). IsLimitWhere b case (seen_by slot) (length steps) has.0) (sym worked) has.1),
+      subst (λ (f : Finding). IsSlotLimit case slot f has.0) (sym is_written) (subst (λ (b : Bool). IsLimitWhere b case (events_seen slot) (length steps) has.0) (sym worked) has.1),
       work has.0 (subst (λ (n : ℕ). IsWorkLimit (case_of graph log own) n (length steps - length none) has.0) (sym is_seen)
-          (subst (λ (n : ℕ). IsWorkLimit (case_of graph log own) (seen_by slot) n has.0) same_length (subst (λ (c : Case). IsWorkLimit c (seen_by slot) (length steps) has.0) same_case has.1))),
+          (subst (λ (n : ℕ). IsWorkLimit (case_of graph log own) (events_seen slot) n has.0) same_length (subst (λ (c : Case). IsWorkLimit c (events_seen slot) (length steps) has.0) same_case has.1))),
     )
 
 -- ---- one finding more

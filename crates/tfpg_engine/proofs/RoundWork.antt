@@ -12,7 +12,7 @@ use Rattle.tfpg_clause.specs.Case.{Case}
 use Rattle.tfpg_search.specs.Work.{IsWorkLimit}
 use Rattle.tfpg_engine.specs.declared.slot.Slot.{Slot}
 use Rattle.tfpg_engine.specs.declared.slot.Slot.TheVariants.{Untouched}
-use Rattle.tfpg_engine.specs.EngineState.{is_rejected_slot, seen_by, IsWorkedOn}
+use Rattle.tfpg_engine.specs.EngineState.{is_rejected_slot, events_seen, IsWorkedOn}
 use Rattle.tfpg_engine.specs.Work.{has_status, is_ranked_or_open, was_rejected, last_worked_on, is_worked_on}
 use Rattle.tfpg_engine.specs.inside.SlotWork.{IsLimitWhere}
 use Rattle.tfpg_engine.specs.inside.NewFindings.{IsSearchedOn, IsKeptAfter}
@@ -56,7 +56,7 @@ module _ (number : ℕ) (rounds : List Round) (round : Round) (finding : Finding
     by_status (status.Covered by) has kept = record {
       rejected = ap is_rejected_slot kept ∙ is.rejected
           ∙ sym (rejected_then ∙ ap (λ (b : Bool). was_rejected number rounds || b) (ap is_rejected has) ∙ or_false (was_rejected number rounds));
-      seen = λ fresh. ap seen_by kept ∙ is.seen (sym (ap is_rejected_slot kept) ∙ fresh)
+      seen = λ fresh. ap events_seen kept ∙ is.seen (sym (ap is_rejected_slot kept) ∙ fresh)
           ∙ sym (worked_on_then ∙ ap (λ (b : Bool). if b then round.number else last_worked_on number rounds) (ap is_ranked_or_open has));
     }
     by_status status.Rejected has kept = record {
@@ -72,15 +72,15 @@ module _ (number : ℕ) (rounds : List Round) (round : Round) (finding : Finding
 -- ---- the limit of a finding
 
 module _ (number : ℕ) (rounds : List Round) (old new : Slot) (events steps limit : ℕ) (case : Case) (is : IsWorkedOn number rounds old) where
-  searched_limit : is_rejected_slot old ≡ false → IsWorkLimit case (seen_by old) steps limit → IsWorkLimit case (last_worked_on number rounds) steps limit
+  searched_limit : is_rejected_slot old ≡ false → IsWorkLimit case (events_seen old) steps limit → IsWorkLimit case (last_worked_on number rounds) steps limit
   searched_limit fresh own = subst (λ (n : ℕ). IsWorkLimit case n steps limit) (is.seen fresh) own
 
-  rejected_limit : (b : Bool) → is_rejected_slot old ≡ b → IsLimitWhere (is_worked_on b status.Rejected) case (seen_by old) steps limit → IsLimitWhere (is_worked_on b status.Rejected) case (last_worked_on number rounds) steps limit
+  rejected_limit : (b : Bool) → is_rejected_slot old ≡ b → IsLimitWhere (is_worked_on b status.Rejected) case (events_seen old) steps limit → IsLimitWhere (is_worked_on b status.Rejected) case (last_worked_on number rounds) steps limit
   rejected_limit true has own = own
   rejected_limit false has own = searched_limit has own
 
   -- The limit by what was kept before is that by the rounds before.
-  pub limit_by_rounds : (s : Status) → IsKeptAfter events s old new → IsLimitWhere (is_worked_on (is_rejected_slot old) s) case (seen_by old) steps limit
+  pub limit_by_rounds : (s : Status) → IsKeptAfter events s old new → IsLimitWhere (is_worked_on (is_rejected_slot old) s) case (events_seen old) steps limit
       → IsLimitWhere (is_worked_on (was_rejected number rounds) s) case (last_worked_on number rounds) steps limit
   limit_by_rounds (status.Ranked trace cost alarmed monitored) kept own = searched_limit kept.not_before own
   limit_by_rounds (status.Covered by) kept own = own

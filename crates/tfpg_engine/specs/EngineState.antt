@@ -52,10 +52,10 @@ is_rejected_slot (Searched search) = false
 is_rejected_slot (Rejected calls) = true
 
 -- how many events its search has seen; 0 where there is no search
-abbrev pub seen_by : Slot → ℕ
-seen_by Untouched = 0
-seen_by (Searched search) = search.seen
-seen_by (Rejected calls) = 0
+abbrev pub events_seen : Slot → ℕ
+events_seen Untouched = 0
+events_seen (Searched search) = search.seen
+events_seen (Rejected calls) = 0
 
 -- how many counted calls there were for a hypothesis: those of the system of its search, and where it is rejected, those of the
 -- search that it had
@@ -88,7 +88,7 @@ pub record IsLentSearch (engine : EngineState) (hypothesis : Hypothesis) (search
 -- else its search has seen the events at the last one in which it was worked on.
 pub record IsWorkedOn (number : ℕ) (rounds : List Round) (slot : Slot) : Type 0 where
   pub rejected : is_rejected_slot slot ≡ was_rejected number rounds
-  pub seen : is_rejected_slot slot ≡ false → seen_by slot ≡ last_worked_on number rounds
+  pub seen : is_rejected_slot slot ≡ false → events_seen slot ≡ last_worked_on number rounds
 
 -- The engine represents these rounds: there was one for each event, and what it keeps of each hypothesis represents the steps that
 -- the hypothesis has in them.

@@ -12,7 +12,7 @@ ghost use Rattle.tfpg_log.specs.LogOfLines.{new_log};
 ghost use Rattle.tfpg_log.specs.declared.refusal.Refusal.{Refusal};
 ghost use Rattle.tfpg_engine.specs.EngineState.{EngineRepresents, Brings, CountsCalls, IsLentSearch, calls_of_engine, lent_search};
 
-use crate::inquiry::Inquiry;
+use crate::inquiry::LentInquiry;
 use crate::round;
 use crate::slot::Slot;
 use crate::told::{EventFault, Told};
@@ -125,7 +125,7 @@ impl Engine {
                 tree_laws();
                 subsets_stand_before_their_supersets();
                 hypotheses_stand_by_size();
-                let inquiry = Inquiry {
+                let inquiry = LentInquiry {
                     graph: &self.graph,
                     terms: self.terms,
                 };

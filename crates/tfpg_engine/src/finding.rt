@@ -12,7 +12,7 @@ ghost use Rattle.tfpg_engine.specs.inside.SlotWork.{IsSlotWithin};
 ghost use Rattle.tfpg_engine.specs.EngineState.{calls_of_slot, is_rejected_slot};
 
 use crate::covering::covering;
-use crate::inquiry::Inquiry;
+use crate::inquiry::LentInquiry;
 use crate::listed::Listed;
 use crate::slot::Slot;
 use crate::tree_laws::tree_laws;
@@ -31,7 +31,7 @@ use tfpg_search::{Found, Search};
 /// passed over. So is one with a ranked proper part. For every other one the search continues.
 pub(crate) fn new_finding<L: Ledger>(
     alloc: Global,
-    inquiry: &Inquiry<'_>,
+    inquiry: &LentInquiry<'_>,
     log: &Log,
     listed: &Listed<'_>,
     findings: &[Finding],
@@ -99,7 +99,7 @@ fn finding_on(listed: &Listed<'_>, steps: StepList, status: Status) -> Finding
 /// Where memory runs out, the engine ends, and the slot is not searched again.
 fn search_on<L: Ledger>(
     alloc: Global,
-    inquiry: &Inquiry<'_>,
+    inquiry: &LentInquiry<'_>,
     log: &Log,
     listed: &Listed<'_>,
     slot: &mut Slot,

@@ -8,7 +8,7 @@ ghost use Rattle.tfpg_engine.specs.inside.NewFindings.{AreNewFindings, IsOfGraph
 ghost use Rattle.tfpg_engine.specs.inside.SlotWork.{AreSlotsWithin};
 
 use crate::finding::new_finding;
-use crate::inquiry::Inquiry;
+use crate::inquiry::LentInquiry;
 use crate::listed::Listed;
 use crate::slot::Slot;
 use std::alloc::Global;
@@ -23,7 +23,7 @@ use tfpg_log::Log;
 /// the first ranked one with as many failure modes as the hypothesis has members.
 pub(crate) fn new_findings<L: Ledger>(
     alloc: Global,
-    inquiry: &Inquiry<'_>,
+    inquiry: &LentInquiry<'_>,
     log: &mut Log,
     table: &Table,
     slots: &mut [Slot],

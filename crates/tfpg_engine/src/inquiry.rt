@@ -5,7 +5,7 @@ use tfpg_graph::Graph;
 
 /// A graph, and the terms.
 #[derive(Clone, Copy)]
-pub(crate) struct Inquiry<'a> {
+pub(crate) struct LentInquiry<'a> {
     pub(crate) graph: &'a Graph,
     /// Their budget is at least 1.
     pub(crate) terms: Terms,

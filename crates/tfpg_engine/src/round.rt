@@ -10,7 +10,7 @@ ghost use Rattle.tfpg_engine.specs.inside.SlotWork.{AreSlotsWithin};
 
 use crate::counts::counts_of;
 use crate::findings::new_findings;
-use crate::inquiry::Inquiry;
+use crate::inquiry::LentInquiry;
 use crate::order::order;
 use crate::slot::Slot;
 use std::alloc::Global;
@@ -24,7 +24,7 @@ use tfpg_log::Log;
 /// some slots may have no search that represents steps, and the engine ends.
 pub(crate) fn make<L: Ledger>(
     alloc: Global,
-    inquiry: &Inquiry<'_>,
+    inquiry: &LentInquiry<'_>,
     log: &mut Log,
     table: &Table,
     line: u64,
@@ -50,7 +50,7 @@ pub(crate) fn make<L: Ledger>(
 /// The same, where the log may be left ignoring some monitors.
 fn by_each<L: Ledger>(
     alloc: Global,
-    inquiry: &Inquiry<'_>,
+    inquiry: &LentInquiry<'_>,
     log: &mut Log,
     table: &Table,
     line: u64,

@@ -5,7 +5,7 @@ ghost use Rattle.tfpg_log.specs.Log.{Logbook, first_events};
 ghost use Rattle.tfpg_clause.specs.Case.{case_of};
 ghost use Rattle.tfpg_clause.specs.Trees.{Judged};
 ghost use Rattle.tfpg_search.specs.SearchState.{calls_of_search};
-ghost use Rattle.tfpg_engine.specs.EngineState.{SlotRepresents, calls_of_slot, is_rejected_slot, seen_by};
+ghost use Rattle.tfpg_engine.specs.EngineState.{SlotRepresents, calls_of_slot, is_rejected_slot, events_seen};
 ghost use Rattle.tfpg_engine.specs.inside.Inquiries.{IsRowOfGraph, row_of};
 ghost use Rattle.tfpg_engine.specs.inside.NewFindings.{kept};
 
@@ -64,7 +64,7 @@ impl Slot {
             self steps →
             SlotRepresents (case_of graph.now log listed.now.reach.now) listed.now.hypothesis
             (Slot.Searched search) steps) }
-        ensures seen { IfOk result (λ search. search.seen ≡ seen_by self) }
+        ensures seen { IfOk result (λ search. search.seen ≡ events_seen self) }
         ensures counted { IfOk result (λ search. is_rejected_slot self ≡ false →
             calls_of_search search ≡ calls_of_slot self) }
         ensures uncounted { OnErr result (is_rejected_slot self ≡ false → calls_of_slot self ≡ 0) }

@@ -30,7 +30,7 @@ use Rattle.tfpg_search.specs.Enough.{IsEnough}
 use Rattle.tfpg_engine.specs.Earned.{AreEarned}
 use Rattle.tfpg_log.specs.declared.event.Offered.TheVariants as offered
 use Rattle.tfpg_fleet.specs.Alone.{IsRoundOfLines}
-use Rattle.tfpg_fleet.specs.FleetState.{FleetBrings, FleetCounts, FleetRepresents, FleetState, IsForEnded, IsNew, IsTold, IsToldTo, Refuses, RefusesFor, VehicleRepresents, VehicleState, has_ended, names_of, rounds_after, rounds_with}
+use Rattle.tfpg_fleet.specs.FleetState.{FleetBrings, FleetCounts, FleetRepresents, FleetState, IsForEnded, IsNew, IsVehicleTold, IsToldTo, Refuses, RefusesFor, VehicleRepresents, VehicleState, has_ended, names_of, rounds_after, rounds_with}
 use Rattle.tfpg_fleet.proofs.LinesFor.{is_for, lines-other, lines-own, lines-stray, only_for, own_short}
 
 -- how logs of lines grow
@@ -52,7 +52,7 @@ module _ (grows : LogsGrow) (graph : Tfpg) (terms : Terms) (own : List ℕ) (sho
         next ∙ ap Some (omega (arith, number, length-append lines (own ∷ [])))
 
     -- a vehicle that was told its line represents its lines and its rounds
-    pub told_represents : (told : Told) → IsTold own before after line told → VehicleRepresents graph terms after (lines ++ own ∷ []) (rounds_with rounds told)
+    pub told_represents : (told : Told) → IsVehicleTold own before after line told → VehicleRepresents graph terms after (lines ++ own ∷ []) (rounds_with rounds told)
     told_represents (told.Refused refusal) is = (
         let brings = is.brings rounds represents.represents in
         let reply = ap (λ (g : Tfpg). reply_to g (log_of_lines graph lines) own) (sym represents.graph_is) ∙ ap (λ (l : Logbook). reply_to before.engine.graph l own) (sym represents.log_is) ∙ brings.0 in
@@ -144,7 +144,7 @@ module _ (old : FleetState) (text own : List ℕ) (number : ℕ) (before after :
               absurd (false≢true (sym running ∙ ap has_ended (sym it) ∙ ended))
 
       -- where it was told its line, it represents that too
-      pub represents_told : LogsGrow → (line : ℕ) (told : Told) → IsTold own before after line told
+      pub represents_told : LogsGrow → (line : ℕ) (told : Told) → IsVehicleTold own before after line told
           → FleetRepresents graph terms now (stream ++ text ∷ []) (rounds_after rounds (Ok (Of number line told)))
       represents_told grows line told is = record { each = λ other vehicle at running. by other vehicle at running (number == other) refl }
         where
@@ -302,7 +302,7 @@ module _ (vehicles : List VehicleState) (text own : List ℕ) (number : ℕ) (be
       (counted rounds (subst (λ (v : VehicleState). EngineRepresents v.engine rounds) (sym first) represented))
 
   -- the vehicle was told its line
-  pub tells : LogsGrow → (line : ℕ) (answer : Told) → IsTold own before after line answer
+  pub tells : LogsGrow → (line : ℕ) (answer : Told) → IsVehicleTold own before after line answer
       → ((rounds : List Round) → EngineRepresents before.engine rounds → CountsCalls after.engine rounds (Ok answer) start end)
       → ((next : ℕ) (refusal : Refusal) → Refuses own before next refusal → (line ≡ next) × (answer ≡ told.Refused refusal)) → Comes text was is_now (Ok (Of number line answer)) start end
   tells grows line answer is counted refused = record {

@@ -56,7 +56,7 @@ pub record FleetRepresents (graph : Tfpg) (terms : Terms) (fleet : FleetState) (
       → VehicleRepresents graph terms vehicle (lines_for (names_of fleet) number stream) (rounds number)
 
 -- What the next line of a vehicle leads to: it has this number, and brings what it brings to any engine.
-pub record IsTold (text : List ℕ) (old new : VehicleState) (line : ℕ) (told : Told) : Type 0 where
+pub record IsVehicleTold (text : List ℕ) (old new : VehicleState) (line : ℕ) (told : Told) : Type 0 where
   pub name : new.name ≡ old.name
   pub graph : new.engine.graph ≡ old.engine.graph
   pub terms : new.engine.terms ≡ old.engine.terms
@@ -73,7 +73,7 @@ pub record IsToldTo (text : List ℕ) (old new : FleetState) (number line : ℕ)
   pub after : VehicleState
   pub there : slice_get old.vehicles number ≡ Some before
   pub still_there : slice_get new.vehicles number ≡ Some after
-  pub taken : IsTold own before after line told
+  pub taken : IsVehicleTold own before after line told
 
 -- The line belongs to a vehicle that has ended.
 pub record IsForEnded (fleet : FleetState) (text : List ℕ) : Type 0 where

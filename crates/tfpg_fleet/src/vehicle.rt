@@ -8,7 +8,7 @@ ghost use Rattle.tfpg_hyp.specs.declared.limits.TheConstants.{MAX_HYPOTHESES};
 ghost use Rattle.tfpg_log.specs.Log.{IsLogOf};
 ghost use Rattle.tfpg_log.specs.declared.refusal.Refusal.{Refusal};
 ghost use Rattle.tfpg_engine.specs.EngineState.{EngineRepresents, CountsCalls};
-ghost use Rattle.tfpg_fleet.specs.FleetState.{IsNew, IsTold, Refuses, has_ended};
+ghost use Rattle.tfpg_fleet.specs.FleetState.{IsNew, IsVehicleTold, Refuses, has_ended};
 
 use std::alloc::Global;
 use std::marker::Model;
@@ -87,7 +87,7 @@ impl Vehicle {
         text: &[u8],
         work: &mut Steps<L>,
     ) -> Result<(u64, Told), EventFault>
-        ensures told { IfOk result (λ answer. IsTold text.now self.old self.new answer.0 answer.1) }
+        ensures told { IfOk result (λ answer. IsVehicleTold text.now self.old self.new answer.0 answer.1) }
         ensures work { IfOk result (λ answer. (rounds : List Round) → EngineRepresents self.old.engine rounds →
             CountsCalls self.new.engine rounds (Ok answer.1) work.old work.new) }
         ensures refused { (line : ℕ) (refusal : Refusal) → Refuses text.now self.old line refusal →

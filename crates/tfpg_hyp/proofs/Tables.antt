@@ -43,14 +43,6 @@ ReachedSoFar-push graph hypotheses reaches number hypothesis reach here within i
 abbrev pub AreReachedWith : Tfpg → List Hypothesis → List (List ℕ) → ℕ → List ℕ → List ℕ → Type 0
 AreReachedWith graph hypotheses reaches number set reach = (length reaches ≡ number) × ReachedSoFar graph hypotheses reaches × IsReach graph set reach
 
--- at first there are no reaches
-pub AreReachedWith-none : (graph : Tfpg) (hypotheses : List Hypothesis) (reaches : List (List ℕ)) (set reach : List ℕ) → reaches ≡ [] → IsReach graph set reach → AreReachedWith graph hypotheses reaches 0 set reach
-AreReachedWith-none graph hypotheses reaches set reach none is = (
-  ap length none,
-  λ number hypothesis own at at_reach. absurd (omega (arith, slice_get_within reaches number own at_reach, ap length none)),
-  is,
-)
-
 -- the reach of the set is that of the next hypothesis
 pub AreReachedWith-next : (graph : Tfpg) (hypotheses : List Hypothesis) (before after : List (List ℕ)) (number : ℕ) (hypothesis : Hypothesis) (set reach : List ℕ)
     → (length before ≡ number) × ReachedSoFar graph hypotheses before → number < length hypotheses → hypothesis ≡ get_or hypotheses number hypothesis → after ≡ before ++ reach ∷ []

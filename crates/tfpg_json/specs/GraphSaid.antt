@@ -32,8 +32,8 @@ found >>= read = option_and_then read found
 -- ---- fields
 
 -- the number that data is, where it is a whole one of 64 bits, from 0 on
-abbrev pub number_in : Data → Option ℕ
-number_in value = option_and_then as_u64 (as_number value)
+abbrev pub number_from : Data → Option ℕ
+number_from value = option_and_then as_u64 (as_number value)
 
 -- the text under a key
 abbrev pub text_under : List ℕ → Data → Option (List ℕ)
@@ -41,7 +41,7 @@ text_under key value = option_and_then as_str (get key value)
 
 -- the number under a key
 abbrev pub number_under : List ℕ → Data → Option ℕ
-number_under key value = option_and_then number_in (get key value)
+number_under key value = option_and_then number_from (get key value)
 
 -- nothing where data is null, else what is read of it
 abbrev pub unless_null : {X : Type 0} → (Data → Option X) → Data → Option (Option X)
@@ -65,12 +65,12 @@ each_under read key value = option_and_then (each_in read) (get key value)
 -- the least lag of a monitored node: 0 where the key is absent
 abbrev pub least_in : Option Data → Option ℕ
 least_in None = Some 0
-least_in (Some value) = number_in value
+least_in (Some value) = number_from value
 
 -- the lag of a monitored node, by what stands under the keys of its least lag and its greatest
 abbrev pub lag_between : Option Data → Data → Option Lag
 lag_between least value = do
-  most ← number_in value
+  most ← number_from value
   from ← least_in least
   Some (record { least = from; most = most })
 
@@ -80,15 +80,15 @@ lag_with least None = Some None
 lag_with least (Some value) = unless_null (lag_between least) value
 
 -- the lag of a discrepancy
-abbrev pub lag_in : Data → Option (Option Lag)
-lag_in value = lag_with (get (codes "least") value) (get (codes "lag") value)
+abbrev pub lag_from : Data → Option (Option Lag)
+lag_from value = lag_with (get (codes "least") value) (get (codes "lag") value)
 
 -- what a node is, where its kind is this word
 abbrev pub kind_of : List ℕ → Data → Option Kind
 kind_of word value =
     if bytes_eq word (codes "failure") then option_map Failure (number_under (codes "rarity") value)
-    else (if bytes_eq word (codes "or") then option_map Or (lag_in value)
-    else (if bytes_eq word (codes "and") then option_map And (lag_in value) else None))
+    else (if bytes_eq word (codes "or") then option_map Or (lag_from value)
+    else (if bytes_eq word (codes "and") then option_map And (lag_from value) else None))
 
 -- what a node is
 abbrev pub kind_in : Data → Option Kind
@@ -105,15 +105,15 @@ node_in value = do
 
 -- the greatest delay of an edge: the key must be there, and is null where the delay is infinite
 abbrev pub greatest_in : Data → Option (Option ℕ)
-greatest_in value = option_and_then (unless_null number_in) (get (codes "max") value)
+greatest_in value = option_and_then (unless_null number_from) (get (codes "max") value)
 
 -- the modes of an edge: the key must be there, and is null for all modes
 abbrev pub modes_in : Data → Option (Option (List (List ℕ)))
 modes_in value = option_and_then (unless_null (each_in as_str)) (get (codes "modes") value)
 
 -- an edge
-abbrev pub edge_in : Data → Option EdgeSaid
-edge_in value = do
+abbrev pub edge_from : Data → Option EdgeSaid
+edge_from value = do
   source ← text_under (codes "from") value
   target ← text_under (codes "to") value
   tmin ← number_under (codes "min") value
@@ -126,7 +126,7 @@ abbrev pub graph_in : Data → Option GraphSaid
 graph_in value = do
   modes ← each_under as_str (codes "modes") value
   nodes ← each_under node_in (codes "nodes") value
-  edges ← each_under edge_in (codes "edges") value
+  edges ← each_under edge_from (codes "edges") value
   Some (record { modes = modes; nodes = nodes; edges = edges })
 
 -- ---- names

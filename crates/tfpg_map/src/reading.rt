@@ -13,7 +13,7 @@ use tfpg_graph::Graph;
 
 /// Whether a line was read, or the input has ended.
 #[derive(Clone, Copy)]
-pub(crate) enum NextLine {
+pub(crate) enum NextMapLine {
     Read,
     Ended,
 }
@@ -35,8 +35,8 @@ pub fn read_map<S: Source>(alloc: Global, graph: &Graph, input: &mut S) -> Resul
     let mut lines = Lines::new(alloc)?;
     loop {
         match read_next_line(&mut reader, &mut lines, graph, input)? {
-            NextLine::Read => {}
-            NextLine::Ended => return map_of(reader),
+            NextMapLine::Read => {}
+            NextMapLine::Ended => return map_of(reader),
         }
     }
 }
@@ -47,7 +47,7 @@ fn read_next_line<S: Source>(
     lines: &mut Lines,
     graph: &Graph,
     input: &mut S,
-) -> Result<NextLine, NoMap>
+) -> Result<NextMapLine, NoMap>
     ensures reads_on { (before : SourceState) → IsReadingMap graph.now before
         (map_reading_at (S.state input.old) lines.old reader.old)
         → IfOk result (ReadsOn graph.now before lines.old.number
@@ -57,10 +57,10 @@ fn read_next_line<S: Source>(
         → IfErr result (LacksMap graph.now before (S.state input.new)) }
 {
     match lines.next(input)? {
-        Line::End => Ok(NextLine::Ended),
+        Line::End => Ok(NextMapLine::Ended),
         Line::TooLong => Err(not_a_map(lines)),
         Line::Text => match reader.take(graph, lines.text()) {
-            Ok(()) => Ok(NextLine::Read),
+            Ok(()) => Ok(NextMapLine::Read),
             Err(MapFault::BadMap) => Err(not_a_map(lines)),
             Err(MapFault::NoMemory) => Err(NoMap::NoMemory),
         },

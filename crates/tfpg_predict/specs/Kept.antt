@@ -15,11 +15,11 @@ is_silenced graph before (event ∷ later) node =
 -- What is kept of an event between this log and these later events. A change of mode is kept. An alarm is kept if no earlier
 -- or no later event is an alarm of its node. A silence or a sweep becomes, in the order of the nodes, a silence of each node
 -- that it silences and no later event does. Of a tick, which silences no node, nothing is kept.
-abbrev pub kept_of : Tfpg → Logbook → Event → List Event → List Event
-kept_of graph before (Mode time mode) later = Mode time mode ∷ []
-kept_of graph before (Alarm time node) later =
+abbrev pub kept_for : Tfpg → Logbook → Event → List Event → List Event
+kept_for graph before (Mode time mode) later = Mode time mode ∷ []
+kept_for graph before (Alarm time node) later =
     if is_none (alarm_of before node) || is_none (alarm_among later node) then Alarm time node ∷ [] else []
-kept_of graph before event later =
+kept_for graph before event later =
     map (λ node. Silent (time_of_event event) node)
     (filter (λ node. is_silence_of graph before node event && not (is_silenced graph (with_event before event) later node))
     (range_with_len 0 (length graph.nodes)))
@@ -27,7 +27,7 @@ kept_of graph before event later =
 -- what is kept of these events, which follow this log
 abbrev pub kept_after : Tfpg → Logbook → List Event → List Event
 kept_after graph before [] = []
-kept_after graph before (event ∷ later) = kept_of graph before event later ++ kept_after graph (with_event before event) later
+kept_after graph before (event ∷ later) = kept_for graph before event later ++ kept_after graph (with_event before event) later
 
 -- the events of the log that are kept, in their order
 abbrev pub kept_events : Tfpg → Logbook → List Event

@@ -1,8 +1,7 @@
 -- The members of a set, written by going over all numbers that they may have.
-use Rattle.std.proofs.Common.{◌≡◌, ℕ, ◌+◌, ◌<◌, ◌↔◌, Bool, true, false, IsTrue, List, [], ◌∷◌, ◌++◌, map, All, refl, sym, ap, ◌∙◌, append_assoc}
-use Rattle.std.specs.List.{join_with_byte, AllPairs, Contains}
-use Rattle.std.proofs.lemmas.List.{append-nil, map-append}
-use Rattle.std.proofs.lemmas.List.Elements.{All-contains}
+use Rattle.std.proofs.Common.{◌≡◌, ℕ, ◌+◌, ◌↔◌, Bool, true, false, IsTrue, List, [], ◌∷◌, ◌++◌, map, refl, sym, ap, ◌∙◌, append_assoc}
+use Rattle.std.specs.List.{join_with_byte}
+use Rattle.std.proofs.lemmas.List.{append-nil}
 use Rattle.tfpg_base.specs.Hypothesis.{Hypothesis}
 use Rattle.tfpg_base.specs.TextLine.{separated}
 use Rattle.tfpg_graph.specs.Graph.{Tfpg, failure_word}
@@ -19,10 +18,6 @@ still_first is_first (x ∷ xs) = false
 still_first-false : {X : Type 0} (xs : List X) → still_first false xs ≡ false
 still_first-false [] = refl
 still_first-false (x ∷ xs) = refl
-
-still_first-push : {X : Type 0} (is_first : Bool) (xs : List X) (x : X) → still_first is_first (xs ++ x ∷ []) ≡ false
-still_first-push is_first [] x = refl
-still_first-push is_first (y ∷ ys) x = refl
 
 still_first-map : {X Y : Type 0} (f : X → Y) (is_first : Bool) (xs : List X) → still_first is_first (map f xs) ≡ still_first is_first xs
 still_first-map f is_first [] = refl
@@ -44,12 +39,6 @@ further-append is_first (word ∷ words) more =
     ap (λ (text : List ℕ). separated 44 is_first word ++ text)
     (further-append false words more ∙ ap (λ (b : Bool). further_words false words ++ further_words b more) (still_first-false words))
     ∙ sym (append_assoc (separated 44 is_first word) (further_words false words) (further_words false more))
-
--- one word after words
-further-push : (is_first : Bool) (words : List (List ℕ)) (word : List ℕ) → further_words is_first (words ++ word ∷ []) ≡ further_words is_first words ++ separated 44 (still_first is_first words) word
-further-push is_first words word =
-    further-append is_first words (word ∷ [])
-    ∙ ap (λ (text : List ℕ). further_words is_first words ++ text) (append-nil (separated 44 (still_first is_first words) word))
 
 -- joined words after a comma are further ones
 further-joined : (word : List ℕ) (words : List (List ℕ)) → 44 ∷ join_with_byte 44 (word ∷ words) ≡ further_words false (word ∷ words)

@@ -11,7 +11,7 @@ use Rattle.tfpg_report.specs.ReportLines.{Says, written_line}
 use Rattle.tfpg_report.specs.Blocks.{round_lines}
 use Rattle.tfpg_report.specs.InOrder.{HasRisingTraces}
 use Rattle.tfpg_report.specs.ReadBack.{IsReadBack}
-use Rattle.tfpg_report.specs.Represents.{ReaderState, Takes, NoneMayCome}
+use Rattle.tfpg_report.specs.Represents.{ReaderState, TakesReportLine, NoneMayCome}
 
 -- A round is within the limits of the format: each of its lines, as it is written, names what the graph has, has numbers
 -- within their limits and is not too long; and its traces rise by node.
@@ -25,7 +25,7 @@ abbrev pub MayReturnInTurn : Tfpg → List ReportLine → List (List ℕ) → Li
 MayReturnInTurn graph before [] results = results ≡ []
 MayReturnInTurn graph before (bytes ∷ others) [] = ⊥
 MayReturnInTurn graph before (bytes ∷ others) (Ok completed ∷ results) =
-    (now : ReaderState) × (takes : Takes graph before bytes now completed)
+    (now : ReaderState) × (takes : TakesReportLine graph before bytes now completed)
     × MayReturnInTurn graph (before ++ takes.read ∷ []) others results
 MayReturnInTurn graph before (bytes ∷ others) (Err (BadReport at) ∷ results) = NoneMayCome graph before bytes × (results ≡ [])
 MayReturnInTurn graph before (bytes ∷ others) (Err NoMemory ∷ results) = results ≡ []

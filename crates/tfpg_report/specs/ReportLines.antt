@@ -47,8 +47,8 @@ abbrev pub lines_text : Tfpg → List ReportLine → List ℕ
 lines_text graph lines = flat_map (λ line. with_line_end (written_line graph line)) lines
 
 -- A number that is no time, no number of a line, a panel or a split, and no budget, has 32 bits.
-abbrev pub IsSmall : ℕ → Type 0
-IsSmall number = number < 2 ^ 32
+abbrev pub Has32Bits : ℕ → Type 0
+Has32Bits number = number < 2 ^ 32
 
 -- a time that is there is not too large
 abbrev pub IsTimeWithin : Option ℕ → Type 0
@@ -62,44 +62,44 @@ IsCauseWithin (Offer refusal) = IsTimeWithin (refusal_time refusal)
 
 -- A clause is of a node or an edge of the graph, and its numbers are within their limits.
 abbrev pub IsNameWithin : Tfpg → ClauseName → Type 0
-IsNameWithin graph (OrMay node span horizon) = (node < length graph.nodes) × IsSmall span × (horizon ≤ MAX_TIME)
-IsNameWithin graph (AndMay edge span horizon) = (edge < length graph.edges) × IsSmall span × (horizon ≤ MAX_TIME)
-IsNameWithin graph (OrMust edge span horizon) = (edge < length graph.edges) × IsSmall span × (horizon ≤ MAX_TIME)
-IsNameWithin graph (AndMust node span horizon) = (node < length graph.nodes) × IsSmall span × (horizon ≤ MAX_TIME)
+IsNameWithin graph (OrMay node span horizon) = (node < length graph.nodes) × Has32Bits span × (horizon ≤ MAX_TIME)
+IsNameWithin graph (AndMay edge span horizon) = (edge < length graph.edges) × Has32Bits span × (horizon ≤ MAX_TIME)
+IsNameWithin graph (OrMust edge span horizon) = (edge < length graph.edges) × Has32Bits span × (horizon ≤ MAX_TIME)
+IsNameWithin graph (AndMust node span horizon) = (node < length graph.nodes) × Has32Bits span × (horizon ≤ MAX_TIME)
 
 -- A reason names nodes of the graph alone, and its numbers are within their limits.
 abbrev pub IsReasonWithin : Tfpg → Reason → Type 0
 IsReasonWithin graph (Zero node) = node < length graph.nodes
 IsReasonWithin graph (Top node) = node < length graph.nodes
 IsReasonWithin graph (Unreached node horizon) = (node < length graph.nodes) × (horizon ≤ MAX_TIME)
-IsReasonWithin graph (From event) = IsSmall event
-IsReasonWithin graph (Upto event) = IsSmall event
-IsReasonWithin graph (Quiet event node) = IsSmall event × (node < length graph.nodes)
-IsReasonWithin graph (Pick split constraint) = (split ≤ MAX_LINE_NUMBER) × IsSmall constraint
+IsReasonWithin graph (From event) = Has32Bits event
+IsReasonWithin graph (Upto event) = Has32Bits event
+IsReasonWithin graph (Quiet event node) = Has32Bits event × (node < length graph.nodes)
+IsReasonWithin graph (Pick split constraint) = (split ≤ MAX_LINE_NUMBER) × Has32Bits constraint
 
 -- The counts are within their limits.
 pub record AreCountsWithin (counts : CountsOf) : Type 0 where
-  pub ranked : IsSmall counts.ranked
-  pub covered : IsSmall counts.covered
-  pub rejected : IsSmall counts.rejected
-  pub unsettled : IsSmall counts.unsettled
+  pub ranked : Has32Bits counts.ranked
+  pub covered : Has32Bits counts.covered
+  pub rejected : Has32Bits counts.rejected
+  pub unsettled : Has32Bits counts.unsettled
 
 -- A line names what the graph has, and its numbers are within their limits.
 abbrev pub IsLineWithin : Tfpg → ReportLine → Type 0
 IsLineWithin graph (Head terms) = AreReportTerms terms
 IsLineWithin graph (OldHead k budget) = AreReportTerms (record { k = k; doubt = 0; budget = budget })
 IsLineWithin graph (Refused line cause) = (line ≤ MAX_LINE_NUMBER) × IsCauseWithin cause
-IsLineWithin graph (Round number line now) = IsSmall number × (line ≤ MAX_LINE_NUMBER) × (now ≤ MAX_TIME)
-IsLineWithin graph (Hyp number) = IsSmall number
+IsLineWithin graph (Round number line now) = Has32Bits number × (line ≤ MAX_LINE_NUMBER) × (now ≤ MAX_TIME)
+IsLineWithin graph (Hyp number) = Has32Bits number
 IsLineWithin graph (Split name) = IsNameWithin graph name
-IsLineWithin graph (Cycle count) = IsSmall count
+IsLineWithin graph (Cycle count) = Has32Bits count
 IsLineWithin graph (Why reason) = IsReasonWithin graph reason
 IsLineWithin graph Again = Unit {0}
 IsLineWithin graph (Ranked number cost alarmed monitored hypothesis) =
-    IsSmall number × IsSmall cost × IsSmall alarmed × IsSmall monitored × IsHypothesisOf graph hypothesis
+    Has32Bits number × Has32Bits cost × Has32Bits alarmed × Has32Bits monitored × IsHypothesisOf graph hypothesis
 IsLineWithin graph (At activation) = (activation.node < length graph.nodes) × (activation.time ≤ MAX_TIME)
-IsLineWithin graph (Open number hypothesis) = IsSmall number × IsHypothesisOf graph hypothesis
-IsLineWithin graph (Rejected number hypothesis) = IsSmall number × IsHypothesisOf graph hypothesis
+IsLineWithin graph (Open number hypothesis) = Has32Bits number × IsHypothesisOf graph hypothesis
+IsLineWithin graph (Rejected number hypothesis) = Has32Bits number × IsHypothesisOf graph hypothesis
 IsLineWithin graph (Counts counts) = AreCountsWithin counts
 IsLineWithin graph (Panel panel memory) = panel ≤ MAX_PANEL_NUMBER
 

@@ -25,7 +25,7 @@ pub record ReaderRepresents (reader : ReaderState) (lines : List ReportLine) : T
   pub begun : reader.begun ≡ numbered_from (length lines - length (begun_in lines) + 1) (begun_in lines)
 
 -- After these lines of a report the bytes say one that may come. The reader says what it completes, and represents it too.
-pub record Takes (graph : Tfpg) (lines : List ReportLine) (bytes : List ℕ) (now : ReaderState) (fed : Fed) : Type 0 where
+pub record TakesReportLine (graph : Tfpg) (lines : List ReportLine) (bytes : List ℕ) (now : ReaderState) (fed : Fed) : Type 0 where
   pub read : ReportLine
   pub may_come : MayCome graph lines bytes read
   pub completes : Completes lines read fed

@@ -7,7 +7,7 @@ ghost use Rattle.tfpg_report.specs.declared.report_line.ReportLine.{ReportLine};
 ghost use Rattle.tfpg_report.specs.declared.report_line.ReportLine.TheVariants.{At};
 ghost use Rattle.tfpg_report.specs.ReportLines.{Says};
 ghost use Rattle.tfpg_report.specs.Stands.{may_begin_block, stand_after};
-ghost use Rattle.tfpg_report.specs.Represents.{ReaderRepresents, Takes, NoneMayCome};
+ghost use Rattle.tfpg_report.specs.Represents.{ReaderRepresents, TakesReportLine, NoneMayCome};
 
 pub(crate) mod draft;
 mod stepping;
@@ -16,7 +16,7 @@ use crate::laws::a_report_line_says_one_thing;
 use crate::reading::named_graph::{NameGuesses, NamedGraph};
 use crate::reading::{LineRefusal, activation_in, read_named_line};
 use crate::{Fed, ReadRefusal, ReportLine, Stand};
-use draft::Draft;
+use draft::RoundDraft;
 use std::alloc::Global;
 use std::marker::Model;
 use std::snapshot::Snapshot;
@@ -32,7 +32,7 @@ pub struct BlockReader {
     alloc: Global,
     refused: Option<ReadRefusal>,
     stand: Stand,
-    draft: Draft,
+    draft: RoundDraft,
     guesses: NameGuesses,
     /// How many lines it took, for contracts alone.
     taken: Snapshot<u64>,
@@ -57,7 +57,7 @@ impl Model for BlockReader {
 
 /// A line that may come, and the stand after it.
 #[derive(Clone, Copy)]
-struct Next {
+struct LineToCome {
     line: ReportLine,
     stand: Stand,
 }
@@ -72,7 +72,7 @@ impl BlockReader {
             alloc,
             refused: None,
             stand: Stand::Nothing,
-            draft: Draft::empty(alloc),
+            draft: RoundDraft::empty(alloc),
             guesses: NameGuesses::new(),
             taken: Snapshot::of(&0),
         }
@@ -84,7 +84,7 @@ impl BlockReader {
     pub fn take(&mut self, graph: &Graph, number: u64, line: &[u8]) -> Result<Fed, ReadRefusal>
         requires { self.old.refused ≡ None → number ≡ self.old.taken + 1 }
         ensures fed { (lines : List ReportLine) → ReaderRepresents self.old lines → self.old.refused ≡ None →
-            IfOk result (Takes graph.now lines line.now self.new) }
+            IfOk result (TakesReportLine graph.now lines line.now self.new) }
         ensures bad { (lines : List ReportLine) → ReaderRepresents self.old lines → self.old.refused ≡ None →
             (at : ℕ) → result ≡ Err (BadReport at) →
             (at ≡ number) × NoneMayCome graph.now lines line.now }
@@ -171,7 +171,7 @@ fn next_line(
     before: Stand,
     number: u64,
     line: &[u8],
-) -> Result<Next, ReadRefusal>
+) -> Result<LineToCome, ReadRefusal>
     ensures says { IfOk result (λ next. Says graph.now next.line line.now) }
     ensures stand { IfOk result (λ next. stand_after before next.line ≡ Some next.stand) }
     ensures bad { (at : ℕ) → result ≡ Err (BadReport at) →
@@ -181,7 +181,7 @@ fn next_line(
     a_report_line_says_one_thing();
     match read_named_line(alloc, graph, line) {
         Ok(line) => match step_after(before, &line) {
-            Some(stand) => Ok(Next { line, stand }),
+            Some(stand) => Ok(LineToCome { line, stand }),
             None => Err(ReadRefusal::BadReport { line: number }),
         },
         Err(LineRefusal::NotALine) => Err(ReadRefusal::BadReport { line: number }),

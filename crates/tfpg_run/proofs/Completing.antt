@@ -48,7 +48,7 @@ use Rattle.tfpg_run.specs.Fetch.{HasFile, IsTooLong, GivesGraph, GivesGraphBy, G
 use Rattle.tfpg_run.specs.generate.Generating.{HasSummary}
 use Rattle.tfpg_run.specs.ask.Asking.{AskEnds, QuestionsEnd}
 use Rattle.tfpg_run.specs.convert.Converting.{ConvertEnds, IsFaultFrom, SpellsFrom, converted_text}
-use Rattle.tfpg_run.specs.check.Checking.{CheckEnds, CheckingEnds, IsAccepted}
+use Rattle.tfpg_run.specs.check.Checking.{CheckEnds, CheckingEnds, IsAcceptedReport}
 use Rattle.tfpg_diagnose.specs.JudgedReports.{HasTooManyInHead, problem_of}
 use Rattle.tfpg_run.specs.explain.Explaining.{ExplainEnds, ExplainingEnds}
 use Rattle.tfpg_map.specs.Spelling.{HasMap, BeginsMap, IsMapFault}
@@ -282,7 +282,7 @@ module _ (graphs : GraphLaws) (laws : CheckLaws) (before now : World) (calm : No
       → Takes before.input now.input taken → (result : Result (Unit {0}) CheckFault)
       → CheckingEnds problem (streams_of before) (streams_of now) taken result → IsRefusedFor line cause (end_of_result end_of_check_fault result)
   refused_report short problem taken valid line cause has takes (Ok done) is =
-      let accepted : IsAccepted problem now.input taken is.0.text = is.0.right in
+      let accepted : IsAcceptedReport problem now.input taken is.0.text = is.0.right in
       let all : short.known ≡ taken = all_taken before.input now.input short.known taken short.left takes accepted.at_end in
       absurd (laws.no_cause problem accepted.terms accepted.blocks taken line cause valid accepted.report accepted.few (subst (λ (bytes : List ℕ). IsCause problem (lines_of bytes) line cause) all has))
   refused_report short problem taken valid line cause has takes (Err (check.NotAccepted at why)) is =

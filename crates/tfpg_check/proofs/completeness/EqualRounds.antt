@@ -21,7 +21,7 @@ use Rattle.tfpg_report.specs.declared.read_round.Part.{Part}
 use Rattle.tfpg_report.specs.declared.read_round.RankedLine.{RankedLine}
 use Rattle.tfpg_report.specs.declared.read_round.ReadRound.{ReadRound}
 use Rattle.tfpg_report.specs.Blocks.{round_lines}
-use Rattle.tfpg_check.specs.Judging.{RoundBasis, NumberedHypothesis, named_by}
+use Rattle.tfpg_check.specs.Judging.{RoundBasis, NumberedHypothesis, named_hypothesis}
 use Rattle.tfpg_check.proofs.SameStatuses.{same_test}
 use Rattle.tfpg_check.proofs.passing.ByNumber.{map-same}
 use Rattle.tfpg_check.proofs.passing.NamedFindings.{NumberedSteps, steps_in_part}
@@ -76,8 +76,8 @@ says_so said = λ i. record {
   now = said.now;
   parts = map-undone part_that_says steps_in_part (λ x. refl) said.parts i;
   ranked = map-undone line_that_says ranking_read (λ x. refl) said.ranked i;
-  unsettled = map-undone name_that_says named_by (λ x. refl) said.unsettled i;
-  rejected = map-undone name_that_says named_by (λ x. refl) said.rejected i;
+  unsettled = map-undone name_that_says named_hypothesis (λ x. refl) said.unsettled i;
+  rejected = map-undone name_that_says named_hypothesis (λ x. refl) said.rejected i;
   counts = said.counts;
 }
 

@@ -18,7 +18,7 @@ use Rattle.tfpg_report.specs.declared.read_round.Part.{Part}
 use Rattle.tfpg_report.specs.declared.read_round.RankedLine.{RankedLine}
 use Rattle.tfpg_report.specs.declared.read_round.ReadRound.{ReadRound}
 use Rattle.tfpg_check.specs.Tests.{Fails, InTurn, Passes}
-use Rattle.tfpg_check.specs.Judging.{RoundBasis, NumberedHypothesis, OpenFails, PartFails, RankedFails, RejectedFails, RoundFails, StepFails, named_by}
+use Rattle.tfpg_check.specs.Judging.{RoundBasis, NumberedHypothesis, OpenFails, PartFails, RankedFails, RejectedFails, RoundFails, StepFails, named_hypothesis}
 use Rattle.tfpg_check.specs.Passing.{PartPasses, RoundPasses}
 use Rattle.tfpg_check.proofs.completeness.RightRoundFacts.{case_by, one_case}
 
@@ -90,7 +90,7 @@ module _ (basis : RoundBasis) (number : ℕ) (read : ReadRound) (passes : RoundP
   rejected_does_not_fail : Passes (RejectedFails basis read)
   rejected_does_not_fail line why fails =
       fails.differ.differ (ap (λ (named : List NumberedHypothesis). slice_get named fails.index)
-      (same_in_order (λ (a b : NumberedHypothesis). a.number < b.number) (λ a b less more. omega (arith, less, more)) (map named_by read.rejected) fails.closed
+      (same_in_order (λ (a b : NumberedHypothesis). a.number < b.number) (λ a b less more. omega (arith, less, more)) (map named_hypothesis read.rejected) fails.closed
       passes.rejected.rising fails.are.rising
       (λ x member. (fails.are.exact x.number x.hypothesis).1 ((passes.rejected.exact x.number x.hypothesis).0 member))
       (λ x member. (passes.rejected.exact x.number x.hypothesis).1 ((fails.are.exact x.number x.hypothesis).0 member))))

@@ -1,5 +1,5 @@
 -- A round fails at no more than one line, and for no more than one cause.
-use Rattle.std.proofs.Common.{◌≡◌, ℕ, ◌<◌, List, [], ◌∷◌, ◌++◌, map, take, slice_get, inl, inr, sym, ap, subst, subst₂, ◌∙◌}
+use Rattle.std.proofs.Common.{◌≡◌, ℕ, ◌<◌, List, [], ◌∷◌, ◌++◌, map, slice_get, inl, inr, sym, ap, subst, subst₂, ◌∙◌}
 use Rattle.std.specs.Prelude.{option_map, unwrap_or}
 use Rattle.std.proofs.lemmas.Bool.{cases_order}
 use Rattle.std.proofs.lemmas.Option.{same_Some}
@@ -19,7 +19,7 @@ use Rattle.tfpg_report.specs.declared.read_round.ReadRound.{ReadRound}
 use Rattle.tfpg_check.specs.declared.cause.CheckCause.{CheckCause}
 use Rattle.tfpg_check.specs.declared.cause.CheckCause.TheVariants as cause
 use Rattle.tfpg_check.specs.Tests.{DifferFirstAt, Fails, InTurn, Owes, Then}
-use Rattle.tfpg_check.specs.Judging.{AreNewlyClosed, RoundBasis, MayBeOpen, MayHaveSteps, NumberedHypothesis, OpenFails, PartFails, RankedFails, RejectedFails, RoundFails, StepFails, cause_of_step, named_by}
+use Rattle.tfpg_check.specs.Judging.{AreNewlyClosed, RoundBasis, MayBeOpen, MayHaveSteps, NumberedHypothesis, OpenFails, PartFails, RankedFails, RejectedFails, RoundFails, StepFails, cause_of_step, named_hypothesis}
 use Rattle.tfpg_check.proofs.passing.ByNumber.{same_by_number}
 
 -- ---- tests
@@ -95,7 +95,7 @@ module _ (only_one : PresentLeavesAreAlone) (finished : RefutationsAreNotPartial
 
     rejected_once : FailsOnce (RejectedFails basis read)
     rejected_once line other why also a b =
-        let names : List NumberedHypothesis = map named_by read.rejected in
+        let names : List NumberedHypothesis = map named_hypothesis read.rejected in
         let same : a.closed ≡ b.closed = one_closed a.closed b.closed a.are b.are in
         let first : DifferFirstAt names b.closed a.index = subst (λ (closed : List NumberedHypothesis). DifferFirstAt names closed a.index) same a.differ in
         let index : a.index ≡ b.index = one_first_place names b.closed a.index b.index first b.differ in (

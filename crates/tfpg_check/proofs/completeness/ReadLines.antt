@@ -23,7 +23,7 @@ use Rattle.tfpg_report.specs.declared.read_round.NamedSet.{NamedSet}
 use Rattle.tfpg_report.specs.declared.read_round.Part.{Part}
 use Rattle.tfpg_report.specs.declared.read_round.RankedLine.{RankedLine}
 use Rattle.tfpg_report.specs.declared.read_round.ReadRound.{ReadRound}
-use Rattle.tfpg_check.specs.Judging.{RoundBasis, NumberedHypothesis, AreClosed, IsClosed, IsOpenLine, IsRankedLine, HasRankedPartIn, named_by, steps_read}
+use Rattle.tfpg_check.specs.Judging.{RoundBasis, NumberedHypothesis, AreClosed, IsClosedByRound, IsOpenLine, IsRankedLine, HasRankedPartIn, named_hypothesis, steps_read}
 use Rattle.tfpg_check.proofs.passing.NamedFindings.{NumberedSteps, named_in, steps_in_finding, steps_in_part, has_steps}
 use Rattle.tfpg_check.proofs.passing.PartSteps.{part_or_none}
 use Rattle.tfpg_check.proofs.completeness.RoundSayings.{RankingSaying, RoundSaying}
@@ -116,11 +116,11 @@ module _ (basis : RoundBasis) (line : ℕ) (round : Round) (right : IsRightBy ba
     same_steps_now = ap (with_steps (basis.steps number) basis.log) (steps_are_read number finding at)
 
     -- a tree is closed where its finding is rejected,
-    pub closed_read : is_rejected finding.status ≡ true → IsClosed basis read number
+    pub closed_read : is_rejected finding.status ≡ true → IsClosedByRound basis read number
     closed_read rejected = subst (AreClosed basis number) (sym same_steps_now) (closed_where_rejected basis line round right number finding at rejected)
 
     -- and there alone
-    pub rejected_read : IsClosed basis read number → is_rejected finding.status ≡ true
+    pub rejected_read : IsClosedByRound basis read number → is_rejected finding.status ≡ true
     rejected_read closed = rejected_where_closed basis line round right number finding at (subst (AreClosed basis number) same_steps_now closed)
 
   -- ---- ranked lines
@@ -214,24 +214,24 @@ module _ (basis : RoundBasis) (line : ℕ) (round : Round) (right : IsRightBy ba
 
   -- the finding of an open line
   pub finding_of_open : (named : NamedSet) → Contains read.unsettled named
-      → (finding : Finding) × IsOfNamed (λ (f : Finding). is_open f.status) named.number (named_by named).hypothesis finding
+      → (finding : Finding) × IsOfNamed (λ (f : Finding). is_open f.status) named.number (named_hypothesis named).hypothesis finding
   finding_of_open named member =
-      named_finding (λ (f : Finding). is_open f.status) (named_by named)
-      (subst (λ (xs : List NumberedHypothesis). Contains xs (named_by named)) (ap (λ (said : RoundSaying). said.unsettled) as_said) (Contains-map named_by read.unsettled named member))
+      named_finding (λ (f : Finding). is_open f.status) (named_hypothesis named)
+      (subst (λ (xs : List NumberedHypothesis). Contains xs (named_hypothesis named)) (ap (λ (said : RoundSaying). said.unsettled) as_said) (Contains-map named_hypothesis read.unsettled named member))
 
   -- and the line of an open finding
   pub open_of_finding : (number : ℕ) (finding : Finding) → HasFindingAt round number finding → is_open finding.status ≡ true → IsOpenLine read number
   open_of_finding number finding at opened =
-      let from = Contains-map_only named_by read.unsettled (record { number = number; hypothesis = hypothesis_of finding })
+      let from = Contains-map_only named_hypothesis read.unsettled (record { number = number; hypothesis = hypothesis_of finding })
       (subst (λ (xs : List NumberedHypothesis). Contains xs (record { number = number; hypothesis = hypothesis_of finding })) (sym (ap (λ (said : RoundSaying). said.unsettled) as_said))
       (finding_named (λ (f : Finding). is_open f.status) number finding at opened)) in
       (from.0, from.1, ap (λ (n : NumberedHypothesis). n.number) from.2)
 
-  rejected_are : map named_by read.rejected ≡ map named_in (newly_rejected round)
+  rejected_are : map named_hypothesis read.rejected ≡ map named_in (newly_rejected round)
   rejected_are = ap (λ (said : RoundSaying). said.rejected) as_said
 
   -- the finding of a rejected line
-  pub finding_of_rejected : (number : ℕ) (hypothesis : Hypothesis) → Contains (map named_by read.rejected) (record { number = number; hypothesis = hypothesis })
+  pub finding_of_rejected : (number : ℕ) (hypothesis : Hypothesis) → Contains (map named_hypothesis read.rejected) (record { number = number; hypothesis = hypothesis })
       → (finding : Finding) × IsOfNamed is_rejected_now number hypothesis finding
   finding_of_rejected number hypothesis member =
       named_finding is_rejected_now (record { number = number; hypothesis = hypothesis })
@@ -239,7 +239,7 @@ module _ (basis : RoundBasis) (line : ℕ) (round : Round) (right : IsRightBy ba
 
   -- and the line of a finding that this round rejected
   pub rejected_of_finding : (number : ℕ) (finding : Finding) → HasFindingAt round number finding → is_rejected_now finding ≡ true
-      → Contains (map named_by read.rejected) (record { number = number; hypothesis = hypothesis_of finding })
+      → Contains (map named_hypothesis read.rejected) (record { number = number; hypothesis = hypothesis_of finding })
   rejected_of_finding number finding at rejected =
       subst (λ (xs : List NumberedHypothesis). Contains xs (record { number = number; hypothesis = hypothesis_of finding })) (sym rejected_are)
       (finding_named is_rejected_now number finding at rejected)

@@ -31,7 +31,7 @@ use Rattle.tfpg_report.specs.declared.read_round.RankedLine.{RankedLine}
 use Rattle.tfpg_report.specs.declared.read_round.ReadRound.{ReadRound}
 use Rattle.tfpg_report.specs.Blocks.{round_lines}
 use Rattle.tfpg_report.specs.Reading.{IsReadFrom}
-use Rattle.tfpg_check.specs.Judging.{RoundBasis, IsNumberOf, NumberedHypothesis, AreClosed, IsClosed, WasClosed, MayBeOpen, AreNewlyClosed, EachHasStatus, HasStatus, AreRightCounts, BeginsWell, HasRankedPartIn, key_read, named_by}
+use Rattle.tfpg_check.specs.Judging.{RoundBasis, IsNumberOf, NumberedHypothesis, AreClosed, IsClosedByRound, WasClosed, MayBeOpen, AreNewlyClosed, EachHasStatus, HasStatus, AreRightCounts, BeginsWell, HasRankedPartIn, key_read, named_hypothesis}
 use Rattle.tfpg_check.specs.Passing.{PartPasses, RankedPasses, RoundPasses}
 use Rattle.tfpg_check.proofs.passing.NamedFindings.{NumberedSteps, named_in, steps_in_finding, steps_in_part, has_steps}
 use Rattle.tfpg_check.proofs.passing.RightCounts.{count, four_counts}
@@ -177,7 +177,7 @@ module _ (basis : RoundBasis) (line : ℕ) (round : Round) (right : IsRightBy ba
 
   open_rise : AllPairs (λ (a b : NamedSet). a.number < b.number) read.unsettled
   open_rise =
-      AllPairs-unmap (λ (a b : NumberedHypothesis). a.number < b.number) named_by read.unsettled
+      AllPairs-unmap (λ (a b : NumberedHypothesis). a.number < b.number) named_hypothesis read.unsettled
       (subst (AllPairs (λ (a b : NumberedHypothesis). a.number < b.number)) (sym (ap (λ (said : RoundSaying). said.unsettled) as_said)) (names_rise (λ (f : Finding). is_open f.status)))
 
   open_passes : (index : ℕ) (named : NamedSet) → slice_get read.unsettled index ≡ Some named → MayBeOpen basis read (take index read.unsettled) named
@@ -200,8 +200,8 @@ module _ (basis : RoundBasis) (line : ℕ) (round : Round) (right : IsRightBy ba
 
   -- ---- rejected ones
 
-  newly_closed : (number : ℕ) (hypothesis : Hypothesis) → Contains (map named_by read.rejected) (record { number = number; hypothesis = hypothesis })
-      → IsNumberOf basis number hypothesis × IsClosed basis read number × (WasClosed basis number → ⊥)
+  newly_closed : (number : ℕ) (hypothesis : Hypothesis) → Contains (map named_hypothesis read.rejected) (record { number = number; hypothesis = hypothesis })
+      → IsNumberOf basis number hypothesis × IsClosedByRound basis read number × (WasClosed basis number → ⊥)
   newly_closed number hypothesis member =
       let own = finding_of_rejected basis line round right read as_said number hypothesis member in
       let both = and_parts (is_rejected own.0.status) (has_steps own.0) own.1.passes in (
@@ -210,12 +210,12 @@ module _ (basis : RoundBasis) (line : ℕ) (round : Round) (right : IsRightBy ba
         λ closed. steps_there own.0 both.1 (no_steps_after basis line round right number own.0 own.1.at closed),
       )
 
-  named_where_closed : (number : ℕ) (hypothesis : Hypothesis) → IsNumberOf basis number hypothesis → IsClosed basis read number → (WasClosed basis number → ⊥)
-      → Contains (map named_by read.rejected) (record { number = number; hypothesis = hypothesis })
+  named_where_closed : (number : ℕ) (hypothesis : Hypothesis) → IsNumberOf basis number hypothesis → IsClosedByRound basis read number → (WasClosed basis number → ⊥)
+      → Contains (map named_hypothesis read.rejected) (record { number = number; hypothesis = hypothesis })
   named_where_closed number hypothesis listed closed not_before =
       let own = finding_for basis line round right number hypothesis listed in
       let rejected = rejected_read basis line round right read as_said number own.0 own.1 closed in
-      subst (λ (h : Hypothesis). Contains (map named_by read.rejected) (record { number = number; hypothesis = h })) own.2
+      subst (λ (h : Hypothesis). Contains (map named_hypothesis read.rejected) (record { number = number; hypothesis = h })) own.2
       (rejected_of_finding basis line round right read as_said number own.0 own.1
       (and_from (is_rejected own.0.status) (has_steps own.0) rejected (some own.0 own.1 (has_steps own.0) refl)))
     where
@@ -227,7 +227,7 @@ module _ (basis : RoundBasis) (line : ℕ) (round : Round) (right : IsRightBy ba
           (ap (with_steps (basis.steps number) basis.log) (steps_are_read basis line round right read as_said number finding at ∙ no_steps finding.steps is) ∙ append-nil (basis.steps number))
           closed))
 
-  rejected_passes : AreNewlyClosed basis read (map named_by read.rejected)
+  rejected_passes : AreNewlyClosed basis read (map named_hypothesis read.rejected)
   rejected_passes = record {
     rising = subst (AllPairs (λ (a b : NumberedHypothesis). a.number < b.number)) (sym (ap (λ (said : RoundSaying). said.rejected) as_said)) (names_rise is_rejected_now);
     exact = λ number hypothesis. (newly_closed number hypothesis, λ is. named_where_closed number hypothesis is.0 is.1 is.2);
@@ -263,7 +263,7 @@ module _ (basis : RoundBasis) (line : ℕ) (round : Round) (right : IsRightBy ba
       sym (length-map read.ranked ranking_read) ∙ ap (λ (said : RoundSaying). length said.ranked) as_said ∙ length-map (ranked_in_order round) ranking_of
       ∙ count_ordered basis line round right in
       let opened : length read.unsettled ≡ count is_open round.findings =
-      sym (length-map read.unsettled named_by) ∙ ap (λ (said : RoundSaying). length said.unsettled) as_said ∙ length-map (open_in round) named_in
+      sym (length-map read.unsettled named_hypothesis) ∙ ap (λ (said : RoundSaying). length said.unsettled) as_said ∙ length-map (open_in round) named_in
       ∙ length-filter (λ (f : Finding). is_open f.status) round.findings in
       record {
         ranked = ap (λ (c : Counts). c.ranked) counts_are ∙ sym ranked;
@@ -285,13 +285,13 @@ module _ (basis : RoundBasis) (line : ℕ) (round : Round) (right : IsRightBy ba
         );
       }
     where
-      to : (number : ℕ) → Contains (map (λ (f : Finding). f.number) (filter (λ (f : Finding). is_rejected f.status) round.findings)) number → IsClosed basis read number
+      to : (number : ℕ) → Contains (map (λ (f : Finding). f.number) (filter (λ (f : Finding). is_rejected f.status) round.findings)) number → IsClosedByRound basis read number
       to number member =
           let from = Contains-map_only (λ (f : Finding). f.number) (filter (λ (f : Finding). is_rejected f.status) round.findings) number member in
           let at = Contains-filter_only (λ (f : Finding). is_rejected f.status) round.findings from.0 from.1 in
-          subst (IsClosed basis read) (sym (number_of basis line round right at.0 from.0 at.1) ∙ from.2) (closed_read basis line round right read as_said at.0 from.0 at.1 at.2)
+          subst (IsClosedByRound basis read) (sym (number_of basis line round right at.0 from.0 at.1) ∙ from.2) (closed_read basis line round right read as_said at.0 from.0 at.1 at.2)
 
-      back : (number : ℕ) → IsClosed basis read number → Contains (map (λ (f : Finding). f.number) (filter (λ (f : Finding). is_rejected f.status) round.findings)) number
+      back : (number : ℕ) → IsClosedByRound basis read number → Contains (map (λ (f : Finding). f.number) (filter (λ (f : Finding). is_rejected f.status) round.findings)) number
       back number closed =
           let own = finding_for basis line round right number closed.hypothesis closed.listed in
           subst (Contains (map (λ (f : Finding). f.number) (filter (λ (f : Finding). is_rejected f.status) round.findings))) (number_of basis line round right number own.0 own.1)

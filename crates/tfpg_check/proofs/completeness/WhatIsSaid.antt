@@ -17,7 +17,7 @@ use Rattle.tfpg_report.specs.declared.report_line.ReportLine.TheVariants.{Round,
 use Rattle.tfpg_report.specs.Blocks.{lines_if_ranked, open_line, rejected_line, round_lines}
 use Rattle.tfpg_report.specs.ReadRounds.{NumberedLine, lines_of_part, lines_of_ranked, line_of_open, line_of_rejected, hypothesis_ranked}
 use Rattle.tfpg_report.specs.Reading.{IsReadFrom}
-use Rattle.tfpg_check.specs.Judging.{key_read, named_by}
+use Rattle.tfpg_check.specs.Judging.{key_read, named_hypothesis}
 use Rattle.tfpg_check.proofs.passing.NamedFindings.{named_in, steps_in_finding, steps_in_part, has_steps}
 use Rattle.tfpg_check.proofs.passing.RightLines.{line_of_open_named, line_of_rejected_named, ranked_said, said, numbered_said, said_of_each, parts_said, with_steps_alone}
 use Rattle.tfpg_check.proofs.completeness.RoundSayings.{RankingSaying, RoundSaying, lines_of_ranking, lines_of_saying, same_saying}
@@ -37,8 +37,8 @@ saying_read read =
       now = read.now;
       parts = map steps_in_part read.parts;
       ranked = map ranking_read read.ranked;
-      unsettled = map named_by read.unsettled;
-      rejected = map named_by read.rejected;
+      unsettled = map named_hypothesis read.unsettled;
+      rejected = map named_hypothesis read.rejected;
       counts = read.counts;
     }
 
@@ -58,8 +58,8 @@ read_lines first lines read from =
     let unsettled : List NumberedLine = map line_of_open read.unsettled in
     let rejected : List NumberedLine = map line_of_rejected read.rejected in
     let counts : List NumberedLine = record { number = read.counts_line; says = Counts read.counts } ∷ [] in
-    let opened = map-map says line_of_open read.unsettled ∙ sym (map-map line_of_open_named named_by read.unsettled) in
-    let refused = map-map says line_of_rejected read.rejected ∙ sym (map-map line_of_rejected_named named_by read.rejected) in
+    let opened = map-map says line_of_open read.unsettled ∙ sym (map-map line_of_open_named named_hypothesis read.unsettled) in
+    let refused = map-map says line_of_rejected read.rejected ∙ sym (map-map line_of_rejected_named named_hypothesis read.rejected) in
     let two = map-append says parts ranked ∙ (λ i. parts_said read.parts from.each_step i ++ rankings_said read.ranked i) in
     let three = map-append says (parts ++ ranked) unsettled ∙ (λ i. two i ++ opened i) in
     let four = map-append says (parts ++ ranked ++ unsettled) rejected ∙ (λ i. three i ++ refused i) in

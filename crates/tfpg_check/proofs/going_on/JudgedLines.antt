@@ -25,7 +25,7 @@ use Rattle.tfpg_report.specs.ReportLines.{IsLineWithin}
 use Rattle.tfpg_report.specs.Blocks.{Block, RefusedBlock, block_lines}
 use Rattle.tfpg_report.specs.ReadRounds.{NumberedLine}
 use Rattle.tfpg_report.specs.Reading.{IsHead, IsReadFrom, MayCome, Completes, begun_in, is_last}
-use Rattle.tfpg_report.specs.Represents.{ReaderState, Takes}
+use Rattle.tfpg_report.specs.Represents.{ReaderState, TakesReportLine}
 use Rattle.tfpg_report.specs.Stands.{may_begin_block, stand_after_all, stand_of}
 use Rattle.tfpg_report.proofs.lemmas.block_reader.BegunLines.{begun_in_ended, begun_in_on}
 use Rattle.tfpg_check.specs.declared.cause.CheckCause.{CheckCause}
@@ -341,8 +341,8 @@ module _ (problem : DiagnosisProblem) (reads : List ReportLine) (bytes : List �
   valid_too : IsValid problem.graph
   valid_too = subst IsValid right_graph valid
 
-  taken : (completed : Fed) → Takes old.blocks.graph reads bytes reader completed → Takes problem.graph reads bytes reader completed
-  taken completed takes = subst (λ (g : Tfpg). Takes g reads bytes reader completed) right_graph takes
+  taken : (completed : Fed) → TakesReportLine old.blocks.graph reads bytes reader completed → TakesReportLine problem.graph reads bytes reader completed
+  taken completed takes = subst (λ (g : Tfpg). TakesReportLine g reads bytes reader completed) right_graph takes
 
   -- What a line that is accepted is, and what is kept then.
   goes_on : IsLineJudged reads bytes reader old.blocks new (Ok tt) → (number : ℕ) → number ≡ length reads + 1 → reader.refused ≡ None → (fault : Option JudgeFault) → fault ≡ None

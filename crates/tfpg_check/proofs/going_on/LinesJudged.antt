@@ -5,7 +5,7 @@ use Rattle.tfpg_report.specs.declared.fed.Fed.{Fed}
 use Rattle.tfpg_report.specs.declared.fed.ReadRefusal.{ReadRefusal}
 use Rattle.tfpg_report.specs.declared.fed.ReadRefusal.TheVariants.{BadReport, NoMemory}
 use Rattle.tfpg_report.specs.declared.report_line.ReportLine.{ReportLine}
-use Rattle.tfpg_report.specs.Represents.{ReaderState, Takes, NoneMayCome}
+use Rattle.tfpg_report.specs.Represents.{ReaderState, TakesReportLine, NoneMayCome}
 use Rattle.tfpg_check.specs.declared.judge_fault.JudgeFault.{JudgeFault}
 use Rattle.tfpg_check.specs.JudgeState.{BlocksState}
 use Rattle.tfpg_check.specs.inside.Faults.{fault_of_refusal}
@@ -28,6 +28,6 @@ not_read_so reads bytes graph number reader old new refusal fault result same nu
 
 -- What another line completes is judged.
 pub judged_after : (reads : List ReportLine) (bytes : List ℕ) (graph : Tfpg) (number : ℕ) (reader : ReaderState) (old new : BlocksState) (fed : Fed) (result : Result (Unit {0}) JudgeFault)
-    → graph ≡ old.graph → number ≡ length reads + 1 → Takes graph reads bytes reader fed → IsFedJudged number fed old new result → IsLineJudged reads bytes reader old new result
+    → graph ≡ old.graph → number ≡ length reads + 1 → TakesReportLine graph reads bytes reader fed → IsFedJudged number fed old new result → IsLineJudged reads bytes reader old new result
 judged_after reads bytes graph number reader old new fed result same numbered takes judged =
-    inr (fed, subst (λ (g : Tfpg). Takes g reads bytes reader fed) same takes, subst (λ (n : ℕ). IsFedJudged n fed old new result) numbered judged)
+    inr (fed, subst (λ (g : Tfpg). TakesReportLine g reads bytes reader fed) same takes, subst (λ (n : ℕ). IsFedJudged n fed old new result) numbered judged)

@@ -16,7 +16,7 @@ use Rattle.tfpg_report.specs.declared.report_line.ReportLine.TheVariants.{Ranked
 use Rattle.tfpg_report.specs.ReportLines.{IsLineWithin}
 use Rattle.tfpg_report.specs.ReadRounds.{NumberedLine, numbered_from, lines_of_part, lines_of_ranked, line_of_open, line_of_rejected, lines_of_round, hypothesis_ranked}
 use Rattle.tfpg_report.specs.Reading.{IsHead, IsReadFrom, begun_in}
-use Rattle.tfpg_report.specs.Represents.{ReaderState, Takes}
+use Rattle.tfpg_report.specs.Represents.{ReaderState, TakesReportLine}
 use Rattle.tfpg_report.specs.Stands.{stand_of}
 use Rattle.tfpg_report.specs.declared.stand.Stand.{Stand}
 use Rattle.tfpg_evidence.specs.declared.round.Counts.{Counts as CountsOf}
@@ -86,7 +86,7 @@ counts_come_later : (counts : CountsOf) (stand : Stand) → stand_of (Counts cou
 counts_come_later counts stand is = cc
 
 -- What a line completes after lines within their limits is of the graph, and a round comes only after a first line.
-pub fed_of_graph : (graph : Tfpg) (reads : List ReportLine) (bytes : List ℕ) (reader : ReaderState) (hypotheses : Option HypothesesState) (fed : Fed) → Takes graph reads bytes reader fed
+pub fed_of_graph : (graph : Tfpg) (reads : List ReportLine) (bytes : List ℕ) (reader : ReaderState) (hypotheses : Option HypothesesState) (fed : Fed) → TakesReportLine graph reads bytes reader fed
     → All (IsLineWithin graph) (begun_in reads) → (hypotheses ≡ None → reads ≡ []) → IsFedOf graph hypotheses fed
 fed_of_graph graph reads bytes reader hypotheses fed.More takes within begun = tt
 fed_of_graph graph reads bytes reader hypotheses (fed.Head k doubt budget) takes within begun =

@@ -4,7 +4,7 @@ use Rattle.tfpg_report.specs.declared.read_round.RankedLine.{RankedLine}
 use Rattle.tfpg_report.specs.declared.read_round.NamedSet.{NamedSet}
 use Rattle.tfpg_report.specs.declared.read_round.ReadRound.{ReadRound}
 use Rattle.tfpg_check.specs.Tests.{Passes, InTurn, HoldInTurn}
-use Rattle.tfpg_check.specs.Judging.{RoundBasis, NumberedHypothesis, MayBeOpen, AreNewlyClosed, RankedFails, OpenFails, RejectedFails, named_by}
+use Rattle.tfpg_check.specs.Judging.{RoundBasis, NumberedHypothesis, MayBeOpen, AreNewlyClosed, RankedFails, OpenFails, RejectedFails, named_hypothesis}
 use Rattle.tfpg_check.specs.Passing.{RankedPasses}
 use Rattle.tfpg_check.specs.inside.InTurn.{PassesWith}
 use Rattle.tfpg_check.proofs.judging.TestsInTurn.{owes_passes, then_passes, in_turn_passes}
@@ -23,10 +23,10 @@ module _ (basis : RoundBasis) (read : ReadRound) where
   pub all_open_pass : HoldInTurn (MayBeOpen basis read) read.unsettled → Passes (InTurn (OpenFails basis read) [] read.unsettled)
   all_open_pass each = in_turn_passes (OpenFails basis read) read.unsettled (λ index named at. open_not_fails (take index read.unsettled) named (each index named at))
 
-  pub rejected_not_fails : AreNewlyClosed basis read (map named_by read.rejected) → Passes (RejectedFails basis read)
+  pub rejected_not_fails : AreNewlyClosed basis read (map named_hypothesis read.rejected) → Passes (RejectedFails basis read)
   rejected_not_fails are line why fails =
       fails.differ.differ
       (ap (λ (xs : List NumberedHypothesis). slice_get xs fails.index)
-      (same_by_number (λ (named : NumberedHypothesis). named.number) (map named_by read.rejected) fails.closed are.rising fails.are.rising
+      (same_by_number (λ (named : NumberedHypothesis). named.number) (map named_hypothesis read.rejected) fails.closed are.rising fails.are.rising
       (λ named member. (fails.are.exact named.number named.hypothesis).1 ((are.exact named.number named.hypothesis).0 member))
       (λ named member. (are.exact named.number named.hypothesis).1 ((fails.are.exact named.number named.hypothesis).0 member))))

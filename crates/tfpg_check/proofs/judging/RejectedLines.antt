@@ -14,7 +14,7 @@ use Rattle.tfpg_report.specs.declared.read_round.Part.{Part}
 use Rattle.tfpg_report.specs.declared.read_round.ReadRound.{ReadRound}
 use Rattle.tfpg_check.specs.declared.cause.CheckCause.TheVariants as cause
 use Rattle.tfpg_check.specs.declared.round.lookup.RoundLookup.{RoundLookup}
-use Rattle.tfpg_check.specs.Judging.{RoundBasis, NumberedHypothesis, AreClosed, IsClosed, WasClosed, AreNewlyClosed, RejectedFails, named_by, steps_read}
+use Rattle.tfpg_check.specs.Judging.{RoundBasis, NumberedHypothesis, AreClosed, IsClosedByRound, WasClosed, AreNewlyClosed, RejectedFails, named_hypothesis, steps_read}
 use Rattle.tfpg_check.specs.inside.Lookups.{IsLookupOf, flag_at, is_newly_closed}
 use Rattle.tfpg_check.specs.inside.Named.{Names, line_at}
 use Rattle.tfpg_check.proofs.judging.LookupSays.{listed_in, listed_from}
@@ -46,10 +46,10 @@ one_alone false other = (λ both. absurd (false≢true both), λ is. absurd (fal
 
 -- a line that is found to be of a hypothesis names it
 names_from : (hypotheses : List Hypothesis) (number : ℕ) (hypothesis : Hypothesis) (found : Option NamedSet) → slice_get hypotheses number ≡ Some hypothesis
-    → option_map named_by found ≡ Some (record { number = number; hypothesis = hypothesis }) → Names hypotheses number found
+    → option_map named_hypothesis found ≡ Some (record { number = number; hypothesis = hypothesis }) → Names hypotheses number found
 names_from hypotheses number hypothesis None at is = absurd (none-some _ is)
 names_from hypotheses number hypothesis (Some named) at is =
-    let same = same_Some (named_by named) (record { number = number; hypothesis = hypothesis }) is in (
+    let same = same_Some (named_hypothesis named) (record { number = number; hypothesis = hypothesis }) is in (
       ap (λ (n : NumberedHypothesis). n.number) same,
       at ∙ ap (λ (n : NumberedHypothesis). Some n.hypothesis) (sym same),
     )
@@ -62,7 +62,7 @@ module _ (basis : RoundBasis) (lookup : RoundLookup) (is : IsLookupOf basis look
   rejected = lookup.read.now.rejected
 
   abbrev lines : List NumberedHypothesis
-  lines = map named_by lookup.read.now.rejected
+  lines = map named_hypothesis lookup.read.now.rejected
 
   abbrev pub closed_below : ℕ → List NumberedHypothesis
   closed_below end = passing_below (is_newly_closed lookup) lookup.table.now.hypotheses end
@@ -70,7 +70,7 @@ module _ (basis : RoundBasis) (lookup : RoundLookup) (is : IsLookupOf basis look
   abbrev closed : List NumberedHypothesis
   closed = passing_below (is_newly_closed lookup) lookup.table.now.hypotheses (length lookup.table.now.hypotheses)
 
-  newly_exactly : (number : ℕ) → IsTrue (is_newly_closed lookup number) ↔ (IsClosed basis lookup.read.now number × (WasClosed basis number → ⊥))
+  newly_exactly : (number : ℕ) → IsTrue (is_newly_closed lookup number) ↔ (IsClosedByRound basis lookup.read.now number × (WasClosed basis number → ⊥))
   newly_exactly number =
       let alone = one_alone (flag_at lookup.closed.now number) (flag_at lookup.was_closed.now number) in (
         λ newly. (let both = alone.0 newly in ((is.closed number).0 both.0, λ was. both.1 ((is.was_closed number).1 was))),
@@ -105,7 +105,7 @@ module _ (basis : RoundBasis) (lookup : RoundLookup) (is : IsLookupOf basis look
       → AreNewlyClosed basis lookup.read.now lines
   rejected_pass index end all most no_more same =
       let ends : end ≡ length hypotheses = omega (arith, all, most) in
-      subst (AreNewlyClosed basis lookup.read.now) (sym (sym (take_all index lines (omega (arith, no_more, length-map rejected named_by))) ∙ same ∙ ap closed_below ends)) are_newly
+      subst (AreNewlyClosed basis lookup.read.now) (sym (sym (take_all index lines (omega (arith, no_more, length-map rejected named_hypothesis))) ∙ same ∙ ap closed_below ends)) are_newly
 
   -- A line is not that of the hypothesis whose turn it is.
   pub rejected_differ : (index number line : ℕ) → number < length hypotheses → is_newly_closed lookup number ≡ true → take index lines ≡ closed_below number → length (closed_below number) ≡ index
@@ -126,7 +126,7 @@ module _ (basis : RoundBasis) (lookup : RoundLookup) (is : IsLookupOf basis look
         differ = record {
           same_before = same ∙ sym front;
           differ = λ equal. not_named
-              (names_from hypotheses number there.0 (slice_get rejected index) there.1 (sym (slice_get-map named_by rejected index) ∙ equal ∙ here));
+              (names_from hypotheses number there.0 (slice_get rejected index) there.1 (sym (slice_get-map named_hypothesis rejected index) ∙ equal ∙ here));
         };
         at = sym at;
         cause_is = refl;
@@ -146,8 +146,8 @@ module _ (basis : RoundBasis) (lookup : RoundLookup) (is : IsLookupOf basis look
         index = index;
         differ = record {
           same_before = same ∙ whole ∙ sym (take_all index closed (omega (arith, count)));
-          differ = λ equal. none-some (named_by there.0)
-              (sym (slice_get_past closed index (omega (arith, count))) ∙ sym equal ∙ slice_get-map named_by rejected index ∙ ap (option_map named_by) there.1);
+          differ = λ equal. none-some (named_hypothesis there.0)
+              (sym (slice_get_past closed index (omega (arith, count))) ∙ sym equal ∙ slice_get-map named_hypothesis rejected index ∙ ap (option_map named_hypothesis) there.1);
         };
         at = sym at;
         cause_is = refl;

@@ -9,14 +9,14 @@ use Rattle.tfpg_base.proofs.lists.Elements.{slice_get-there}
 use Rattle.tfpg_report.specs.declared.read_round.NamedSet.{NamedSet}
 use Rattle.tfpg_report.specs.ReadRounds.{hypothesis_named}
 use Rattle.tfpg_check.specs.declared.round.lookup.RoundLookup.{RoundLookup}
-use Rattle.tfpg_check.specs.Judging.{NumberedHypothesis, named_by}
+use Rattle.tfpg_check.specs.Judging.{NumberedHypothesis, named_hypothesis}
 use Rattle.tfpg_check.specs.inside.Lookups.{is_newly_closed}
 use Rattle.tfpg_check.specs.inside.Named.{Names}
 use Rattle.tfpg_check.proofs.judging.NewlyClosed.{passing_at, passing_below, passing_more, at_there}
 
 -- a line that names a hypothesis is of it
 named_is : (hypotheses : List Hypothesis) (number : ℕ) (hypothesis : Hypothesis) (named : NamedSet) → slice_get hypotheses number ≡ Some hypothesis → Names hypotheses number (Some named)
-    → named_by named ≡ record { number = number; hypothesis = hypothesis }
+    → named_hypothesis named ≡ record { number = number; hypothesis = hypothesis }
 named_is hypotheses number hypothesis named at names =
     let same : hypothesis_named named ≡ hypothesis = same_Some _ _ (sym names.1 ∙ at) in
     λ i. record { number = names.0 i; hypothesis = same i }
@@ -29,7 +29,7 @@ module _ (lookup : RoundLookup) where
   rejected = lookup.read.now.rejected
 
   abbrev lines : List NumberedHypothesis
-  lines = map named_by lookup.read.now.rejected
+  lines = map named_hypothesis lookup.read.now.rejected
 
   abbrev closed_below : ℕ → List NumberedHypothesis
   closed_below end = passing_below (is_newly_closed lookup) lookup.table.now.hypotheses end
@@ -42,7 +42,7 @@ module _ (lookup : RoundLookup) where
       let named : NumberedHypothesis = record { number = number; hypothesis = there.0 } in
       let line = named_there (slice_get rejected index) refl names in
       let at : slice_get lines index ≡ Some named =
-      slice_get-map named_by rejected index ∙ ap (option_map named_by) line.1 ∙ ap (λ (n : NumberedHypothesis). Some n)
+      slice_get-map named_hypothesis rejected index ∙ ap (option_map named_hypothesis) line.1 ∙ ap (λ (n : NumberedHypothesis). Some n)
       (named_is hypotheses number there.0 line.0 there.1 (subst (Names hypotheses number) line.1 names)) in
       let here : closed_below (number + 1) ≡ closed_below number ++ named ∷ [] =
       passing_more (is_newly_closed lookup) hypotheses number ∙ ap (λ (more : List NumberedHypothesis). closed_below number ++ more)

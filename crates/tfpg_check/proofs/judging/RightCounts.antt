@@ -10,7 +10,7 @@ use Rattle.tfpg_base.proofs.lists.Elements.{All-from_members, AllPairs-cons, Con
 use Rattle.tfpg_base.proofs.lists.Numbered.{item_of, number_of, length-numbers_from}
 use Rattle.tfpg_base.proofs.lists.Ordered.{Rises, AllPairs-nil, same_from_members}
 use Rattle.tfpg_check.specs.declared.round.lookup.RoundLookup.{RoundLookup}
-use Rattle.tfpg_check.specs.Judging.{RoundBasis, IsClosed, AreRightCounts}
+use Rattle.tfpg_check.specs.Judging.{RoundBasis, IsClosedByRound, AreRightCounts}
 use Rattle.tfpg_check.specs.inside.Lookups.{IsLookupOf, flag_at}
 use Rattle.tfpg_check.specs.inside.Named.{AreCountsFound}
 
@@ -47,7 +47,7 @@ module _ (basis : RoundBasis) (lookup : RoundLookup) (is : IsLookupOf basis look
   abbrev closed : List ℕ
   closed = raised lookup.closed.now
 
-  closed_exactly : (number : ℕ) → Contains closed number ↔ IsClosed basis lookup.read.now number
+  closed_exactly : (number : ℕ) → Contains closed number ↔ IsClosedByRound basis lookup.read.now number
   closed_exactly number = (
     λ member. (is.closed number).0 ((raised_exactly lookup.closed.now number).0 member),
     λ shut. (raised_exactly lookup.closed.now number).1 ((is.closed number).1 shut),

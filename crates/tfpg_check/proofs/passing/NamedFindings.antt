@@ -17,7 +17,7 @@ use Rattle.tfpg_report.specs.declared.read_round.NamedSet.{NamedSet}
 use Rattle.tfpg_report.specs.declared.read_round.Part.{Part}
 use Rattle.tfpg_report.specs.declared.read_round.ReadRound.{ReadRound}
 use Rattle.tfpg_report.specs.ReadRounds.{hypothesis_named}
-use Rattle.tfpg_check.specs.Judging.{RoundBasis, IsNumberOf, NumberedHypothesis, AreClosed, IsClosed, WasClosed, named_by, steps_read}
+use Rattle.tfpg_check.specs.Judging.{RoundBasis, IsNumberOf, NumberedHypothesis, AreClosed, IsClosedByRound, WasClosed, named_hypothesis, steps_read}
 use Rattle.tfpg_check.specs.Passing.{RoundPasses}
 use Rattle.tfpg_check.proofs.passing.ByNumber.{AllPairs-from_before, AllPairs-from_indexes, Contains-along, same_by_number}
 use Rattle.tfpg_check.proofs.passing.PartSteps.{IsPartOf, parts_rise, steps_of_part, part_or_none}
@@ -67,38 +67,38 @@ module _ (basis : RoundBasis) (line : ℕ) (read : ReadRound) (passes : RoundPas
 
   -- the open line of a number names what its finding is on
   open_same : (number : ℕ) (hypothesis : Hypothesis) → IsNumberOf basis number hypothesis → (finding : Finding) → IsReadFinding basis read number hypothesis finding
-      → (named : NamedSet) → Contains read.unsettled named → named.number ≡ number → named_by named ≡ named_in finding
+      → (named : NamedSet) → Contains read.unsettled named → named.number ≡ number → named_hypothesis named ≡ named_in finding
   open_same number hypothesis at finding is named stands numbered =
       let numbers : named.number ≡ finding.number = numbered ∙ sym is.number_is in
       let names : hypothesis_named named ≡ hypothesis_of finding = open_names basis line read passes number hypothesis at named stands numbered ∙ sym is.hypothesis_is in
       λ i. record { number = numbers i; hypothesis = names i }
 
-  open_to : (x : NumberedHypothesis) → Contains (map named_in (filter (λ (f : Finding). is_open f.status) findings)) x → Contains (map named_by read.unsettled) x
+  open_to : (x : NumberedHypothesis) → Contains (map named_in (filter (λ (f : Finding). is_open f.status) findings)) x → Contains (map named_hypothesis read.unsettled) x
   open_to x member =
       let from = Contains-map_only named_in (filter (λ (f : Finding). is_open f.status) findings) x member in
       let at = Contains-filter_only (λ (f : Finding). is_open f.status) findings from.0 from.1 in
       let own = hypothesis_there basis line read passes findings are at.0 from.0 at.1 in
       let named = (open_exactly basis line read passes at.0 own.0 own.1 from.0 own.2).0 at.2 in
-      Contains-along (map named_by read.unsettled) (named_by named.0) (named_in from.0) x (open_same at.0 own.0 own.1 from.0 own.2 named.0 named.1 named.2) from.2
-      (Contains-map named_by read.unsettled named.0 named.1)
+      Contains-along (map named_hypothesis read.unsettled) (named_hypothesis named.0) (named_in from.0) x (open_same at.0 own.0 own.1 from.0 own.2 named.0 named.1 named.2) from.2
+      (Contains-map named_hypothesis read.unsettled named.0 named.1)
 
-  open_from : (x : NumberedHypothesis) → Contains (map named_by read.unsettled) x → Contains (map named_in (filter (λ (f : Finding). is_open f.status) findings)) x
+  open_from : (x : NumberedHypothesis) → Contains (map named_hypothesis read.unsettled) x → Contains (map named_in (filter (λ (f : Finding). is_open f.status) findings)) x
   open_from x member =
-      let from = Contains-map_only named_by read.unsettled x member in
+      let from = Contains-map_only named_hypothesis read.unsettled x member in
       let listed = (open_passes basis line read passes from.0 from.1).listed in
       let found = finding_there basis line read passes findings are from.0.number (hypothesis_named from.0) listed in
       let opened = (open_exactly basis line read passes from.0.number (hypothesis_named from.0) listed found.0 found.2).1 (from.0, from.1, refl) in
-      let same : named_in found.0 ≡ named_by from.0 = λ i. record { number = found.2.number_is i; hypothesis = found.2.hypothesis_is i } in
-      Contains-along (map named_in (filter (λ (f : Finding). is_open f.status) findings)) (named_in found.0) (named_by from.0) x same from.2
+      let same : named_in found.0 ≡ named_hypothesis from.0 = λ i. record { number = found.2.number_is i; hypothesis = found.2.hypothesis_is i } in
+      Contains-along (map named_in (filter (λ (f : Finding). is_open f.status) findings)) (named_in found.0) (named_hypothesis from.0) x same from.2
       (Contains-map named_in (filter (λ (f : Finding). is_open f.status) findings) found.0 (Contains-filter (λ (f : Finding). is_open f.status) findings from.0.number found.0 found.1 opened))
 
   -- The open findings are those that the open lines name.
-  pub open_named : map named_in (filter (λ (f : Finding). is_open f.status) findings) ≡ map named_by read.unsettled
+  pub open_named : map named_in (filter (λ (f : Finding). is_open f.status) findings) ≡ map named_hypothesis read.unsettled
   open_named =
-      same_by_number (λ (n : NumberedHypothesis). n.number) (map named_in (filter (λ (f : Finding). is_open f.status) findings)) (map named_by read.unsettled)
+      same_by_number (λ (n : NumberedHypothesis). n.number) (map named_in (filter (λ (f : Finding). is_open f.status) findings)) (map named_hypothesis read.unsettled)
       (AllPairs-map (λ (a b : NumberedHypothesis). a.number < b.number) named_in (filter (λ (f : Finding). is_open f.status) findings)
       (AllPairs-filter (λ (a b : Finding). a.number < b.number) (λ (f : Finding). is_open f.status) findings findings_rise))
-      (AllPairs-map (λ (a b : NumberedHypothesis). a.number < b.number) named_by read.unsettled
+      (AllPairs-map (λ (a b : NumberedHypothesis). a.number < b.number) named_hypothesis read.unsettled
       (AllPairs-from_before (λ (a b : NamedSet). a.number < b.number) read.unsettled (λ index named at. (passes.unsettled index named at).rising)))
       open_to open_from
 
@@ -155,14 +155,14 @@ module _ (basis : RoundBasis) (line : ℕ) (read : ReadRound) (passes : RoundPas
     ]
 
     -- and one that is closed now, and was not before, has steps
-    steps_by_closing : (number : ℕ) (finding : Finding) → finding.steps ≡ steps_read read number → IsClosed basis read number → (WasClosed basis number → ⊥) → has_steps finding ≡ true
+    steps_by_closing : (number : ℕ) (finding : Finding) → finding.steps ≡ steps_read read number → IsClosedByRound basis read number → (WasClosed basis number → ⊥) → has_steps finding ≡ true
     steps_by_closing number finding steps_are closed not_before = elim (part_or_none read number) [
       | inl found ↦ some_pass finding.steps
           (subst (λ (s : List Step). 0 < length s) (sym (steps_are ∙ found.1.steps_are)) (All-contains (λ (part : Part). 0 < length part.steps) read.parts found.0 each_has found.1.stands))
       | inr none ↦ absurd (not_before (subst (AreClosed basis number) (ap (with_steps (basis.steps number) basis.log) none ∙ append-nil (basis.steps number)) closed))
     ]
 
-    rejected_to : (x : NumberedHypothesis) → Contains (map named_in (filter is_rejected_now findings)) x → Contains (map named_by read.rejected) x
+    rejected_to : (x : NumberedHypothesis) → Contains (map named_in (filter is_rejected_now findings)) x → Contains (map named_hypothesis read.rejected) x
     rejected_to x member =
         let from = Contains-map_only named_in (filter is_rejected_now findings) x member in
         let at = Contains-filter_only is_rejected_now findings from.0 from.1 in
@@ -170,10 +170,10 @@ module _ (basis : RoundBasis) (line : ℕ) (read : ReadRound) (passes : RoundPas
         let own = hypothesis_there basis line read passes findings are at.0 from.0 at.1 in
         let closed = (rejected_exactly basis line read passes at.0 own.0 own.1 from.0 own.2).0 both.0 in
         let same : record { number = at.0; hypothesis = own.0 } ≡ named_in from.0 = λ i. record { number = sym own.2.number_is i; hypothesis = sym own.2.hypothesis_is i } in
-        Contains-along (map named_by read.rejected) (record { number = at.0; hypothesis = own.0 }) (named_in from.0) x same from.2
+        Contains-along (map named_hypothesis read.rejected) (record { number = at.0; hypothesis = own.0 }) (named_in from.0) x same from.2
         ((passes.rejected.exact at.0 own.0).1 (own.1, closed, not_closed_before at.0 from.0 own.2.steps_are both.1))
 
-    rejected_from : (x : NumberedHypothesis) → Contains (map named_by read.rejected) x → Contains (map named_in (filter is_rejected_now findings)) x
+    rejected_from : (x : NumberedHypothesis) → Contains (map named_hypothesis read.rejected) x → Contains (map named_in (filter is_rejected_now findings)) x
     rejected_from x member =
         let is = (passes.rejected.exact x.number x.hypothesis).0 member in
         let found = finding_there basis line read passes findings are x.number x.hypothesis is.0 in
@@ -185,9 +185,9 @@ module _ (basis : RoundBasis) (line : ℕ) (read : ReadRound) (passes : RoundPas
         (Contains-filter is_rejected_now findings x.number found.0 found.1 (and_from (is_rejected found.0.status) (has_steps found.0) rejected some)))
 
     -- The findings that were rejected now are those that the rejected lines name.
-    pub rejected_named : map named_in (filter is_rejected_now findings) ≡ map named_by read.rejected
+    pub rejected_named : map named_in (filter is_rejected_now findings) ≡ map named_hypothesis read.rejected
     rejected_named =
-        same_by_number (λ (n : NumberedHypothesis). n.number) (map named_in (filter is_rejected_now findings)) (map named_by read.rejected)
+        same_by_number (λ (n : NumberedHypothesis). n.number) (map named_in (filter is_rejected_now findings)) (map named_hypothesis read.rejected)
         (AllPairs-map (λ (a b : NumberedHypothesis). a.number < b.number) named_in (filter is_rejected_now findings)
         (AllPairs-filter (λ (a b : Finding). a.number < b.number) is_rejected_now findings findings_rise))
         passes.rejected.rising

@@ -19,7 +19,7 @@ use Rattle.tfpg_report.specs.declared.read_round.NamedSet.{NamedSet}
 use Rattle.tfpg_report.specs.declared.read_round.RankedLine.{RankedLine}
 use Rattle.tfpg_report.specs.declared.read_round.ReadRound.{ReadRound}
 use Rattle.tfpg_report.specs.ReadRounds.{hypothesis_ranked, hypothesis_named}
-use Rattle.tfpg_check.specs.Judging.{RoundBasis, IsNumberOf, IsClosed, IsRankedLine, IsOpenLine, HasRankedPartIn, MayBeOpen, key_read}
+use Rattle.tfpg_check.specs.Judging.{RoundBasis, IsNumberOf, IsClosedByRound, IsRankedLine, IsOpenLine, HasRankedPartIn, MayBeOpen, key_read}
 use Rattle.tfpg_check.specs.Passing.{RankedPasses, RoundPasses}
 use Rattle.tfpg_check.proofs.passing.ReadFindings.{Reached, HasRead, HasRankedPartIn-from, IsReadFinding, AreReadFindings, closed_not_partial, status_read}
 
@@ -51,8 +51,8 @@ module _ (basis : RoundBasis) (line : ℕ) (read : ReadRound) (passes : RoundPas
         same_Some (hypothesis_named named) hypothesis (sym (open_passes named stands).listed ∙ ap (slice_get basis.hypotheses) numbered ∙ at)
 
     -- a ranked one is not closed,
-    ranked_not_closed : IsRankedLine read number → IsClosed basis read number → ⊥
-    ranked_not_closed ranked closed = (ranked_passes ranked.0 ranked.1).may.not_closed (subst (IsClosed basis read) (sym ranked.2) closed)
+    ranked_not_closed : IsRankedLine read number → IsClosedByRound basis read number → ⊥
+    ranked_not_closed ranked closed = (ranked_passes ranked.0 ranked.1).may.not_closed (subst (IsClosedByRound basis read) (sym ranked.2) closed)
 
     -- and has no ranked proper part
     pub ranked_alone : IsRankedLine read number → HasRankedPartIn basis read hypothesis → ⊥
@@ -60,8 +60,8 @@ module _ (basis : RoundBasis) (line : ℕ) (read : ReadRound) (passes : RoundPas
         (ranked_passes ranked.0 ranked.1).may.no_part (subst (HasRankedPartIn basis read) (sym (ranked_names ranked.0 ranked.1 ranked.2)) part)
 
     -- nor is an open one closed,
-    open_not_closed : IsOpenLine read number → IsClosed basis read number → ⊥
-    open_not_closed unsettled closed = (open_passes unsettled.0 unsettled.1).not_closed (subst (IsClosed basis read) (sym unsettled.2) closed)
+    open_not_closed : IsOpenLine read number → IsClosedByRound basis read number → ⊥
+    open_not_closed unsettled closed = (open_passes unsettled.0 unsettled.1).not_closed (subst (IsClosedByRound basis read) (sym unsettled.2) closed)
 
     -- ranked,
     open_not_ranked : IsOpenLine read number → IsRankedLine read number → ⊥
@@ -79,20 +79,20 @@ module _ (basis : RoundBasis) (line : ℕ) (read : ReadRound) (passes : RoundPas
       Own = record { number = number; hypothesis = hypothesis; reach = is.reach }
 
       -- a refutation closes its tree
-      closed_by : (status : Status) → HasRead basis read Own status → is_rejected status ≡ true → IsClosed basis read number
+      closed_by : (status : Status) → HasRead basis read Own status → is_rejected status ≡ true → IsClosedByRound basis read number
       closed_by Rejected has rejected = record { hypothesis = hypothesis; listed = at; reach = is.reach; reach_is = is.reach_is; refutation = has }
       closed_by (Ranked trace cost alarmed monitored) has rejected = cc
       closed_by (Covered by) has rejected = cc
       closed_by Open has rejected = cc
 
-      rejected_by : (status : Status) → HasRead basis read Own status → IsClosed basis read number → is_rejected status ≡ true
+      rejected_by : (status : Status) → HasRead basis read Own status → IsClosedByRound basis read number → is_rejected status ≡ true
       rejected_by Rejected has closed = refl
       rejected_by (Ranked trace cost alarmed monitored) has closed = absurd (closed_not_partial basis read Own at is.reach_is closed has.0)
       rejected_by (Covered by) has closed = absurd (closed_not_partial basis read Own at is.reach_is closed has.0)
       rejected_by Open has closed = absurd (closed_not_partial basis read Own at is.reach_is closed has.0)
 
       -- It rejects exactly where the tree is closed.
-      pub rejected_exactly : (is_rejected finding.status ≡ true → IsClosed basis read number) × (IsClosed basis read number → is_rejected finding.status ≡ true)
+      pub rejected_exactly : (is_rejected finding.status ≡ true → IsClosedByRound basis read number) × (IsClosedByRound basis read number → is_rejected finding.status ≡ true)
       rejected_exactly = (closed_by finding.status is.has, rejected_by finding.status is.has)
 
       line_by : (status : Status) → HasRead basis read Own status → is_ranked status ≡ true → IsRankedLine read number

@@ -17,7 +17,7 @@ use Rattle.tfpg_clause.proofs.trees.LedPaths.{no_partial}
 use Rattle.tfpg_hyp.specs.Views.{IsReachOf, case_for}
 use Rattle.tfpg_report.specs.declared.read_round.RankedLine.{RankedLine}
 use Rattle.tfpg_report.specs.declared.read_round.ReadRound.{ReadRound}
-use Rattle.tfpg_check.specs.Judging.{RoundBasis, IsNumberOf, IsClosed, IsRankedLine, IsOpenLine, HasRankedPartIn, HasStatus, steps_read}
+use Rattle.tfpg_check.specs.Judging.{RoundBasis, IsNumberOf, IsClosedByRound, IsRankedLine, IsOpenLine, HasRankedPartIn, HasStatus, steps_read}
 use Rattle.tfpg_check.specs.Passing.{RoundPasses}
 use Rattle.tfpg_check.proofs.passing.DecidedParts.{part_decided}
 use Rattle.tfpg_check.proofs.passing.EachReach.{reach_there}
@@ -133,7 +133,7 @@ AreReadFindings basis read findings = AreOneForEach (IsReadFinding basis read) b
 
 -- a closed tree is no partial one
 pub closed_not_partial : (basis : RoundBasis) (read : ReadRound) (own : Reached) → IsNumberOf basis own.number own.hypothesis → IsReachOf basis.graph own.hypothesis own.reach
-    → IsClosed basis read own.number → IsPartialNow basis read own → ⊥
+    → IsClosedByRound basis read own.number → IsPartialNow basis read own → ⊥
 closed_not_partial basis read own at reach_is closed partial =
     let same : closed.hypothesis ≡ own.hypothesis = same_Some closed.hypothesis own.hypothesis (sym closed.listed ∙ at) in
     let same_reach : closed.reach ≡ own.reach =

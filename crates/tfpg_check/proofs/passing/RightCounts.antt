@@ -17,7 +17,7 @@ use Rattle.tfpg_evidence.specs.RoundOf.{is_ranked, is_covered, is_rejected, is_o
 use Rattle.tfpg_hyp.specs.Rounds.{counts_of}
 use Rattle.tfpg_report.specs.declared.read_round.RankedLine.{RankedLine}
 use Rattle.tfpg_report.specs.declared.read_round.ReadRound.{ReadRound}
-use Rattle.tfpg_check.specs.Judging.{RoundBasis, named_by}
+use Rattle.tfpg_check.specs.Judging.{RoundBasis, named_hypothesis}
 use Rattle.tfpg_check.specs.Passing.{RoundPasses}
 use Rattle.tfpg_check.proofs.passing.ByNumber.{AllPairs-from_indexes, Contains-along}
 use Rattle.tfpg_check.proofs.passing.ReadFindings.{AreReadFindings}
@@ -104,7 +104,7 @@ module _ (basis : RoundBasis) (line : ℕ) (read : ReadRound) (passes : RoundPas
   count_open : count is_open findings ≡ length read.unsettled
   count_open =
       sym (length-filter (λ (f : Finding). is_open f.status) findings) ∙ sym (length-map (filter (λ (f : Finding). is_open f.status) findings) named_in)
-      ∙ ap length (open_named basis line read passes findings are) ∙ length-map read.unsettled named_by
+      ∙ ap length (open_named basis line read passes findings are) ∙ length-map read.unsettled named_hypothesis
 
   -- ---- rejected ones
 

@@ -20,7 +20,7 @@ use Rattle.tfpg_report.specs.declared.report_line.ReportLine.{ReportLine}
 use Rattle.tfpg_report.specs.declared.report_line.ReportLine.TheVariants.{Round, Hyp, Ranked, At, Open, Rejected, Counts}
 use Rattle.tfpg_report.specs.Blocks.{lines_of_finding, lines_if_ranked, open_line, rejected_line, round_lines}
 use Rattle.tfpg_report.specs.ReadRounds.{NumberedLine, numbered_from, step_lines, lines_of_steps, lines_of_part, lines_of_ranked, line_of_open, line_of_rejected, lines_of_round, HasLineForEachStep, hypothesis_ranked}
-use Rattle.tfpg_check.specs.Judging.{RoundBasis, NumberedHypothesis, named_by}
+use Rattle.tfpg_check.specs.Judging.{RoundBasis, NumberedHypothesis, named_hypothesis}
 use Rattle.tfpg_check.specs.Passing.{RoundPasses}
 use Rattle.tfpg_check.proofs.passing.ReadFindings.{AreReadFindings}
 use Rattle.tfpg_check.proofs.passing.OneStatus.{hypothesis_there, ranked_finding}
@@ -116,7 +116,7 @@ module _ (basis : RoundBasis) (line : ℕ) (read : ReadRound) (passes : RoundPas
   open_are : said (map line_of_open read.unsettled) ≡ map open_line (filter (λ (f : Finding). is_open f.status) findings)
   open_are =
       map-map (λ (l : NumberedLine). l.says) line_of_open read.unsettled
-      ∙ sym (map-map line_of_open_named named_by read.unsettled)
+      ∙ sym (map-map line_of_open_named named_hypothesis read.unsettled)
       ∙ sym (ap (map line_of_open_named) (open_named basis line read passes findings are))
       ∙ map-map line_of_open_named named_in (filter (λ (f : Finding). is_open f.status) findings)
 
@@ -130,7 +130,7 @@ module _ (basis : RoundBasis) (line : ℕ) (read : ReadRound) (passes : RoundPas
     rejected_are : said (map line_of_rejected read.rejected) ≡ map rejected_line (filter is_rejected_now findings)
     rejected_are =
         map-map (λ (l : NumberedLine). l.says) line_of_rejected read.rejected
-        ∙ sym (map-map line_of_rejected_named named_by read.rejected)
+        ∙ sym (map-map line_of_rejected_named named_hypothesis read.rejected)
         ∙ sym (ap (map line_of_rejected_named) (rejected_named basis line read passes findings are each_has))
         ∙ map-map line_of_rejected_named named_in (filter is_rejected_now findings)
 

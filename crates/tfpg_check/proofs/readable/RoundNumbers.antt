@@ -44,7 +44,7 @@ use Rattle.tfpg_hyp.specs.Views.{case_for, log_for}
 use Rattle.tfpg_hyp.proofs.FindingsOfRound.{evidence, steps_so_far-push}
 use Rattle.tfpg_report.specs.declared.report_line.ReportLine.{ReportLine}
 use Rattle.tfpg_report.specs.declared.report_line.ReportLine.TheVariants.{Hyp, Split, Cycle, Why, Again, Ranked, At, Counts}
-use Rattle.tfpg_report.specs.ReportLines.{AreCountsWithin, IsSmall}
+use Rattle.tfpg_report.specs.ReportLines.{AreCountsWithin, Has32Bits}
 use Rattle.tfpg_report.specs.Blocks.{lines_of_finding, lines_if_ranked, open_line, rejected_line, round_lines}
 use Rattle.tfpg_report.specs.ReadRounds.{step_lines}
 use Rattle.tfpg_check.specs.Report.{HasReports}
@@ -90,7 +90,7 @@ module _ (graph : Tfpg) (valid : IsValid graph) where
       by None = omega arith
       by (Some node) = of_node node (slice_get graph.nodes node) refl
 
-  cost_small : (hypothesis : Hypothesis) → HasFewMembers hypothesis → IsSmall (cost_of graph hypothesis)
+  cost_small : (hypothesis : Hypothesis) → HasFewMembers hypothesis → Has32Bits (cost_of graph hypothesis)
   cost_small hypothesis few = omega (arith, few, sum_by-le (rarity_at graph) MAX_RARITY hypothesis.set (λ k d within. rarity_small (get_or hypothesis.set k d)))
 
   -- a set reaches nodes of the graph alone
@@ -116,14 +116,14 @@ module _ (graph : Tfpg) (valid : IsValid graph) where
       }
 
   robust_small : (log : Logbook) (set reach doubts : List ℕ) → IsReach graph set reach
-      → IsSmall (robustness_of graph log reach doubts).alarmed × IsSmall (robustness_of graph log reach doubts).monitored
+      → Has32Bits (robustness_of graph log reach doubts).alarmed × Has32Bits (robustness_of graph log reach doubts).monitored
   robust_small log set reach doubts is =
       let few = reach_few set reach is in
       let believed = count_by-le-length (is_believed graph doubts) reach in
       let alarmed = count_by-le-length (λ (node : ℕ). is_some (alarm_of log node)) (filter (is_believed graph doubts) reach) in
       let filtered = length-filter (is_believed graph doubts) reach in
       cond_both (eqb (believed_in graph reach doubts) 0) (record { alarmed = 1; monitored = 1 }) (record { alarmed = alarmed_in graph log reach doubts; monitored = believed_in graph reach doubts })
-      (λ (fraction : Fraction). IsSmall fraction.alarmed × IsSmall fraction.monitored) (λ _. (omega arith, omega arith))
+      (λ (fraction : Fraction). Has32Bits fraction.alarmed × Has32Bits fraction.monitored) (λ _. (omega arith, omega arith))
       (λ _. (omega (arith, alarmed, filtered, believed, few), omega (arith, believed, few)))
 
 -- ---- a round
@@ -159,16 +159,16 @@ module _ (graph : Tfpg) (valid : IsValid graph) (terms : Terms) (has_reports : H
         })
 
     -- the lines of a finding, if it is ranked
-    ranked_small : (finding : Finding) (hypothesis : Hypothesis) (reach : List ℕ) (steps : List Judged) (s : Status) → IsSmall finding.number → HasFewMembers (hypothesis_of finding)
+    ranked_small : (finding : Finding) (hypothesis : Hypothesis) (reach : List ℕ) (steps : List Judged) (s : Status) → Has32Bits finding.number → HasFewMembers (hypothesis_of finding)
         → IsReach graph hypothesis.set reach → HasEvidence (case_for graph log hypothesis reach) terms.budget round.findings steps finding s → AreSmall (lines_if_ranked finding s)
     ranked_small finding hypothesis reach steps (status.Ranked trace cost alarmed monitored) small few reached own =
         let robust = robust_small graph valid (log_for log hypothesis) hypothesis.set reach finding.doubts reached in
         let now = now_within log within in
         All-cons HasSmallNumbers (Ranked finding.number cost alarmed monitored (hypothesis_of finding)) (map At trace) (
           small,
-          subst IsSmall (sym own.3) (cost_small graph valid (hypothesis_of finding) few),
-          subst IsSmall (ap (λ (f : Fraction). f.alarmed) own.4) robust.0,
-          subst IsSmall (ap (λ (f : Fraction). f.monitored) own.4) robust.1,
+          subst Has32Bits (sym own.3) (cost_small graph valid (hypothesis_of finding) few),
+          subst Has32Bits (ap (λ (f : Fraction). f.alarmed) own.4) robust.0,
+          subst Has32Bits (ap (λ (f : Fraction). f.monitored) own.4) robust.1,
           few,
         )
         (All-map HasSmallNumbers At trace
@@ -179,7 +179,7 @@ module _ (graph : Tfpg) (valid : IsValid graph) (terms : Terms) (has_reports : H
 
     -- What a finding says has small numbers.
     record IsSmallFinding (finding : Finding) : Type 0 where
-      number : IsSmall finding.number
+      number : Has32Bits finding.number
       members : HasFewMembers (hypothesis_of finding)
       steps : All HasSmallStep finding.steps
       ranked : AreSmall (lines_if_ranked finding finding.status)
@@ -190,7 +190,7 @@ module _ (graph : Tfpg) (valid : IsValid graph) (terms : Terms) (has_reports : H
           let own = evidence is_round number finding at in
           let numbered = own.2.number_is in
           let few = hypotheses_few in
-          let small : IsSmall finding.number = omega (arith, numbered, few, slice_get_within round.findings number finding at) in
+          let small : Has32Bits finding.number = omega (arith, numbered, few, slice_get_within round.findings number finding at) in
           let case = case_for graph log own.0 own.2.reach in
           let seen : IsWithin case.log = record { few = within.few; in_range = within.in_range } in
           record {

@@ -11,22 +11,22 @@ use Rattle.tfpg_evidence.specs.declared.reason.Reason.TheVariants.{Zero, Top, Un
 use Rattle.tfpg_clause.specs.Order.{horizon_of, span_of}
 use Rattle.tfpg_report.specs.declared.report_line.ReportLine.{ReportLine}
 use Rattle.tfpg_report.specs.declared.report_line.ReportLine.TheVariants.{Head, OldHead, Refused, Round, Hyp, Split, Cycle, Why, Again, Ranked, At, Open, Rejected, Counts, Panel}
-use Rattle.tfpg_report.specs.ReportLines.{AreCountsWithin, IsCauseWithin, IsLineWithin, IsNameWithin, IsReasonWithin, IsSmall}
+use Rattle.tfpg_report.specs.ReportLines.{AreCountsWithin, IsCauseWithin, IsLineWithin, IsNameWithin, IsReasonWithin, Has32Bits}
 use Rattle.tfpg_check.proofs.completeness.NamedLines.{NamesOfGraph}
 
 -- The span and the horizon of a clause are within their limits.
 abbrev pub HasSmallName : ClauseName → Type 0
-HasSmallName name = IsSmall (span_of name) × (horizon_of name ≤ MAX_TIME)
+HasSmallName name = Has32Bits (span_of name) × (horizon_of name ≤ MAX_TIME)
 
 -- The numbers of a reason are within their limits.
 abbrev pub HasSmallReason : Reason → Type 0
 HasSmallReason (Zero node) = Unit {0}
 HasSmallReason (Top node) = Unit {0}
 HasSmallReason (Unreached node horizon) = horizon ≤ MAX_TIME
-HasSmallReason (From event) = IsSmall event
-HasSmallReason (Upto event) = IsSmall event
-HasSmallReason (Quiet event node) = IsSmall event
-HasSmallReason (Pick split constraint) = (split ≤ MAX_LINE_NUMBER) × IsSmall constraint
+HasSmallReason (From event) = Has32Bits event
+HasSmallReason (Upto event) = Has32Bits event
+HasSmallReason (Quiet event node) = Has32Bits event
+HasSmallReason (Pick split constraint) = (split ≤ MAX_LINE_NUMBER) × Has32Bits constraint
 
 -- A hypothesis has few members.
 abbrev pub HasFewMembers : Hypothesis → Type 0
@@ -37,17 +37,17 @@ abbrev pub HasSmallNumbers : ReportLine → Type 0
 HasSmallNumbers (Head terms) = AreReportTerms terms
 HasSmallNumbers (OldHead k budget) = AreReportTerms (record { k = k; doubt = 0; budget = budget })
 HasSmallNumbers (Refused line cause) = (line ≤ MAX_LINE_NUMBER) × IsCauseWithin cause
-HasSmallNumbers (Round number line now) = IsSmall number × (line ≤ MAX_LINE_NUMBER) × (now ≤ MAX_TIME)
-HasSmallNumbers (Hyp number) = IsSmall number
+HasSmallNumbers (Round number line now) = Has32Bits number × (line ≤ MAX_LINE_NUMBER) × (now ≤ MAX_TIME)
+HasSmallNumbers (Hyp number) = Has32Bits number
 HasSmallNumbers (Split name) = HasSmallName name
-HasSmallNumbers (Cycle count) = IsSmall count
+HasSmallNumbers (Cycle count) = Has32Bits count
 HasSmallNumbers (Why reason) = HasSmallReason reason
 HasSmallNumbers Again = Unit {0}
 HasSmallNumbers (Ranked number cost alarmed monitored hypothesis) =
-    IsSmall number × IsSmall cost × IsSmall alarmed × IsSmall monitored × HasFewMembers hypothesis
+    Has32Bits number × Has32Bits cost × Has32Bits alarmed × Has32Bits monitored × HasFewMembers hypothesis
 HasSmallNumbers (At activation) = activation.time ≤ MAX_TIME
-HasSmallNumbers (Open number hypothesis) = IsSmall number × HasFewMembers hypothesis
-HasSmallNumbers (Rejected number hypothesis) = IsSmall number × HasFewMembers hypothesis
+HasSmallNumbers (Open number hypothesis) = Has32Bits number × HasFewMembers hypothesis
+HasSmallNumbers (Rejected number hypothesis) = Has32Bits number × HasFewMembers hypothesis
 HasSmallNumbers (Counts counts) = AreCountsWithin counts
 HasSmallNumbers (Panel panel memory) = panel ≤ MAX_PANEL_NUMBER
 

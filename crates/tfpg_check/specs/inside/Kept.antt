@@ -7,7 +7,7 @@ use Rattle.tfpg_kernel.specs.Represents.{CheckerRepresents}
 use Rattle.tfpg_report.specs.declared.read_round.ReadRound.{ReadRound}
 use Rattle.tfpg_check.specs.declared.cause.CheckCause.TheVariants as cause
 use Rattle.tfpg_check.specs.Tests.{Fails, Owes, Then, InTurn, HoldInTurn}
-use Rattle.tfpg_check.specs.Judging.{RoundBasis, WasClosed, RankedFails, OpenFails, RejectedFails, MayBeOpen, AreNewlyClosed, EachHasStatus, AreRightCounts, named_by}
+use Rattle.tfpg_check.specs.Judging.{RoundBasis, WasClosed, RankedFails, OpenFails, RejectedFails, MayBeOpen, AreNewlyClosed, EachHasStatus, AreRightCounts, named_hypothesis}
 use Rattle.tfpg_check.specs.Passing.{RankedPasses}
 use Rattle.tfpg_check.specs.inside.Lookups.{flag_at}
 
@@ -28,7 +28,7 @@ AreFlagsBefore basis flags = (number : ℕ) → IsTrue (flag_at flags number) �
 pub record PassesRest (basis : RoundBasis) (read : ReadRound) : Type 0 where
   pub ranked : HoldInTurn (RankedPasses basis read) read.ranked
   pub unsettled : HoldInTurn (MayBeOpen basis read) read.unsettled
-  pub rejected : AreNewlyClosed basis read (map named_by read.rejected)
+  pub rejected : AreNewlyClosed basis read (map named_hypothesis read.rejected)
   pub statuses : EachHasStatus basis read
   pub counts : AreRightCounts basis read
 

@@ -5,7 +5,7 @@ use Rattle.tfpg_report.specs.declared.fed.Fed.{Fed}
 use Rattle.tfpg_report.specs.declared.report_line.ReportLine.{ReportLine}
 use Rattle.tfpg_report.specs.ReportLines.{IsLineWithin}
 use Rattle.tfpg_report.specs.Reading.{begun_in}
-use Rattle.tfpg_report.specs.Represents.{ReaderState, ReaderRepresents, Takes, NoneMayCome}
+use Rattle.tfpg_report.specs.Represents.{ReaderState, ReaderRepresents, TakesReportLine, NoneMayCome}
 use Rattle.tfpg_check.specs.declared.cause.CheckCause.TheVariants as cause
 use Rattle.tfpg_check.specs.declared.judge_fault.JudgeFault.{JudgeFault}
 use Rattle.tfpg_check.specs.declared.judge_fault.JudgeFault.TheVariants.{NotAccepted, TooMany, NoMemory}
@@ -39,4 +39,4 @@ IsNotRead graph reads bytes (Err NoMemory) = Unit {0}
 abbrev pub IsLineJudged : List ReportLine → List ℕ → ReaderState → BlocksState → BlocksState → Result (Unit {0}) JudgeFault → Type 0
 IsLineJudged reads bytes reader old new result =
     IsNotRead old.graph reads bytes result
-    ⊎ ((fed : Fed) × Takes old.graph reads bytes reader fed × IsFedJudged (length reads + 1) fed old new result)
+    ⊎ ((fed : Fed) × TakesReportLine old.graph reads bytes reader fed × IsFedJudged (length reads + 1) fed old new result)

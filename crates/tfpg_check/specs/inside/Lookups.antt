@@ -4,7 +4,7 @@ use Rattle.tfpg_base.specs.Hypothesis.{Hypothesis}
 use Rattle.tfpg_hyp.specs.Hypotheses.{IsTableOf}
 use Rattle.tfpg_report.specs.declared.read_round.Part.{Part}
 use Rattle.tfpg_check.specs.declared.round.lookup.RoundLookup.{RoundLookup}
-use Rattle.tfpg_check.specs.Judging.{RoundBasis, WasClosed, IsClosed, IsRankedLine, IsOpenLine, HasRankedPartIn}
+use Rattle.tfpg_check.specs.Judging.{RoundBasis, WasClosed, IsClosedByRound, IsRankedLine, IsOpenLine, HasRankedPartIn}
 
 -- the flag of a number, which is down past the end
 abbrev pub flag_at : List Bool → ℕ → Bool
@@ -31,7 +31,7 @@ pub record IsLookupOf (basis : RoundBasis) (lookup : RoundLookup) : Type 0 where
   pub table : IsTableOf basis.graph basis.terms lookup.table.now
   pub hypotheses : basis.hypotheses ≡ lookup.table.now.hypotheses
   pub was_closed : (number : ℕ) → IsTrue (flag_at lookup.was_closed.now number) ↔ WasClosed basis number
-  pub closed : (number : ℕ) → IsTrue (flag_at lookup.closed.now number) ↔ IsClosed basis lookup.read.now number
+  pub closed : (number : ℕ) → IsTrue (flag_at lookup.closed.now number) ↔ IsClosedByRound basis lookup.read.now number
   pub ranked : (number : ℕ) → number < length basis.hypotheses
       → IsTrue (flag_at lookup.ranked.now number) ↔ IsRankedLine lookup.read.now number
   pub part_ranked : (number : ℕ) (hypothesis : Hypothesis) → slice_get basis.hypotheses number ≡ Some hypothesis

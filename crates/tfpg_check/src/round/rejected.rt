@@ -2,7 +2,7 @@
 
 ghost use Rattle.std.specs.Prelude.{◌≡◌, ◌↔◌, ◌<◌, ℕ, [], length, map, MatchResult, IsTrue, slice_get};
 ghost use Rattle.tfpg_check.specs.declared.cause.CheckCause.TheVariants as cause;
-ghost use Rattle.tfpg_check.specs.Judging.{RoundBasis, AreNewlyClosed, RejectedFails, named_by};
+ghost use Rattle.tfpg_check.specs.Judging.{RoundBasis, AreNewlyClosed, RejectedFails, named_hypothesis};
 ghost use Rattle.tfpg_check.specs.inside.InTurn.{IsFailure};
 ghost use Rattle.tfpg_check.specs.inside.Lookups.{IsLookupOf};
 ghost use Rattle.tfpg_check.specs.inside.Named.{line_at, Names};
@@ -17,7 +17,7 @@ use tfpg_report::ReadRound;
 pub(crate) fn judge_rejected(lookup: &RoundLookup<'_>) -> Result<(), FailedTest>
     ensures { (basis : RoundBasis) → IsLookupOf basis lookup.now →
         MatchResult result
-        (λ _. AreNewlyClosed basis lookup.now.read.now (map named_by lookup.now.read.now.rejected))
+        (λ _. AreNewlyClosed basis lookup.now.read.now (map named_hypothesis lookup.now.read.now.rejected))
         (IsFailure (RejectedFails basis lookup.now.read.now)) }
 {
     if lookup.read.parts.as_slice().is_empty() {
@@ -31,7 +31,7 @@ fn judge_none_rejected(lookup: &RoundLookup<'_>) -> Result<(), FailedTest>
     requires { lookup.now.read.now.parts ≡ [] }
     ensures { (basis : RoundBasis) → IsLookupOf basis lookup.now →
         MatchResult result
-        (λ _. AreNewlyClosed basis lookup.now.read.now (map named_by lookup.now.read.now.rejected))
+        (λ _. AreNewlyClosed basis lookup.now.read.now (map named_hypothesis lookup.now.read.now.rejected))
         (IsFailure (RejectedFails basis lookup.now.read.now)) }
 {
     if lookup.read.rejected.as_slice().is_empty() {
@@ -44,7 +44,7 @@ fn judge_none_rejected(lookup: &RoundLookup<'_>) -> Result<(), FailedTest>
 fn judge_each_rejected(lookup: &RoundLookup<'_>) -> Result<(), FailedTest>
     ensures { (basis : RoundBasis) → IsLookupOf basis lookup.now →
         MatchResult result
-        (λ _. AreNewlyClosed basis lookup.now.read.now (map named_by lookup.now.read.now.rejected))
+        (λ _. AreNewlyClosed basis lookup.now.read.now (map named_hypothesis lookup.now.read.now.rejected))
         (IsFailure (RejectedFails basis lookup.now.read.now)) }
 {
     let mut index = 0;

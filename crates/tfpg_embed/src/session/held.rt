@@ -5,7 +5,7 @@ ghost use Rattle.tfpg_embed.specs.Holding.{coded_session, owns_session};
 ghost use Rattle.tfpg_embed.specs.declared.session.open_session.OpenSession.{OpenSession};
 
 use super::open_session::OpenSession;
-use super::parts::Parts;
+use super::parts::BoxParts;
 use std::alloc::Global;
 use std::marker::Model;
 use std::ptr;
@@ -41,7 +41,7 @@ impl Held {
     pub(super) fn of(session: Box<OpenSession>) -> Held
         ensures { result.session ≡ Some session.value }
     {
-        Held::of_parts(Parts::of(session))
+        Held::of_parts(BoxParts::of(session))
     }
 
     /// The session that it holds.
@@ -62,10 +62,10 @@ impl Held {
     }
 
     /// Holds the session of these parts.
-    fn of_parts(parts: Parts<OpenSession, Global>) -> Held
+    fn of_parts(parts: BoxParts<OpenSession, Global>) -> Held
         ensures { result.session ≡ Some parts.value }
     {
-        let Parts { at, alloc } = parts;
+        let BoxParts { at, alloc } = parts;
         Held {
             at: at as *mut u8,
             alloc,
@@ -73,12 +73,12 @@ impl Held {
     }
 
     /// The parts of the session that it holds.
-    fn into_parts(self) -> Parts<OpenSession, Global>
+    fn into_parts(self) -> BoxParts<OpenSession, Global>
         requires { IsSome self.session }
         ensures { self.session ≡ Some result.value }
     {
         let Held { at, alloc } = self;
-        Parts {
+        BoxParts {
             at: at as *mut OpenSession,
             alloc,
         }

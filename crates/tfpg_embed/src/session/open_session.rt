@@ -7,7 +7,7 @@ ghost use Rattle.tfpg_evidence.specs.declared.round.Round.{Round};
 ghost use Rattle.tfpg_engine.specs.EngineState.{EngineRepresents};
 ghost use Rattle.tfpg_diagnose.specs.texts.Opening.{IsOpenFault};
 ghost use Rattle.tfpg_diagnose.specs.texts.Sessions.{CountsBlock, SessionRepresents};
-ghost use Rattle.tfpg_embed.specs.EventLines.{event_line};
+ghost use Rattle.tfpg_embed.specs.EventLines.{line_of_event};
 ghost use Rattle.tfpg_embed.specs.Sessions.{IsNewlyOpen};
 
 use crate::event_lines::event_line;
@@ -60,10 +60,10 @@ impl OpenSession {
     ) -> Result<u64, EventFault>
         ensures block { (graph : Tfpg) (terms : Terms) (lines : List (List ℕ)) (bytes : List ℕ) →
             SessionRepresents graph terms lines bytes self.old.session →
-            IfOk result (λ _. SessionRepresents graph terms (lines ++ event_line self.old.session.engine.graph time kind index ∷ [])
+            IfOk result (λ _. SessionRepresents graph terms (lines ++ line_of_event self.old.session.engine.graph time kind index ∷ [])
             (bytes ++ self.new.text.items) self.new.session) }
         ensures work { (rounds : List Round) → EngineRepresents self.old.session.engine rounds →
-            IfOk result (λ _. CountsBlock self.old.session.engine rounds (event_line self.old.session.engine.graph time kind index)
+            IfOk result (λ _. CountsBlock self.old.session.engine rounds (line_of_event self.old.session.engine.graph time kind index)
             self.new.text.items self.old.session.calls self.new.session.calls) }
         ensures count { IfOk result (λ count. count ≡ length self.new.text.items) }
         ensures ended { (result ≡ Err EventFault.Ended) ↔ (self.old.session.next ≡ None) }

@@ -6,7 +6,7 @@ use Rattle.tfpg_clause.specs.Case.{Case}
 use Rattle.tfpg_hyp.specs.Hypotheses.{Row}
 use Rattle.tfpg_hyp.specs.Views.{IsReachOf, case_for}
 use Rattle.tfpg_hyp.specs.Rounds.{Inquiry}
-use Rattle.tfpg_engine.specs.declared.inquiry.Inquiry.{Inquiry as LentInquiry}
+use Rattle.tfpg_engine.specs.declared.inquiry.LentInquiry.{LentInquiry}
 use Rattle.tfpg_engine.specs.declared.listed.Listed.{Listed}
 
 -- what the code asks, by this log

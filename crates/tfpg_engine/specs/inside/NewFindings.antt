@@ -21,7 +21,7 @@ use Rattle.tfpg_search.specs.declared.found.Found.{Found}
 use Rattle.tfpg_search.specs.declared.found.Found.TheVariants as found
 use Rattle.tfpg_engine.specs.declared.slot.Slot.{Slot}
 use Rattle.tfpg_engine.specs.declared.slot.Slot.TheVariants.{Searched, Rejected}
-use Rattle.tfpg_engine.specs.EngineState.{SlotRepresents, is_rejected_slot, seen_by}
+use Rattle.tfpg_engine.specs.EngineState.{SlotRepresents, is_rejected_slot, events_seen}
 use Rattle.tfpg_engine.specs.Earned.{IsEarned}
 use Rattle.tfpg_engine.specs.inside.Inquiries.{case_of_row}
 use Rattle.tfpg_engine.specs.inside.RankedKeys.{HasFraction}
@@ -42,7 +42,7 @@ status_by cost robust found.Spent = status.Open
 pub record IsSearchedOn (events : ℕ) (old new : Slot) : Type 0 where
   pub not_before : is_rejected_slot old ≡ false
   pub not_now : is_rejected_slot new ≡ false
-  pub seen : seen_by new ≡ events
+  pub seen : events_seen new ≡ events
 
 -- What was kept of a hypothesis before and is kept now, after a round with so many events in which it has this status.
 abbrev pub IsKeptAfter : ℕ → Status → Slot → Slot → Type 0

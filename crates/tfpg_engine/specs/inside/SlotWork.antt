@@ -8,7 +8,7 @@ use Rattle.tfpg_hyp.specs.Hypotheses.{Hypotheses, IsRowOf}
 use Rattle.tfpg_hyp.specs.Views.{case_for}
 use Rattle.tfpg_hyp.specs.Rounds.{Inquiry}
 use Rattle.tfpg_engine.specs.declared.slot.Slot.{Slot}
-use Rattle.tfpg_engine.specs.EngineState.{is_rejected_slot, seen_by}
+use Rattle.tfpg_engine.specs.EngineState.{is_rejected_slot, events_seen}
 use Rattle.tfpg_search.specs.Work.{IsWorkLimit}
 use Rattle.tfpg_engine.specs.Work.{is_worked_on}
 
@@ -26,7 +26,7 @@ pub record AreLimits (IsLimit : ℕ → Finding → ℕ → Type 0) (findings : 
 -- the limit for a finding, by what was kept before
 abbrev pub IsSlotLimit : Case → Slot → Finding → ℕ → Type 0
 IsSlotLimit case slot finding limit =
-    IsLimitWhere (is_worked_on (is_rejected_slot slot) finding.status) case (seen_by slot) (length finding.steps) limit
+    IsLimitWhere (is_worked_on (is_rejected_slot slot) finding.status) case (events_seen slot) (length finding.steps) limit
 
 -- For the finding the count went from one number to the other, by at most its limit.
 abbrev pub IsSlotWithin : Case → Slot → ℕ → ℕ → Finding → Type 0

@@ -25,7 +25,7 @@ use tfpg_base::NoMemory;
 
 /// Which lines may come next.
 #[derive(Clone, Copy)]
-pub(crate) enum Part {
+pub(crate) enum ReadingStage {
     /// The header.
     Header,
     /// A line that declares something, or the end.
@@ -36,41 +36,41 @@ pub(crate) enum Part {
 
 /// Why a line was not taken.
 #[derive(Clone, Copy)]
-pub(crate) enum LineRefusal {
+pub(crate) enum GraphLineRefusal {
     Cause(GraphCause),
     NoMemory,
 }
 
-impl From<NoMemory> for LineRefusal {
+impl From<NoMemory> for GraphLineRefusal {
     ghost use Rattle.std.specs.Prelude.{◌≡◌};
-    ghost use Rattle.tfpg_graph.specs.declared.reading.reader.LineRefusal.TheVariants as line_refusal;
+    ghost use Rattle.tfpg_graph.specs.declared.reading.reader.GraphLineRefusal.TheVariants as line_refusal;
 
     ghost from_gives = { λ _ refusal. refusal ≡ line_refusal.NoMemory };
 
-    fn from(_no_memory: NoMemory) -> LineRefusal {
-        LineRefusal::NoMemory
+    fn from(_no_memory: NoMemory) -> GraphLineRefusal {
+        GraphLineRefusal::NoMemory
     }
 }
 
-impl From<GraphCause> for LineRefusal {
+impl From<GraphCause> for GraphLineRefusal {
     ghost use Rattle.std.specs.Prelude.{◌≡◌};
-    ghost use Rattle.tfpg_graph.specs.declared.reading.reader.LineRefusal.TheVariants as line_refusal;
+    ghost use Rattle.tfpg_graph.specs.declared.reading.reader.GraphLineRefusal.TheVariants as line_refusal;
 
     ghost from_gives = { λ cause refusal. refusal ≡ line_refusal.Cause cause };
 
-    fn from(cause: GraphCause) -> LineRefusal {
-        LineRefusal::Cause(cause)
+    fn from(cause: GraphCause) -> GraphLineRefusal {
+        GraphLineRefusal::Cause(cause)
     }
 }
 
-impl LineRefusal {
+impl GraphLineRefusal {
     /// The refusal of the text, where this is the refusal of the line of this number.
     pub(crate) fn at(self, line: u64) -> GraphRefusal
         ensures { result ≡ refusal_at self line }
     {
         match self {
-            LineRefusal::Cause(cause) => GraphRefusal::Fault(GraphFault { line, cause }),
-            LineRefusal::NoMemory => GraphRefusal::NoMemory,
+            GraphLineRefusal::Cause(cause) => GraphRefusal::Fault(GraphFault { line, cause }),
+            GraphLineRefusal::NoMemory => GraphRefusal::NoMemory,
         }
     }
 }
@@ -78,7 +78,7 @@ impl LineRefusal {
 /// What the lines so far have declared, the version of the text, and which lines may come next.
 #[derive(Drop)]
 pub(crate) struct Reader {
-    part: Part,
+    part: ReadingStage,
     /// What the header says. It does not matter before that is read.
     version: Version,
     declared: Declared,
@@ -92,7 +92,7 @@ impl Reader {
         ensures { result ≡ nothing_read }
     {
         Reader {
-            part: Part::Header,
+            part: ReadingStage::Header,
             version: Version::One,
             declared: Declared::new(alloc),
         }
@@ -100,13 +100,13 @@ impl Reader {
 
     /// Reads one more line. Takes time linear in the length of the line, but for look-ups by name, and for an edge with a fault
     /// quadratic in the number of modes that it lists.
-    pub(crate) fn take(self, alloc: Global, line: &[u8]) -> Result<Reader, LineRefusal>
+    pub(crate) fn take(self, alloc: Global, line: &[u8]) -> Result<Reader, GraphLineRefusal>
         ensures { IsTurnResult (turn self line.now) result }
     {
         match self.part {
-            Part::Header => self.take_header(line),
-            Part::Declarations => self.take_declaration(alloc, line),
-            Part::Ended => self.take_after_end(line),
+            ReadingStage::Header => self.take_header(line),
+            ReadingStage::Declarations => self.take_declaration(alloc, line),
+            ReadingStage::Ended => self.take_after_end(line),
         }
     }
 
@@ -121,7 +121,7 @@ impl Reader {
         requires stands { ReaderRepresents self (parts_of text.now) }
         requires count { line_count ≡ length (parts_of text.now) }
         requires few { line_count ≤ 2 ^ 63 }
-        ensures graph { IfOk result (λ graph. (graph ≡ self.declared) × (self.part ≡ Part.Ended)) }
+        ensures graph { IfOk result (λ graph. (graph ≡ self.declared) × (self.part ≡ ReadingStage.Ended)) }
         ensures valid { IfOk result IsValid }
         ensures fault { IfErr result (IsEndRefusal (parts_of text.now)) }
     {
@@ -132,56 +132,56 @@ impl Reader {
         } = self;
         if let Some(node) = declared.without_incoming() {
             let line = line_declaring(text, version, Declaring::Node, node);
-            return Err(LineRefusal::Cause(GraphCause::NoIncoming).at(line));
+            return Err(GraphLineRefusal::Cause(GraphCause::NoIncoming).at(line));
         }
         if let Some(edge) = first_on_zero_cycle(alloc, &declared)? {
             let line = line_declaring(text, version, Declaring::Edge, edge);
-            return Err(LineRefusal::Cause(GraphCause::ZeroCycle).at(line));
+            return Err(GraphLineRefusal::Cause(GraphCause::ZeroCycle).at(line));
         }
         match part {
-            Part::Ended => Ok(Graph::new(declared)),
-            _ => Err(LineRefusal::Cause(GraphCause::MissingEnd).at(line_count + 1)),
+            ReadingStage::Ended => Ok(Graph::new(declared)),
+            _ => Err(GraphLineRefusal::Cause(GraphCause::MissingEnd).at(line_count + 1)),
         }
     }
 
-    fn take_header(self, line: &[u8]) -> Result<Reader, LineRefusal>
-        requires { self.part ≡ Part.Header }
+    fn take_header(self, line: &[u8]) -> Result<Reader, GraphLineRefusal>
+        requires { self.part ≡ ReadingStage.Header }
         ensures { IsTurnResult (turn self line.now) result }
     {
         match version_said(line) {
-            None => Err(LineRefusal::Cause(GraphCause::BadHeader)),
+            None => Err(GraphLineRefusal::Cause(GraphCause::BadHeader)),
             Some(version) => Ok(Reader {
-                part: Part::Declarations,
+                part: ReadingStage::Declarations,
                 version,
                 declared: self.declared,
             }),
         }
     }
 
-    fn take_after_end(self, line: &[u8]) -> Result<Reader, LineRefusal>
-        requires { self.part ≡ Part.Ended }
+    fn take_after_end(self, line: &[u8]) -> Result<Reader, GraphLineRefusal>
+        requires { self.part ≡ ReadingStage.Ended }
         ensures { IsTurnResult (turn self line.now) result }
     {
         if !is_skipped(line) {
-            return Err(LineRefusal::Cause(GraphCause::AfterEnd));
+            return Err(GraphLineRefusal::Cause(GraphCause::AfterEnd));
         }
         Ok(self)
     }
 
-    fn take_declaration(self, alloc: Global, line: &[u8]) -> Result<Reader, LineRefusal>
-        requires { self.part ≡ Part.Declarations }
+    fn take_declaration(self, alloc: Global, line: &[u8]) -> Result<Reader, GraphLineRefusal>
+        requires { self.part ≡ ReadingStage.Declarations }
         ensures { IsTurnResult (turn self line.now) result }
     {
         if is_skipped(line) {
             return Ok(self);
         }
         match statement_of(line, self.version) {
-            None => Err(LineRefusal::Cause(GraphCause::BadLine)),
+            None => Err(GraphLineRefusal::Cause(GraphCause::BadLine)),
             Some(statement) => self.with_statement(alloc, statement),
         }
     }
 
-    fn with_statement(self, alloc: Global, statement: Statement<'_>) -> Result<Reader, LineRefusal>
+    fn with_statement(self, alloc: Global, statement: Statement<'_>) -> Result<Reader, GraphLineRefusal>
         ensures { IsTurnResult (turn_said self.version self.declared (Some (statement_seen statement.entry))) result }
     {
         match statement {
@@ -192,15 +192,15 @@ impl Reader {
         }
     }
 
-    fn with_mode(self, alloc: Global, name: &[u8]) -> Result<Reader, LineRefusal>
+    fn with_mode(self, alloc: Global, name: &[u8]) -> Result<Reader, GraphLineRefusal>
         ensures { IsTurnResult (turn_said self.version self.declared (Some (DeclaresMode name.now))) result }
     {
         if let Some(cause) = mode_cause(&self.declared, name) {
-            return Err(LineRefusal::Cause(cause));
+            return Err(GraphLineRefusal::Cause(cause));
         }
         let declared = self.declared.with_mode(alloc, name)?;
         Ok(Reader {
-            part: Part::Declarations,
+            part: ReadingStage::Declarations,
             version: self.version,
             declared,
         })
@@ -211,40 +211,40 @@ impl Reader {
         alloc: Global,
         name: &[u8],
         words: NodeWords<'_>,
-    ) -> Result<Reader, LineRefusal>
+    ) -> Result<Reader, GraphLineRefusal>
         ensures { IsTurnResult (turn_said self.version self.declared
             (Some (DeclaresNode name.now (node_words_of words.entry)))) result }
     {
         let kind = read_node(&self.declared, name, words)?;
         let declared = self.declared.with_node(alloc, name, kind)?;
         Ok(Reader {
-            part: Part::Declarations,
+            part: ReadingStage::Declarations,
             version: self.version,
             declared,
         })
     }
 
-    fn with_edge(self, alloc: Global, words: EdgeWords<'_>) -> Result<Reader, LineRefusal>
+    fn with_edge(self, alloc: Global, words: EdgeWords<'_>) -> Result<Reader, GraphLineRefusal>
         ensures { IsTurnResult (turn_said self.version self.declared (Some (edge_said words.entry))) result }
     {
         let modes = listed_modes(alloc, words.modes)?;
         let edge = read_edge(&self.declared, words, modes.as_slice())?;
         let declared = self.declared.with_edge(edge)?;
         Ok(Reader {
-            part: Part::Declarations,
+            part: ReadingStage::Declarations,
             version: self.version,
             declared,
         })
     }
 
-    fn with_end(self) -> Result<Reader, LineRefusal>
+    fn with_end(self) -> Result<Reader, GraphLineRefusal>
         ensures { IsTurnResult (turn_said self.version self.declared (Some Ends)) result }
     {
         if self.declared.mode_count() == 0 {
-            return Err(LineRefusal::Cause(GraphCause::BadLine));
+            return Err(GraphLineRefusal::Cause(GraphCause::BadLine));
         }
         Ok(Reader {
-            part: Part::Ended,
+            part: ReadingStage::Ended,
             version: self.version,
             declared: self.declared,
         })

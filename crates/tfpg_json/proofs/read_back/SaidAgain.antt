@@ -19,7 +19,7 @@ use Rattle.tfpg_graph.specs.Graph.{Tfpg, Node, name_word}
 use Rattle.tfpg_graph.specs.Valid.{IsValid, IsValidEdge}
 use Rattle.tfpg_graph.proofs.lemmas.reading.spelling.SpelledEdges.{is_name-name_word}
 use Rattle.tfpg_json.specs.GraphData.{whole, texts, greatest_data, mode_names, edge_data, kind_data, node_data, graph_data}
-use Rattle.tfpg_json.specs.GraphSaid.{EdgeSaid, GraphSaid, list_of, each_in, number_in, unless_null, node_in, edge_in, graph_in, has_edge_names, has_names}
+use Rattle.tfpg_json.specs.GraphSaid.{EdgeSaid, GraphSaid, list_of, each_in, number_from, unless_null, node_in, edge_from, graph_in, has_edge_names, has_names}
 use Rattle.tfpg_json.proofs.read_back.WrittenGraphs.{modes_named}
 
 -- what is said of an edge
@@ -76,11 +76,11 @@ node_again node = kind_again node.name node.kind
 
 -- ---- edges
 
-greatest_again : (tmax : Option ℕ) → unless_null number_in (greatest_data tmax) ≡ Some tmax
+greatest_again : (tmax : Option ℕ) → unless_null number_from (greatest_data tmax) ≡ Some tmax
 greatest_again None = refl
 greatest_again (Some tmax) = refl
 
-edge_again : (graph : Tfpg) (edge : Edge) → edge_in (edge_data graph edge) ≡ Some (edge_said graph edge)
+edge_again : (graph : Tfpg) (edge : Edge) → edge_from (edge_data graph edge) ≡ Some (edge_said graph edge)
 edge_again graph edge =
     λ i. option_and_then (λ (tmax : Option ℕ). option_and_then (λ (modes : Option (List (List ℕ))). Some (record {
       source = name_word graph edge.source;
@@ -99,7 +99,7 @@ graph_again graph =
       modes = modes;
       nodes = nodes;
       edges = edges;
-    })) (each_in-made edge_in (edge_data graph) (edge_said graph) (edge_again graph) graph.edges i))
+    })) (each_in-made edge_from (edge_data graph) (edge_said graph) (edge_again graph) graph.edges i))
     ((each_in-made node_in node_data (λ node. node) node_again graph.nodes ∙ ap Some (map-id graph.nodes)) i))
     (texts_in graph.modes i)
 

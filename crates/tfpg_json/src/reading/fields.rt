@@ -3,7 +3,7 @@
 ghost use Rattle.std.specs.Prelude.{◌≡◌, option_map};
 ghost use Rattle.serde_json.specs.Find.{as_array, as_str};
 ghost use Rattle.serde_json.specs.View.{items_view, view};
-ghost use Rattle.tfpg_json.specs.GraphSaid.{number_in, number_under, text_under, unless_null};
+ghost use Rattle.tfpg_json.specs.GraphSaid.{number_from, number_under, text_under, unless_null};
 ghost use Rattle.tfpg_json.specs.inside.ReadAs.{ReadAs};
 
 use serde_json::Value;
@@ -53,7 +53,7 @@ pub(crate) fn number_under(key: &str, value: &Value) -> Option<u64>
 
 /// A number, or none where the value is null. There is no result where it is neither.
 pub(crate) fn number_or_null(value: &Value) -> Option<Option<u64>>
-    ensures { result ≡ unless_null number_in (view value.now) }
+    ensures { result ≡ unless_null number_from (view value.now) }
 {
     if value.is_null() {
         return Some(None);

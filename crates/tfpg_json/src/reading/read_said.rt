@@ -3,7 +3,7 @@
 ghost use Rattle.std.specs.Prelude.{◌≡◌, codes, map, option_map};
 ghost use Rattle.serde_json.specs.Find.{as_str, get};
 ghost use Rattle.serde_json.specs.View.{view};
-ghost use Rattle.tfpg_json.specs.GraphSaid.{each_in, edge_in, graph_in, greatest_in, kind_in, kind_of, lag_in, least_in, modes_in, node_in};
+ghost use Rattle.tfpg_json.specs.GraphSaid.{each_in, edge_from, graph_in, greatest_in, kind_in, kind_of, lag_from, least_in, modes_in, node_in};
 ghost use Rattle.tfpg_json.specs.inside.ReadAs.{ReadAs};
 
 use crate::reading::fields::{
@@ -53,7 +53,7 @@ fn nodes_in<'a>(alloc: Global, value: &'a Value) -> Result<Items<JsonNode<'a>>, 
 
 /// The edges in a list.
 fn edges_in<'a>(alloc: Global, value: &'a Value) -> Result<Items<JsonEdge<'a>>, GraphRefusal>
-    ensures { ReadAs (λ edges. edges) (each_in edge_in (view value.now)) result }
+    ensures { ReadAs (λ edges. edges) (each_in edge_from (view value.now)) result }
 {
     let mut edges = Items::new(alloc);
     for item in list_in(value)? {
@@ -96,7 +96,7 @@ fn kind_in(value: &Value) -> Option<Kind>
 
 /// The lag of a discrepancy, where it is monitored. There is no result where what stands there is no lag.
 fn lag_in(value: &Value) -> Option<Option<Lag>>
-    ensures { result ≡ lag_in (view value.now) }
+    ensures { result ≡ lag_from (view value.now) }
 {
     let Some(most) = value.get("lag") else {
         return Some(None);
@@ -121,7 +121,7 @@ fn least_in(value: &Value) -> Option<u64>
 
 /// An edge.
 fn edge_in<'a>(alloc: Global, value: &'a Value) -> Result<JsonEdge<'a>, GraphRefusal>
-    ensures { ReadAs (λ edge. edge) (edge_in (view value.now)) result }
+    ensures { ReadAs (λ edge. edge) (edge_from (view value.now)) result }
 {
     let source = text_under("from", value).ok_or(NO_GRAPH)?;
     let target = text_under("to", value).ok_or(NO_GRAPH)?;

@@ -9,8 +9,8 @@ use Rattle.tfpg_map.specs.declared.map.Map.{Map}
 use Rattle.tfpg_map.specs.declared.map.MapReader.{MapReader}
 use Rattle.tfpg_map.specs.declared.map.NoMap.{NoMap}
 use Rattle.tfpg_map.specs.declared.map.NoMap.TheVariants.{Refused}
-use Rattle.tfpg_map.specs.declared.reading.NextLine.{NextLine}
-use Rattle.tfpg_map.specs.declared.reading.NextLine.TheVariants.{Read, Ended}
+use Rattle.tfpg_map.specs.declared.reading.NextMapLine.{NextMapLine}
+use Rattle.tfpg_map.specs.declared.reading.NextMapLine.TheVariants.{Read, Ended}
 use Rattle.tfpg_map.specs.inside.Lines.{MapRepresents}
 
 -- the reading of a map at one moment: the input, the reader of lines and the reader of the map
@@ -44,7 +44,7 @@ pub record HasReadAll (graph : Tfpg) (before now : SourceState) (map : MapReader
   pub no_fault : now.faults ≡ before.faults
 
 -- What reading the line after that of this number leads to: reading is under way still, one line on; or all is read.
-abbrev pub ReadsOn : Tfpg → SourceState → ℕ → MapReadingState → NextLine → Type 0
+abbrev pub ReadsOn : Tfpg → SourceState → ℕ → MapReadingState → NextMapLine → Type 0
 ReadsOn graph before number now Read = IsReadingMap graph before now × (now.lines.number ≡ number + 1)
 ReadsOn graph before number now Ended = HasReadAll graph before now.input now.map
 

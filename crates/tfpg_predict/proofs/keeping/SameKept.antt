@@ -16,7 +16,7 @@ use Rattle.tfpg_log.specs.declared.event.Event.TheVariants.{Alarm, Silent, Sweep
 use Rattle.tfpg_log.specs.Log.{Logbook, event_at, first_events, ignoring, is_alarm_of, alarm_among, alarm_event, is_silence_of, time_of_event}
 use Rattle.tfpg_log.proofs.events.AlarmEvents.{alarm_event_first, none_before_alarm}
 use Rattle.tfpg_clause.proofs.traces.FactsMet.{silence_of}
-use Rattle.tfpg_predict.specs.Kept.{is_silenced, kept_of, kept_after, kept_events}
+use Rattle.tfpg_predict.specs.Kept.{is_silenced, kept_for, kept_after, kept_events}
 use Rattle.tfpg_predict.specs.inside.KeptEvents.{is_at, is_alarm_at, is_silence_at, last_alarm, last_silence, kept_of_number, kept_after_number, kept_by_numbers}
 
 -- ---- the greatest number that passes, by those above
@@ -190,7 +190,7 @@ module _ (graph : Tfpg) (log : Logbook) where
         && not (alarm_later node (suc number) (front ++ Alarm time node ∷ []) later (next_parts number front (Alarm time node) later are) i)))
 
   same_of : (number : ℕ) (front : List Event) (event : Event) (later : List Event) → Parts number front (event ∷ later)
-      → kept_of graph (of_events front) event later ≡ kept_of_number graph log (suc number) event
+      → kept_for graph (of_events front) event later ≡ kept_of_number graph log (suc number) event
   same_of number front (Alarm time node) later are =
       λ i. cond (first_alarm_at number time node front later are i || last_alarm_at number time node front later are i) (Alarm time node ∷ []) []
   same_of number front (Silent time node) later are = silences_same number front (Silent time node) later are time

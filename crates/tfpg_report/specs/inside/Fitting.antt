@@ -8,7 +8,7 @@ use Rattle.tfpg_report.specs.declared.stand.Stand.TheVariants as stand
 use Rattle.tfpg_report.specs.declared.read_round.RankedLine.{RankedLine}
 use Rattle.tfpg_report.specs.declared.read_round.NamedSet.{NamedSet}
 use Rattle.tfpg_report.specs.declared.report_line.ReportLine.TheVariants.{Refused, Round, Cycle, Why, Counts, Panel}
-use Rattle.tfpg_report.specs.declared.block_reader.draft.Draft.{Draft}
+use Rattle.tfpg_report.specs.declared.block_reader.draft.RoundDraft.{RoundDraft}
 use Rattle.tfpg_report.specs.declared.block_reader.draft.UnderWay.{UnderWay}
 use Rattle.tfpg_report.specs.declared.block_reader.draft.UnderWay.TheVariants as under_way
 use Rattle.tfpg_report.specs.ReadRounds.{NumberedLine, numbered_from, lines_of_part, lines_of_ranked, line_of_open, line_of_rejected, lines_of_round, HasLineForEachStep}
@@ -17,7 +17,7 @@ use Rattle.tfpg_report.specs.Reading.{is_last, IsHead}
 -- ---- the lines of a draft
 
 -- the lines of what is whole
-abbrev pub whole_lines : Draft → List NumberedLine
+abbrev pub whole_lines : RoundDraft → List NumberedLine
 whole_lines draft =
     record { number = draft.first_line; says = Round draft.number draft.line draft.now }
     ∷ flat_map lines_of_part draft.parts
@@ -32,16 +32,16 @@ lines_under_way (under_way.Part part) = lines_of_part part
 lines_under_way (under_way.Ranked ranked) = lines_of_ranked ranked
 
 -- the lines of what is whole and what is under way
-abbrev pub lines_so_far : Draft → List NumberedLine
+abbrev pub lines_so_far : RoundDraft → List NumberedLine
 lines_so_far draft = whole_lines draft ++ lines_under_way draft.under_way
 
 -- the lines of a cycle that lacks so many reasons
-abbrev pub cycle_lines : ℕ → Draft → List NumberedLine
+abbrev pub cycle_lines : ℕ → RoundDraft → List NumberedLine
 cycle_lines owed draft =
     numbered_from draft.cycle_line (Cycle (length draft.reasons + owed) ∷ map Why draft.reasons)
 
 -- the lines of the round that has not ended, by the stand of the reader
-abbrev pub begun_lines : Stand → Draft → List NumberedLine
+abbrev pub begun_lines : Stand → RoundDraft → List NumberedLine
 begun_lines stand.Nothing draft = []
 begun_lines stand.Block draft = []
 begun_lines (stand.Counts last) draft = []
@@ -81,15 +81,15 @@ pub record HasOnlySteps (ranked : List RankedLine) (unsettled rejected : List Na
   pub no_sets : LacksSets unsettled rejected
 
 -- Each step that is whole has its line.
-abbrev pub HasStepLines : Draft → Type 0
+abbrev pub HasStepLines : RoundDraft → Type 0
 HasStepLines draft = All HasLineForEachStep draft.parts
 
 -- What was read ends with steps.
-abbrev pub HasSteps : Draft → Type 0
+abbrev pub HasSteps : RoundDraft → Type 0
 HasSteps draft = IsPart draft.under_way × HasStepLines draft × HasOnlySteps draft.ranked draft.unsettled draft.rejected
 
 -- The draft fits the stand of its reader.
-abbrev pub Fits : Stand → Draft → Type 0
+abbrev pub Fits : Stand → RoundDraft → Type 0
 Fits stand.Nothing draft = Unit {0}
 Fits stand.Block draft = Unit {0}
 Fits (stand.Counts last) draft = Unit {0}

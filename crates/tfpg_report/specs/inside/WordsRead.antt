@@ -2,7 +2,7 @@
 use Rattle.std.specs.Prelude.{◌≡◌, ℕ, List, [], ◌∷◌, Option, None, Result, Ok, Err}
 use Rattle.tfpg_base.specs.Hypothesis.{Hypothesis}
 use Rattle.tfpg_graph.specs.Graph.{Tfpg}
-use Rattle.tfpg_report.specs.ReportLines.{IsLineWithin, IsSmall, line_words}
+use Rattle.tfpg_report.specs.ReportLines.{IsLineWithin, Has32Bits, line_words}
 use Rattle.tfpg_report.specs.LineWords.{numbered_set_words}
 use Rattle.tfpg_report.specs.SetText.{IsHypothesisOf}
 use Rattle.tfpg_report.specs.inside.LinesRead.{plain_line_in}
@@ -29,7 +29,7 @@ AreWordsRead graph words (Err NoMemory) = Unit {0}
 -- The words are those for the number and the set of a hypothesis.
 pub record HasNumbered (graph : Tfpg) (words : List (List ℕ)) (number : ℕ) (hypothesis : Hypothesis) : Type 0 where
   pub words_are : words ≡ numbered_set_words graph number hypothesis
-  pub small : IsSmall number
+  pub small : Has32Bits number
   pub of_graph : IsHypothesisOf graph hypothesis
 
 -- A number and a set that were read have these words. If none were, none have them, or memory ran out.

@@ -14,7 +14,7 @@ use tfpg_evidence::{Counts, Reason, Reasons, Step, StepList};
 
 /// What was read of a round that has not ended. Each list has what is whole, in the order of the lines.
 #[derive(Drop)]
-pub(crate) struct Draft {
+pub(crate) struct RoundDraft {
     /// The number of the round.
     number: u32,
     /// The number of the line of the log.
@@ -44,12 +44,12 @@ pub(crate) enum UnderWay {
     Ranked(RankedLine),
 }
 
-impl Draft {
+impl RoundDraft {
     /// The draft of a round of which only its first line was read. Takes no memory.
-    fn opened(alloc: Global, first_line: u64, number: u32, line: u64, now: u64) -> Draft
+    fn opened(alloc: Global, first_line: u64, number: u32, line: u64, now: u64) -> RoundDraft
         ensures { result ≡ opened first_line number line now }
     {
-        Draft {
+        RoundDraft {
             number,
             line,
             now,
@@ -65,10 +65,10 @@ impl Draft {
     }
 
     /// The draft of no round. Takes no memory.
-    pub(crate) fn empty(alloc: Global) -> Draft
+    pub(crate) fn empty(alloc: Global) -> RoundDraft
         ensures { result ≡ opened 0 0 0 0 }
     {
-        Draft::opened(alloc, 0, 0, 0, 0)
+        RoundDraft::opened(alloc, 0, 0, 0, 0)
     }
 
     /// Adds the line with this number, after which the reader has this stand. Costs amortized constant time.
@@ -87,7 +87,7 @@ impl Draft {
             ReportLine::OldHead { .. } => Ok(()),
             ReportLine::Refused { .. } => Ok(()),
             ReportLine::Round { number, line, now } => {
-                *self = Draft::opened(alloc, at, *number, *line, *now);
+                *self = RoundDraft::opened(alloc, at, *number, *line, *now);
                 Ok(())
             }
             ReportLine::Hyp { number } => self.begin(part_at(alloc, at, *number)),
@@ -264,7 +264,7 @@ impl Draft {
         ensures round { result ≡ round_of counts counts_line self.old }
         ensures draft { self.new ≡ opened 0 0 0 0 }
     {
-        let whole = mem::replace(self, Draft::empty(alloc));
+        let whole = mem::replace(self, RoundDraft::empty(alloc));
         whole.into_round(counts, counts_line)
     }
 

@@ -19,7 +19,7 @@ use Rattle.tfpg_run.specs.World.{World, streams_of}
 use Rattle.tfpg_diagnose.specs.JudgedReports.{problem_of, IsRightSoFar, IsRefused, HasTooManyInHead}
 
 -- The whole input was taken, its lines are those of a report of the graph and the log, and the text says how many rounds it has.
-pub record IsAccepted (problem : DiagnosisProblem) (input : SourceState) (taken text : List ℕ) : Type 0 where
+pub record IsAcceptedReport (problem : DiagnosisProblem) (input : SourceState) (taken text : List ℕ) : Type 0 where
   pub terms : Terms
   pub blocks : List Block
   pub report : AreReportLines problem terms blocks (lines_of taken)
@@ -30,13 +30,13 @@ pub record IsAccepted (problem : DiagnosisProblem) (input : SourceState) (taken 
 -- How judging a report ends, where these bytes were taken: it is accepted; or it is not, and nothing is written; or it stops.
 abbrev pub CheckingEnds : DiagnosisProblem → Streams → Streams → List ℕ → Result (Unit {0}) CheckFault → Type 0
 CheckingEnds problem before now taken (Ok done) =
-    WritesText (IsAccepted problem now.input taken) before.output now.output × (now.input.faults ≡ before.input.faults)
+    WritesText (IsAcceptedReport problem now.input taken) before.output now.output × (now.input.faults ≡ before.input.faults)
 CheckingEnds problem before now taken (Err (NotAccepted line cause)) =
     IsRefused problem now.input taken line cause × (now.output ≡ before.output) × (now.input.faults ≡ before.input.faults)
 CheckingEnds problem before now taken (Err (TooMany count)) =
     HasTooManyInHead problem now.input taken count × (now.output ≡ before.output) × (now.input.faults ≡ before.input.faults)
 CheckingEnds problem before now taken (Err (Stream fault)) =
-    StopsJudging (IsRightSoFar problem) (IsAccepted problem now.input taken) before now taken fault
+    StopsJudging (IsRightSoFar problem) (IsAcceptedReport problem now.input taken) before now taken fault
 
 -- The report of the input was judged, with this result.
 pub record ChecksReport (problem : DiagnosisProblem) (before now : Streams) (result : Result (Unit {0}) CheckFault) : Type 0 where

@@ -1,5 +1,5 @@
 -- Each lag of a generated graph begins at 0, so its canonical text is of version 1.
-use Rattle.std.proofs.Common.{◌≡◌, ℕ, zero, suc, ◌+◌, ◌*◌, Bool, true, eqb, cond, List, [], ◌∷◌, ◌++◌, Option, Some, None, refl, ap, ◌∙◌}
+use Rattle.std.proofs.Common.{◌≡◌, ℕ, zero, suc, ◌+◌, ◌*◌, true, eqb, List, [], ◌∷◌, ◌++◌, Option, Some, None, refl, ◌∙◌}
 use Rattle.std.specs.Option.{option_map_or}
 use Rattle.std.specs.List.{list_all}
 use Rattle.std.proofs.lemmas.Bool.{cond_both, cond-true, and_from, and_parts}
@@ -7,7 +7,6 @@ use Rattle.std.proofs.lemmas.List.Folds.{list_all-append}
 use Rattle.tfpg_graph.specs.declared.kind.Kind.{Kind}
 use Rattle.tfpg_graph.specs.declared.kind.Kind.TheVariants.{Or, And}
 use Rattle.tfpg_graph.specs.declared.kind.Lag.{Lag}
-use Rattle.tfpg_graph.specs.declared.version.Version.{Version}
 use Rattle.tfpg_graph.specs.declared.version.Version.TheVariants.{One, Two}
 use Rattle.tfpg_graph.specs.Graph.{Node, has_zero_least, lag_up_to}
 use Rattle.tfpg_graph.specs.Text.{version_for}

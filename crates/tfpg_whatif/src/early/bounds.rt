@@ -11,16 +11,16 @@ use tfpg_log::Log;
 
 /// A lower bound of the time of a node, in milliseconds, with the reason that states it.
 #[derive(Clone, Copy)]
-pub(super) struct LowBound {
+pub(super) struct ProposedBound {
     pub(super) time: u64,
     pub(super) reason: Reason,
 }
 
 /// What is known of a node, and what has to be shown of it. Times are in milliseconds.
 #[derive(Clone, Copy)]
-pub(super) struct NodeBounds {
+pub(super) struct ProposedBounds {
     /// The greatest lower bound that is stated so far.
-    pub(super) stated: LowBound,
+    pub(super) stated: ProposedBound,
     /// A lower bound that follows from those that the facts state.
     pub(super) least: u64,
     /// The greatest one that follows by a node which would be due, where some does.
@@ -29,7 +29,7 @@ pub(super) struct NodeBounds {
     pub(super) needed: Option<u64>,
 }
 
-impl NodeBounds {
+impl ProposedBounds {
     /// Which node would be due if this one were active by the instant, where that shows that it is not.
     pub(super) fn due_by(&self, instant: u64) -> Option<DueBound> {
         self.due.filter(|due| due.time > instant)
@@ -39,7 +39,7 @@ impl NodeBounds {
 /// The bounds of all nodes.
 #[derive(Drop)]
 pub(super) struct AllBounds {
-    nodes: Vec<NodeBounds>,
+    nodes: Vec<ProposedBounds>,
 }
 
 impl AllBounds {
@@ -53,7 +53,7 @@ impl AllBounds {
         let mut nodes = Vec::with_capacity(alloc, graph.node_count() as usize)?;
         for node in 0..graph.node_count() {
             let stated = stated_by_facts(graph, log, reach, node);
-            nodes.push(NodeBounds {
+            nodes.push(ProposedBounds {
                 stated,
                 least: stated.time,
                 due: None,
@@ -66,10 +66,10 @@ impl AllBounds {
     }
 
     /// Those of a node. The node may be any number.
-    pub(super) fn at(&self, node: u32) -> NodeBounds {
+    pub(super) fn at(&self, node: u32) -> ProposedBounds {
         match self.nodes.get(node as usize) {
             Some(bounds) => *bounds,
-            None => NodeBounds {
+            None => ProposedBounds {
                 stated: from_zero(node),
                 least: 0,
                 due: None,
@@ -79,16 +79,16 @@ impl AllBounds {
     }
 
     /// Changes those of a node of the graph.
-    fn set(&mut self, node: u32, bounds: NodeBounds) {
+    fn set(&mut self, node: u32, bounds: ProposedBounds) {
         if (node as usize) < self.nodes.len() {
             self.nodes[node as usize] = bounds;
         }
     }
 
     /// States a bound of a node.
-    pub(super) fn state(&mut self, node: u32, stated: LowBound) {
+    pub(super) fn state(&mut self, node: u32, stated: ProposedBound) {
         let bounds = self.at(node);
-        self.set(node, NodeBounds { stated, ..bounds });
+        self.set(node, ProposedBounds { stated, ..bounds });
     }
 
     /// The node has to be shown not to be active up to this instant, or a later one. Returns whether that is new.
@@ -101,7 +101,7 @@ impl AllBounds {
         }
         self.set(
             node,
-            NodeBounds {
+            ProposedBounds {
                 needed: Some(until),
                 ..bounds
             },
@@ -127,7 +127,7 @@ impl AllBounds {
             let least = self.by_edges(graph, node);
             let bounds = self.at(node);
             if least > bounds.least {
-                self.set(node, NodeBounds { least, ..bounds });
+                self.set(node, ProposedBounds { least, ..bounds });
                 raised = true;
             }
         }
@@ -191,7 +191,7 @@ impl AllBounds {
             if let Some(due) = due_bound(graph, log, *edge, least, bounds.least) {
                 self.set(
                     source,
-                    NodeBounds {
+                    ProposedBounds {
                         least: due.time,
                         due: Some(due),
                         ..bounds

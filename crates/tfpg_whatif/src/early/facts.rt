@@ -1,6 +1,6 @@
 //! What the facts of a log state of one node.
 
-use super::bounds::LowBound;
+use super::bounds::ProposedBound;
 use tfpg_evidence::Reason;
 use tfpg_graph::{Graph, NodeSet};
 use tfpg_log::Log;
@@ -15,10 +15,10 @@ pub(super) struct AlarmBound {
 }
 
 /// The greatest lower bound that the facts of the log state of a node, where the set reaches these nodes.
-pub(super) fn stated_by_facts(graph: &Graph, log: &Log, reach: &NodeSet, node: u32) -> LowBound {
+pub(super) fn stated_by_facts(graph: &Graph, log: &Log, reach: &NodeSet, node: u32) -> ProposedBound {
     if !reach.has(node) {
         let horizon = log.now();
-        return LowBound {
+        return ProposedBound {
             time: horizon.saturating_add(1),
             reason: Reason::Unreached { node, horizon },
         };
@@ -33,29 +33,29 @@ pub(super) fn stated_by_facts(graph: &Graph, log: &Log, reach: &NodeSet, node: u
 }
 
 /// The lower bound that the last alarm of a node states.
-fn after_alarm(graph: &Graph, log: &Log, node: u32) -> Option<LowBound> {
+fn after_alarm(graph: &Graph, log: &Log, node: u32) -> Option<ProposedBound> {
     let event = log.last_alarm(node)?;
     let time = log.find_event(event)?.time();
     let interval = log.alarm_interval(graph, node, time)?;
-    Some(LowBound {
+    Some(ProposedBound {
         time: interval.earliest,
         reason: Reason::From { event },
     })
 }
 
 /// The lower bound that the last silence of a node states.
-fn after_silence(graph: &Graph, log: &Log, node: u32) -> Option<LowBound> {
+fn after_silence(graph: &Graph, log: &Log, node: u32) -> Option<ProposedBound> {
     let event = log.last_quiet(graph, node)?;
     let until = log.quiet_at(graph, event, node)?;
-    Some(LowBound {
+    Some(ProposedBound {
         time: until.saturating_add(1),
         reason: Reason::Quiet { event, node },
     })
 }
 
 /// No time is before 0.
-pub(super) fn from_zero(node: u32) -> LowBound {
-    LowBound {
+pub(super) fn from_zero(node: u32) -> ProposedBound {
+    ProposedBound {
         time: 0,
         reason: Reason::Zero { node },
     }

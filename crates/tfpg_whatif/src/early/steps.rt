@@ -7,7 +7,7 @@
 //! active by an alarm of it, which its bound refutes too.
 
 use super::PASSES;
-use super::bounds::{AllBounds, LowBound};
+use super::bounds::{AllBounds, ProposedBound};
 use super::closing::OpenLeaf;
 use super::facts::{AlarmBound, upto_alarm};
 use super::may::{may_clause, shown_by};
@@ -173,7 +173,7 @@ impl Proposal<'_> {
         self.close_arrivals(name, alternatives, span.hi)?;
         self.bounds.state(
             node,
-            LowBound {
+            ProposedBound {
                 time: span.hi.saturating_add(1),
                 reason: outside,
             },

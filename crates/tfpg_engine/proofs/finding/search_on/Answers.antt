@@ -2,7 +2,7 @@ use Rattle.std.proofs.Common.{◌≡◌, false, refl, sym, subst, ap, ◌∙◌}
 use Rattle.tfpg_clause.specs.Case.{case_of}
 use Rattle.tfpg_log.specs.Log.{ignoring}
 use Rattle.tfpg_hyp.specs.Ranking.{cost_of, robustness_of}
-use Rattle.tfpg_engine.specs.EngineState.{SlotRepresents, calls_of_slot, is_rejected_slot, seen_by}
+use Rattle.tfpg_engine.specs.EngineState.{SlotRepresents, calls_of_slot, is_rejected_slot, events_seen}
 use Rattle.tfpg_engine.specs.inside.Inquiries.{row_of, inquiry_of}
 use Rattle.tfpg_engine.specs.inside.NewFindings.{kept, status_by}
 use Rattle.tfpg_engine.proofs.NewFindingIsRight.{new_finding_searched, represents_some, searched_ignoring, not_spent, as_written}
@@ -46,7 +46,7 @@ returns-clause-work g c =
     c.in_ok-search.ensures.represents log own.0 (subst (λ s. is_rejected_slot s ≡ false) (sym c.replace.ensures.value) c.requires.not_rejected)
     (subst (λ s. SlotRepresents (case_of c.args.inquiry.now.graph.now log c.args.listed.now.reach.now) c.args.listed.now.hypothesis s own.0) (sym c.replace.ensures.value) own.1) in
     searched_within c.a_round_has_one_work_limit.ensures.there c.args.inquiry.now.graph.now c.args.log.now c.args.listed.now.hypothesis c.args.listed.now.reach.now c.in_ok-search.search.reach c.args.slot.now
-    c.requires.ignores begun.1 c.requires.not_rejected c.in_ok-search.search.seen (c.in_ok-search.ensures.seen ∙ ap seen_by c.replace.ensures.value) c.round.new.steps c.new-steps.result c.new-steps.ensures
+    c.requires.ignores begun.1 c.requires.not_rejected c.in_ok-search.search.seen (c.in_ok-search.ensures.seen ∙ ap events_seen c.replace.ensures.value) c.round.new.steps c.new-steps.result c.new-steps.ensures
     (cost_of c.args.inquiry.now.graph.now c.args.listed.now.hypothesis) (robustness_of c.args.inquiry.now.graph.now c.args.log.now c.args.listed.now.reach.now c.args.listed.now.hypothesis.doubts) c.in-Ok.found
     c.status.result c.status.ensures c.args.listed.now.number c.finding_on.result c.finding_on.ensures c.args.work.now c.round.new.work c.round.ensures.work
 

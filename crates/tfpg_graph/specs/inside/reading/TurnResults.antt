@@ -3,19 +3,19 @@ use Rattle.std.specs.Prelude.{◌≡◌, ℕ, List, Result, Ok, Err}
 use Rattle.tfpg_graph.specs.declared.cause.GraphCause.{GraphCause}
 use Rattle.tfpg_graph.specs.declared.cause.GraphRefusal.{GraphRefusal}
 use Rattle.tfpg_graph.specs.declared.cause.GraphRefusal.TheVariants as text
-use Rattle.tfpg_graph.specs.declared.reading.reader.LineRefusal.{LineRefusal}
-use Rattle.tfpg_graph.specs.declared.reading.reader.LineRefusal.TheVariants as line
+use Rattle.tfpg_graph.specs.declared.reading.reader.GraphLineRefusal.{GraphLineRefusal}
+use Rattle.tfpg_graph.specs.declared.reading.reader.GraphLineRefusal.TheVariants as line
 use Rattle.tfpg_graph.specs.Faults.{IsClean, IsWholeFault}
 use Rattle.tfpg_graph.specs.declared.reading.reader.Reader.{Reader}
 
 -- The reader's result for a line is what the line makes of its state, unless memory ran out.
-abbrev pub IsTurnResult : Result Reader GraphCause → Result Reader LineRefusal → Type 0
+abbrev pub IsTurnResult : Result Reader GraphCause → Result Reader GraphLineRefusal → Type 0
 IsTurnResult turned (Ok progress) = turned ≡ Ok progress
 IsTurnResult turned (Err (line.Cause cause)) = turned ≡ Err cause
 IsTurnResult turned (Err line.NoMemory) = Unit {0}
 
 -- the refusal of a text, where a line of this number is refused so
-abbrev pub refusal_at : LineRefusal → ℕ → GraphRefusal
+abbrev pub refusal_at : GraphLineRefusal → ℕ → GraphRefusal
 refusal_at (line.Cause cause) number = text.Fault (record { line = number; cause = cause })
 refusal_at line.NoMemory number = text.NoMemory
 

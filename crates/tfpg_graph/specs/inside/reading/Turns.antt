@@ -3,8 +3,8 @@ use Rattle.std.specs.Prelude.{◌≡◌, ℕ, ◌<◌, List, [], ◌∷◌, leng
 use Rattle.std.specs.List.{list_any}
 use Rattle.tfpg_graph.specs.declared.cause.GraphCause.{GraphCause}
 use Rattle.tfpg_graph.specs.declared.cause.GraphCause.TheVariants.{BadHeader, BadLine, AfterEnd}
-use Rattle.tfpg_graph.specs.declared.reading.reader.Part.{Part}
-use Rattle.tfpg_graph.specs.declared.reading.reader.Part.TheVariants.{Header, Declarations, Ended}
+use Rattle.tfpg_graph.specs.declared.reading.reader.ReadingStage.{ReadingStage}
+use Rattle.tfpg_graph.specs.declared.reading.reader.ReadingStage.TheVariants.{Header, Declarations, Ended}
 use Rattle.tfpg_graph.specs.Graph.{Tfpg}
 use Rattle.tfpg_graph.specs.declared.version.Version.{Version}
 use Rattle.tfpg_graph.specs.declared.version.Version.TheVariants.{One}
@@ -59,7 +59,7 @@ turn_header graph None = Err BadHeader
 turn_header graph (Some version) = Ok (record { part = Declarations; version = version; declared = graph })
 
 -- a line of each part
-abbrev pub turn_of : Part → Version → Tfpg → List ℕ → Result Reader GraphCause
+abbrev pub turn_of : ReadingStage → Version → Tfpg → List ℕ → Result Reader GraphCause
 turn_of Header version graph line = turn_header graph (version_said line)
 turn_of Declarations version graph line =
     if is_skipped line then Ok (record { part = Declarations; version = version; declared = graph })
@@ -71,7 +71,7 @@ abbrev pub turn : Reader → List ℕ → Result Reader GraphCause
 turn progress line = turn_of progress.part progress.version progress.declared line
 
 -- which lines may come after these
-abbrev pub part_after : List (List ℕ) → Part
+abbrev pub part_after : List (List ℕ) → ReadingStage
 part_after [] = Header
 part_after (first ∷ others) = if list_any ends_text (said_by (first ∷ others)) then Ended else Declarations
 

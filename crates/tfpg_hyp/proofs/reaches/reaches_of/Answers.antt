@@ -4,7 +4,7 @@ use Rattle.tfpg_base.proofs.lists.SameBytes.{bytes_eq-true}
 use Rattle.tfpg_base.specs.Hypothesis.{Hypothesis}
 use Rattle.tfpg_graph.specs.Graph.{AreFailures}
 use Rattle.tfpg_hyp.proofs.Growing.{AreFailures-part}
-use Rattle.tfpg_hyp.proofs.Tables.{AreReachedWith-none, AreReachedWith-next}
+use Rattle.tfpg_hyp.proofs.Tables.{AreReachedWith-next}
 use Rattle.tfpg_hyp.proofs.reaches.reaches_of.Goals as goal
 use Rattle.tfpg_hyp.proofs.reaches.reaches_of.Goals.{then-ne, else-ne}
 

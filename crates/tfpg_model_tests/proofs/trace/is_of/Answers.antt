@@ -1,4 +1,4 @@
-use Rattle.std.proofs.Common.{◌<◌, length, take, All, subst, sym, ◌∙◌, arith}
+use Rattle.std.proofs.Common.{◌<◌, length, All, subst, ◌∙◌, arith}
 use Rattle.std.proofs.lemmas.List.{take_all}
 use Rattle.std.proofs.lemmas.List.Elements.{All-more}
 use Rattle.tfpg_model_tests.proofs.trace.is_of.Goals as goal

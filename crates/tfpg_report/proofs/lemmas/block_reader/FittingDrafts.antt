@@ -12,7 +12,7 @@ use Rattle.tfpg_report.specs.declared.stand.Stand.{Stand}
 use Rattle.tfpg_report.specs.declared.stand.Stand.TheVariants as stand
 use Rattle.tfpg_report.specs.declared.report_line.ReportLine.{ReportLine}
 use Rattle.tfpg_report.specs.declared.report_line.ReportLine.TheVariants.{Head, OldHead, Refused, Round, Hyp, Split, Cycle, Why, Again, Ranked, At, Open, Rejected, Counts, Panel}
-use Rattle.tfpg_report.specs.declared.block_reader.draft.Draft.{Draft}
+use Rattle.tfpg_report.specs.declared.block_reader.draft.RoundDraft.{RoundDraft}
 use Rattle.tfpg_report.specs.declared.block_reader.draft.UnderWay.{UnderWay}
 use Rattle.tfpg_report.specs.declared.block_reader.draft.UnderWay.TheVariants as under_way
 use Rattle.tfpg_report.specs.Stands.{may_begin, may_begin_block, may_begin_steps, may_step, may_rank, may_open, may_reject, after_reasons, after_reason, is_later, after_activation, after_loss, stand_after}
@@ -79,7 +79,7 @@ after_loss_is P stand.Rejected next panel same holds = absurd cc
 -- ---- steps
 
 -- Where a step may come, what was read ends with steps.
-pub steps_fit : (before : Stand) (draft : Draft) → may_step before ≡ true → Fits before draft → HasSteps draft
+pub steps_fit : (before : Stand) (draft : RoundDraft) → may_step before ≡ true → Fits before draft → HasSteps draft
 steps_fit stand.Hyp draft may fits = fits
 steps_fit stand.Step draft may fits = fits
 steps_fit stand.Nothing draft may fits = cc
@@ -98,7 +98,7 @@ part_with_step line step (under_way.Part part) has = has_line_with line step par
 part_with_step line step (under_way.Ranked ranked) is = absurd is
 
 -- One more step is one more step.
-step_fits : (line : ℕ) (step : Step) (draft : Draft) → HasSteps draft → HasSteps (with_step line step draft)
+step_fits : (line : ℕ) (step : Step) (draft : RoundDraft) → HasSteps draft → HasSteps (with_step line step draft)
 step_fits line step draft fits = (part_with_step line step draft.under_way fits.0, fits.1, fits.2)
 
 -- ---- traces
@@ -127,7 +127,7 @@ ranked_fits last activation (under_way.Ranked ranked) up_to later = up_to_with l
 -- ---- each line
 
 -- A draft fits the stand after the line.
-pub fits_after : (before : Stand) (draft : Draft) (at : ℕ) (line : ReportLine) (next : Stand) → Fits before draft → stand_after before line ≡ Some next → Fits next (draft_after at next line draft)
+pub fits_after : (before : Stand) (draft : RoundDraft) (at : ℕ) (line : ReportLine) (next : Stand) → Fits before draft → stand_after before line ≡ Some next → Fits next (draft_after at next line draft)
 fits_after before draft at (Head terms) next fits same =
     then_some_is (λ s. Fits s draft) (may_begin before) stand.Block next same (λ _. tt)
 fits_after before draft at (OldHead k budget) next fits same =
@@ -190,7 +190,7 @@ ranked_lets last (under_way.Part part) is = absurd is
 ranked_lets last (under_way.Ranked ranked) is = refl
 
 -- Where a line may come, what is under way lets it come.
-pub lets_fit : (before : Stand) (draft : Draft) (line : ReportLine) (next : Stand) → Fits before draft → stand_after before line ≡ Some next → lets draft.under_way line ≡ true
+pub lets_fit : (before : Stand) (draft : RoundDraft) (line : ReportLine) (next : Stand) → Fits before draft → stand_after before line ≡ Some next → lets draft.under_way line ≡ true
 lets_fit before draft (Split name) next fits same =
     then_some_is (λ _. has_part draft.under_way ≡ true) (may_step before) stand.Step next same (λ may. part_lets draft.under_way (steps_fit before draft may fits).0)
 lets_fit before draft (Cycle count) next fits same =

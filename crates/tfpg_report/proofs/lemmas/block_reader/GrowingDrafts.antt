@@ -11,7 +11,7 @@ use Rattle.tfpg_report.specs.declared.stand.Stand.TheVariants as stand
 use Rattle.tfpg_report.specs.declared.read_round.RankedLine.{RankedLine}
 use Rattle.tfpg_report.specs.declared.report_line.ReportLine.{ReportLine}
 use Rattle.tfpg_report.specs.declared.report_line.ReportLine.TheVariants.{Head, OldHead, Refused, Round, Hyp, Split, Cycle, Why, Again, Ranked, At, Open, Rejected, Counts, Panel}
-use Rattle.tfpg_report.specs.declared.block_reader.draft.Draft.{Draft}
+use Rattle.tfpg_report.specs.declared.block_reader.draft.RoundDraft.{RoundDraft}
 use Rattle.tfpg_report.specs.declared.block_reader.draft.UnderWay.{UnderWay}
 use Rattle.tfpg_report.specs.declared.block_reader.draft.UnderWay.TheVariants as under_way
 use Rattle.tfpg_report.specs.Stands.{may_begin, may_begin_block, may_begin_steps, may_step, may_rank, may_open, may_reject, after_reasons, is_later, stand_after}
@@ -39,13 +39,13 @@ step_under_way line step (under_way.Part part) has = lines_of_part_with line ste
 step_under_way line step (under_way.Ranked ranked) is = absurd is
 
 -- one step more
-step_more : (line : ℕ) (step : Step) (draft : Draft) → HasSteps draft → lines_so_far (with_step line step draft) ≡ lines_so_far draft ++ numbered_from line (step_lines step)
+step_more : (line : ℕ) (step : Step) (draft : RoundDraft) → HasSteps draft → lines_so_far (with_step line step draft) ≡ lines_so_far draft ++ numbered_from line (step_lines step)
 step_more line step draft fits =
     ap (λ under_way. whole_lines draft ++ under_way) (step_under_way line step draft.under_way fits.0)
     ∙ sym (append_assoc (whole_lines draft) (lines_under_way draft.under_way) (numbered_from line (step_lines step)))
 
 -- Where a step may come, the lines are those so far.
-begun_steps : (before : Stand) (draft : Draft) → may_step before ≡ true → lines_so_far draft ≡ begun_lines before draft
+begun_steps : (before : Stand) (draft : RoundDraft) → may_step before ≡ true → lines_so_far draft ≡ begun_lines before draft
 begun_steps stand.Hyp draft may = refl
 begun_steps stand.Step draft may = refl
 begun_steps stand.Nothing draft may = cc
@@ -58,7 +58,7 @@ begun_steps stand.Rejected draft may = cc
 begun_steps (stand.Counts last) draft may = cc
 
 -- one step of one line more
-step_feeds : (before : Stand) (draft : Draft) (at : ℕ) (step : Step) (line : ReportLine) → step_lines step ≡ line ∷ [] → may_step before ≡ true → Fits before draft → lines_so_far (with_step at step draft) ≡ begun_lines before draft ++ numbered at line ∷ []
+step_feeds : (before : Stand) (draft : RoundDraft) (at : ℕ) (step : Step) (line : ReportLine) → step_lines step ≡ line ∷ [] → may_step before ≡ true → Fits before draft → lines_so_far (with_step at step draft) ≡ begun_lines before draft ++ numbered at line ∷ []
 step_feeds before draft at step line lines may fits =
     step_more at step draft (steps_fit before draft may fits)
     ∙ (λ i. begun_steps before draft may i ++ numbered_from at (lines i))
@@ -66,7 +66,7 @@ step_feeds before draft at step line lines may fits =
 -- ---- cycles
 
 -- the first line of a cycle
-cycle_feeds : (before : Stand) (draft : Draft) (at count : ℕ) (next : Stand) → after_reasons count ≡ next → may_step before ≡ true → Fits before draft → begun_lines next (with_cycle at next draft) ≡ begun_lines before draft ++ numbered at (Cycle count) ∷ []
+cycle_feeds : (before : Stand) (draft : RoundDraft) (at count : ℕ) (next : Stand) → after_reasons count ≡ next → may_step before ≡ true → Fits before draft → begun_lines next (with_cycle at next draft) ≡ begun_lines before draft ++ numbered at (Cycle count) ∷ []
 cycle_feeds before draft at count next same may fits =
     after_reasons_is (λ s. begun_lines s (with_cycle at s draft) ≡ begun_lines before draft ++ numbered at (Cycle count) ∷ []) count next same
     (λ none.
@@ -83,7 +83,7 @@ reason_more first count reasons reason =
     ∙ numbered_from_more first (Cycle count ∷ map Why reasons) (Why reason)
 
 -- one reason more of a cycle of so many
-reason_feeds : (owed count : ℕ) (draft : Draft) (at : ℕ) (reason : Reason) → IsNumberAfter (begun_lines (stand.Reasons owed) draft) at → count ≡ length draft.reasons + owed
+reason_feeds : (owed count : ℕ) (draft : RoundDraft) (at : ℕ) (reason : Reason) → IsNumberAfter (begun_lines (stand.Reasons owed) draft) at → count ≡ length draft.reasons + owed
     → lines_so_far draft ++ numbered_from draft.cycle_line (Cycle count ∷ map Why (draft.reasons ++ reason ∷ [])) ≡ begun_lines (stand.Reasons owed) draft ++ numbered at (Why reason) ∷ []
 reason_feeds owed count draft at reason number count_is =
     let counted : ℕ = length draft.reasons + owed in
@@ -95,7 +95,7 @@ reason_feeds owed count draft at reason number count_is =
     ∙ sym (append_assoc (lines_so_far draft) (cycle_lines owed draft) (numbered at (Why reason) ∷ []))
 
 -- one reason more
-why_feeds : (owed : ℕ) (draft : Draft) (at : ℕ) (reason : Reason) (next : Stand) → after_reasons (owed - 1) ≡ next → IsNumberAfter (begun_lines (stand.Reasons owed) draft) at → Fits (stand.Reasons owed) draft
+why_feeds : (owed : ℕ) (draft : RoundDraft) (at : ℕ) (reason : Reason) (next : Stand) → after_reasons (owed - 1) ≡ next → IsNumberAfter (begun_lines (stand.Reasons owed) draft) at → Fits (stand.Reasons owed) draft
     → begun_lines next (with_reason reason next draft) ≡ begun_lines (stand.Reasons owed) draft ++ numbered at (Why reason) ∷ []
 why_feeds owed draft at reason next same number fits =
     let length_is : length (draft.reasons ++ reason ∷ []) ≡ length draft.reasons + 1 = length-append draft.reasons (reason ∷ []) in
@@ -133,7 +133,7 @@ activation_feeds before last activation at (under_way.Ranked ranked) up_to later
 -- ---- each line
 
 -- Nothing was read of a round where a block may come.
-begun_nothing : (before : Stand) (draft : Draft) → may_begin_block before ≡ true → begun_lines before draft ≡ []
+begun_nothing : (before : Stand) (draft : RoundDraft) → may_begin_block before ≡ true → begun_lines before draft ≡ []
 begun_nothing stand.Block draft may = refl
 begun_nothing (stand.Counts last) draft may = refl
 begun_nothing stand.Nothing draft may = cc
@@ -146,13 +146,13 @@ begun_nothing stand.Open draft may = cc
 begun_nothing stand.Rejected draft may = cc
 
 -- what a line does, as a type by the stand after it
-abbrev FeedsAfter : Stand → Draft → ℕ → ReportLine → Stand → Type 0
+abbrev FeedsAfter : Stand → RoundDraft → ℕ → ReportLine → Stand → Type 0
 FeedsAfter before draft at line next =
     Feeds (begun_lines before draft) (begun_lines next (draft_after at next line draft)) (numbered at line)
     (completed at line (draft_with at next line draft))
 
 -- Each line that may come is one line more, or ends what it belongs to.
-pub feeds_after : (before : Stand) (draft : Draft) (at : ℕ) (line : ReportLine) (next : Stand) → Fits before draft → IsNumberAfter (begun_lines before draft) at → stand_after before line ≡ Some next → FeedsAfter before draft at line next
+pub feeds_after : (before : Stand) (draft : RoundDraft) (at : ℕ) (line : ReportLine) (next : Stand) → Fits before draft → IsNumberAfter (begun_lines before draft) at → stand_after before line ≡ Some next → FeedsAfter before draft at line next
 feeds_after before draft at (Head terms) next fits number same =
     then_some_is (FeedsAfter before draft at (Head terms)) (may_begin before) stand.Block next same (λ _. (inl refl, refl))
 feeds_after before draft at (OldHead k budget) next fits number same =

@@ -7,12 +7,12 @@ use Rattle.tfpg_report.specs.declared.fed.Fed.TheVariants as fed
 use Rattle.tfpg_report.specs.declared.stand.Stand.{Stand}
 use Rattle.tfpg_report.specs.declared.report_line.ReportLine.{ReportLine}
 use Rattle.tfpg_report.specs.declared.report_line.ReportLine.TheVariants.{Head, OldHead, Refused, Round, Hyp, Split, Cycle, Why, Again, Ranked, At, Open, Rejected, Counts, Panel}
-use Rattle.tfpg_report.specs.declared.block_reader.draft.Draft.{Draft}
+use Rattle.tfpg_report.specs.declared.block_reader.draft.RoundDraft.{RoundDraft}
 use Rattle.tfpg_report.specs.ReportLines.{Says}
 use Rattle.tfpg_report.specs.Stands.{stand_after, stand_of}
 use Rattle.tfpg_report.specs.ReadRounds.{NumberedLine, numbered_from}
 use Rattle.tfpg_report.specs.Reading.{is_last, begun_in, IsHead, Completes}
-use Rattle.tfpg_report.specs.Represents.{ReaderState, ReaderRepresents, Takes}
+use Rattle.tfpg_report.specs.Represents.{ReaderState, ReaderRepresents, TakesReportLine}
 use Rattle.tfpg_report.specs.inside.Drafts.{draft_with, draft_after, left_after, completed}
 use Rattle.tfpg_report.specs.inside.Fitting.{begun_lines, Fits, Feeds}
 use Rattle.tfpg_report.proofs.lemmas.block_reader.NumberedLines.{numbered, numbered_from_more}
@@ -75,7 +75,7 @@ module _ (lines : List ReportLine) (read : ReportLine) (number : ℕ) (next_is :
   }
 
 -- What is left of a draft to which a line was added is the draft after it.
-pub left_with : (at : ℕ) (next : Stand) (line : ReportLine) (draft : Draft) → left_after line (draft_with at next line draft) ≡ draft_after at next line draft
+pub left_with : (at : ℕ) (next : Stand) (line : ReportLine) (draft : RoundDraft) → left_after line (draft_with at next line draft) ≡ draft_after at next line draft
 left_with at next (Head terms) draft = refl
 left_with at next (OldHead k budget) draft = refl
 left_with at next (Refused line cause) draft = refl
@@ -93,10 +93,10 @@ left_with at next (Counts counts) draft = refl
 left_with at next (Panel panel memory) draft = refl
 
 -- A line that may come is taken.
-pub takes : (graph : Tfpg) (lines : List ReportLine) (bytes : List ℕ) (old new : ReaderState) (before next : Stand) (draft after : Draft) (number : ℕ) (read : ReportLine) (completes : Fed)
+pub takes : (graph : Tfpg) (lines : List ReportLine) (bytes : List ℕ) (old new : ReaderState) (before next : Stand) (draft after : RoundDraft) (number : ℕ) (read : ReportLine) (completes : Fed)
     → old.stand ≡ before → old.begun ≡ begun_lines before draft → new.taken ≡ number → new.stand ≡ next → new.begun ≡ begun_lines next after
     → ReaderRepresents old lines → number ≡ old.taken + 1 → Fits before draft → Says graph read bytes → stand_after before read ≡ Some next
-    → after ≡ draft_after number next read draft → completes ≡ completed number read (draft_with number next read draft) → Takes graph lines bytes new completes
+    → after ≡ draft_after number next read draft → completes ≡ completed number read (draft_with number next read draft) → TakesReportLine graph lines bytes new completes
 takes graph lines bytes old new before next draft after number read completes old_stand old_begun new_taken new_stand new_begun represents follows fits says steps after_is completes_is =
     let next_is : number ≡ length lines + 1 = follows ∙ ap (λ (n : ℕ). n + 1) represents.taken in
     let are : begun_lines before draft ≡ numbered_from (first_begun lines) (begun_in lines) = sym old_begun ∙ represents.begun in

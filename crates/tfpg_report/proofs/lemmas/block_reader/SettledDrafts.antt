@@ -8,7 +8,7 @@ use Rattle.tfpg_report.specs.declared.stand.Stand.TheVariants as stand
 use Rattle.tfpg_report.specs.declared.read_round.Part.{Part}
 use Rattle.tfpg_report.specs.declared.read_round.RankedLine.{RankedLine}
 use Rattle.tfpg_report.specs.declared.read_round.NamedSet.{NamedSet}
-use Rattle.tfpg_report.specs.declared.block_reader.draft.Draft.{Draft}
+use Rattle.tfpg_report.specs.declared.block_reader.draft.RoundDraft.{RoundDraft}
 use Rattle.tfpg_report.specs.declared.block_reader.draft.UnderWay.{UnderWay}
 use Rattle.tfpg_report.specs.declared.block_reader.draft.UnderWay.TheVariants as under_way
 use Rattle.tfpg_report.specs.declared.report_line.ReportLine.TheVariants.{Round}
@@ -18,7 +18,7 @@ use Rattle.tfpg_report.specs.inside.Drafts.{with_whole, settled}
 use Rattle.tfpg_report.specs.inside.Fitting.{whole_lines, lines_under_way, lines_so_far, begun_lines, IsNothing, IsPart, IsRankedUpTo, LacksSets, HasOnlySteps, HasStepLines, Fits}
 
 -- What was under way is whole: the lines are the same, and each step has its line.
-pub record IsSettled (now : UnderWay) (draft : Draft) : Type 0 where
+pub record IsSettled (now : UnderWay) (draft : RoundDraft) : Type 0 where
   pub lines : whole_lines (with_whole now draft) ≡ whole_lines draft ++ lines_under_way now
   pub steps : HasStepLines (with_whole now draft)
 
@@ -65,33 +65,33 @@ named_more before unsettled named (r ∷ rejected) no_rejected = cc
 -- ---- by what is under way
 
 -- the first line of a round
-abbrev first_of_round : Draft → NumberedLine
+abbrev first_of_round : RoundDraft → NumberedLine
 first_of_round draft = record { number = draft.first_line; says = Round draft.number draft.line draft.now }
 
 -- the lines of a round up to its parts that are whole
-abbrev whole_parts : Draft → List NumberedLine
+abbrev whole_parts : RoundDraft → List NumberedLine
 whole_parts draft = first_of_round draft ∷ flat_map lines_of_part draft.parts
 
 -- the lines of a round up to its ranked hypotheses that are whole
-abbrev whole_ranked : Draft → List NumberedLine
+abbrev whole_ranked : RoundDraft → List NumberedLine
 whole_ranked draft = whole_parts draft ++ flat_map lines_of_ranked draft.ranked
 
 -- One open hypothesis more is one line more, where none is rejected.
-pub open_more : (draft : Draft) (named : NamedSet) → draft.rejected ≡ [] → whole_lines (record draft { unsettled = draft.unsettled ++ named ∷ [] }) ≡ whole_lines draft ++ line_of_open named ∷ []
+pub open_more : (draft : RoundDraft) (named : NamedSet) → draft.rejected ≡ [] → whole_lines (record draft { unsettled = draft.unsettled ++ named ∷ [] }) ≡ whole_lines draft ++ line_of_open named ∷ []
 open_more draft named none = named_more (whole_ranked draft) draft.unsettled named draft.rejected none
 
 -- One rejected hypothesis more is one line more.
-pub rejected_more : (draft : Draft) (named : NamedSet) → whole_lines (record draft { rejected = draft.rejected ++ named ∷ [] }) ≡ whole_lines draft ++ line_of_rejected named ∷ []
+pub rejected_more : (draft : RoundDraft) (named : NamedSet) → whole_lines (record draft { rejected = draft.rejected ++ named ∷ [] }) ≡ whole_lines draft ++ line_of_rejected named ∷ []
 rejected_more draft named =
     ap (λ lines. whole_ranked draft ++ map line_of_open draft.unsettled ++ lines) (map-append line_of_rejected draft.rejected (named ∷ []))
     ∙ sym (append_assoc (whole_ranked draft ++ map line_of_open draft.unsettled) (map line_of_rejected draft.rejected) (line_of_rejected named ∷ []))
 
-settled_nothing : (now : UnderWay) (draft : Draft) → IsNothing now → HasStepLines draft → IsSettled now draft
+settled_nothing : (now : UnderWay) (draft : RoundDraft) → IsNothing now → HasStepLines draft → IsSettled now draft
 settled_nothing under_way.Nothing draft nothing steps = record { lines = sym (append-nil (whole_lines draft)); steps = steps }
 settled_nothing (under_way.Part part) draft nothing steps = absurd nothing
 settled_nothing (under_way.Ranked ranked) draft nothing steps = absurd nothing
 
-settled_part : (now : UnderWay) (draft : Draft) → IsPart now → HasStepLines draft → HasOnlySteps draft.ranked draft.unsettled draft.rejected → IsSettled now draft
+settled_part : (now : UnderWay) (draft : RoundDraft) → IsPart now → HasStepLines draft → HasOnlySteps draft.ranked draft.unsettled draft.rejected → IsSettled now draft
 settled_part under_way.Nothing draft part steps only = absurd part
 settled_part (under_way.Part part) draft has steps only = record {
   lines = part_more (first_of_round draft) draft.parts part draft.ranked draft.unsettled draft.rejected only.no_ranked only.no_sets.no_unsettled only.no_sets.no_rejected;
@@ -99,7 +99,7 @@ settled_part (under_way.Part part) draft has steps only = record {
 }
 settled_part (under_way.Ranked ranked) draft part steps only = absurd part
 
-settled_ranked : (last : Option ℕ) (now : UnderWay) (draft : Draft) → IsRankedUpTo last now → HasStepLines draft → LacksSets draft.unsettled draft.rejected → IsSettled now draft
+settled_ranked : (last : Option ℕ) (now : UnderWay) (draft : RoundDraft) → IsRankedUpTo last now → HasStepLines draft → LacksSets draft.unsettled draft.rejected → IsSettled now draft
 settled_ranked last under_way.Nothing draft is steps lacks = absurd is
 settled_ranked last (under_way.Part part) draft is steps lacks = absurd is
 settled_ranked last (under_way.Ranked ranked) draft is steps lacks = record {
@@ -108,27 +108,27 @@ settled_ranked last (under_way.Ranked ranked) draft is steps lacks = record {
 }
 
 -- What is open or rejected stays as it was.
-lacks_settled : (now : UnderWay) (draft : Draft) → LacksSets draft.unsettled draft.rejected → LacksSets (with_whole now draft).unsettled (with_whole now draft).rejected
+lacks_settled : (now : UnderWay) (draft : RoundDraft) → LacksSets draft.unsettled draft.rejected → LacksSets (with_whole now draft).unsettled (with_whole now draft).rejected
 lacks_settled under_way.Nothing draft lacks = lacks
 lacks_settled (under_way.Part part) draft lacks = lacks
 lacks_settled (under_way.Ranked ranked) draft lacks = lacks
 
-none_rejected_settled : (now : UnderWay) (draft : Draft) → draft.rejected ≡ [] → (with_whole now draft).rejected ≡ []
+none_rejected_settled : (now : UnderWay) (draft : RoundDraft) → draft.rejected ≡ [] → (with_whole now draft).rejected ≡ []
 none_rejected_settled under_way.Nothing draft none = none
 none_rejected_settled (under_way.Part part) draft none = none
 none_rejected_settled (under_way.Ranked ranked) draft none = none
 
 -- the draft has steps alone once that is whole
-abbrev HasOnlyStepsThen : UnderWay → Draft → Type 0
+abbrev HasOnlyStepsThen : UnderWay → RoundDraft → Type 0
 HasOnlyStepsThen now draft =
     HasOnlySteps (with_whole now draft).ranked (with_whole now draft).unsettled (with_whole now draft).rejected
 
-only_nothing : (now : UnderWay) (draft : Draft) → IsNothing now → HasOnlySteps draft.ranked draft.unsettled draft.rejected → HasOnlyStepsThen now draft
+only_nothing : (now : UnderWay) (draft : RoundDraft) → IsNothing now → HasOnlySteps draft.ranked draft.unsettled draft.rejected → HasOnlyStepsThen now draft
 only_nothing under_way.Nothing draft nothing only = only
 only_nothing (under_way.Part part) draft nothing only = absurd nothing
 only_nothing (under_way.Ranked ranked) draft nothing only = absurd nothing
 
-only_part : (now : UnderWay) (draft : Draft) → IsPart now → HasOnlySteps draft.ranked draft.unsettled draft.rejected → HasOnlyStepsThen now draft
+only_part : (now : UnderWay) (draft : RoundDraft) → IsPart now → HasOnlySteps draft.ranked draft.unsettled draft.rejected → HasOnlyStepsThen now draft
 only_part under_way.Nothing draft part only = absurd part
 only_part (under_way.Part part) draft has only = only
 only_part (under_way.Ranked ranked) draft part only = absurd part
@@ -136,7 +136,7 @@ only_part (under_way.Ranked ranked) draft part only = absurd part
 -- ---- by the stand
 
 -- Where a rejected hypothesis may come, what is under way is settled.
-pub is_settled : (before : Stand) (draft : Draft) → may_reject before ≡ true → Fits before draft → IsSettled draft.under_way draft
+pub is_settled : (before : Stand) (draft : RoundDraft) → may_reject before ≡ true → Fits before draft → IsSettled draft.under_way draft
 is_settled stand.Nothing draft may fits = cc
 is_settled stand.Block draft may fits = cc
 is_settled stand.Round draft may fits = settled_nothing draft.under_way draft fits.0 fits.1
@@ -149,10 +149,10 @@ is_settled stand.Rejected draft may fits = settled_nothing draft.under_way draft
 is_settled (stand.Counts last) draft may fits = cc
 
 -- Where a rejected hypothesis may come, the lines are those of what is whole then.
-pub lines_when_settled : (before : Stand) (draft : Draft) → may_reject before ≡ true → Fits before draft → begun_lines before draft ≡ whole_lines (settled draft)
+pub lines_when_settled : (before : Stand) (draft : RoundDraft) → may_reject before ≡ true → Fits before draft → begun_lines before draft ≡ whole_lines (settled draft)
 lines_when_settled before draft may fits = begun before draft may ∙ sym (is_settled before draft may fits).lines
   where
-    begun : (before : Stand) (draft : Draft) → may_reject before ≡ true → begun_lines before draft ≡ lines_so_far draft
+    begun : (before : Stand) (draft : RoundDraft) → may_reject before ≡ true → begun_lines before draft ≡ lines_so_far draft
     begun stand.Nothing draft may = cc
     begun stand.Block draft may = cc
     begun stand.Round draft may = refl
@@ -165,7 +165,7 @@ lines_when_settled before draft may fits = begun before draft may ∙ sym (is_se
     begun (stand.Counts last) draft may = cc
 
 -- A part may come where only steps were read.
-pub only_steps : (before : Stand) (draft : Draft) → may_begin_steps before ≡ true → Fits before draft → HasOnlySteps (settled draft).ranked (settled draft).unsettled (settled draft).rejected
+pub only_steps : (before : Stand) (draft : RoundDraft) → may_begin_steps before ≡ true → Fits before draft → HasOnlySteps (settled draft).ranked (settled draft).unsettled (settled draft).rejected
 only_steps stand.Nothing draft may fits = cc
 only_steps stand.Block draft may fits = cc
 only_steps stand.Round draft may fits = only_nothing draft.under_way draft fits.0 fits.2
@@ -178,7 +178,7 @@ only_steps stand.Rejected draft may fits = cc
 only_steps (stand.Counts last) draft may fits = cc
 
 -- A ranked hypothesis may come where no open and no rejected one was read.
-pub no_sets : (before : Stand) (draft : Draft) → may_rank before ≡ true → Fits before draft → LacksSets (settled draft).unsettled (settled draft).rejected
+pub no_sets : (before : Stand) (draft : RoundDraft) → may_rank before ≡ true → Fits before draft → LacksSets (settled draft).unsettled (settled draft).rejected
 no_sets stand.Nothing draft may fits = cc
 no_sets stand.Block draft may fits = cc
 no_sets stand.Round draft may fits = lacks_settled draft.under_way draft fits.2.no_sets
@@ -191,7 +191,7 @@ no_sets stand.Rejected draft may fits = cc
 no_sets (stand.Counts last) draft may fits = cc
 
 -- An open hypothesis may come where no rejected one was read.
-pub none_rejected : (before : Stand) (draft : Draft) → may_open before ≡ true → Fits before draft → (settled draft).rejected ≡ []
+pub none_rejected : (before : Stand) (draft : RoundDraft) → may_open before ≡ true → Fits before draft → (settled draft).rejected ≡ []
 none_rejected stand.Nothing draft may fits = cc
 none_rejected stand.Block draft may fits = cc
 none_rejected stand.Round draft may fits = none_rejected_settled draft.under_way draft fits.2.no_sets.no_rejected

@@ -17,7 +17,7 @@ use Rattle.tfpg_graph.specs.Graph.{Tfpg, name_word, node_named, edge_from_to}
 use Rattle.tfpg_graph.specs.Valid.{IsSamePair, IsValid}
 use Rattle.tfpg_graph.specs.declared.edge.Edge.{Edge}
 use Rattle.tfpg_report.specs.LineWords.{edge_words}
-use Rattle.tfpg_report.specs.ReportLines.{IsSmall}
+use Rattle.tfpg_report.specs.ReportLines.{Has32Bits}
 use Rattle.tfpg_report.specs.inside.FirstWords.{value_of, number_within, small, number_first, small_first, node_first, edge_first, after_word, number_after, small_after, if_last, set_last}
 use Rattle.tfpg_report.specs.inside.LinesRead.{Rest}
 use Rattle.tfpg_report.proofs.MemberWords.{node_of_word, word_of_named}
@@ -81,12 +81,12 @@ number_first-is limit (word ∷ others) read fits e =
     subst (Reads (λ n. n ≤ limit) number_word (word ∷ others)) number.1.1 (record { words_are = ap (λ (w : List ℕ). w ∷ others) is.0; is = is.1 })
 
 -- and one of 32 bits
-pub small_first-is : (words : List (List ℕ)) (read : Rest) → small_first words ≡ Some read → Reads IsSmall number_word words read
+pub small_first-is : (words : List (List ℕ)) (read : Rest) → small_first words ≡ Some read → Reads Has32Bits number_word words read
 small_first-is [] read e = absurd cc
 small_first-is (word ∷ others) read e =
     let number = made_of (λ (n : ℕ). (n, others)) (small word) read e in
     let is = number_within-is 4294967295 word number.0 (omega arith) number.1.0 in
-    subst (Reads IsSmall number_word (word ∷ others)) number.1.1 (record { words_are = ap (λ (w : List ℕ). w ∷ others) is.0; is = omega (arith, is.1) })
+    subst (Reads Has32Bits number_word (word ∷ others)) number.1.1 (record { words_are = ap (λ (w : List ℕ). w ∷ others) is.0; is = omega (arith, is.1) })
 
 -- the words after a first one
 pub after_word-is : (word : List ℕ) (words others : List (List ℕ)) → after_word word words ≡ Some others → words ≡ word ∷ others
@@ -106,7 +106,7 @@ number_after-is word limit words read fits e =
     record { words_are = after_word-is word words after.0 after.1.0 ∙ ap (λ (ws : List (List ℕ)). word ∷ ws) number.words_are; is = number.is }
 
 -- and one of 32 bits
-pub small_after-is : (word : List ℕ) (words : List (List ℕ)) (read : Rest) → small_after word words ≡ Some read → Reads IsSmall (λ n. word ∷ number_word n) words read
+pub small_after-is : (word : List ℕ) (words : List (List ℕ)) (read : Rest) → small_after word words ≡ Some read → Reads Has32Bits (λ n. word ∷ number_word n) words read
 small_after-is word words read e =
     let after = went_on small_first (after_word word words) read e in
     let number = small_first-is after.0 read after.1.1 in
@@ -183,10 +183,10 @@ pub number_first-reads : (limit number : ℕ) (others : List (List ℕ)) → lim
 number_first-reads limit number others fits within = ap (option_map (λ (n : ℕ). (n, others))) (number_within-reads limit number fits within)
 
 -- of one of 32 bits
-pub small-reads : (number : ℕ) → IsSmall number → small (decimal number) ≡ Some number
+pub small-reads : (number : ℕ) → Has32Bits number → small (decimal number) ≡ Some number
 small-reads number within = number_within-reads 4294967295 number (omega arith) (omega (arith, within))
 
-pub small_first-reads : (number : ℕ) (others : List (List ℕ)) → IsSmall number → small_first (decimal number ∷ others) ≡ Some (number, others)
+pub small_first-reads : (number : ℕ) (others : List (List ℕ)) → Has32Bits number → small_first (decimal number ∷ others) ≡ Some (number, others)
 small_first-reads number others within = ap (option_map (λ (n : ℕ). (n, others))) (small-reads number within)
 
 module _ (graph : Tfpg) (valid : IsValid graph) where

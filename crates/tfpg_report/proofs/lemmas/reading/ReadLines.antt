@@ -16,13 +16,13 @@ use Rattle.tfpg_log.specs.declared.refused_line.RefusedLine.TheVariants.{TooLong
 use Rattle.tfpg_report.specs.declared.report_line.ReportLine.{ReportLine}
 use Rattle.tfpg_report.specs.declared.report_line.ReportLine.TheVariants.{Head, OldHead, Refused, Round, Hyp, Split, Cycle, Why, Again, Ranked, At, Open, Rejected, Counts, Panel}
 use Rattle.tfpg_report.specs.LineWords.{cause_words, clause_words, reason_words}
-use Rattle.tfpg_report.specs.ReportLines.{IsCauseWithin, IsLineWithin, IsNameWithin, IsReasonWithin, IsSmall, line_words}
+use Rattle.tfpg_report.specs.ReportLines.{IsCauseWithin, IsLineWithin, IsNameWithin, IsReasonWithin, Has32Bits, line_words}
 use Rattle.tfpg_report.specs.inside.LinesRead.{cause_in, clause_in, loss_in, reason_in, span_and_horizon}
 use Rattle.tfpg_report.specs.inside.WordsRead.{plain_words_in}
 use Rattle.tfpg_report.proofs.lemmas.reading.FirstWords.{edge_first-reads, node_first-reads, number_first-reads, small_first-reads}
 
 -- a number after another one
-until-reads : (span horizon : ℕ) → IsSmall span → horizon ≤ MAX_TIME → span_and_horizon (decimal span ∷ decimal horizon ∷ []) ≡ Some (span, horizon)
+until-reads : (span horizon : ℕ) → Has32Bits span → horizon ≤ MAX_TIME → span_and_horizon (decimal span ∷ decimal horizon ∷ []) ≡ Some (span, horizon)
 until-reads span horizon small within =
     rw (small_first-reads span (decimal horizon ∷ []) small, number_first-reads MAX_TIME horizon [] (omega arith) within) refl
 

@@ -18,7 +18,7 @@ use Rattle.tfpg_log.specs.declared.refused_line.RefusedLine.TheVariants as refus
 use Rattle.tfpg_report.specs.declared.report_line.ReportLine.{ReportLine}
 use Rattle.tfpg_report.specs.declared.report_line.ReportLine.TheVariants as says
 use Rattle.tfpg_report.specs.LineWords.{cause_words, clause_words, edge_words, reason_words, refusal_name}
-use Rattle.tfpg_report.specs.ReportLines.{IsCauseWithin, IsLineWithin, IsNameWithin, IsReasonWithin, IsSmall, line_words}
+use Rattle.tfpg_report.specs.ReportLines.{IsCauseWithin, IsLineWithin, IsNameWithin, IsReasonWithin, Has32Bits, line_words}
 use Rattle.tfpg_report.specs.inside.FirstWords.{edge_first, if_last, node_first, number_first, small_first, number_after, small_after}
 use Rattle.tfpg_report.specs.inside.LinesRead.{at_in, block_line_in, cause_in, cause_named, clause_in, counts_in, cycle_in, edge_clause_in, event_reason_in, head_in, hyp_in, loss_in, new_head_in, node_clause_in, node_reason_in, old_head_in, panel_in, pick_in, plain_line_in, quiet_in, reason_in, refusal_named, refused_in, round_in, span_and_horizon, split_in, step_line_in, time_back_in, unreached_in, why_in}
 use Rattle.tfpg_report.specs.inside.WordsRead.{HasWords}
@@ -101,7 +101,7 @@ record HasClause (graph : Tfpg) (words : List (List ℕ)) (name : ClauseName) : 
 -- a span and a horizon
 record HasUntil (words : List (List ℕ)) (until : ℕ × ℕ) : Type 0 where
   words_are : words ≡ decimal until.0 ∷ decimal until.1 ∷ []
-  span : IsSmall until.0
+  span : Has32Bits until.0
   horizon : until.1 ≤ MAX_TIME
 
 until-is : (words : List (List ℕ)) (until : ℕ × ℕ) → span_and_horizon words ≡ Some until → HasUntil words until
@@ -120,7 +120,7 @@ until-is words until e =
 module _ (graph : Tfpg) where
   -- a clause of a node
   node_clause-is : (keyword : List ℕ) (named : ℕ → ℕ → ℕ → ClauseName) → ((node span horizon : ℕ) → clause_words graph (named node span horizon) ≡ keyword ∷ name_word graph node ∷ decimal span ∷ decimal horizon ∷ [])
-      → ((node span horizon : ℕ) → node < length graph.nodes → IsSmall span → horizon ≤ MAX_TIME → IsNameWithin graph (named node span horizon))
+      → ((node span horizon : ℕ) → node < length graph.nodes → Has32Bits span → horizon ≤ MAX_TIME → IsNameWithin graph (named node span horizon))
       → (words : List (List ℕ)) (name : ClauseName) → node_clause_in named graph words ≡ Some name → HasClause graph (keyword ∷ words) name
   node_clause-is keyword named spelled all words name e =
       let node = went_on _ (node_first graph words) name e in
@@ -135,7 +135,7 @@ module _ (graph : Tfpg) where
 
   -- and of an edge
   edge_clause-is : (keyword : List ℕ) (named : ℕ → ℕ → ℕ → ClauseName) → ((edge span horizon : ℕ) → clause_words graph (named edge span horizon) ≡ keyword ∷ edge_words graph edge ++ decimal span ∷ decimal horizon ∷ [])
-      → ((edge span horizon : ℕ) → edge < length graph.edges → IsSmall span → horizon ≤ MAX_TIME → IsNameWithin graph (named edge span horizon))
+      → ((edge span horizon : ℕ) → edge < length graph.edges → Has32Bits span → horizon ≤ MAX_TIME → IsNameWithin graph (named edge span horizon))
       → (words : List (List ℕ)) (name : ClauseName) → edge_clause_in named graph words ≡ Some name → HasClause graph (keyword ∷ words) name
   edge_clause-is keyword named spelled all words name e =
       let edge = went_on _ (edge_first graph words) name e in
@@ -183,7 +183,7 @@ module _ (graph : Tfpg) where
       })
 
   event_reason-is : (keyword : List ℕ) (named : ℕ → Reason) → ((event : ℕ) → reason_words graph (named event) ≡ keyword ∷ decimal event ∷ [])
-      → ((event : ℕ) → IsSmall event → IsReasonWithin graph (named event)) → (words : List (List ℕ)) (why : Reason) → event_reason_in named words ≡ Some why → HasReason (keyword ∷ words) why
+      → ((event : ℕ) → Has32Bits event → IsReasonWithin graph (named event)) → (words : List (List ℕ)) (why : Reason) → event_reason_in named words ≡ Some why → HasReason (keyword ∷ words) why
   event_reason-is keyword named spelled all words why e =
       let event = went_on _ (small_first words) why e in
       let first = small_first-is words event.0 event.1.0 in

@@ -11,7 +11,7 @@ use Rattle.std.proofs.lemmas.Option.{same_Some}
 use Rattle.tfpg_base.proofs.lists.Lacking.{Lacks}
 use Rattle.tfpg_base.proofs.lists.Positions.{position-cons}
 use Rattle.tfpg_report.specs.LineWords.{robustness_word}
-use Rattle.tfpg_report.specs.ReportLines.{IsSmall}
+use Rattle.tfpg_report.specs.ReportLines.{Has32Bits}
 use Rattle.tfpg_report.specs.inside.FirstWords.{after_word, set_last, small, small_after, small_first}
 use Rattle.tfpg_report.specs.inside.LinesRead.{counts_first, numbered_in, ranked_first, ranked_in, robust_at, robust_first, robust_in, without_first}
 use Rattle.tfpg_report.specs.declared.reading.read_findings.RankedNumbers.{RankedNumbers}
@@ -35,11 +35,11 @@ robust_cut alarmed monitored = append_assoc (decimal alarmed) (codes "/") (decim
 -- The word is for these counts.
 record IsRobust (word : List ℕ) (counts : ℕ × ℕ) : Type 0 where
   word_is : word ≡ robustness_word counts.0 counts.1
-  alarmed : IsSmall counts.0
-  monitored : IsSmall counts.1
+  alarmed : Has32Bits counts.0
+  monitored : Has32Bits counts.1
 
 -- a small number that was read
-small-is : (word : List ℕ) (number : ℕ) → small word ≡ Some number → (word ≡ decimal number) × IsSmall number
+small-is : (word : List ℕ) (number : ℕ) → small word ≡ Some number → (word ≡ decimal number) × Has32Bits number
 small-is word number e = let is = number_within-is 4294967295 word number (omega arith) e in (is.0, omega (arith, is.1))
 
 robust-is : (word : List ℕ) (counts : ℕ × ℕ) → robust_in word ≡ Some counts → IsRobust word counts
@@ -59,7 +59,7 @@ robust-is word counts e =
     ∙ sym (robust_cut alarmed.0 monitored.0) in
     subst (IsRobust word) monitored.1.1 (record { word_is = whole; alarmed = first.1; monitored = second.1 })
 
-robust-reads : (alarmed monitored : ℕ) → IsSmall alarmed → IsSmall monitored → robust_in (robustness_word alarmed monitored) ≡ Some (alarmed, monitored)
+robust-reads : (alarmed monitored : ℕ) → Has32Bits alarmed → Has32Bits monitored → robust_in (robustness_word alarmed monitored) ≡ Some (alarmed, monitored)
 robust-reads alarmed monitored few some =
     ap robust_in (robust_cut alarmed monitored)
     ∙ ap (option_and_then (robust_at (decimal alarmed ++ 47 ∷ decimal monitored)))
@@ -80,10 +80,10 @@ ranked_words numbers others =
 
 -- The numbers are within their limits.
 pub record AreRankedWithin (numbers : RankedNumbers) : Type 0 where
-  pub number : IsSmall numbers.number
-  pub cost : IsSmall numbers.cost
-  pub alarmed : IsSmall numbers.alarmed
-  pub monitored : IsSmall numbers.monitored
+  pub number : Has32Bits numbers.number
+  pub cost : Has32Bits numbers.cost
+  pub alarmed : Has32Bits numbers.alarmed
+  pub monitored : Has32Bits numbers.monitored
 
 -- The words are those for the numbers of a ranked hypothesis and the text of its set.
 pub record HasRanked (words : List (List ℕ)) (read : RankedNumbers × List ℕ) : Type 0 where
@@ -97,8 +97,8 @@ record HasRankedFirst (words : List (List ℕ)) (read : RankedNumbers × List (L
 -- two counts after `robust`
 record HasRobustFirst (words : List (List ℕ)) (read : (ℕ × ℕ) × List (List ℕ)) : Type 0 where
   words_are : words ≡ codes "robust" ∷ robustness_word read.0.0 read.0.1 ∷ read.1
-  alarmed : IsSmall read.0.0
-  monitored : IsSmall read.0.1
+  alarmed : Has32Bits read.0.0
+  monitored : Has32Bits read.0.1
 
 robust_first-is : (words : List (List ℕ)) (read : (ℕ × ℕ) × List (List ℕ)) → robust_first words ≡ Some read → HasRobustFirst words read
 robust_first-is words read e =
@@ -155,7 +155,7 @@ ranked-reads numbers set within =
 -- The words are those for a number and the text of a set.
 pub record HasNumberedText (words : List (List ℕ)) (read : ℕ × List ℕ) : Type 0 where
   pub words_are : words ≡ decimal read.0 ∷ codes "set" ∷ read.1 ∷ []
-  pub within : IsSmall read.0
+  pub within : Has32Bits read.0
 
 pub numbered-is : (words : List (List ℕ)) (read : ℕ × List ℕ) → numbered_in words ≡ Some read → HasNumberedText words read
 numbered-is words read e =
@@ -167,5 +167,5 @@ numbered-is words read e =
       within = first.is;
     })
 
-pub numbered-reads : (number : ℕ) (set : List ℕ) → IsSmall number → numbered_in (decimal number ∷ codes "set" ∷ set ∷ []) ≡ Some (number, set)
+pub numbered-reads : (number : ℕ) (set : List ℕ) → Has32Bits number → numbered_in (decimal number ∷ codes "set" ∷ set ∷ []) ≡ Some (number, set)
 numbered-reads number set within = rw (small_first-reads number (codes "set" ∷ set ∷ []) within) refl

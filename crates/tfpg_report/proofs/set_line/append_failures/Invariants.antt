@@ -1,4 +1,4 @@
-use Rattle.std.proofs.Common.{true, ◌<◌, length, All}
+use Rattle.std.proofs.Common.{true, length}
 use Rattle.tfpg_graph.specs.Graph.{AreFailures, failure_word}
 use Rattle.tfpg_report.proofs.WrittenMembers.{IsPartWritten, words_left}
 use Rattle.tfpg_report.proofs.set_line.append_failures.Given as goal

@@ -8,7 +8,7 @@ use Rattle.tfpg_diagnose.specs.declared.fault.CheckFault.{CheckFault}
 use Rattle.tfpg_diagnose.specs.declared.fault.CheckFault.TheVariants.{NotAccepted, TooMany, Stream}
 use Rattle.tfpg_streams.specs.declared.fault.StreamFault.TheVariants.{ReadFault, WriteFault, TooMuchInput, NoMemory}
 use Rattle.tfpg_streams.specs.Streams.{streams}
-use Rattle.tfpg_run.specs.check.Checking.{ChecksReport, IsAccepted}
+use Rattle.tfpg_run.specs.check.Checking.{ChecksReport, IsAcceptedReport}
 use Rattle.tfpg_diagnose.specs.JudgedReports.{AcceptsReport, LacksReport}
 
 -- the report is not accepted, and nothing is written
@@ -22,7 +22,7 @@ checks_badly problem before output input (Stream TooMuchInput) lacks = record { 
 checks_badly problem before output input (Stream NoMemory) lacks = record { taken = lacks.taken; takes = lacks.takes; ends = (refl, lacks.shown) }
 
 module _ (problem : DiagnosisProblem) (before input : SourceState) (output : SinkState) (rounds : ℕ) (accepts : AcceptsReport problem before input rounds) where
-  is_accepted : (text : List ℕ) → text ≡ text_line (codes "accepted" ∷ decimal rounds ∷ []) → IsAccepted problem input accepts.taken text
+  is_accepted : (text : List ℕ) → text ≡ text_line (codes "accepted" ∷ decimal rounds ∷ []) → IsAcceptedReport problem input accepts.taken text
   is_accepted text is = record {
     terms = accepts.terms;
     blocks = accepts.blocks;

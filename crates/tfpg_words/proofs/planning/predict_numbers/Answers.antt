@@ -1,4 +1,4 @@
-use Rattle.std.proofs.Common.{◌≡◌, ◌∙◌}
+use Rattle.std.proofs.Common.{◌∙◌}
 use Rattle.tfpg_words.specs.Meaning.{both}
 use Rattle.tfpg_words.specs.inside.Parts.{rows_in}
 use Rattle.tfpg_words.proofs.WithinLimits.{numbers_small}

@@ -1,5 +1,5 @@
 use Rattle.std.proofs.Common.{◌≡◌, ◌<◌, ◌+◌, ℕ, length, map, take, sym, ap, subst, arith, ◌∙◌}
-use Rattle.tfpg_check.specs.Judging.{RejectedFails, named_by}
+use Rattle.tfpg_check.specs.Judging.{RejectedFails, named_hypothesis}
 use Rattle.tfpg_check.specs.inside.Lookups.{is_newly_closed}
 use Rattle.tfpg_check.proofs.judging.NewlyClosed.{passing_below, below_few}
 use Rattle.tfpg_check.proofs.judging.RejectedLines.{rejected_pass, rejected_differ, rejected_left}
@@ -30,7 +30,7 @@ loop-number-preserved c =
     let lookup = c.args.lookup.now in
     let within : c.loop-number.number < length lookup.table.now.hypotheses = omega (arith, c.loop-number-test.true, c.len-number-end.ensures.count) in
     let after : ℕ → Type 0 =
-    λ index. (take index (map named_by lookup.read.now.rejected) ≡ passing_below (is_newly_closed lookup) lookup.table.now.hypotheses (c.loop-number.number + 1))
+    λ index. (take index (map named_hypothesis lookup.read.now.rejected) ≡ passing_below (is_newly_closed lookup) lookup.table.now.hypotheses (c.loop-number.number + 1))
     × (length (passing_below (is_newly_closed lookup) lookup.table.now.hypotheses (c.loop-number.number + 1)) ≡ index) in
     elim c.if-is_newly_closed.branch [
       | then-is_newly_closed+else-not-names w ↦

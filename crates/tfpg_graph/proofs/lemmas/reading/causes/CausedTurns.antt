@@ -10,8 +10,8 @@ use Rattle.tfpg_graph.specs.Text.{version_said, version_of}
 use Rattle.tfpg_graph.specs.Statements.{Statement, DeclaresMode, DeclaresNode, DeclaresEdge, Ends, statement_of, is_skipped, ends_text}
 use Rattle.tfpg_graph.specs.Declares.{kind_of_words, edge_declared, said_by, declared_by}
 use Rattle.tfpg_graph.specs.Causes.{cause_at}
-use Rattle.tfpg_graph.specs.declared.reading.reader.Part.{Part}
-use Rattle.tfpg_graph.specs.declared.reading.reader.Part.TheVariants.{Header, Declarations, Ended}
+use Rattle.tfpg_graph.specs.declared.reading.reader.ReadingStage.{ReadingStage}
+use Rattle.tfpg_graph.specs.declared.reading.reader.ReadingStage.TheVariants.{Header, Declarations, Ended}
 use Rattle.tfpg_graph.specs.declared.reading.reader.Reader.{Reader}
 use Rattle.tfpg_graph.specs.inside.reading.Turns.{is_misplaced, reader_with, cause_or_value, turn_said, turn_header, turn_of, turn, part_after, HasValue, ReaderRepresents}
 use Rattle.tfpg_base.proofs.lists.Choices.{is_some-option_map}
@@ -81,7 +81,7 @@ module _ (cause : GraphCause) where
         by false read failed_so = let before = part-ended lines at in cause-ended lines line before.0 before.1 read ∙ cc
 
   -- a line of each part
-  caused_after : (part : Part) (lines : List (List ℕ)) (line : List ℕ) → AllHaveValues (said_by lines)
+  caused_after : (part : ReadingStage) (lines : List (List ℕ)) (line : List ℕ) → AllHaveValues (said_by lines)
       → part ≡ part_after lines
       → turn_of part (version_of lines) (declared_by lines) line ≡ Err cause → cause_at (lines ++ line ∷ []) (length lines) ≡ Some cause
   caused_after Header [] line values at failed = caused_header (declared_by []) line failed

@@ -6,7 +6,7 @@ use Rattle.tfpg_graph.specs.declared.version.Version.{Version}
 use Rattle.tfpg_graph.specs.Text.{version_said, version_of}
 use Rattle.tfpg_graph.specs.Statements.{Statement, statement_of, ends_text}
 use Rattle.tfpg_graph.specs.Declares.{said_by}
-use Rattle.tfpg_graph.specs.declared.reading.reader.Part.TheVariants.{Header, Declarations, Ended}
+use Rattle.tfpg_graph.specs.declared.reading.reader.ReadingStage.TheVariants.{Header, Declarations, Ended}
 use Rattle.tfpg_graph.specs.inside.reading.Turns.{part_after}
 use Rattle.tfpg_graph.proofs.lemmas.reading.saying.SaidBy.{said_by-push, said_by-silent, said_by-header}
 

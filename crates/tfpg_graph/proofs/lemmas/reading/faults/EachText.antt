@@ -9,7 +9,7 @@ use Rattle.tfpg_base.proofs.lists.Decided.{IsDecided, IsFirstBelow, first_below,
 use Rattle.tfpg_graph.specs.declared.cause.GraphCause.{GraphCause}
 use Rattle.tfpg_graph.specs.declared.cause.GraphCause.TheVariants.{BadHeader, NoIncoming, ZeroCycle, MissingEnd}
 use Rattle.tfpg_graph.specs.declared.cause.GraphFault.{GraphFault}
-use Rattle.tfpg_graph.specs.declared.reading.reader.Part.TheVariants.{Declarations, Ended}
+use Rattle.tfpg_graph.specs.declared.reading.reader.ReadingStage.TheVariants.{Declarations, Ended}
 use Rattle.tfpg_graph.specs.declared.reading.reader.Reader.{Reader}
 use Rattle.tfpg_graph.specs.Graph.{Tfpg, is_discrepancy, incoming}
 use Rattle.tfpg_graph.specs.Text.{version_of, Spells}

@@ -4,14 +4,14 @@ use Rattle.tfpg_base.specs.Lines.{lines_of, parts_of}
 use Rattle.tfpg_graph.specs.declared.cause.GraphFault.{GraphFault}
 use Rattle.tfpg_graph.specs.declared.cause.GraphRefusal.{GraphRefusal}
 use Rattle.tfpg_graph.specs.declared.cause.GraphRefusal.TheVariants.{Fault, NoMemory}
-use Rattle.tfpg_graph.specs.declared.reading.reader.LineRefusal.{LineRefusal}
-use Rattle.tfpg_graph.specs.declared.reading.reader.LineRefusal.TheVariants as line_refusal
+use Rattle.tfpg_graph.specs.declared.reading.reader.GraphLineRefusal.{GraphLineRefusal}
+use Rattle.tfpg_graph.specs.declared.reading.reader.GraphLineRefusal.TheVariants as line_refusal
 use Rattle.tfpg_graph.specs.Graph.{Tfpg}
 use Rattle.tfpg_graph.specs.Text.{Spells}
 use Rattle.tfpg_graph.specs.Valid.{IsValid}
 use Rattle.tfpg_graph.specs.Causes.{cause_at}
 use Rattle.tfpg_graph.specs.Faults.{IsTested, IsClean, IsLineFault, IsWholeFault, IsRefusalOf, IsGraphResult}
-use Rattle.tfpg_graph.specs.declared.reading.reader.Part.TheVariants.{Ended}
+use Rattle.tfpg_graph.specs.declared.reading.reader.ReadingStage.TheVariants.{Ended}
 use Rattle.tfpg_graph.specs.declared.reading.reader.Reader.{Reader}
 use Rattle.tfpg_graph.specs.inside.reading.Turns.{turn, ReaderRepresents}
 use Rattle.tfpg_graph.specs.inside.reading.TurnResults.{IsTurnResult, refusal_at, IsEndRefusal}
@@ -67,7 +67,7 @@ module _ (body : List ℕ) where
 
 module _ (text body : List ℕ) (is : IsBody text body) where
   -- The refusal of a line is that of the text.
-  pub IsRefusalOf-line : (progress : Reader) (before after : List (List ℕ)) (line : List ℕ) (refusal : LineRefusal)
+  pub IsRefusalOf-line : (progress : Reader) (before after : List (List ℕ)) (line : List ℕ) (refusal : GraphLineRefusal)
       → ReaderRepresents progress before → IsTurnResult (turn progress line) (Err refusal)
       → parts_of body ≡ before ++ line ∷ after
       → IsRefusalOf text (refusal_at refusal (length before + 1))

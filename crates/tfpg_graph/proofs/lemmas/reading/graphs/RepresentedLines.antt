@@ -13,8 +13,8 @@ use Rattle.tfpg_graph.specs.inside.declaring.Indexes.{with_mode, with_node, with
 use Rattle.tfpg_graph.specs.Statements.{Statement, DeclaresMode, DeclaresNode, DeclaresEdge, Ends, statement_of, is_skipped, ends_text}
 use Rattle.tfpg_graph.specs.Declares.{kind_of_words, edge_declared, graph_said, said_by, declared_by}
 use Rattle.tfpg_graph.specs.Causes.{cause_at, is_out_of_order}
-use Rattle.tfpg_graph.specs.declared.reading.reader.Part.{Part}
-use Rattle.tfpg_graph.specs.declared.reading.reader.Part.TheVariants.{Header, Declarations, Ended}
+use Rattle.tfpg_graph.specs.declared.reading.reader.ReadingStage.{ReadingStage}
+use Rattle.tfpg_graph.specs.declared.reading.reader.ReadingStage.TheVariants.{Header, Declarations, Ended}
 use Rattle.tfpg_graph.specs.declared.reading.reader.Reader.{Reader}
 use Rattle.tfpg_graph.specs.inside.reading.Turns.{is_misplaced, reader_with, cause_or_value, turn_said, turn_header, turn_of, turn, part_after, HasValue, ReaderRepresents}
 use Rattle.tfpg_graph.proofs.lemmas.reading.saying.SaidBy.{statement_of-skipped, version_of-append, said_by-push, said_by-silent, said_by-header}
@@ -38,7 +38,7 @@ is_taken None None next taken = absurd cc
 
 module _ (lines : List (List ℕ)) (line : List ℕ) (clean : AllClean lines) (values : AllHaveValues (said_by lines)) where
   -- one line more that says nothing and has no cause
-  stands_silent : (version : Version) (part : Part) → said_by (lines ++ line ∷ []) ≡ said_by lines
+  stands_silent : (version : Version) (part : ReadingStage) → said_by (lines ++ line ∷ []) ≡ said_by lines
       → cause_at (lines ++ line ∷ []) (length lines) ≡ None
       → version ≡ version_of (lines ++ line ∷ []) → part ≡ part_after (lines ++ line ∷ [])
       → ReaderRepresents (record { part = part; version = version; declared = declared_by lines }) (lines ++ line ∷ [])
@@ -115,7 +115,7 @@ module _ (lines : List (List ℕ)) (line : List ℕ) (clean : AllClean lines) (v
         stands_taken said says taken.0 taken.1
 
   -- a line that is skipped
-  stands_passed : (part : Part) (next : Reader) → 0 < length lines → is_skipped line ≡ true
+  stands_passed : (part : ReadingStage) (next : Reader) → 0 < length lines → is_skipped line ≡ true
       → part ≡ part_after (lines ++ line ∷ [])
       → record { part = part; version = version_of lines; declared = declared_by lines } ≡ next → ReaderRepresents next (lines ++ line ∷ [])
   stands_passed part next some passed at is =
@@ -159,7 +159,7 @@ stands_header line next turned = by (version_said line) refl turned
         (ap (λ o. cond (is_some o) None (Some BadHeader)) is) (sym (ap (λ o. unwrap_or o One) is)) (sym (part_after-header line version is)))
 
 -- a line of each part
-stands_after : (part : Part) (next : Reader) (lines : List (List ℕ)) (line : List ℕ) → AllClean lines
+stands_after : (part : ReadingStage) (next : Reader) (lines : List (List ℕ)) (line : List ℕ) → AllClean lines
     → AllHaveValues (said_by lines) → part ≡ part_after lines
     → turn_of part (version_of lines) (declared_by lines) line ≡ Ok next → ReaderRepresents next (lines ++ line ∷ [])
 stands_after Header next [] line clean values at turned = stands_header line next turned

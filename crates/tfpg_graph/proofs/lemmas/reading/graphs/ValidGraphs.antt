@@ -5,14 +5,14 @@ use Rattle.tfpg_base.specs.Lines.{parts_of}
 use Rattle.tfpg_base.proofs.LinesOf.{parts_of_some}
 use Rattle.tfpg_graph.specs.declared.cause.GraphCause.TheVariants.{ZeroCycle, MissingEnd}
 use Rattle.tfpg_graph.specs.declared.cause.GraphRefusal.{GraphRefusal}
-use Rattle.tfpg_graph.specs.declared.reading.reader.LineRefusal.TheVariants.{Cause}
+use Rattle.tfpg_graph.specs.declared.reading.reader.GraphLineRefusal.TheVariants.{Cause}
 use Rattle.tfpg_graph.specs.Graph.{Tfpg}
 use Rattle.tfpg_graph.specs.Valid.{IsValid, IsValidSoFar, HasIncomingBefore}
 use Rattle.tfpg_graph.specs.ZeroCycle.{LiesOnZeroCycle, HasZeroOrder}
 use Rattle.tfpg_graph.specs.Statements.{declares_edge}
 use Rattle.tfpg_graph.specs.Faults.{IsLineSaying}
-use Rattle.tfpg_graph.specs.declared.reading.reader.Part.{Part}
-use Rattle.tfpg_graph.specs.declared.reading.reader.Part.TheVariants.{Header, Declarations, Ended}
+use Rattle.tfpg_graph.specs.declared.reading.reader.ReadingStage.{ReadingStage}
+use Rattle.tfpg_graph.specs.declared.reading.reader.ReadingStage.TheVariants.{Header, Declarations, Ended}
 use Rattle.tfpg_graph.specs.declared.reading.reader.Reader.{Reader}
 use Rattle.tfpg_graph.specs.inside.reading.Turns.{part_after, ReaderRepresents}
 use Rattle.tfpg_graph.specs.inside.reading.TurnResults.{refusal_at, IsEndRefusal}
@@ -57,7 +57,7 @@ module _ (progress : Reader) (bytes : List ℕ) (stands : ReaderRepresents progr
   unended : progress.part ≢ Ended → progress.part ≡ Declarations
   unended goes_on = by progress.part read goes_on
     where
-      by : (part : Part) → part ≢ Header → part ≢ Ended → part ≡ Declarations
+      by : (part : ReadingStage) → part ≢ Header → part ≢ Ended → part ≡ Declarations
       by Header no_header_so goes_on_so = absurd (no_header_so refl)
       by Declarations no_header_so goes_on_so = refl
       by Ended no_header_so goes_on_so = absurd (goes_on_so refl)

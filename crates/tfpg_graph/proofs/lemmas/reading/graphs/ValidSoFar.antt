@@ -25,8 +25,8 @@ use Rattle.tfpg_graph.specs.declared.kind.Kind.TheVariants.{Failure, Or, And}
 use Rattle.tfpg_graph.specs.declared.edge.Edge.{Edge}
 use Rattle.tfpg_graph.specs.declared.version.Version.{Version}
 use Rattle.tfpg_graph.specs.declared.limits.TheConstants.{MAX_NODES, MAX_FAILURES, MAX_EDGES, MAX_INCOMING, MAX_MODES, MAX_RARITY}
-use Rattle.tfpg_graph.specs.declared.reading.reader.Part.{Part}
-use Rattle.tfpg_graph.specs.declared.reading.reader.Part.TheVariants.{Header, Declarations, Ended}
+use Rattle.tfpg_graph.specs.declared.reading.reader.ReadingStage.{ReadingStage}
+use Rattle.tfpg_graph.specs.declared.reading.reader.ReadingStage.TheVariants.{Header, Declarations, Ended}
 use Rattle.tfpg_graph.specs.declared.reading.reader.Reader.{Reader}
 use Rattle.tfpg_graph.specs.Graph.{Tfpg, is_kind_at, is_failure, failures, incoming, node_named, mode_named, edge_from_to}
 use Rattle.tfpg_graph.specs.Text.{version_said, all_modes}
@@ -279,7 +279,7 @@ module _ (version : Version) (graph : Tfpg) (is : IsValidSoFar graph) where
       valid_said said next (HasNoCause-from_none (is_misplaced graph said) graph said taken.0) taken.1
 
   -- a line that leaves what is declared, or else fails
-  valid_kept : (part : Part) (passes : Bool) (cause : GraphCause) (next : Reader)
+  valid_kept : (part : ReadingStage) (passes : Bool) (cause : GraphCause) (next : Reader)
       → cond passes (Ok (record { part = part; version = version; declared = graph })) (Err cause) ≡ Ok next → IsValidSoFar next.declared
   valid_kept part true cause next turned =
       let same : record { part = part; version = version; declared = graph } ≡ next = cc in
@@ -294,7 +294,7 @@ module _ (version : Version) (graph : Tfpg) (is : IsValidSoFar graph) where
       subst (λ (reader : Reader). IsValidSoFar reader.declared) same is
 
   -- a line of each part
-  valid_of : (part : Part) (line : List ℕ) (next : Reader) → turn_of part version graph line ≡ Ok next → IsValidSoFar next.declared
+  valid_of : (part : ReadingStage) (line : List ℕ) (next : Reader) → turn_of part version graph line ≡ Ok next → IsValidSoFar next.declared
   valid_of Header line next turned = valid_header (version_said line) next turned
   valid_of Declarations line next turned = by (is_skipped line) turned
     where

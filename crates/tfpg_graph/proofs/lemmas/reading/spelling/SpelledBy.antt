@@ -17,7 +17,7 @@ use Rattle.tfpg_graph.specs.Text.{header, version_said, version_of, Spells, cont
 use Rattle.tfpg_graph.specs.Statements.{is_empty_or_comment, Statement, statement_of, statements_of, is_skipped, ends_text, words_of_statement}
 use Rattle.tfpg_graph.specs.Declares.{graph_said, said_by}
 use Rattle.tfpg_graph.specs.Causes.{is_out_of_order, cause_of_said, cause_after}
-use Rattle.tfpg_graph.specs.declared.reading.reader.Part.TheVariants.{Declarations, Ended}
+use Rattle.tfpg_graph.specs.declared.reading.reader.ReadingStage.TheVariants.{Declarations, Ended}
 use Rattle.tfpg_graph.specs.declared.reading.reader.Reader.{Reader}
 use Rattle.tfpg_graph.specs.inside.reading.Turns.{ReaderRepresents}
 use Rattle.tfpg_graph.proofs.lemmas.reading.causes.WithoutCause.{HasNoCause-from_none}

@@ -1,9 +1,9 @@
 use Rattle.std.proofs.Common.{◌≡◌, map, take, Some}
 use Rattle.tfpg_base.specs.Choice.{each_of}
-use Rattle.tfpg_json.specs.GraphSaid.{edge_in}
+use Rattle.tfpg_json.specs.GraphSaid.{edge_from}
 use Rattle.tfpg_json.proofs.ListsRead.{read_value}
 use Rattle.tfpg_json.proofs.reading.read_said.edges_in.Given as goal
 
 -- the edges so far are read
 abbrev pub invariant-loop-item : goal.invariant-loop-item
-invariant-loop-item l = each_of (map (read_value edge_in l.item-items) (take l.item-index l.item-items)) ≡ Some l.edges
+invariant-loop-item l = each_of (map (read_value edge_from l.item-items) (take l.item-index l.item-items)) ≡ Some l.edges

@@ -1,4 +1,4 @@
-use Rattle.std.proofs.Common.{◌≡◌, ◌<◌, ℕ, List, ◌∷◌, ◌++◌, length, map, All, ap, subst, ◌∙◌}
+use Rattle.std.proofs.Common.{◌≡◌, ◌<◌, ℕ, List, ◌∷◌, ◌++◌, length, map, ap, subst, ◌∙◌}
 use Rattle.std.proofs.lemmas.List.Elements.{All-tail}
 use Rattle.serde_json.specs.Data.{string}
 use Rattle.tfpg_graph.specs.Graph.{AreFailures, failure_word, failures}

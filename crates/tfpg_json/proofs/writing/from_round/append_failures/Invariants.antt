@@ -1,4 +1,4 @@
-use Rattle.std.proofs.Common.{◌≡◌, ◌++◌, ◌<◌, length, map, All}
+use Rattle.std.proofs.Common.{◌≡◌, ◌++◌, length, map}
 use Rattle.serde_json.specs.Data.{string}
 use Rattle.tfpg_graph.specs.Graph.{AreFailures, failure_word}
 use Rattle.tfpg_json.specs.inside.Tokens.{each_tokens}
