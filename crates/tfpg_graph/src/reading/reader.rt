@@ -181,7 +181,11 @@ impl Reader {
         }
     }
 
-    fn with_statement(self, alloc: Global, statement: Statement<'_>) -> Result<Reader, GraphLineRefusal>
+    fn with_statement(
+        self,
+        alloc: Global,
+        statement: Statement<'_>,
+    ) -> Result<Reader, GraphLineRefusal>
         ensures { IsTurnResult (turn_said self.version self.declared (Some (statement_seen statement.entry))) result }
     {
         match statement {

@@ -15,7 +15,12 @@ pub(super) struct AlarmBound {
 }
 
 /// The greatest lower bound that the facts of the log state of a node, where the set reaches these nodes.
-pub(super) fn stated_by_facts(graph: &Graph, log: &Log, reach: &NodeSet, node: u32) -> ProposedBound {
+pub(super) fn stated_by_facts(
+    graph: &Graph,
+    log: &Log,
+    reach: &NodeSet,
+    node: u32,
+) -> ProposedBound {
     if !reach.has(node) {
         let horizon = log.now();
         return ProposedBound {
