@@ -3,6 +3,7 @@
 //! - [`fact`] is the constraint that a reason states, where it is a fact of the log and of a set with this reach.
 //! - [`NotAFact`] says that it is none, and [`NotAClause`] that a clause is not allowed.
 //! - [`count`] and [`constraint`] are the alternatives of a clause and their constraints, where the clause is allowed.
+//! - [`split_count`] counts the splits among steps.
 //! - [`MAX_CONSTRAINTS`] says how many constraints an alternative has at most.
 //! - [`violated`] is the first clause with the horizon now that some times violate.
 //! - [`PathSplit`] is a split on the path to the present leaf of a partial tree. [`PathSplit::on_clause`] splits the leaf,
@@ -54,9 +55,11 @@ mod must_violated;
 mod overdue;
 mod path;
 mod site;
+mod splits;
 
 pub use clauses::{NotAClause, constraint, count};
 pub use facts::{NotAFact, fact};
 pub use first_clause::violated;
 pub use limits::MAX_CONSTRAINTS;
 pub use path::{PathSplit, backtrack, cite, is_reusable, picked, reuse, stated};
+pub use splits::split_count;

@@ -8,7 +8,7 @@
 
 ghost use Rattle.std.specs.Prelude.{◌≡◌, IfOk, IfSome, IsTrue};
 ghost use Rattle.tfpg_log.specs.Log.{IsLogOf};
-ghost use Rattle.tfpg_clause.specs.Trees.{IsRefutation, is_split, split_count};
+ghost use Rattle.tfpg_clause.specs.Trees.{IsRefutation, split_count};
 ghost use Rattle.tfpg_whatif.specs.declared.outcome.Outcome.TheVariants.{Out};
 ghost use Rattle.tfpg_whatif.specs.Outcomes.{HasOutcomeEvidence, all_judged};
 ghost use Rattle.tfpg_whatif.specs.inside.Asking.{IsSubject, case_asked};
@@ -26,6 +26,7 @@ use crate::asking::Subject;
 use std::alloc::Global;
 use steps::proposed;
 use tfpg_base::NoMemory;
+use tfpg_clause::split_count;
 use tfpg_evidence::{Step, StepList};
 use tfpg_graph::Graph;
 use tfpg_kernel::{Checker, Taken};
@@ -100,23 +101,5 @@ fn takes(checker: &mut Checker, graph: &Graph, log: &Log, step: &Step) -> Result
         Taken::Open => Ok(true),
         Taken::Closed => Ok(true),
         Taken::Bad(_) => Ok(false),
-    }
-}
-
-/// How many of the steps are splits.
-fn split_count(steps: &[Step]) -> u64
-    ensures { result ≡ split_count steps.now }
-{
-    steps.iter().filter(|step| is_split(step)).count() as u64
-}
-
-/// Whether the step is a split.
-fn is_split(step: &Step) -> bool
-    ensures { result ≡ is_split step.now }
-{
-    match step {
-        Step::Split(_) => true,
-        Step::Cycle(_) => false,
-        Step::Again => false,
     }
 }

@@ -2,8 +2,7 @@
 
 ghost use Rattle.std.specs.Prelude.{◌≡◌, ◌↔◌, ◌≤◌, List, [], MatchResult, IsOk, IsTrue};
 ghost use Rattle.tfpg_report.specs.declared.read_round.NamedSet.{NamedSet as NamedRead};
-ghost use Rattle.tfpg_evidence.specs.declared.step.Step.{Step as StepRead};
-ghost use Rattle.tfpg_clause.specs.Trees.{split_count, is_split};
+ghost use Rattle.tfpg_clause.specs.Trees.{split_count};
 ghost use Rattle.tfpg_check.specs.Judging.{RoundBasis, MayBeOpen, OpenFails};
 ghost use Rattle.tfpg_check.specs.Tests.{InTurn, HoldInTurn};
 ghost use Rattle.tfpg_check.specs.inside.InTurn.{IsFailure};
@@ -14,7 +13,7 @@ ghost use Rattle.tfpg_check.specs.inside.Named.{IsLeftOpen, steps_found};
 use crate::cause::CheckCause;
 use crate::round::lookup::RoundLookup;
 use crate::round_fault::FailedTest;
-use tfpg_evidence::Step;
+use tfpg_clause::split_count;
 use tfpg_report::NamedSet;
 
 /// Tests each open hypothesis in turn.
@@ -60,33 +59,15 @@ fn may_be_open(lookup: &RoundLookup<'_>, next: u64, named: &NamedSet) -> bool
         && !lookup.is_closed(named.number)
         && !lookup.is_ranked(named.number)
         && !lookup.has_ranked_part(named.number)
-        && split_count(lookup, named.number) == lookup.budget
+        && splits_of(lookup, named.number) == lookup.budget
 }
 
 /// How many splits the hypothesis of a number has in this round.
-fn split_count(lookup: &RoundLookup<'_>, number: u32) -> u64
+fn splits_of(lookup: &RoundLookup<'_>, number: u32) -> u64
     ensures { result ≡ split_count (steps_found lookup.now number) }
 {
     match lookup.part(number) {
-        Some(part) => splits_among(part.steps.as_slice()),
+        Some(part) => split_count(part.steps.as_slice()),
         None => 0,
-    }
-}
-
-/// How many of the steps are splits.
-fn splits_among(steps: &[Step]) -> u64
-    ensures { result ≡ split_count steps.now }
-{
-    steps.iter().filter(|step| is_split(step)).count() as u64
-}
-
-/// Whether the step is a split.
-fn is_split(step: &Step) -> bool
-    ensures { result ≡ is_split step.now }
-{
-    match step {
-        Step::Split(_) => true,
-        Step::Cycle(_) => false,
-        Step::Again => false,
     }
 }
