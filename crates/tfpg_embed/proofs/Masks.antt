@@ -8,9 +8,9 @@ use Rattle.std.proofs.lemmas.List.{get_or-set_same, get_or-set_other, length-map
 use Rattle.std.proofs.lemmas.List.Elements.{All-map}
 use Rattle.std.proofs.lemmas.List.FromFn.{length-map-range_with_len}
 use Rattle.std.proofs.lemmas.Nat.Bits.{bit_at-zero, bit_at_set_same, bit_at_set_other}
-use Rattle.tfpg_base.proofs.lists.Distinct.{length-le_distinct}
-use Rattle.tfpg_base.proofs.lists.Images.{AllPairs-map}
-use Rattle.tfpg_base.proofs.lists.Ordered.{Rises-differ}
+use Rattle.tfpg_base.proofs.lemmas.lists.Distinct.{length-le_distinct}
+use Rattle.tfpg_base.proofs.lemmas.lists.Images.{AllPairs-map}
+use Rattle.tfpg_base.proofs.lemmas.lists.Ordered.{Rises-differ}
 use Rattle.tfpg_base.specs.Trace.{IsRisingByNode}
 use Rattle.tfpg_base.specs.declared.activation.Activation.{Activation}
 use Rattle.tfpg_evidence.specs.declared.finding.Status.{Status}

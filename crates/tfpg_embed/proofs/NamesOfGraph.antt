@@ -5,9 +5,9 @@ use Rattle.std.proofs.lemmas.Bool.{eq-eqb, eqb-true, ne_eqb}
 use Rattle.std.proofs.lemmas.List.Quantifiers.{position-Some}
 use Rattle.std.proofs.lemmas.Option.{get_or_from_slice_get, same_Some, slice_get-get_or, slice_get_within}
 use Rattle.std.proofs.lemmas.Slice.Eq.{bytes_eq-Decides}
-use Rattle.tfpg_base.proofs.lists.Numbered.{one_index}
-use Rattle.tfpg_base.proofs.lists.Positions.{position-at}
-use Rattle.tfpg_base.proofs.lists.SameBytes.{position-bytes}
+use Rattle.tfpg_base.proofs.lemmas.lists.Numbered.{one_index}
+use Rattle.tfpg_base.proofs.lemmas.lists.Positions.{position-at}
+use Rattle.tfpg_base.proofs.lemmas.lists.SameBytes.{position-bytes}
 use Rattle.tfpg_graph.specs.Graph.{Tfpg, failure_at, failures, is_failure, mode_named, name_at, node_named, position_of_failure}
 use Rattle.tfpg_graph.specs.Valid.{IsValid}
 use Rattle.tfpg_embed.specs.Names.{index_in, name_in}

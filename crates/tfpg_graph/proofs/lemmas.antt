@@ -5,3 +5,6 @@ pub mod writing
 pub mod reach
 pub mod zero_cycle
 pub mod probing
+-- What stands at a number.
+pub mod Numbered
+pub mod NodeAt

@@ -4,7 +4,7 @@ use Rattle.std.specs.Prelude.{All, ◌⊎◌}
 use Rattle.std.proofs.lemmas.List.{take_all, take-take}
 use Rattle.std.proofs.lemmas.List.Elements.{All-take}
 use Rattle.tfpg_base.specs.Outside.{ShelfState}
-use Rattle.tfpg_base.proofs.lists.Cuts.{take-next}
+use Rattle.tfpg_base.proofs.lemmas.lists.Cuts.{take-next}
 use Rattle.tfpg_graph.specs.declared.cause.GraphFault.{GraphFault}
 use Rattle.tfpg_graph.specs.Graph.{Tfpg}
 use Rattle.tfpg_graph.specs.Faults.{IsFirstFault}

@@ -2,10 +2,10 @@
 use Rattle.std.proofs.Common.{◌≡◌, ℕ, List, [], ◌∷◌, ◌++◌, refl, ap, sym, ◌∙◌}
 use Rattle.std.proofs.lemmas.List.{append-nil}
 use Rattle.tfpg_base.specs.Lines.{parts_of, whole_lines, last_part, line_of_part, lines_of}
-use Rattle.tfpg_base.proofs.LinesAndParts.{parts_of-last}
+use Rattle.tfpg_base.proofs.lemmas.LinesAndParts.{parts_of-last}
 use Rattle.tfpg_graph.specs.Graph.{Tfpg}
 use Rattle.tfpg_log.specs.LogOfLines.{log_of_lines}
-use Rattle.tfpg_log.proofs.logs_of_lines.LogsOfLines.{log_of_lines-push}
+use Rattle.tfpg_log.proofs.lemmas.logs_of_lines.LogsOfLines.{log_of_lines-push}
 
 -- an empty part leaves no trace
 without_part : (graph : Tfpg) (lines : List (List ℕ)) (part : List ℕ) → log_of_lines graph (lines ++ part ∷ []) ≡ log_of_lines graph (lines ++ line_of_part part)

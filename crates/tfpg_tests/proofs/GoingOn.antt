@@ -5,8 +5,8 @@ use Rattle.std.proofs.lemmas.Bool.{false≢true}
 use Rattle.tfpg_graph.specs.Graph.{Tfpg}
 use Rattle.tfpg_log.specs.declared.event.Event.{Event}
 use Rattle.tfpg_log.specs.Log.{Logbook, first_events, with_event}
-use Rattle.tfpg_log.proofs.events.Events.{whole_log}
-use Rattle.tfpg_log.proofs.events.PastKept.{first_events_kept}
+use Rattle.tfpg_log.proofs.lemmas.events.Events.{whole_log}
+use Rattle.tfpg_log.proofs.lemmas.events.PastKept.{first_events_kept}
 use Rattle.tfpg_evidence.specs.declared.step.Step.{Step}
 use Rattle.tfpg_clause.specs.Trees.{Judged}
 use Rattle.tfpg_search.specs.declared.found.Found.{Found}

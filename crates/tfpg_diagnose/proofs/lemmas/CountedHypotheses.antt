@@ -9,7 +9,7 @@ use Rattle.tfpg_hyp.specs.Hypotheses.{HasHypotheses}
 use Rattle.tfpg_hyp.specs.declared.limits.TheConstants.{MAX_HYPOTHESES}
 use Rattle.tfpg_hyp.specs.declared.table.TableFault.{TableFault}
 use Rattle.tfpg_hyp.specs.declared.table.TableFault.TheVariants.{TooMany, NoMemory}
-use Rattle.tfpg_base.proofs.lists.Sequences.{not_above}
+use Rattle.tfpg_base.proofs.lemmas.lists.Sequences.{not_above}
 
 -- what the result of `Engine::new` says of the number of hypotheses
 abbrev pub CountsHypotheses : {X : Type 0} → Tfpg → Terms → Result X TableFault → Type 0

@@ -5,7 +5,7 @@ use Rattle.std.proofs.lemmas.List.{append-nil, length_push}
 use Rattle.tfpg_base.specs.Choice.{last_of}
 use Rattle.tfpg_base.specs.declared.terms.Terms.{Terms}
 use Rattle.tfpg_base.specs.declared.limits.TheConstants.{LONGEST_LINE}
-use Rattle.tfpg_base.proofs.lists.Written.{slice_get-push_at}
+use Rattle.tfpg_base.proofs.lemmas.lists.Written.{slice_get-push_at}
 use Rattle.tfpg_graph.specs.Graph.{Tfpg}
 use Rattle.tfpg_graph.specs.Valid.{IsValid}
 use Rattle.tfpg_log.specs.declared.event.Offered.TheVariants.{Refused}
@@ -19,7 +19,7 @@ use Rattle.tfpg_engine.specs.EngineState.{EngineState, EngineRepresents, GivesRo
 use Rattle.tfpg_log.specs.declared.refused_line.RefusedLine.TheVariants.{TooLong, Offer}
 use Rattle.tfpg_report.specs.Blocks.{refused_text, round_text}
 use Rattle.tfpg_check.specs.Report.{Progress, progress_of, rounds_of}
-use Rattle.tfpg_check.proofs.Progressing.{progress_of-push}
+use Rattle.tfpg_check.proofs.lemmas.Progressing.{progress_of-push}
 use Rattle.tfpg_diagnose.specs.declared.diagnosis.Diagnosis.{Diagnosis}
 use Rattle.tfpg_diagnose.specs.RightReport.{RoundSays}
 use Rattle.tfpg_diagnose.specs.Rounds.{AreRoundsOf, IsLastRound}

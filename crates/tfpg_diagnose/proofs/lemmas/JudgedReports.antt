@@ -9,7 +9,7 @@ use Rattle.tfpg_diagnose.specs.JudgedReports.{problem_of}
 use Rattle.tfpg_diagnose.specs.inside.JudgingUnderWay.{IsNewJudge}
 use Rattle.tfpg_streams.proofs.lemmas.FewLines.{few_lines}
 use Rattle.tfpg_check.specs.RightReports.{LinesHaveOneCause, LinesOfTooManyHaveNoCause, ShortReportsHaveNoCause}
-use Rattle.tfpg_check.proofs.FirstLines.{OneLine}
+use Rattle.tfpg_check.proofs.lemmas.FirstLines.{OneLine}
 
 -- a log of a file has not too many lines
 few_log_lines : (text : List ℕ) → length text ≤ LONGEST_FILE → length (lines_of text) ≤ MAX_LINE_NUMBER

@@ -24,9 +24,9 @@ use Rattle.tfpg_engine.specs.declared.told.Told.TheVariants as told
 use Rattle.tfpg_log.specs.declared.refused_line.RefusedLine.{RefusedLine}
 use Rattle.tfpg_log.specs.declared.refused_line.RefusedLine.TheVariants.{TooLong, Offer}
 use Rattle.tfpg_report.specs.Blocks.{RefusedBlock, RoundBlock, refused_text, round_text}
-use Rattle.tfpg_report.proofs.WrittenLines.{written_alone, written_refusal}
+use Rattle.tfpg_report.proofs.lemmas.WrittenLines.{written_alone, written_refusal}
 use Rattle.tfpg_check.specs.Report.{Progress, IsBlockOf, event_of_line, event_of_reply}
-use Rattle.tfpg_check.proofs.Progressing.{progress_with}
+use Rattle.tfpg_check.proofs.lemmas.Progressing.{progress_with}
 use Rattle.tfpg_diagnose.specs.RightReport.{RoundSays}
 use Rattle.tfpg_diagnose.specs.EngineReports.{EngineReports}
 use Rattle.tfpg_diagnose.specs.inside.LineBlocks.{BringsBlock, HasBlock, NumberedLine, numbered}

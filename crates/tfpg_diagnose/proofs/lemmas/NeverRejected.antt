@@ -18,7 +18,7 @@ use Rattle.tfpg_log.specs.Log.{Logbook, GoesOn, IsLogOf, IsOrdered, ignoring}
 use Rattle.tfpg_log.specs.Accepted.{reply_to}
 use Rattle.tfpg_log.specs.LogOfLines.{log_after_reply, log_after, log_of_lines, new_log}
 use Rattle.tfpg_log.specs.Explains.{Fits}
-use Rattle.tfpg_log.proofs.logs_of_lines.LogsOfLines.{of-log_of_lines, ordered-log_of_lines}
+use Rattle.tfpg_log.proofs.lemmas.logs_of_lines.LogsOfLines.{of-log_of_lines, ordered-log_of_lines}
 use Rattle.tfpg_evidence.specs.declared.finding.Finding.{Finding}
 use Rattle.tfpg_evidence.specs.declared.finding.Status.{Status}
 use Rattle.tfpg_evidence.specs.declared.finding.Status.TheVariants.{Ranked, Covered, Rejected, Open}
@@ -29,10 +29,10 @@ use Rattle.tfpg_clause.specs.Case.{Case, case_of}
 use Rattle.tfpg_clause.specs.Trees.{Judged, IsRefutation}
 use Rattle.tfpg_hyp.specs.Rounds.{IsRound, HasEvidence, steps_so_far}
 use Rattle.tfpg_hyp.specs.Views.{case_for}
-use Rattle.tfpg_hyp.proofs.FindingsOfRound.{HasFindingAt, evidence}
+use Rattle.tfpg_hyp.proofs.lemmas.FindingsOfRound.{HasFindingAt, evidence}
 use Rattle.tfpg_report.specs.Blocks.{Block, Loss, RoundBlock}
 use Rattle.tfpg_check.specs.Report.{AreBlocks, rounds_of}
-use Rattle.tfpg_check.proofs.RoundsOfReports.{round_there}
+use Rattle.tfpg_check.proofs.lemmas.RoundsOfReports.{round_there}
 
 -- That a refutation leaves no trace is a law of facts, clauses and trees.
 abbrev LeavesNoTrace : Type 0

@@ -13,11 +13,11 @@ use Rattle.tfpg_base.specs.declared.line.LineFault.TheVariants as fault
 use Rattle.tfpg_base.specs.Outside.{SourceState, SinkState, Rose, Takes, Puts}
 use Rattle.tfpg_base.specs.Lines.{LinesState, LinesRepresent, Continues, with_bytes, with_line, lines_of, whole_lines, new_reading}
 use Rattle.tfpg_base.specs.declared.limits.TheConstants.{LONGEST_LINE, MAX_BYTES, MAX_LINE_NUMBER}
-use Rattle.tfpg_base.proofs.Taking.{Takes-append, Takes-nothing}
-use Rattle.tfpg_base.proofs.ReadingOn.{GaveLine, Continues-turn, Continues-text, Continues-too_long}
+use Rattle.tfpg_base.proofs.lemmas.Taking.{Takes-append, Takes-nothing}
+use Rattle.tfpg_base.proofs.lemmas.ReadingOn.{GaveLine, Continues-turn, Continues-text, Continues-too_long}
 use Rattle.tfpg_graph.specs.Graph.{Tfpg}
 use Rattle.std.proofs.lemmas.List.Elements.{All-nil}
-use Rattle.tfpg_base.proofs.lists.Written.{slice_get-push_before, slice_get-push_at}
+use Rattle.tfpg_base.proofs.lemmas.lists.Written.{slice_get-push_before, slice_get-push_at}
 use Rattle.tfpg_log.specs.declared.refused_line.RefusedLine.TheVariants.{TooLong}
 use Rattle.tfpg_report.specs.Blocks.{Block, block_text, head_text, refused_text}
 use Rattle.tfpg_check.specs.Report.{Progress, HasReports, IsBlock, AreBlocks, report_text, progress_of, new_progress, progress_after, rounds_of}
@@ -39,7 +39,7 @@ use Rattle.tfpg_diagnose.specs.EngineReports.{EngineReports}
 use Rattle.tfpg_diagnose.specs.inside.LineBlocks.{HasBlock, IsBlockWithin, IsUntold, numbered}
 use Rattle.tfpg_diagnose.specs.inside.UnderWay.{IsDiagnosing, IsDiagnosingWithin, diagnosis_at}
 use Rattle.tfpg_diagnose.proofs.lemmas.LineBlocks.{block_of_long_line}
-use Rattle.tfpg_base.proofs.lists.Cuts.{front_is_within, front_before, front_with}
+use Rattle.tfpg_base.proofs.lemmas.lists.Cuts.{front_is_within, front_before, front_with}
 use Rattle.tfpg_streams.proofs.lemmas.InputLines.{rest_of, rest_is_left, front_of_input, came_to_end}
 use Rattle.tfpg_streams.proofs.lemmas.FewLines.{few_lines}
 use Rattle.tfpg_streams.proofs.lemmas.Putting.{Puts-append, Puts-same_held}

@@ -9,10 +9,10 @@ use Rattle.tfpg_base.specs.declared.line.LineFault.TheVariants as fault
 use Rattle.tfpg_base.specs.declared.limits.TheConstants.{LONGEST_LINE, MAX_BYTES}
 use Rattle.tfpg_base.specs.Lines.{LinesState, LinesRepresent, Continues, lines_of, new_reading, with_bytes, with_line}
 use Rattle.tfpg_base.specs.Outside.{SourceState, Rose}
-use Rattle.tfpg_base.proofs.ReadingOn.{GaveLine, Continues-turn, Continues-text, Continues-too_long}
-use Rattle.tfpg_base.proofs.Taking.{Takes-append, Takes-nothing}
-use Rattle.tfpg_base.proofs.lists.Cuts.{front_is_within, front_with}
-use Rattle.tfpg_base.proofs.lists.Written.{slice_get-after}
+use Rattle.tfpg_base.proofs.lemmas.ReadingOn.{GaveLine, Continues-turn, Continues-text, Continues-too_long}
+use Rattle.tfpg_base.proofs.lemmas.Taking.{Takes-append, Takes-nothing}
+use Rattle.tfpg_base.proofs.lemmas.lists.Cuts.{front_is_within, front_with}
+use Rattle.tfpg_base.proofs.lemmas.lists.Written.{slice_get-after}
 use Rattle.tfpg_graph.specs.Graph.{Tfpg}
 use Rattle.tfpg_report.specs.declared.report_line.ReportLine.{ReportLine}
 use Rattle.tfpg_report.specs.Reading.{MayCome}
@@ -33,7 +33,7 @@ use Rattle.tfpg_diagnose.specs.inside.Faults.{check_fault_of_judge, check_fault_
 use Rattle.tfpg_diagnose.specs.inside.JudgingUnderWay.{HasJudgedAll, IsChecking, IsJudging, IsNewJudge, IsReadingLines, IsReadingOn, checking_at}
 use Rattle.tfpg_streams.proofs.lemmas.InputLines.{rest_of, rest_is_left, rest_at_end, front_of_input, came_to_end}
 use Rattle.tfpg_streams.proofs.lemmas.FewLines.{few_lines}
-use Rattle.tfpg_check.proofs.EarlyEnds.{line_never_early}
+use Rattle.tfpg_check.proofs.lemmas.EarlyEnds.{line_never_early}
 
 -- ---- the lines so far
 

@@ -6,13 +6,13 @@ use Rattle.std.proofs.lemmas.List.{take-append-drop, take-take}
 use Rattle.std.proofs.lemmas.Option.{same_Some}
 use Rattle.tfpg_base.specs.declared.terms.Terms.{Terms}
 use Rattle.tfpg_base.specs.Hypothesis.{Hypothesis}
-use Rattle.tfpg_base.proofs.lists.Cuts.{take-next}
+use Rattle.tfpg_base.proofs.lemmas.lists.Cuts.{take-next}
 use Rattle.tfpg_graph.specs.Graph.{Tfpg}
 use Rattle.tfpg_graph.specs.Reach.{IsReach}
 use Rattle.tfpg_graph.proofs.lemmas.reach.Reaches.{reach_is_one}
 use Rattle.tfpg_log.specs.Log.{Logbook, IsOrdered, GoesOn, ignoring}
 use Rattle.tfpg_log.specs.LogOfLines.{log_of_lines}
-use Rattle.tfpg_log.proofs.logs_of_lines.LogsOfLines.{ordered-log_of_lines}
+use Rattle.tfpg_log.proofs.lemmas.logs_of_lines.LogsOfLines.{ordered-log_of_lines}
 use Rattle.tfpg_evidence.specs.declared.finding.Finding.{Finding}
 use Rattle.tfpg_evidence.specs.declared.finding.Status.{Status}
 use Rattle.tfpg_evidence.specs.declared.finding.Status.TheVariants.{Ranked, Covered, Rejected, Open}
@@ -23,11 +23,11 @@ use Rattle.tfpg_clause.specs.Laws.{FrontsOfPartialTreesArePartial, FrontsOfRefut
 use Rattle.tfpg_clause.specs.Trees.{Judged, IsRefutation, IsPartial}
 use Rattle.tfpg_hyp.specs.Rounds.{IsRound, HasEvidence, steps_in, steps_so_far}
 use Rattle.tfpg_hyp.specs.Views.{case_for}
-use Rattle.tfpg_hyp.proofs.FindingsOfRound.{HasFindingAt, evidence, steps_so_far-push}
-use Rattle.tfpg_hyp.proofs.Tables.{one_table}
+use Rattle.tfpg_hyp.proofs.lemmas.FindingsOfRound.{HasFindingAt, evidence, steps_so_far-push}
+use Rattle.tfpg_hyp.proofs.lemmas.Tables.{one_table}
 use Rattle.tfpg_report.specs.Blocks.{Block, Loss, RoundBlock}
 use Rattle.tfpg_check.specs.Report.{AreBlocks, rounds_of}
-use Rattle.tfpg_check.proofs.RoundsOfReports.{round_there}
+use Rattle.tfpg_check.proofs.lemmas.RoundsOfReports.{round_there}
 use Rattle.tfpg_diagnose.specs.BlockFindings.{HasFindingInBlock}
 use Rattle.tfpg_diagnose.proofs.lemmas.NeverRejected.{GoesOn-first}
 

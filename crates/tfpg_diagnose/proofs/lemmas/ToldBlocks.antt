@@ -8,8 +8,8 @@ use Rattle.std.proofs.lemmas.List.Elements.{All-head, All-tail, All-map, All-con
 use Rattle.std.proofs.lemmas.List.Folds.{flat_map-map}
 use Rattle.tfpg_base.specs.declared.limits.TheConstants.{MAX_PANEL_NUMBER}
 use Rattle.tfpg_base.specs.declared.terms.Terms.{Terms}
-use Rattle.tfpg_base.proofs.lists.Elements.{All-from_members}
-use Rattle.tfpg_base.proofs.lists.Images.{AllPairs-map}
+use Rattle.tfpg_base.proofs.lemmas.lists.Elements.{All-from_members}
+use Rattle.tfpg_base.proofs.lemmas.lists.Images.{AllPairs-map}
 use Rattle.tfpg_graph.specs.Graph.{Tfpg}
 use Rattle.tfpg_log.specs.declared.event.Event.{Event}
 use Rattle.tfpg_log.specs.Log.{Logbook, with_event}
@@ -24,7 +24,7 @@ use Rattle.tfpg_panel.specs.ToldRounds.{AreLossesAt, HasTold}
 use Rattle.tfpg_log.specs.declared.refused_line.RefusedLine.{RefusedLine}
 use Rattle.tfpg_report.specs.Blocks.{Block, Loss, RefusedBlock, RoundBlock, block_text, head_text, lost_text, round_text}
 use Rattle.tfpg_report.specs.inside.Texts.{written_round}
-use Rattle.tfpg_report.proofs.WrittenLines.{written_losses, written_rounds}
+use Rattle.tfpg_report.proofs.lemmas.WrittenLines.{written_losses, written_rounds}
 use Rattle.tfpg_check.specs.Report.{Progress, AreLosses, IsBlockOf, event_of_line, progress_after, report_text, rounds_of}
 use Rattle.tfpg_diagnose.specs.RightReport.{BlockSays}
 use Rattle.tfpg_diagnose.specs.TellsPanels.{TellsPanels, desks, losses_in, lost_at, rounds_in}

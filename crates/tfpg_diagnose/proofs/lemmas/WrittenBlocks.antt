@@ -4,7 +4,7 @@ use Rattle.tfpg_base.specs.declared.limits.TheConstants.{MAX_PANEL_NUMBER}
 use Rattle.tfpg_base.specs.declared.terms.Terms.{Terms}
 use Rattle.tfpg_base.specs.Lines.{LinesState}
 use Rattle.tfpg_base.specs.Outside.{SourceState, SinkState, Rose}
-use Rattle.tfpg_base.proofs.ReadingOn.{GaveLine}
+use Rattle.tfpg_base.proofs.lemmas.ReadingOn.{GaveLine}
 use Rattle.tfpg_graph.specs.Graph.{Tfpg}
 use Rattle.tfpg_evidence.specs.declared.round.Round.{Round}
 use Rattle.tfpg_engine.specs.EngineState.{EngineState}

@@ -11,15 +11,15 @@ use Rattle.tfpg_base.specs.declared.activation.Activation.{Activation}
 use Rattle.tfpg_base.specs.declared.word.Number.TheVariants.{Value, TooLarge}
 use Rattle.tfpg_base.specs.declared.limits.TheConstants.{MAX_TIME}
 use Rattle.tfpg_base.specs.Words.{words_of, line_of, number_of, number_up_to}
-use Rattle.tfpg_base.proofs.Numbers.{number_of-decimal, decimal-number_of, number_up_to-value}
-use Rattle.tfpg_base.proofs.Separators.{join_with_byte-words_of}
-use Rattle.tfpg_base.proofs.lists.Lacking.{lacks_checked, slice_split-join}
+use Rattle.tfpg_base.proofs.lemmas.Numbers.{number_of-decimal, decimal-number_of, number_up_to-value}
+use Rattle.tfpg_base.proofs.lemmas.Separators.{join_with_byte-words_of}
+use Rattle.tfpg_base.proofs.lemmas.lists.Lacking.{lacks_checked, slice_split-join}
 use Rattle.tfpg_graph.specs.Graph.{Tfpg, name_word}
 use Rattle.tfpg_graph.specs.Valid.{IsValid}
 use Rattle.tfpg_report.specs.LineWords.{activation_line}
 use Rattle.tfpg_report.specs.SetText.{IsHypothesisOf, set_word}
-use Rattle.tfpg_report.proofs.ActivationLines.{IsInRange, activation_words, one_activation}
-use Rattle.tfpg_report.proofs.SetWords.{set_word-no_space}
+use Rattle.tfpg_report.proofs.lemmas.ActivationLines.{IsInRange, activation_words, one_activation}
+use Rattle.tfpg_report.proofs.lemmas.SetWords.{set_word-no_space}
 use Rattle.tfpg_map.specs.Spelling.{IsActivationOf, set_line}
 use Rattle.tfpg_map.specs.inside.Lines.{word_after_set, words_after_at}
 

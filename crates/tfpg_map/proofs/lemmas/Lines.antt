@@ -8,8 +8,8 @@ use Rattle.tfpg_base.specs.declared.activation.Activation.{Activation}
 use Rattle.tfpg_base.specs.declared.limits.TheConstants.{LONGEST_LINE}
 use Rattle.tfpg_base.specs.Hypothesis.{Hypothesis, believing}
 use Rattle.tfpg_base.specs.Trace.{time_of, with_time}
-use Rattle.tfpg_base.proofs.lists.Elements.{Contains-head, Contains-middle, Contains-tail, AllPairs-head, AllPairs-tail}
-use Rattle.tfpg_base.proofs.Traces.{time_of-with_time, time_of-with_time_other, IsRisingByNode-with_time}
+use Rattle.tfpg_base.proofs.lemmas.lists.Elements.{Contains-head, Contains-middle, Contains-tail, AllPairs-head, AllPairs-tail}
+use Rattle.tfpg_base.proofs.lemmas.Traces.{time_of-with_time, time_of-with_time_other, IsRisingByNode-with_time}
 use Rattle.tfpg_graph.specs.Graph.{Tfpg}
 use Rattle.tfpg_graph.specs.Valid.{IsValid}
 use Rattle.tfpg_report.specs.LineWords.{activation_line}

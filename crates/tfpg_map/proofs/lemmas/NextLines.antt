@@ -12,9 +12,9 @@ use Rattle.tfpg_base.specs.declared.line.LineFault.TheVariants as fault
 use Rattle.tfpg_base.specs.Lines.{LinesState, Continues, lines_of, with_bytes, with_line}
 use Rattle.tfpg_base.specs.declared.limits.TheConstants.{LONGEST_LINE, MAX_BYTES}
 use Rattle.tfpg_base.specs.Outside.{SourceState, Rose}
-use Rattle.tfpg_base.proofs.ReadingOn.{GaveLine, Continues-turn, Continues-text, Continues-too_long}
-use Rattle.tfpg_base.proofs.Taking.{Takes-append}
-use Rattle.tfpg_base.proofs.TraceTimes.{time_there, time_holds}
+use Rattle.tfpg_base.proofs.lemmas.ReadingOn.{GaveLine, Continues-turn, Continues-text, Continues-too_long}
+use Rattle.tfpg_base.proofs.lemmas.Taking.{Takes-append}
+use Rattle.tfpg_base.proofs.lemmas.TraceTimes.{time_there, time_holds}
 use Rattle.tfpg_graph.specs.Graph.{Tfpg, is_monitored}
 use Rattle.tfpg_map.specs.Spelling.{SpellsMap, BeginsMap, IsActivationOf}
 use Rattle.tfpg_map.specs.declared.map.Map.{Map}
@@ -24,7 +24,7 @@ use Rattle.tfpg_map.specs.declared.map.NoMap.TheVariants as none
 use Rattle.tfpg_map.specs.inside.Lines.{HasRead, MapRepresents}
 use Rattle.tfpg_map.specs.inside.Reading.{IsReadingMap, HasReadAll, ReturnsMap, map_reading_at}
 use Rattle.tfpg_map.specs.InputMap.{ReadsMap, LacksMap}
-use Rattle.tfpg_base.proofs.lists.Cuts.{front_is_within, front_before, front_with}
+use Rattle.tfpg_base.proofs.lemmas.lists.Cuts.{front_is_within, front_before, front_with}
 use Rattle.tfpg_streams.proofs.lemmas.InputLines.{rest_of, rest_is_left, rest_at_end, front_of_input, came_to_end}
 use Rattle.tfpg_streams.proofs.lemmas.FewLines.{few_lines}
 use Rattle.tfpg_map.proofs.lemmas.Lines.{HasRead-begins, no_map-long}

@@ -6,12 +6,12 @@ use Rattle.tfpg_base.specs.Hypothesis.{Hypothesis}
 use Rattle.tfpg_base.specs.declared.activation.Activation.{Activation}
 use Rattle.tfpg_base.specs.Trace.{time_of}
 use Rattle.tfpg_base.specs.Words.{words_of}
-use Rattle.tfpg_base.proofs.SameTraces.{same_trace}
+use Rattle.tfpg_base.proofs.lemmas.SameTraces.{same_trace}
 use Rattle.tfpg_graph.specs.Graph.{Tfpg}
 use Rattle.tfpg_graph.specs.Valid.{IsValid}
 use Rattle.tfpg_report.specs.LineWords.{activation_line}
-use Rattle.tfpg_report.proofs.ActivationLines.{IsInRange, one_trace}
-use Rattle.tfpg_report.proofs.SetWords.{one_hypothesis}
+use Rattle.tfpg_report.proofs.lemmas.ActivationLines.{IsInRange, one_trace}
+use Rattle.tfpg_report.proofs.lemmas.SetWords.{one_hypothesis}
 use Rattle.tfpg_map.specs.Spelling.{IsActivationOf, SpellsMap, set_line}
 use Rattle.tfpg_map.specs.inside.Lines.{word_after_set}
 use Rattle.tfpg_map.proofs.lemmas.LineWords.{is_in_range, set_line-read}

@@ -9,21 +9,21 @@ use Rattle.tfpg_base.specs.declared.activation.Activation.{Activation}
 use Rattle.tfpg_base.specs.Lines.{HasNoLineEnd, lines_of, with_line_end}
 use Rattle.tfpg_base.specs.declared.limits.TheConstants.{LONGEST_LINE}
 use Rattle.tfpg_base.specs.Trace.{IsRisingByNode}
-use Rattle.tfpg_base.proofs.LinesOf.{lines_again}
-use Rattle.tfpg_base.proofs.Separators.{name_lacks}
-use Rattle.tfpg_base.proofs.lists.Lacking.{lacks_checked, decimal_lacks}
-use Rattle.tfpg_base.proofs.WordLengths.{name_short, number_short}
-use Rattle.tfpg_base.proofs.lists.Distinct.{length-le_distinct}
-use Rattle.tfpg_base.proofs.lists.Joined.{length-join}
-use Rattle.tfpg_base.proofs.lists.Ordered.{Rises-differ}
+use Rattle.tfpg_base.proofs.lemmas.LinesOf.{lines_again}
+use Rattle.tfpg_base.proofs.lemmas.Separators.{name_lacks}
+use Rattle.tfpg_base.proofs.lemmas.lists.Lacking.{lacks_checked, decimal_lacks}
+use Rattle.tfpg_base.proofs.lemmas.WordLengths.{name_short, number_short}
+use Rattle.tfpg_base.proofs.lemmas.lists.Distinct.{length-le_distinct}
+use Rattle.tfpg_base.proofs.lemmas.lists.Joined.{length-join}
+use Rattle.tfpg_base.proofs.lemmas.lists.Ordered.{Rises-differ}
 use Rattle.tfpg_graph.specs.Graph.{Tfpg, name_word, failures, IsSetOf, failure_word, is_monitored}
 use Rattle.tfpg_graph.specs.Valid.{IsValid}
 use Rattle.tfpg_graph.proofs.lemmas.reading.spelling.SpelledEdges.{is_name-name_word}
 use Rattle.tfpg_report.specs.LineWords.{activation_line}
 use Rattle.tfpg_report.specs.SetText.{IsHypothesisOf, hyphen_or_joined, set_word}
 use Rattle.tfpg_graph.specs.Members.{member_words}
-use Rattle.tfpg_report.proofs.MemberWords.{IsMemberWord, member_short, member_words_are}
-use Rattle.tfpg_report.proofs.SetWords.{set_word-no_line_end}
+use Rattle.tfpg_report.proofs.lemmas.MemberWords.{IsMemberWord, member_short, member_words_are}
+use Rattle.tfpg_report.proofs.lemmas.SetWords.{set_word-no_line_end}
 use Rattle.tfpg_map.specs.Spelling.{IsActivationOf, SpellsMap, set_line}
 use Rattle.tfpg_map.specs.MapText.{map_text}
 

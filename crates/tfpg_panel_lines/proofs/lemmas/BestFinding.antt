@@ -4,7 +4,7 @@ use Rattle.std.specs.Borrow.{Bor}
 use Rattle.std.specs.Option.{option_copied}
 use Rattle.tfpg_evidence.specs.declared.finding.Finding.{Finding}
 use Rattle.tfpg_evidence.specs.RoundOf.{finding_numbered}
-use Rattle.tfpg_evidence.proofs.FindingsByNumber.{finding_numbered-all}
+use Rattle.tfpg_evidence.proofs.lemmas.FindingsByNumber.{finding_numbered-all}
 
 -- what holds of each finding holds of that of a number
 pub found_holds : (P : Finding → Type 0) (findings : List Finding) (number : ℕ) (found : Option (Bor Finding)) → All P findings

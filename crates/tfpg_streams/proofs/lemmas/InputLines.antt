@@ -9,8 +9,8 @@ use Rattle.tfpg_base.specs.declared.line.LineFault.{LineFault}
 use Rattle.tfpg_base.specs.Outside.{SourceState, Takes, IsAtEnd}
 use Rattle.tfpg_base.specs.Lines.{Reading, LinesState, LinesRepresent, Continues, IsNext, next_whole, lines_of, whole_lines, line_of_part, last_part}
 use Rattle.tfpg_base.specs.declared.limits.TheConstants.{MAX_BYTES}
-use Rattle.tfpg_base.proofs.LinesOf.{lines_of-append}
-use Rattle.tfpg_base.proofs.Taking.{Takes-nothing}
+use Rattle.tfpg_base.proofs.lemmas.LinesOf.{lines_of-append}
+use Rattle.tfpg_base.proofs.lemmas.Taking.{Takes-nothing}
 use Rattle.tfpg_streams.specs.Streams.{HasLeft}
 
 -- ---- what is left of the input

@@ -2,7 +2,7 @@ use Rattle.std.proofs.Common.{◌*◌, ◌%◌, ◌^◌, arith, w64}
 use Rattle.std.proofs.lemmas.Nat.{and_le_l}
 use Rattle.std.proofs.lemmas.Nat.Bits.{bit_at-trailing_zeros}
 use Rattle.std.specs.Int.{bit_not, trailing_zeros}
-use Rattle.tfpg_base.proofs.Sets.{members_of-split}
+use Rattle.tfpg_base.proofs.lemmas.Sets.{members_of-split}
 use Rattle.tfpg_base.proofs.bits.split_lowest.Goals as goal
 
 pub returns : goal.returns

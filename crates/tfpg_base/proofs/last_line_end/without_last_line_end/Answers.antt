@@ -3,7 +3,7 @@ use Rattle.std.proofs.lemmas.Bool.Decides.{Decides-eqb}
 use Rattle.std.proofs.lemmas.Option.{MatchOption-at_some, MatchOption-at_none}
 use Rattle.std.proofs.lemmas.Slice.Eq.{strip_suffix_is}
 use Rattle.tfpg_base.specs.Lines.{lines_of}
-use Rattle.tfpg_base.proofs.LinesAndParts.{lines_of-ended, lines_of-unended}
+use Rattle.tfpg_base.proofs.lemmas.LinesAndParts.{lines_of-ended, lines_of-unended}
 use Rattle.tfpg_base.proofs.last_line_end.without_last_line_end.Goals as goal
 
 pub returns-in-Some-clause-lines : goal.returns-in-Some-clause-lines

@@ -1,7 +1,7 @@
 use Rattle.std.proofs.Common.{map, arith}
 use Rattle.std.proofs.lemmas.List.{length-map}
-use Rattle.tfpg_base.proofs.Appended.{Appends-err_after}
-use Rattle.tfpg_base.proofs.LinesByWord.{line_goes_on, line_ends}
+use Rattle.tfpg_base.proofs.lemmas.Appended.{Appends-err_after}
+use Rattle.tfpg_base.proofs.lemmas.LinesByWord.{line_goes_on, line_ends}
 use Rattle.tfpg_base.proofs.text_line.append_words.Goals as goal
 
 pub returns-in_err-append_part : goal.returns-in_err-append_part

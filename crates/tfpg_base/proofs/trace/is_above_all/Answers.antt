@@ -1,7 +1,7 @@
 use Rattle.std.proofs.Common.{sym, ◌∙◌, ap}
 use Rattle.std.proofs.lemmas.Bool.{ltb-true}
 use Rattle.std.specs.Option.{option_copied}
-use Rattle.tfpg_base.proofs.Traces.{IsInsertedAt-after_last, IsInsertedAt-no_last}
+use Rattle.tfpg_base.proofs.lemmas.Traces.{IsInsertedAt-after_last, IsInsertedAt-no_last}
 use Rattle.tfpg_base.proofs.trace.is_above_all.Goals as goal
 
 pub returns-in-Some : goal.returns-in-Some

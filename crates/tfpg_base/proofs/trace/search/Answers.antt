@@ -1,6 +1,6 @@
 use Rattle.std.proofs.Common.{rules}
 use Rattle.std.proofs.lemmas.List.Sorted.{answers_always}
-use Rattle.tfpg_base.proofs.Traces.{StandsAt-searched, IsInsertedAt-searched}
+use Rattle.tfpg_base.proofs.lemmas.Traces.{StandsAt-searched, IsInsertedAt-searched}
 use Rattle.tfpg_base.proofs.trace.search.Goals as goal
 
 pub returns-clause-found : goal.returns-clause-found

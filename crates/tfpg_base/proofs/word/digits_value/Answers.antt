@@ -2,8 +2,8 @@ use Rattle.std.proofs.Common.{◌≡◌, arith, take_all, ap, ◌∙◌}
 use Rattle.std.specs.Str.Parse.{digits_value}
 use Rattle.std.proofs.lemmas.Int.Digits.{digits_value_more}
 use Rattle.std.proofs.lemmas.Str.Parse.{digit_at}
-use Rattle.tfpg_base.proofs.lists.Digits.{digits_value-front}
-use Rattle.tfpg_base.proofs.Numbers.{AllDigits-from_number}
+use Rattle.tfpg_base.proofs.lemmas.lists.Digits.{digits_value-front}
+use Rattle.tfpg_base.proofs.lemmas.Numbers.{AllDigits-from_number}
 use Rattle.tfpg_base.proofs.word.digits_value.Goals as goal
 
 pub with_digit-requires : goal.with_digit-requires

@@ -1,5 +1,5 @@
 use Rattle.std.proofs.Common.{◌∙◌, sym, length, eqb}
-use Rattle.tfpg_base.proofs.lists.Images.{list_any-map}
+use Rattle.tfpg_base.proofs.lemmas.lists.Images.{list_any-map}
 use Rattle.tfpg_base.proofs.words.has_empty_word.Goals as goal
 
 pub returns : goal.returns

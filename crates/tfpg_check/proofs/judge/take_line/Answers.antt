@@ -3,8 +3,8 @@ use Rattle.std.proofs.Common.{Err, ap, subst, refl, ◌∙◌, arith}
 use Rattle.std.proofs.lemmas.Result.{IfOk-at_ok}
 use Rattle.tfpg_graph.specs.Graph.{Tfpg}
 use Rattle.tfpg_report.specs.Represents.{TakesReportLine}
-use Rattle.tfpg_check.proofs.going_on.ReadOfGraph.{fed_of_graph}
-use Rattle.tfpg_check.proofs.going_on.LinesJudged.{not_read_so, judged_after}
+use Rattle.tfpg_check.proofs.lemmas.going_on.ReadOfGraph.{fed_of_graph}
+use Rattle.tfpg_check.proofs.lemmas.going_on.LinesJudged.{not_read_so, judged_after}
 use Rattle.tfpg_check.proofs.judge.take_line.Goals as goal
 
 pub take-requires : goal.take-requires

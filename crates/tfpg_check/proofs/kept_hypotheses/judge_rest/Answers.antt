@@ -3,9 +3,9 @@ use Rattle.std.proofs.lemmas.Result.{err_from_is_err_and}
 use Rattle.tfpg_check.specs.inside.InTurn.{IsFailure}
 use Rattle.tfpg_check.specs.inside.Kept.{RestFails}
 use Rattle.tfpg_check.specs.declared.round_fault.FailedTest.{FailedTest}
-use Rattle.tfpg_check.proofs.judging.PassingTests.{all_ranked_pass, all_open_pass, rejected_not_fails}
-use Rattle.tfpg_check.proofs.judging.RightCounts.{counts_exactly}
-use Rattle.tfpg_check.proofs.judging.TestsInTurn.{not_where_false, owes_passes}
+use Rattle.tfpg_check.proofs.lemmas.judging.PassingTests.{all_ranked_pass, all_open_pass, rejected_not_fails}
+use Rattle.tfpg_check.proofs.lemmas.judging.RightCounts.{counts_exactly}
+use Rattle.tfpg_check.proofs.lemmas.judging.TestsInTurn.{not_where_false, owes_passes}
 use Rattle.tfpg_check.proofs.kept_hypotheses.judge_rest.Goals as goal
 
 pub returns-in_err-judge_ranked-clause-rest : goal.returns-in_err-judge_ranked-clause-rest

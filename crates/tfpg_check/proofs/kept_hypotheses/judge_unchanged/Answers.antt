@@ -3,7 +3,7 @@ use Rattle.std.proofs.lemmas.Result.{err_from_is_err_and}
 use Rattle.tfpg_check.specs.inside.InTurn.{IsFaultOf}
 use Rattle.tfpg_check.specs.inside.Kept.{RestFails}
 use Rattle.tfpg_check.specs.declared.round_fault.RoundFault.{RoundFault}
-use Rattle.tfpg_check.proofs.judging.NothingAdded.{unchanged_lookup}
+use Rattle.tfpg_check.proofs.lemmas.judging.NothingAdded.{unchanged_lookup}
 use Rattle.tfpg_check.proofs.kept_hypotheses.judge_unchanged.Goals as goal
 
 pub returns-in_err-judge_rest-clause-rest : goal.returns-in_err-judge_rest-clause-rest

@@ -1,4 +1,4 @@
-use Rattle.tfpg_check.proofs.judging.NewHypotheses.{checkers_more}
+use Rattle.tfpg_check.proofs.lemmas.judging.NewHypotheses.{checkers_more}
 use Rattle.tfpg_check.proofs.kept_hypotheses.new_checkers.Goals as goal
 
 pub loop-number-preserved : goal.loop-number-preserved

@@ -1,4 +1,4 @@
-use Rattle.tfpg_check.proofs.WholeReports.{one_more_read, whole_report}
+use Rattle.tfpg_check.proofs.lemmas.WholeReports.{one_more_read, whole_report}
 use Rattle.tfpg_check.proofs.laws.accepted_lines_are_those_of_a_report.Goals as goal
 
 pub returns-clause-next : goal.returns-clause-next

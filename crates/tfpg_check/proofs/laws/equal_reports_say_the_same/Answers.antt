@@ -1,4 +1,4 @@
-use Rattle.tfpg_check.proofs.EqualSayings.{say_the_same}
+use Rattle.tfpg_check.proofs.lemmas.EqualSayings.{say_the_same}
 use Rattle.tfpg_check.proofs.laws.equal_reports_say_the_same.Goals as goal
 
 pub returns : goal.returns

@@ -1,6 +1,6 @@
-use Rattle.tfpg_check.proofs.completeness.OneCause.{lines_have_one_cause}
-use Rattle.tfpg_check.proofs.completeness.TooManyInHead.{lines_of_too_many_have_no_cause}
-use Rattle.tfpg_check.proofs.readable.ReadReports.{short_reports_have_no_cause}
+use Rattle.tfpg_check.proofs.lemmas.completeness.OneCause.{lines_have_one_cause}
+use Rattle.tfpg_check.proofs.lemmas.completeness.TooManyInHead.{lines_of_too_many_have_no_cause}
+use Rattle.tfpg_check.proofs.lemmas.readable.ReadReports.{short_reports_have_no_cause}
 use Rattle.tfpg_check.proofs.laws.lines_have_at_most_one_cause.Goals as goal
 
 pub returns-clause-one : goal.returns-clause-one

@@ -1,4 +1,4 @@
-use Rattle.tfpg_check.proofs.readable.ReadReports.{lines_can_be_read}
+use Rattle.tfpg_check.proofs.lemmas.readable.ReadReports.{lines_can_be_read}
 use Rattle.tfpg_check.proofs.laws.the_lines_of_a_report_can_be_read.Goals as goal
 
 pub returns : goal.returns

@@ -1,6 +1,6 @@
 -- Bytes that are not empty begin with their first line.
 use Rattle.std.proofs.Common.{sym, ◌∙◌}
-use Rattle.tfpg_check.proofs.going_on.FirstLines.{first_line_is, not_none}
+use Rattle.tfpg_check.proofs.lemmas.going_on.FirstLines.{first_line_is, not_none}
 use Rattle.tfpg_check.proofs.log_lines.first_line.Goals as goal
 
 pub returns : goal.returns

@@ -1,6 +1,6 @@
 -- The first line ends with the bytes, or the others begin after its line end.
 use Rattle.std.proofs.Common.{arith}
-use Rattle.tfpg_check.proofs.going_on.FirstLines.{others_after_end, others_at_end}
+use Rattle.tfpg_check.proofs.lemmas.going_on.FirstLines.{others_after_end, others_at_end}
 use Rattle.tfpg_check.proofs.log_lines.len_with_end.Goals as goal
 
 pub returns-then-len-bytes-clause-rest : goal.returns-then-len-bytes-clause-rest

@@ -3,8 +3,8 @@ use Rattle.std.specs.Prelude.{option_map}
 use Rattle.tfpg_base.specs.declared.constraint.Constraint.{Constraint}
 use Rattle.tfpg_graph.specs.Graph.{is_and}
 use Rattle.tfpg_base.specs.Choice.{item_at}
-use Rattle.tfpg_clause.proofs.first_violated.ClausesBySpan.{and_may_over}
-use Rattle.tfpg_clause.proofs.alternatives.ClauseFound.{target_there}
+use Rattle.tfpg_clause.proofs.lemmas.first_violated.ClausesBySpan.{and_may_over}
+use Rattle.tfpg_clause.proofs.lemmas.alternatives.ClauseFound.{target_there}
 use Rattle.tfpg_clause.proofs.clauses.and_may_alternative.Goals as goal
 
 pub returns : goal.returns

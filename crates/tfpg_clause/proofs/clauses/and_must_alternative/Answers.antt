@@ -4,7 +4,7 @@ use Rattle.tfpg_base.specs.declared.constraint.Constraint.{Constraint}
 use Rattle.tfpg_clause.specs.Clauses.{must_in}
 use Rattle.tfpg_base.specs.Choice.{item_at}
 use Rattle.tfpg_clause.specs.inside.Alternatives.{dues_over}
-use Rattle.tfpg_clause.proofs.alternatives.ClauseFound.{and_must_found}
+use Rattle.tfpg_clause.proofs.lemmas.alternatives.ClauseFound.{and_must_found}
 use Rattle.tfpg_clause.proofs.clauses.and_must_alternative.Goals as goal
 
 pub returns : goal.returns

@@ -1,8 +1,8 @@
 use Rattle.std.proofs.Common.{[], length, slice_get, sym, ap, ◌∙◌}
 use Rattle.std.specs.Prelude.{option_map}
 use Rattle.tfpg_graph.specs.Graph.{is_and}
-use Rattle.tfpg_clause.proofs.first_violated.ClausesBySpan.{and_may_over}
-use Rattle.tfpg_clause.proofs.alternatives.ClauseFound.{target_there, no_may_of_edge}
+use Rattle.tfpg_clause.proofs.lemmas.first_violated.ClausesBySpan.{and_may_over}
+use Rattle.tfpg_clause.proofs.lemmas.alternatives.ClauseFound.{target_there, no_may_of_edge}
 use Rattle.tfpg_clause.proofs.clauses.count_and_may.Goals as goal
 
 pub returns-in_err-target : goal.returns-in_err-target

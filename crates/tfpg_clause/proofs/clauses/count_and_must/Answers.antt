@@ -2,7 +2,7 @@ use Rattle.std.proofs.Common.{length, sym, ap, ◌∙◌}
 use Rattle.std.specs.Prelude.{option_map, option_and_then}
 use Rattle.tfpg_clause.specs.Clauses.{must_in}
 use Rattle.tfpg_clause.specs.inside.Alternatives.{dues_over}
-use Rattle.tfpg_clause.proofs.alternatives.ClauseFound.{and_must_found}
+use Rattle.tfpg_clause.proofs.lemmas.alternatives.ClauseFound.{and_must_found}
 use Rattle.tfpg_clause.proofs.clauses.count_and_must.Goals as goal
 
 pub returns : goal.returns

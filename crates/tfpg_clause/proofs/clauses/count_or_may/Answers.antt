@@ -2,8 +2,8 @@ use Rattle.std.proofs.Common.{List, ℕ, [], length, sym, ap, ◌∙◌}
 use Rattle.std.specs.Prelude.{option_map}
 use Rattle.tfpg_graph.specs.Graph.{is_kind_at, is_or, edges_into}
 use Rattle.tfpg_clause.specs.inside.FirstSpan.{may_over}
-use Rattle.tfpg_clause.proofs.first_violated.ClausesBySpan.{or_may_over}
-use Rattle.tfpg_clause.proofs.alternatives.ClauseFound.{no_may}
+use Rattle.tfpg_clause.proofs.lemmas.first_violated.ClausesBySpan.{or_may_over}
+use Rattle.tfpg_clause.proofs.lemmas.alternatives.ClauseFound.{no_may}
 use Rattle.tfpg_clause.proofs.clauses.count_or_may.Goals as goal
 
 pub returns-then-not-is_or : goal.returns-then-not-is_or

@@ -1,7 +1,7 @@
 use Rattle.std.proofs.Common.{length, slice_get, sym, ap, ◌∙◌}
 use Rattle.std.specs.Prelude.{option_map}
 use Rattle.tfpg_graph.specs.Graph.{is_or}
-use Rattle.tfpg_clause.proofs.alternatives.ClauseFound.{target_there, no_must_of_edge, or_must_found}
+use Rattle.tfpg_clause.proofs.lemmas.alternatives.ClauseFound.{target_there, no_must_of_edge, or_must_found}
 use Rattle.tfpg_clause.proofs.clauses.count_or_must.Goals as goal
 
 pub returns-in_err-target : goal.returns-in_err-target

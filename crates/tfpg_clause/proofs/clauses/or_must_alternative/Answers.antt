@@ -3,7 +3,7 @@ use Rattle.std.specs.Prelude.{option_map}
 use Rattle.tfpg_base.specs.declared.constraint.Constraint.{Constraint}
 use Rattle.tfpg_graph.specs.Graph.{is_or}
 use Rattle.tfpg_base.specs.Choice.{item_at}
-use Rattle.tfpg_clause.proofs.alternatives.ClauseFound.{target_there, or_must_found}
+use Rattle.tfpg_clause.proofs.lemmas.alternatives.ClauseFound.{target_there, or_must_found}
 use Rattle.tfpg_clause.proofs.clauses.or_must_alternative.Goals as goal
 
 pub returns : goal.returns

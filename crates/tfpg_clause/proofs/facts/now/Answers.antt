@@ -1,5 +1,5 @@
 use Rattle.std.proofs.Common.{arith}
-use Rattle.tfpg_clause.proofs.logs.TimesInRange.{now_in_range}
+use Rattle.tfpg_clause.proofs.lemmas.logs.TimesInRange.{now_in_range}
 use Rattle.tfpg_clause.proofs.facts.now.Goals as goal
 
 pub returns-clause-in_range : goal.returns-clause-in_range

@@ -1,5 +1,5 @@
 use Rattle.std.proofs.Common.{arith}
-use Rattle.tfpg_clause.proofs.first_violated.FirstOfAll.{kind_met, subjects_more}
+use Rattle.tfpg_clause.proofs.lemmas.first_violated.FirstOfAll.{kind_met, subjects_more}
 use Rattle.tfpg_clause.proofs.first_clause.first_of_kind.Goals as goal
 
 pub loop-subject-preserved : goal.loop-subject-preserved

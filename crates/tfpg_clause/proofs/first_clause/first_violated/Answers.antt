@@ -1,4 +1,4 @@
-use Rattle.tfpg_clause.proofs.first_violated.FirstOfAll.{first_at_index, kind_at_index, met_at_indexes}
+use Rattle.tfpg_clause.proofs.lemmas.first_violated.FirstOfAll.{first_at_index, kind_at_index, met_at_indexes}
 use Rattle.tfpg_clause.proofs.first_clause.first_violated.Goals as goal
 
 pub returns-in-Some : goal.returns-in-Some

@@ -1,4 +1,4 @@
-use Rattle.tfpg_clause.proofs.first_violated.FirstOfAll.{none_where_kept}
+use Rattle.tfpg_clause.proofs.lemmas.first_violated.FirstOfAll.{none_where_kept}
 use Rattle.tfpg_clause.proofs.first_clause.violated.Goals as goal
 
 pub returns-clause-rules : goal.returns-clause-rules

@@ -1,5 +1,5 @@
 use Rattle.std.proofs.Common.{◌<◌, length, length-set, get_or, ◌∙◌, arith}
-use Rattle.tfpg_clause.proofs.first_violated.WindowsKnown.{is_over, more_known, more_windows}
+use Rattle.tfpg_clause.proofs.lemmas.first_violated.WindowsKnown.{is_over, more_known, more_windows}
 use Rattle.tfpg_clause.proofs.known_windows.take_windows.Goals as goal
 
 pub loop-index-preserved : goal.loop-index-preserved

@@ -1,7 +1,7 @@
 use Rattle.std.proofs.Common.{Some, slice_get, IfSome, sym, subst}
 use Rattle.tfpg_clause.specs.inside.KnownWindows.{IsWindowOver}
-use Rattle.tfpg_clause.proofs.logs.TimesInRange.{small_window_if}
-use Rattle.tfpg_clause.proofs.first_violated.WindowsKnown.{window_again}
+use Rattle.tfpg_clause.proofs.lemmas.logs.TimesInRange.{small_window_if}
+use Rattle.tfpg_clause.proofs.lemmas.first_violated.WindowsKnown.{window_again}
 use Rattle.tfpg_clause.proofs.known_windows.window_over.Goals as goal
 
 pub returns-in-Some-clause-value : goal.returns-in-Some-clause-value

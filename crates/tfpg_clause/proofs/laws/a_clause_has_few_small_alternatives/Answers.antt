@@ -1,6 +1,6 @@
-use Rattle.tfpg_clause.proofs.alternatives.FewAlternatives.{few_alternatives}
-use Rattle.tfpg_clause.proofs.alternatives.SmallAlternatives.{small_clause}
-use Rattle.tfpg_clause.proofs.alternatives.SomeAlternative.{some_alternative}
+use Rattle.tfpg_clause.proofs.lemmas.alternatives.FewAlternatives.{few_alternatives}
+use Rattle.tfpg_clause.proofs.lemmas.alternatives.SmallAlternatives.{small_clause}
+use Rattle.tfpg_clause.proofs.lemmas.alternatives.SomeAlternative.{some_alternative}
 use Rattle.tfpg_clause.proofs.laws.a_clause_has_few_small_alternatives.Goals as goal
 
 pub returns : goal.returns

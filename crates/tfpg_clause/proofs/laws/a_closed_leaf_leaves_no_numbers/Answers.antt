@@ -1,4 +1,4 @@
-use Rattle.tfpg_clause.proofs.traces.NoTrace.{no_cited_leaf, no_leaf}
+use Rattle.tfpg_clause.proofs.lemmas.traces.NoTrace.{no_cited_leaf, no_leaf}
 use Rattle.tfpg_clause.proofs.laws.a_closed_leaf_leaves_no_numbers.Goals as goal
 
 pub returns : goal.returns

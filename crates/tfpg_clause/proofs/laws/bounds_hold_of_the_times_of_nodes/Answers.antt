@@ -1,4 +1,4 @@
-use Rattle.tfpg_clause.proofs.constraints.BoundsMet.{met_at_least, met_at_most, met_at_least_after, met_at_most_after, says_at_least, says_at_most, says_at_least_after, says_at_most_after}
+use Rattle.tfpg_clause.proofs.lemmas.constraints.BoundsMet.{met_at_least, met_at_most, met_at_least_after, met_at_most_after, says_at_least, says_at_most, says_at_least_after, says_at_most_after}
 use Rattle.tfpg_clause.proofs.laws.bounds_hold_of_the_times_of_nodes.Goals as goal
 
 pub returns : goal.returns

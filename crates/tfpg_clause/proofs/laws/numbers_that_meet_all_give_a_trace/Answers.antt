@@ -1,11 +1,11 @@
 use Rattle.std.proofs.Common.{length}
 use Rattle.tfpg_log.specs.Log.{now_of}
 use Rattle.tfpg_clause.specs.Cut.{cut}
-use Rattle.tfpg_clause.proofs.traces.TraceAgrees.{of_cut}
-use Rattle.tfpg_clause.proofs.rules.RulesMet.{clause_is_met, rules_are_kept}
-use Rattle.tfpg_clause.proofs.traces.FactsMet.{events_are_shown}
-use Rattle.tfpg_clause.proofs.traces.GivesTrace.{rising, within, early}
-use Rattle.tfpg_clause.proofs.traces.OnlyMembers.{only_members}
+use Rattle.tfpg_clause.proofs.lemmas.traces.TraceAgrees.{of_cut}
+use Rattle.tfpg_clause.proofs.lemmas.rules.RulesMet.{clause_is_met, rules_are_kept}
+use Rattle.tfpg_clause.proofs.lemmas.traces.FactsMet.{events_are_shown}
+use Rattle.tfpg_clause.proofs.lemmas.traces.GivesTrace.{rising, within, early}
+use Rattle.tfpg_clause.proofs.lemmas.traces.OnlyMembers.{only_members}
 use Rattle.tfpg_clause.proofs.laws.numbers_that_meet_all_give_a_trace.Goals as goal
 
 pub returns : goal.returns

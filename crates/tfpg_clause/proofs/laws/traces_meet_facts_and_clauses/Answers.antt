@@ -1,8 +1,8 @@
 use Rattle.tfpg_log.specs.Log.{now_of}
 use Rattle.tfpg_graph.proofs.lemmas.zero_cycle.ZeroRanks.{HasZeroOrder-valid}
-use Rattle.tfpg_clause.proofs.traces.TraceAgrees.{of_trace}
-use Rattle.tfpg_clause.proofs.rules.RulesMet.{clause_is_met}
-use Rattle.tfpg_clause.proofs.traces.FactsMet.{fact_is_met}
+use Rattle.tfpg_clause.proofs.lemmas.traces.TraceAgrees.{of_trace}
+use Rattle.tfpg_clause.proofs.lemmas.rules.RulesMet.{clause_is_met}
+use Rattle.tfpg_clause.proofs.lemmas.traces.FactsMet.{fact_is_met}
 use Rattle.tfpg_clause.proofs.laws.traces_meet_facts_and_clauses.Goals as goal
 
 pub returns : goal.returns

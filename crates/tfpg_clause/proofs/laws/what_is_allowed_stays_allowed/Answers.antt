@@ -1,4 +1,4 @@
-use Rattle.tfpg_clause.proofs.logs.StaysAllowed.{clause_stays, fact_stays}
+use Rattle.tfpg_clause.proofs.lemmas.logs.StaysAllowed.{clause_stays, fact_stays}
 use Rattle.tfpg_clause.proofs.laws.what_is_allowed_stays_allowed.Goals as goal
 
 pub returns : goal.returns

@@ -1,7 +1,7 @@
 use Rattle.std.proofs.Common.{◌≡◌, ap, sym, ◌∙◌, get_or}
 use Rattle.std.specs.Prelude.{is_some}
-use Rattle.tfpg_base.proofs.lists.Valued.{filter_map-counts_some, filter_map-counts_none}
-use Rattle.tfpg_base.proofs.lists.Choices.{is_some-option_map}
+use Rattle.tfpg_base.proofs.lemmas.lists.Valued.{filter_map-counts_some, filter_map-counts_none}
+use Rattle.tfpg_base.proofs.lemmas.lists.Choices.{is_some-option_map}
 use Rattle.tfpg_clause.specs.inside.Alternatives.{arrival_over, constraints_in}
 use Rattle.tfpg_clause.proofs.may.arrival_count.Goals as goal
 use Rattle.tfpg_clause.proofs.may.arrival_count.Goals.{then-is_some, else-is_some}

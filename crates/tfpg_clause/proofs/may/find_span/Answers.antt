@@ -1,4 +1,4 @@
-use Rattle.tfpg_clause.proofs.logs.TimesInRange.{small_span_if}
+use Rattle.tfpg_clause.proofs.lemmas.logs.TimesInRange.{small_span_if}
 use Rattle.tfpg_clause.proofs.may.find_span.Goals as goal
 
 pub returns-clause-small : goal.returns-clause-small

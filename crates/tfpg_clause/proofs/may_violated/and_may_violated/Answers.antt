@@ -1,8 +1,8 @@
 use Rattle.std.proofs.Common.{slice_get}
 use Rattle.tfpg_graph.specs.Graph.{is_and}
 use Rattle.tfpg_log.specs.Log.{now_of}
-use Rattle.tfpg_clause.proofs.first_violated.ClausesBySpan.{and_may_found_first, no_and_may}
-use Rattle.tfpg_clause.proofs.alternatives.ClauseFound.{target_there}
+use Rattle.tfpg_clause.proofs.lemmas.first_violated.ClausesBySpan.{and_may_found_first, no_and_may}
+use Rattle.tfpg_clause.proofs.lemmas.alternatives.ClauseFound.{target_there}
 use Rattle.tfpg_clause.proofs.may_violated.and_may_violated.Goals as goal
 
 pub returns-in_err-target : goal.returns-in_err-target

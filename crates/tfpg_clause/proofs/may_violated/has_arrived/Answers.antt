@@ -1,6 +1,6 @@
 use Rattle.std.proofs.Common.{refl, arith}
 use Rattle.std.proofs.lemmas.Bool.{false≢true}
-use Rattle.tfpg_clause.proofs.first_violated.MaySpans.{arrived_by, none_arrived}
+use Rattle.tfpg_clause.proofs.lemmas.first_violated.MaySpans.{arrived_by, none_arrived}
 use Rattle.tfpg_clause.proofs.may_violated.has_arrived.Goals as goal
 
 pub returns-then-has_arrived_by : goal.returns-then-has_arrived_by

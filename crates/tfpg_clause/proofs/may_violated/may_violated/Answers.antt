@@ -3,8 +3,8 @@ use Rattle.std.proofs.lemmas.Bool.{both_ways}
 use Rattle.tfpg_log.specs.Spans.{span_at}
 use Rattle.tfpg_clause.specs.Clauses.{MeetsClause}
 use Rattle.tfpg_clause.specs.inside.Alternatives.{arrivals_over}
-use Rattle.tfpg_clause.proofs.logs.SpanNumbers.{numbered_so, after_now}
-use Rattle.tfpg_clause.proofs.first_violated.MaySpans.{never_violated, met_without, met_by_arrival, is_first}
+use Rattle.tfpg_clause.proofs.lemmas.logs.SpanNumbers.{numbered_so, after_now}
+use Rattle.tfpg_clause.proofs.lemmas.first_violated.MaySpans.{never_violated, met_without, met_by_arrival, is_first}
 use Rattle.tfpg_clause.proofs.may_violated.may_violated.Goals as goal
 
 pub returns-in_err-number : goal.returns-in_err-number

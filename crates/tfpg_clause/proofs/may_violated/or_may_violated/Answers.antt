@@ -1,6 +1,6 @@
 use Rattle.std.proofs.Common.{sym, ◌∙◌}
 use Rattle.tfpg_log.specs.Log.{now_of}
-use Rattle.tfpg_clause.proofs.first_violated.ClausesBySpan.{or_may_found_first, no_or_may}
+use Rattle.tfpg_clause.proofs.lemmas.first_violated.ClausesBySpan.{or_may_found_first, no_or_may}
 use Rattle.tfpg_clause.proofs.may_violated.or_may_violated.Goals as goal
 
 pub returns-then-not-is_or : goal.returns-then-not-is_or

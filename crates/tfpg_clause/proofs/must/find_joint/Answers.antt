@@ -1,4 +1,4 @@
-use Rattle.tfpg_clause.proofs.logs.TimesInRange.{small_joint_if}
+use Rattle.tfpg_clause.proofs.lemmas.logs.TimesInRange.{small_joint_if}
 use Rattle.tfpg_clause.proofs.must.find_joint.Goals as goal
 
 pub returns-clause-small : goal.returns-clause-small

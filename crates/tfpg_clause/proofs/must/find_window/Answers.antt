@@ -1,5 +1,5 @@
 use Rattle.std.proofs.Common.{slice_get}
-use Rattle.tfpg_clause.proofs.logs.TimesInRange.{small_window_if}
+use Rattle.tfpg_clause.proofs.lemmas.logs.TimesInRange.{small_window_if}
 use Rattle.tfpg_clause.proofs.must.find_window.Goals as goal
 
 pub returns-clause-small : goal.returns-clause-small

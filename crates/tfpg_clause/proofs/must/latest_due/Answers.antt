@@ -1,6 +1,6 @@
 use Rattle.std.proofs.Common.{sym, ◌∙◌}
 use Rattle.tfpg_clause.specs.inside.Alternatives.{due_seen, due_by_number}
-use Rattle.tfpg_clause.proofs.alternatives.Dues.{latest_more, latest_missing, latest_over}
+use Rattle.tfpg_clause.proofs.lemmas.alternatives.Dues.{latest_more, latest_missing, latest_over}
 use Rattle.tfpg_clause.proofs.must.latest_due.Goals as goal
 
 pub returns-in_err-due-clause-value : goal.returns-in_err-due-clause-value

@@ -3,8 +3,8 @@ use Rattle.tfpg_base.specs.declared.constraint.Constraint.{Constraint}
 use Rattle.std.proofs.lemmas.Option.{none-some}
 use Rattle.tfpg_base.specs.Bounds.{at_most}
 use Rattle.tfpg_clause.specs.inside.Alternatives.{due_seen, due_by_number, latest_within}
-use Rattle.tfpg_base.proofs.lists.Choices.{each_of-map_at, each_of-map_none, length-each_of_map}
-use Rattle.tfpg_clause.proofs.alternatives.Dues.{late_at, follows_at, last_at, none_past, latest_is}
+use Rattle.tfpg_base.proofs.lemmas.lists.Choices.{each_of-map_at, each_of-map_none, length-each_of_map}
+use Rattle.tfpg_clause.proofs.lemmas.alternatives.Dues.{late_at, follows_at, last_at, none_past, latest_is}
 use Rattle.tfpg_clause.proofs.must.must_alternative.Goals as goal
 
 pub returns-in_err-due : goal.returns-in_err-due

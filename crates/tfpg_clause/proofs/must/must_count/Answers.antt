@@ -1,6 +1,6 @@
 use Rattle.std.proofs.Common.{sym}
 use Rattle.tfpg_clause.specs.inside.Alternatives.{due_by_number}
-use Rattle.tfpg_clause.proofs.alternatives.Dues.{must_counted}
+use Rattle.tfpg_clause.proofs.lemmas.alternatives.Dues.{must_counted}
 use Rattle.tfpg_clause.proofs.must.must_count.Goals as goal
 
 pub returns : goal.returns

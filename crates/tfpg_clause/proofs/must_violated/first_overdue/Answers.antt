@@ -1,5 +1,5 @@
-use Rattle.tfpg_clause.proofs.logs.SpanNumbers.{numbered_so, after_now}
-use Rattle.tfpg_clause.proofs.first_violated.MustsBySpan.{must_met_excused, must_met_late, must_met_before, must_met_before_window}
+use Rattle.tfpg_clause.proofs.lemmas.logs.SpanNumbers.{numbered_so, after_now}
+use Rattle.tfpg_clause.proofs.lemmas.first_violated.MustsBySpan.{must_met_excused, must_met_late, must_met_before, must_met_before_window}
 use Rattle.tfpg_clause.proofs.must_violated.first_overdue.Goals as goal
 
 pub returns-in_err-overdue-clause-met : goal.returns-in_err-overdue-clause-met

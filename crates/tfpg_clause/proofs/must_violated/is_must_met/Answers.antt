@@ -1,7 +1,7 @@
 use Rattle.std.proofs.Common.{sym}
 use Rattle.std.proofs.lemmas.Bool.{both_ways, true_from_ne_false}
 use Rattle.tfpg_clause.specs.inside.Alternatives.{due_by_number}
-use Rattle.tfpg_clause.proofs.first_violated.MustMet.{met_by_excuse, not_met}
+use Rattle.tfpg_clause.proofs.lemmas.first_violated.MustMet.{met_by_excuse, not_met}
 use Rattle.tfpg_clause.proofs.must_violated.is_must_met.Goals as goal
 
 pub returns-else-times-must : goal.returns-else-times-must

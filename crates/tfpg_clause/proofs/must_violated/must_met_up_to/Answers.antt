@@ -2,7 +2,7 @@ use Rattle.std.proofs.Common.{ℕ, sym, subst}
 use Rattle.std.proofs.lemmas.Bool.{both_ways}
 use Rattle.tfpg_clause.specs.inside.Alternatives.{dues_over}
 use Rattle.tfpg_clause.specs.inside.FirstSpan.{MeetsIfAny, must_over}
-use Rattle.tfpg_clause.proofs.first_violated.MustsBySpan.{must_met_without, must_met_within, must_not_met}
+use Rattle.tfpg_clause.proofs.lemmas.first_violated.MustsBySpan.{must_met_without, must_met_within, must_not_met}
 use Rattle.tfpg_clause.proofs.must_violated.must_met_up_to.Goals as goal
 
 pub returns-in-None-clause-met : goal.returns-in-None-clause-met

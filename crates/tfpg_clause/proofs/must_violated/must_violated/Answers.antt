@@ -1,8 +1,8 @@
 use Rattle.std.proofs.Common.{get_or, min, ap, ◌∙◌, arith}
 use Rattle.tfpg_clause.specs.inside.Musts.{musts_of}
-use Rattle.tfpg_clause.proofs.logs.SpanNumbers.{numbered_so}
-use Rattle.tfpg_clause.proofs.first_violated.MustSpans.{met_below}
-use Rattle.tfpg_clause.proofs.first_violated.MustsBySpan.{must_met_all}
+use Rattle.tfpg_clause.proofs.lemmas.logs.SpanNumbers.{numbered_so}
+use Rattle.tfpg_clause.proofs.lemmas.first_violated.MustSpans.{met_below}
+use Rattle.tfpg_clause.proofs.lemmas.first_violated.MustsBySpan.{must_met_all}
 use Rattle.tfpg_clause.proofs.must_violated.must_violated.Goals as goal
 
 pub returns-then-until-last : goal.returns-then-until-last

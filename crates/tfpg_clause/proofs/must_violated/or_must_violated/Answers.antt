@@ -1,5 +1,5 @@
 use Rattle.std.proofs.Common.{slice_get}
-use Rattle.tfpg_clause.proofs.first_violated.MustsBySpan.{no_or_must}
+use Rattle.tfpg_clause.proofs.lemmas.first_violated.MustsBySpan.{no_or_must}
 use Rattle.tfpg_clause.proofs.must_violated.or_must_violated.Goals as goal
 
 pub returns-in_err-or_target : goal.returns-in_err-or_target

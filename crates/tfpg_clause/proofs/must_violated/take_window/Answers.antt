@@ -1,7 +1,7 @@
 use Rattle.std.proofs.Common.{◌≡◌, ℕ, List, Some, ap, sym, subst, length, slice_index_or, arith}
 use Rattle.tfpg_clause.specs.inside.KnownWindows.{IsWindowOver}
 use Rattle.tfpg_clause.specs.inside.Musts.{AreEdgesOf}
-use Rattle.tfpg_clause.proofs.first_violated.WindowsKnown.{more_known}
+use Rattle.tfpg_clause.proofs.lemmas.first_violated.WindowsKnown.{more_known}
 use Rattle.tfpg_clause.proofs.must_violated.take_window.Goals as goal
 
 pub returns-in_ok-window-in-Some-clause-known : goal.returns-in_ok-window-in-Some-clause-known

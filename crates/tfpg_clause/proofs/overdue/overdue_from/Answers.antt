@@ -1,4 +1,4 @@
-use Rattle.tfpg_clause.proofs.first_violated.Excuses.{excused_by_one, excused_before_later}
+use Rattle.tfpg_clause.proofs.lemmas.first_violated.Excuses.{excused_by_one, excused_before_later}
 use Rattle.tfpg_clause.proofs.overdue.overdue_from.Goals as goal
 
 pub loop-edge-preserved : goal.loop-edge-preserved

@@ -1,5 +1,5 @@
 use Rattle.std.proofs.Common.{sym, arith}
-use Rattle.tfpg_clause.proofs.first_violated.Excuses.{excused_without, excused_in_time, excused_before}
+use Rattle.tfpg_clause.proofs.lemmas.first_violated.Excuses.{excused_without, excused_in_time, excused_before}
 use Rattle.tfpg_clause.proofs.overdue.overdue_over.Goals as goal
 
 pub returns-in_err-tmax : goal.returns-in_err-tmax

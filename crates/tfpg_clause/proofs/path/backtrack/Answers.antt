@@ -1,10 +1,10 @@
 use Rattle.std.proofs.Common.{◌≡◌, ℕ, zero, suc, ◌-◌, ◌<◌, ◌≤◌, length, take, get_or, List, Option, Some, ap, sym, subst, ◌∙◌, refl, arith}
 use Rattle.std.specs.Prelude.{slice_set, IsSomeAnd}
-use Rattle.tfpg_base.proofs.lists.Cuts.{slice_get-last_taken}
+use Rattle.tfpg_base.proofs.lemmas.lists.Cuts.{slice_get-last_taken}
 use Rattle.tfpg_clause.specs.declared.path.PathSplit.{PathSplit}
 use Rattle.tfpg_clause.specs.Paths.{next_alternative, next_leaf}
 use Rattle.tfpg_clause.specs.inside.UnfinishedSplits.{IsUnfinished, HasNext}
-use Rattle.tfpg_clause.proofs.trees.LeafPaths.{moved_on}
+use Rattle.tfpg_clause.proofs.lemmas.trees.LeafPaths.{moved_on}
 use Rattle.tfpg_clause.proofs.path.backtrack.Goals as goal
 
 module _ (path items : List PathSplit) (split : PathSplit) where

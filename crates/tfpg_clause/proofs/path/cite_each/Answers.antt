@@ -2,7 +2,7 @@ use Rattle.std.proofs.Common.{List, ap, sym, ◌∙◌}
 use Rattle.std.proofs.lemmas.List.{take_all}
 use Rattle.tfpg_evidence.specs.declared.reason.Reason.{Reason}
 use Rattle.tfpg_clause.specs.Paths.{cited_by}
-use Rattle.tfpg_clause.proofs.trees.Marks.{cited_none, cited_more}
+use Rattle.tfpg_clause.proofs.lemmas.trees.Marks.{cited_none, cited_more}
 use Rattle.tfpg_clause.proofs.path.cite_each.Goals as goal
 
 pub loop-reason-init : goal.loop-reason-init

@@ -1,5 +1,5 @@
 use Rattle.std.proofs.Common.{◌-◌, inl, inr, sym, arith}
-use Rattle.tfpg_clause.proofs.trees.Marks.{pick_here, pick_nowhere}
+use Rattle.tfpg_clause.proofs.lemmas.trees.Marks.{pick_here, pick_nowhere}
 use Rattle.tfpg_clause.proofs.path.cite_split.Goals as goal
 use Rattle.tfpg_clause.proofs.path.cite_split.Goals.{then-number-eq0-via-then-number-eq0, then-number-eq0-via-else-number-eq0+then-number-path}
 

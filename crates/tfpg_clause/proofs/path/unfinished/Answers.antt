@@ -5,7 +5,7 @@ use Rattle.tfpg_evidence.specs.declared.clause_name.ClauseName.TheVariants.{OrMa
 use Rattle.tfpg_clause.specs.declared.path.PathSplit.{PathSplit}
 use Rattle.tfpg_clause.specs.Paths.{next_leaf}
 use Rattle.tfpg_clause.specs.inside.UnfinishedSplits.{IsUnfinished, HasNext}
-use Rattle.tfpg_clause.proofs.trees.LeafPaths.{shorter}
+use Rattle.tfpg_clause.proofs.lemmas.trees.LeafPaths.{shorter}
 use Rattle.tfpg_clause.proofs.path.unfinished.Goals as goal
 
 -- what the code reads past the end

@@ -16,8 +16,8 @@ use Rattle.tfpg_report.specs.ReportLines.{Says}
 use Rattle.tfpg_report.specs.Reading.{IsHead}
 use Rattle.tfpg_check.specs.declared.cause.CheckCause.{CheckCause}
 use Rattle.tfpg_check.specs.Causes.{IsCause, DiagnosisProblem}
-use Rattle.tfpg_check.proofs.FirstLines.{few_hypotheses}
-use Rattle.tfpg_check.proofs.completeness.EqualBlocks.{one_head}
+use Rattle.tfpg_check.proofs.lemmas.FirstLines.{few_hypotheses}
+use Rattle.tfpg_check.proofs.lemmas.completeness.EqualBlocks.{one_head}
 use Rattle.tfpg_diagnose.specs.declared.texts.fault.CheckTextsFault.{CheckTextsFault}
 use Rattle.tfpg_diagnose.specs.declared.texts.fault.CheckTextsFault.TheVariants.{Graph, NotAccepted, TooManyHypotheses, TooMuchInput, NoMemory}
 use Rattle.tfpg_diagnose.specs.JudgedReports.{problem_of}

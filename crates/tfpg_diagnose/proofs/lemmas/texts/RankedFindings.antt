@@ -5,12 +5,12 @@ use Rattle.std.specs.Borrow.{Bor}
 use Rattle.std.specs.Option.{option_copied}
 use Rattle.std.proofs.lemmas.Bool.{ltb-true}
 use Rattle.std.proofs.lemmas.Option.{slice_get_read, slice_get_within}
-use Rattle.tfpg_base.proofs.lists.Elements.{All-at}
+use Rattle.tfpg_base.proofs.lemmas.lists.Elements.{All-at}
 use Rattle.tfpg_graph.specs.Graph.{Sizes}
 use Rattle.tfpg_evidence.specs.declared.finding.Finding.{Finding}
 use Rattle.tfpg_evidence.specs.declared.round.Round.{Round}
 use Rattle.tfpg_evidence.specs.RoundOf.{IsFindingOf, IsRankedIn, IsRoundOf, finding_numbered, is_ranked}
-use Rattle.tfpg_evidence.proofs.FindingsByNumber.{finding_numbered-all}
+use Rattle.tfpg_evidence.proofs.lemmas.FindingsByNumber.{finding_numbered-all}
 
 -- a reference is there if what it points to is
 some_copied : (found : Option (Bor Finding)) (finding : Finding) → option_copied found ≡ Some finding → IsSome found

@@ -8,7 +8,7 @@ use Rattle.tfpg_base.specs.declared.terms.Terms.{Terms}
 use Rattle.tfpg_base.specs.declared.limits.TheConstants.{MAX_BYTES}
 use Rattle.tfpg_base.specs.Lines.{lines_of}
 use Rattle.tfpg_base.specs.Outside.{Rose, Takes}
-use Rattle.tfpg_base.proofs.lists.Elements.{Contains-nil}
+use Rattle.tfpg_base.proofs.lemmas.lists.Elements.{Contains-nil}
 use Rattle.tfpg_graph.specs.Graph.{Tfpg}
 use Rattle.tfpg_evidence.specs.declared.round.Round.{Round}
 use Rattle.tfpg_panel.specs.declared.lost_panel.LostPanel.{LostPanel}

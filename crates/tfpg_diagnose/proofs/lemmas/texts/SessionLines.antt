@@ -12,8 +12,8 @@ use Rattle.tfpg_engine.specs.EngineState.{EngineState}
 use Rattle.tfpg_log.specs.declared.refused_line.RefusedLine.TheVariants.{TooLong}
 use Rattle.tfpg_report.specs.Blocks.{Block, RefusedBlock, RoundBlock, head_text, refused_text}
 use Rattle.tfpg_check.specs.Report.{HasReports, Progress, progress_of}
-use Rattle.tfpg_check.proofs.Progressing.{progress_of-push}
-use Rattle.tfpg_report.proofs.WrittenLines.{written_refusal}
+use Rattle.tfpg_check.proofs.lemmas.Progressing.{progress_of-push}
+use Rattle.tfpg_report.proofs.lemmas.WrittenLines.{written_refusal}
 use Rattle.tfpg_diagnose.specs.TellsPanels.{losses_in}
 use Rattle.tfpg_diagnose.specs.EngineReports.{EngineReports}
 use Rattle.tfpg_diagnose.specs.inside.LineBlocks.{HasBlock, IsBlockWithin, IsEngineReady, IsUntold, numbered}

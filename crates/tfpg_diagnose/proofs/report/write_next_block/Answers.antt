@@ -1,6 +1,6 @@
 use Rattle.tfpg_streams.specs.declared.fault.StreamFault.TheVariants as faults
 use Rattle.tfpg_streams.specs.Faults.{stream_fault_of_lines}
-use Rattle.tfpg_base.proofs.lists.Choices.{IfErr-from}
+use Rattle.tfpg_base.proofs.lemmas.lists.Choices.{IfErr-from}
 use Rattle.tfpg_diagnose.proofs.lemmas.NextBlocks.{ends_by_fault, met_end, met_text, met_long, gave_without_memory, done_within, long_within, text_within}
 use Rattle.tfpg_diagnose.proofs.lemmas.WrittenBlocks.{wrote, wrote_within, stopped}
 use Rattle.tfpg_panel.specs.Desk.{seen_by}

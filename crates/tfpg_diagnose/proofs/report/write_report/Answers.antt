@@ -4,7 +4,7 @@ use Rattle.tfpg_graph.specs.Valid.{IsValid}
 use Rattle.tfpg_diagnose.specs.Watched.{watched}
 use Rattle.tfpg_diagnose.specs.Diagnosing.{Diagnoses}
 use Rattle.tfpg_diagnose.specs.inside.UnderWay.{ComesTo, ComesToWithin, diagnosis_at}
-use Rattle.tfpg_base.proofs.lists.Choices.{Err-from}
+use Rattle.tfpg_base.proofs.lemmas.lists.Choices.{Err-from}
 use Rattle.tfpg_streams.proofs.lemmas.Putting.{Puts-same}
 use Rattle.tfpg_streams.proofs.lemmas.InputLines.{falls_short}
 use Rattle.tfpg_diagnose.proofs.lemmas.NextBlocks.{few_given, head_as, begins_within, begins_without_memory, begins_badly}

@@ -1,5 +1,5 @@
 use Rattle.std.proofs.Common.{subst}
-use Rattle.tfpg_base.proofs.lists.Choices.{IfErr-from}
+use Rattle.tfpg_base.proofs.lemmas.lists.Choices.{IfErr-from}
 use Rattle.tfpg_diagnose.specs.inside.Faults.{check_fault_of_judge}
 use Rattle.tfpg_diagnose.specs.inside.JudgingUnderWay.{ChecksOn, ReadsOn, checking_at}
 use Rattle.tfpg_diagnose.specs.JudgedReports.{LacksReport}

@@ -1,5 +1,5 @@
 use Rattle.std.proofs.Common.{◌<◌, sym, subst}
-use Rattle.tfpg_base.proofs.lists.Choices.{IfErr-from}
+use Rattle.tfpg_base.proofs.lemmas.lists.Choices.{IfErr-from}
 use Rattle.tfpg_diagnose.specs.inside.Faults.{check_fault_of_judge, check_fault_of_lines}
 use Rattle.tfpg_diagnose.specs.JudgedReports.{LacksReport}
 use Rattle.tfpg_diagnose.proofs.lemmas.NextReportLines.{few_numbers, lacks_by_fault, met_end, met_fault, met_long, met_right, one_on}

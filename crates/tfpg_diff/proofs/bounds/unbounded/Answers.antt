@@ -2,7 +2,7 @@
 use Rattle.std.proofs.Common.{◌≡◌, ℕ, suc, ◌+◌, List, ◌∷◌, ◌++◌, [], sym, ◌∙◌, ap, arith, zero-add}
 use Rattle.tfpg_diff.specs.VariableBounds.{VariableBounds}
 use Rattle.tfpg_diff.specs.SystemState.{widest, unbounded_from}
-use Rattle.tfpg_diff.proofs.Fresh.{unbounded_from-more}
+use Rattle.tfpg_diff.proofs.lemmas.Fresh.{unbounded_from-more}
 use Rattle.tfpg_diff.proofs.bounds.unbounded.Goals as goal
 
 -- the bounds with one more variable

@@ -1,5 +1,5 @@
 -- Each kind of change.
-use Rattle.tfpg_diff.proofs.Naming.{AreDemandsNamed-floor, AreDemandsNamed-ceiling, AreDemandsNamed-demand_of_pick, AreDemandsNamed-popped}
+use Rattle.tfpg_diff.proofs.lemmas.Naming.{AreDemandsNamed-floor, AreDemandsNamed-ceiling, AreDemandsNamed-demand_of_pick, AreDemandsNamed-popped}
 use Rattle.tfpg_diff.proofs.laws.tags_name_what_is_added.Goals as goal
 
 pub returns : goal.returns

@@ -1,6 +1,6 @@
 -- A fresh computation, which meets no negative cycle.
 use Rattle.tfpg_diff.specs.Demands.{demands_of}
-use Rattle.tfpg_diff.proofs.Fresh.{AreKept-fresh, no_cycle-solvable}
+use Rattle.tfpg_diff.proofs.lemmas.Fresh.{AreKept-fresh, no_cycle-solvable}
 use Rattle.tfpg_diff.proofs.passes.compute_afresh.Goals as goal
 
 pub lower_until_met-requires-clause-kept : goal.lower_until_met-requires-clause-kept

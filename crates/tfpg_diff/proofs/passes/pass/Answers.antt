@@ -1,7 +1,7 @@
 -- A pick that was broken makes the sum fall, and one that was met stays met while no value changes.
 use Rattle.std.proofs.Common.{arith, inl, inr, ◌∙◌}
-use Rattle.tfpg_diff.proofs.Undoing.{Remembers-more}
-use Rattle.tfpg_diff.proofs.Passing.{Passes-more}
+use Rattle.tfpg_diff.proofs.lemmas.Undoing.{Remembers-more}
+use Rattle.tfpg_diff.proofs.lemmas.Passing.{Passes-more}
 use Rattle.tfpg_diff.proofs.passes.pass.Goals as goal
 use Rattle.tfpg_diff.proofs.passes.pass.Goals.{then-branch, else-branch}
 

@@ -3,7 +3,7 @@ use Rattle.std.proofs.Common.{◌∙◌, ap}
 use Rattle.std.proofs.lemmas.List.{get_or_default}
 use Rattle.tfpg_diff.specs.inside.Linked.{no_bounds}
 use Rattle.tfpg_diff.specs.VariableBounds.{VariableBounds}
-use Rattle.tfpg_diff.proofs.Bounding.{AreAtCeilings-more}
+use Rattle.tfpg_diff.proofs.lemmas.Bounding.{AreAtCeilings-more}
 use Rattle.tfpg_diff.proofs.passes.start.Goals as goal
 
 pub loop-variable-preserved : goal.loop-variable-preserved

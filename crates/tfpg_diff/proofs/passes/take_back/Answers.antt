@@ -1,7 +1,7 @@
 -- The trail takes back, or the solution is computed afresh.
 use Rattle.std.proofs.Common.{arith}
 use Rattle.tfpg_diff.specs.Demands.{demands_of}
-use Rattle.tfpg_diff.proofs.TakingBack.{TakesBack-undone, TakesBack-afresh}
+use Rattle.tfpg_diff.proofs.lemmas.TakingBack.{TakesBack-undone, TakesBack-afresh}
 use Rattle.tfpg_diff.proofs.passes.take_back.Goals as goal
 
 pub returns-then-labels-from-clause-taken : goal.returns-then-labels-from-clause-taken

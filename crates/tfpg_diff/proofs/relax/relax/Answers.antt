@@ -9,10 +9,10 @@ use Rattle.tfpg_diff.specs.VariableBounds.{VariableBounds}
 use Rattle.tfpg_diff.specs.Demands.{Bounded, demands_of}
 use Rattle.tfpg_diff.specs.inside.Linked.{no_bounds, no_pick, demands_linked}
 use Rattle.tfpg_diff.specs.inside.Kept.{IsLabelled, AreKept}
-use Rattle.tfpg_diff.proofs.Walks.{Walked-found, Walked-not_found}
+use Rattle.tfpg_diff.proofs.lemmas.Walks.{Walked-found, Walked-not_found}
 use Rattle.tfpg_base.specs.declared.limits.TheConstants.{NEVER}
-use Rattle.tfpg_diff.proofs.Lowering.{IsBrokenDemand, Labelled-kept, cycle_from_met, cycle_from_floor}
-use Rattle.tfpg_diff.proofs.Relaxing.{small-kept, IsBrokenDemand-pick, Bounded-read, limits-read, length-cycle, floor-kept, AreKept-lowered}
+use Rattle.tfpg_diff.proofs.lemmas.Lowering.{IsBrokenDemand, Labelled-kept, cycle_from_met, cycle_from_floor}
+use Rattle.tfpg_diff.proofs.lemmas.Relaxing.{small-kept, IsBrokenDemand-pick, Bounded-read, limits-read, length-cycle, floor-kept, AreKept-lowered}
 use Rattle.tfpg_diff.proofs.relax.relax.Goals as goal
 use Rattle.tfpg_diff.proofs.relax.relax.Goals.{Else-not-is_broken, Else-leads_to}
 

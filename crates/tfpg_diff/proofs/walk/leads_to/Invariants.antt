@@ -3,7 +3,7 @@ use Rattle.std.proofs.Common.{◌≤◌, length}
 use Rattle.tfpg_diff.specs.Demands.{demands_of}
 use Rattle.tfpg_diff.specs.inside.Linked.{demands_linked}
 use Rattle.tfpg_diff.specs.inside.Kept.{LeadsTo}
-use Rattle.tfpg_diff.proofs.Climb.{depth}
+use Rattle.tfpg_diff.proofs.lemmas.Climb.{depth}
 use Rattle.tfpg_diff.proofs.walk.leads_to.Given as goal
 
 abbrev pub invariant-loop-stands : goal.invariant-loop-stands

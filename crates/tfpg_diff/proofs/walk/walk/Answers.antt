@@ -6,9 +6,9 @@ use Rattle.std.specs.Prelude.{slice_get}
 use Rattle.tfpg_diff.specs.declared.demand.Demand.{Demand}
 use Rattle.tfpg_diff.specs.Demands.{demands_of}
 use Rattle.tfpg_diff.specs.inside.Linked.{demands_linked}
-use Rattle.tfpg_diff.proofs.Linked.{demands_linked-at, IsLinkInto-kept}
-use Rattle.tfpg_diff.proofs.Lowering.{Labelled-kept}
-use Rattle.tfpg_diff.proofs.Walks.{Walked-more, length-walked, link_right}
+use Rattle.tfpg_diff.proofs.lemmas.Linked.{demands_linked-at, IsLinkInto-kept}
+use Rattle.tfpg_diff.proofs.lemmas.Lowering.{Labelled-kept}
+use Rattle.tfpg_diff.proofs.lemmas.Walks.{Walked-more, length-walked, link_right}
 use Rattle.tfpg_diff.proofs.walk.walk.Goals as goal
 use Rattle.tfpg_diff.proofs.walk.walk.Goals.{After-index-link}
 

@@ -1,5 +1,5 @@
 use Rattle.std.proofs.Common.{arith}
-use Rattle.tfpg_engine.proofs.NewFindingIsRight.{not_yet, none_from_here, none_at_all}
+use Rattle.tfpg_engine.proofs.lemmas.NewFindingIsRight.{not_yet, none_from_here, none_at_all}
 use Rattle.tfpg_engine.proofs.covering.covering.Goals as goal
 
 pub loop-number-preserved : goal.loop-number-preserved

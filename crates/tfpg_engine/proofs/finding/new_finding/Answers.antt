@@ -2,8 +2,8 @@ use Rattle.std.proofs.Common.{sym, subst, ◌∙◌}
 use Rattle.std.proofs.lemmas.Result.{IfOk-weaker}
 use Rattle.tfpg_engine.specs.inside.Inquiries.{row_of, inquiry_of}
 use Rattle.tfpg_engine.specs.inside.NewFindings.{IsNewFinding}
-use Rattle.tfpg_engine.proofs.NewFindingIsRight.{new_finding_rejected, new_finding_covered}
-use Rattle.tfpg_engine.proofs.FindingWork.{rejected_within, covered_within}
+use Rattle.tfpg_engine.proofs.lemmas.NewFindingIsRight.{new_finding_rejected, new_finding_covered}
+use Rattle.tfpg_engine.proofs.lemmas.FindingWork.{rejected_within, covered_within}
 use Rattle.tfpg_engine.specs.inside.Inquiries.{case_of_row}
 use Rattle.tfpg_engine.proofs.finding.new_finding.Goals as goal
 

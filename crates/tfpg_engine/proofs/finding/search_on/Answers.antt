@@ -5,10 +5,10 @@ use Rattle.tfpg_hyp.specs.Ranking.{cost_of, robustness_of}
 use Rattle.tfpg_engine.specs.EngineState.{SlotRepresents, calls_of_slot, is_rejected_slot, events_seen}
 use Rattle.tfpg_engine.specs.inside.Inquiries.{row_of, inquiry_of}
 use Rattle.tfpg_engine.specs.inside.NewFindings.{kept, status_by}
-use Rattle.tfpg_engine.proofs.NewFindingIsRight.{new_finding_searched, represents_some, searched_ignoring, not_spent, as_written}
+use Rattle.tfpg_engine.proofs.lemmas.NewFindingIsRight.{new_finding_searched, represents_some, searched_ignoring, not_spent, as_written}
 use Rattle.tfpg_engine.specs.declared.slot.Slot.TheVariants.{Searched}
-use Rattle.tfpg_engine.proofs.CallsCounted.{kept_calls, searched_calls}
-use Rattle.tfpg_engine.proofs.FindingWork.{searched_within}
+use Rattle.tfpg_engine.proofs.lemmas.CallsCounted.{kept_calls, searched_calls}
+use Rattle.tfpg_engine.proofs.lemmas.FindingWork.{searched_within}
 use Rattle.tfpg_engine.proofs.finding.search_on.Goals as goal
 
 pub round-requires-clause-represents : goal.round-requires-clause-represents

@@ -2,7 +2,7 @@ use Rattle.std.proofs.Common.{◌<◌, length, get_or, refl, ap, sym, subst, ari
 use Rattle.std.specs.Prelude.{All, IsTrue, sum_by}
 use Rattle.tfpg_base.specs.Hypothesis.{Hypothesis}
 use Rattle.tfpg_graph.specs.Graph.{AreFailures, is_monitored}
-use Rattle.tfpg_base.proofs.lists.Elements.{All-at}
+use Rattle.tfpg_base.proofs.lemmas.lists.Elements.{All-at}
 use Rattle.tfpg_log.specs.Log.{ignoring}
 use Rattle.tfpg_clause.specs.Case.{case_of}
 use Rattle.tfpg_engine.specs.inside.Inquiries.{inquiry_of}
@@ -10,10 +10,10 @@ use Rattle.tfpg_engine.specs.inside.Slots.{CanGoOn}
 use Rattle.tfpg_engine.specs.inside.NewFindings.{AreFirstFindings, PartsStandFirst}
 use Rattle.tfpg_engine.specs.inside.SlotWork.{IsLimitBySlots, AreSlotsWithin}
 use Rattle.tfpg_engine.specs.EngineState.{calls_of_slot}
-use Rattle.tfpg_engine.proofs.CallsCounted.{calls_with}
-use Rattle.tfpg_engine.proofs.FindingWork.{none_within, found_within}
-use Rattle.tfpg_engine.proofs.Ignoring.{same_ignoring, inquiry_ignoring}
-use Rattle.tfpg_engine.proofs.NewFindingIsRight.{none_found, found_by, found_ignoring, parts_first_so_far, slot_before}
+use Rattle.tfpg_engine.proofs.lemmas.CallsCounted.{calls_with}
+use Rattle.tfpg_engine.proofs.lemmas.FindingWork.{none_within, found_within}
+use Rattle.tfpg_engine.proofs.lemmas.Ignoring.{same_ignoring, inquiry_ignoring}
+use Rattle.tfpg_engine.proofs.lemmas.NewFindingIsRight.{none_found, found_by, found_ignoring, parts_first_so_far, slot_before}
 use Rattle.tfpg_engine.proofs.findings.new_findings.Goals as goal
 
 pub loop-number-init : goal.loop-number-init

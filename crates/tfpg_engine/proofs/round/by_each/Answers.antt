@@ -4,7 +4,7 @@ use Rattle.tfpg_log.specs.LogOfLines.{log_of_events}
 use Rattle.tfpg_hyp.specs.Rounds.{key_at, counts_of}
 use Rattle.tfpg_engine.specs.inside.Inquiries.{inquiry_of}
 use Rattle.tfpg_engine.specs.inside.SlotWork.{AreSlotsWithin}
-use Rattle.tfpg_engine.proofs.FindingsMakeRound.{fractions_of, makes}
+use Rattle.tfpg_engine.proofs.lemmas.FindingsMakeRound.{fractions_of, makes}
 use Rattle.tfpg_engine.proofs.round.by_each.Goals as goal
 
 pub order-requires-clause-few : goal.order-requires-clause-few

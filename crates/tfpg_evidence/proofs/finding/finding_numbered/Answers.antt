@@ -1,6 +1,6 @@
 use Rattle.std.proofs.Common.{rules, sym}
 use Rattle.std.proofs.lemmas.List.Sorted.{answers_always}
-use Rattle.tfpg_evidence.proofs.FindingsByNumber.{finding_numbered-found, finding_numbered-not_found}
+use Rattle.tfpg_evidence.proofs.lemmas.FindingsByNumber.{finding_numbered-found, finding_numbered-not_found}
 use Rattle.tfpg_evidence.proofs.finding.finding_numbered.Goals as goal
 
 pub returns-in-Ok : goal.returns-in-Ok

@@ -2,7 +2,7 @@ use Rattle.std.proofs.Common.{Some, None, ◌+◌, ◌-◌, length, refl, ap, sy
 use Rattle.std.proofs.lemmas.Bool.{ltb-false}
 use Rattle.tfpg_base.specs.declared.limits.TheConstants.{LONGEST_LINE}
 use Rattle.tfpg_fleet.specs.Belonging.{vehicle_line}
-use Rattle.tfpg_fleet.proofs.Addressed.{belongs-named}
+use Rattle.tfpg_fleet.proofs.lemmas.Addressed.{belongs-named}
 use Rattle.tfpg_fleet.proofs.belonging.addressee.Goals as goal
 
 pub returns-in_err-vehicle-clause-belongs : goal.returns-in_err-vehicle-clause-belongs

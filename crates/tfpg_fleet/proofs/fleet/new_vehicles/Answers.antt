@@ -2,7 +2,7 @@ use Rattle.std.proofs.Common.{subst, sym, ap, ◌∙◌, map}
 use Rattle.std.specs.Prelude.{All}
 use Rattle.std.proofs.lemmas.List.Elements.{All-push}
 use Rattle.tfpg_fleet.specs.FleetState.{IsNew, VehicleState}
-use Rattle.tfpg_fleet.proofs.FleetTells.{names-push}
+use Rattle.tfpg_fleet.proofs.lemmas.FleetTells.{names-push}
 use Rattle.tfpg_fleet.proofs.fleet.new_vehicles.Goals as goal
 
 pub loop-name-preserved : goal.loop-name-preserved

@@ -1,4 +1,4 @@
-use Rattle.tfpg_fleet.proofs.FleetTells.{represents_stray}
+use Rattle.tfpg_fleet.proofs.lemmas.FleetTells.{represents_stray}
 use Rattle.tfpg_fleet.proofs.laws.a_stray_line_is_no_matter.Goals as goal
 
 pub returns : goal.returns

@@ -1,4 +1,4 @@
-use Rattle.tfpg_fleet.proofs.FleetTells.{own_refusal, own_round}
+use Rattle.tfpg_fleet.proofs.lemmas.FleetTells.{own_refusal, own_round}
 use Rattle.tfpg_fleet.proofs.laws.a_vehicle_goes_by_its_own_lines.Goals as goal
 
 pub returns : goal.returns

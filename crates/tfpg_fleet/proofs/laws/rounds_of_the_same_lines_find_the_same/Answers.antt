@@ -1,5 +1,5 @@
 use Rattle.tfpg_log.specs.LogOfLines.{log_of_lines}
-use Rattle.tfpg_fleet.proofs.OneLog.{find_one_thing}
+use Rattle.tfpg_fleet.proofs.lemmas.OneLog.{find_one_thing}
 use Rattle.tfpg_fleet.proofs.laws.rounds_of_the_same_lines_find_the_same.Goals as goal
 
 pub returns : goal.returns

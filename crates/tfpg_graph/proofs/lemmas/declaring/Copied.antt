@@ -7,7 +7,7 @@ use Rattle.tfpg_graph.specs.declared.declared.Declared.TheInside.{Inside}
 use Rattle.tfpg_graph.specs.Graph.{Tfpg, Node}
 use Rattle.tfpg_graph.specs.inside.declaring.Indexes.{graph_of, HasIndexes, IsDeclared}
 use Rattle.tfpg_graph.specs.Valid.{IsValidSoFar}
-use Rattle.tfpg_base.proofs.lists.Zipped.{map-related}
+use Rattle.tfpg_base.proofs.lemmas.lists.Zipped.{map-related}
 
 -- the node that an entry keeps
 abbrev pub node_of : Vec ℕ Global × Kind → Node

@@ -10,7 +10,7 @@ use Rattle.tfpg_graph.specs.declared.declared.Declared.TheInside.{Inside}
 use Rattle.tfpg_graph.specs.declared.kind.Kind.{Kind}
 use Rattle.tfpg_graph.specs.Graph.{Tfpg, node_named, mode_named}
 use Rattle.tfpg_graph.specs.inside.declaring.Indexes.{graph_of, with_node, with_mode}
-use Rattle.tfpg_base.proofs.lists.Positions.{All-none, position-cons_none}
+use Rattle.tfpg_base.proofs.lemmas.lists.Positions.{All-none, position-cons_none}
 use Rattle.tfpg_graph.proofs.lemmas.declaring.Named.{index_of-node, index_of-mode}
 
 -- a key that equals none goes last (a law of a list, which stands here as the base crate does not know indexmap)

@@ -4,7 +4,7 @@ use Rattle.std.specs.Option.{option_map, option_map_or}
 use Rattle.std.proofs.lemmas.Iterator.Adapters.{option_map_id}
 use Rattle.tfpg_graph.specs.declared.edge.Edge.{Edge}
 use Rattle.tfpg_graph.specs.Graph.{Tfpg, incoming, edge_from_to}
-use Rattle.tfpg_base.proofs.lists.Numbered.{find-numbers_from}
+use Rattle.tfpg_base.proofs.lemmas.lists.Numbered.{find-numbers_from}
 
 -- whether the edge of this number leaves this node
 abbrev pub is_leaving : Tfpg → ℕ → ℕ → Bool

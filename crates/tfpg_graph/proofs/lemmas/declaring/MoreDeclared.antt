@@ -15,10 +15,10 @@ use Rattle.tfpg_graph.specs.Graph.{Tfpg, Node, is_failure, is_kind_at, failures,
 use Rattle.tfpg_base.specs.Choice.{numbers_from}
 use Rattle.tfpg_graph.specs.Valid.{HasValidNumber, IsValidEdge, IsSamePair, IsValidSoFar}
 use Rattle.tfpg_graph.specs.inside.declaring.Indexes.{graph_of, with_mode, with_node, with_edge, HasIndexes, IsDeclared}
-use Rattle.tfpg_base.proofs.lists.Numbered.{numbers_from-push, All-below-numbers_from}
-use Rattle.tfpg_base.proofs.lists.Positions.{All-none, position-All_fail, position-with_no, position-with_yes}
-use Rattle.tfpg_base.proofs.lists.SameBytes.{bytes_eq-false}
-use Rattle.tfpg_base.proofs.lists.Written.{slice_get-push_before, slice_get-push_at, slice_get-set_same, slice_get-set_other}
+use Rattle.tfpg_base.proofs.lemmas.lists.Numbered.{numbers_from-push, All-below-numbers_from}
+use Rattle.tfpg_base.proofs.lemmas.lists.Positions.{All-none, position-All_fail, position-with_no, position-with_yes}
+use Rattle.tfpg_base.proofs.lemmas.lists.SameBytes.{bytes_eq-false}
+use Rattle.tfpg_base.proofs.lemmas.lists.Written.{slice_get-push_before, slice_get-push_at, slice_get-set_same, slice_get-set_other}
 
 module _ (d : Inside) (graph : Tfpg) (seen : graph_of d ≡ graph) where
   -- what holds of what is declared, said of the graph as which it is seen

@@ -12,9 +12,9 @@ use Rattle.tfpg_graph.specs.declared.kind.Kind.{Kind}
 use Rattle.tfpg_graph.specs.declared.kind.Kind.TheVariants.{Failure}
 use Rattle.tfpg_graph.specs.Graph.{Tfpg, Node, incoming, kind_at, name_at, node_named, mode_named}
 use Rattle.tfpg_graph.specs.inside.declaring.Indexes.{graph_of, HasIndexes}
-use Rattle.tfpg_base.proofs.lists.Choices.{option_map-twice}
-use Rattle.tfpg_base.proofs.lists.Positions.{position-agrees, position-map}
-use Rattle.tfpg_base.proofs.lists.SameBytes.{bytes_eq-swapped}
+use Rattle.tfpg_base.proofs.lemmas.lists.Choices.{option_map-twice}
+use Rattle.tfpg_base.proofs.lemmas.lists.Positions.{position-agrees, position-map}
+use Rattle.tfpg_base.proofs.lemmas.lists.SameBytes.{bytes_eq-swapped}
 
 module _ (d : Inside) where
   -- a node is where its name stands among the keys

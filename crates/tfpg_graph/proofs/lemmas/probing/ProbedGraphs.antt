@@ -5,8 +5,8 @@ use Rattle.std.proofs.lemmas.Bool.{cases_lt, cases_eq, eq-eqb, ne_eqb, false≢t
 use Rattle.std.proofs.lemmas.List.{length_push}
 use Rattle.std.proofs.lemmas.List.Elements.{All-weaker, All-contains, Contains-push_cases}
 use Rattle.std.proofs.lemmas.Nat.{pow_below}
-use Rattle.tfpg_base.proofs.lists.Positions.{position-All_fail}
-use Rattle.tfpg_base.proofs.lists.Written.{slice_get-push_at}
+use Rattle.tfpg_base.proofs.lemmas.lists.Positions.{position-All_fail}
+use Rattle.tfpg_base.proofs.lemmas.lists.Written.{slice_get-push_at}
 use Rattle.tfpg_graph.specs.declared.kind.Kind.TheVariants.{Or}
 use Rattle.tfpg_graph.specs.declared.kind.Lag.{Lag}
 use Rattle.tfpg_graph.specs.declared.edge.Edge.{Edge}

@@ -8,9 +8,9 @@ use Rattle.std.proofs.lemmas.List.Elements.{All-nil, All-cons, All-contains, Con
 use Rattle.std.proofs.lemmas.Option.{same_Some}
 use Rattle.tfpg_base.specs.NodeSet.{IsNodeSet}
 use Rattle.tfpg_base.specs.Set.{IsSubset, with_member}
-use Rattle.tfpg_base.proofs.Sets.{Contains-with_member, with_member-keeps, with_member-only, All-with_member}
-use Rattle.tfpg_base.proofs.lists.Elements.{All-from_members, Contains-nil, Contains-head, Contains-tail, Contains-cons_cases, Contains-at}
-use Rattle.tfpg_base.proofs.lists.Passing.{Contains-filter_only}
+use Rattle.tfpg_base.proofs.lemmas.Sets.{Contains-with_member, with_member-keeps, with_member-only, All-with_member}
+use Rattle.tfpg_base.proofs.lemmas.lists.Elements.{All-from_members, Contains-nil, Contains-head, Contains-tail, Contains-cons_cases, Contains-at}
+use Rattle.tfpg_base.proofs.lemmas.lists.Passing.{Contains-filter_only}
 use Rattle.tfpg_graph.specs.declared.edge.Edge.{Edge}
 use Rattle.tfpg_graph.specs.declared.kind.Kind.{Kind}
 use Rattle.tfpg_graph.specs.declared.kind.Kind.TheVariants.{Failure, Or, And}

@@ -3,7 +3,7 @@ use Rattle.std.proofs.Common.{◌≡◌, ℕ, ◌+◌, ◌<◌, ⊎_elim, List, 
 use Rattle.std.specs.List.{Contains}
 use Rattle.std.proofs.lemmas.List.{take_more, length-replicate}
 use Rattle.std.proofs.lemmas.List.Elements.{Contains-append_left, Contains-push, Contains-push_cases}
-use Rattle.tfpg_base.proofs.lists.Elements.{Contains-nil}
+use Rattle.tfpg_base.proofs.lemmas.lists.Elements.{Contains-nil}
 use Rattle.tfpg_graph.specs.declared.edge.Edge.{Edge}
 use Rattle.tfpg_graph.specs.Onward.{AreOnward}
 use Rattle.tfpg_graph.specs.inside.zero_cycle.ZeroSearch.{with_step}

@@ -9,8 +9,8 @@ use Rattle.std.proofs.lemmas.List.Elements.{All-nil, All-get_or, All-contains, A
 use Rattle.std.proofs.lemmas.Map.Views.{list_any-from_Contains, Contains-from_any}
 use Rattle.std.proofs.lemmas.Option.{slice_get-map, slice_get_within, get_or_from_slice_get, same_Some}
 use Rattle.tfpg_base.specs.Set.{with_member}
-use Rattle.tfpg_base.proofs.lists.Elements.{All-from_members}
-use Rattle.tfpg_base.proofs.Sets.{same_from_members, Contains-with_member, with_member-keeps, length-with_new_member, All-with_member}
+use Rattle.tfpg_base.proofs.lemmas.lists.Elements.{All-from_members}
+use Rattle.tfpg_base.proofs.lemmas.Sets.{same_from_members, Contains-with_member, with_member-keeps, length-with_new_member, All-with_member}
 use Rattle.tfpg_graph.specs.declared.kind.Kind.{Kind}
 use Rattle.tfpg_graph.specs.declared.kind.Lag.{Lag}
 use Rattle.tfpg_graph.specs.declared.kind.Kind.TheVariants.{Failure, Or, And}
@@ -20,9 +20,9 @@ use Rattle.tfpg_base.specs.NodeSet.{IsNodeSet}
 use Rattle.tfpg_graph.specs.Reach.{IsClosed, Reaches, IsReach, is_among}
 use Rattle.tfpg_graph.specs.Valid.{IsValid}
 use Rattle.tfpg_graph.specs.inside.reach.Reaching.{IsFedAs, IsFed, IsFullBefore, AreReached, Widens}
-use Rattle.tfpg_base.proofs.lists.Numbered.{All-below-numbers_from}
-use Rattle.tfpg_graph.proofs.NodeAt.{kind_test}
-use Rattle.tfpg_base.proofs.NodeSets.{IsNodeSet-nil, IsNodeSet-with}
+use Rattle.tfpg_base.proofs.lemmas.lists.Numbered.{All-below-numbers_from}
+use Rattle.tfpg_graph.proofs.lemmas.NodeAt.{kind_test}
+use Rattle.tfpg_base.proofs.lemmas.NodeSets.{IsNodeSet-nil, IsNodeSet-with}
 
 -- ---- the kind of a node
 

@@ -3,8 +3,8 @@ use Rattle.std.proofs.Common.{◌≡◌, ℕ, ◌+◌, ◌<◌, ◌≤◌, ◌==
 use Rattle.std.specs.List.{Contains}
 use Rattle.std.specs.Option.{IsSomeAnd}
 use Rattle.std.proofs.lemmas.List.Elements.{All-more}
-use Rattle.tfpg_base.proofs.lists.Choices.{IsSomeAnd-from}
-use Rattle.tfpg_base.proofs.lists.Numbered.{number_among, number_within, some_at_index, none_at_indexes, not_all_at_index, all_at_indexes}
+use Rattle.tfpg_base.proofs.lemmas.lists.Choices.{IsSomeAnd-from}
+use Rattle.tfpg_base.proofs.lemmas.lists.Numbered.{number_among, number_within, some_at_index, none_at_indexes, not_all_at_index, all_at_indexes}
 use Rattle.tfpg_graph.specs.declared.edge.Edge.{Edge}
 use Rattle.tfpg_graph.specs.Graph.{Tfpg, incoming, edges_into}
 use Rattle.tfpg_graph.specs.inside.reach.Reaching.{HasSourceIn, HasAllSourcesIn}

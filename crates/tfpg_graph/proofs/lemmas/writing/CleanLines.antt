@@ -7,10 +7,10 @@ use Rattle.std.proofs.lemmas.Bool.{cond_both}
 use Rattle.std.proofs.lemmas.List.Elements.{All-nil, All-cons, All-head, All-tail}
 use Rattle.tfpg_base.specs.Words.{line_of, is_name}
 use Rattle.tfpg_base.specs.Lines.{HasNoLineEnd, ends_line}
-use Rattle.tfpg_base.proofs.Separators.{name_lacks, number_lacks}
-use Rattle.tfpg_base.proofs.lists.Lacking.{decimal_lacks}
-use Rattle.tfpg_base.proofs.lists.Joined.{All-join}
-use Rattle.tfpg_base.proofs.lists.Passing.{All-filter_map-slice_get}
+use Rattle.tfpg_base.proofs.lemmas.Separators.{name_lacks, number_lacks}
+use Rattle.tfpg_base.proofs.lemmas.lists.Lacking.{decimal_lacks}
+use Rattle.tfpg_base.proofs.lemmas.lists.Joined.{All-join}
+use Rattle.tfpg_base.proofs.lemmas.lists.Passing.{All-filter_map-slice_get}
 use Rattle.tfpg_graph.specs.declared.kind.Kind.{Kind}
 use Rattle.tfpg_graph.specs.declared.kind.Lag.{Lag}
 use Rattle.tfpg_graph.specs.declared.kind.Kind.TheVariants.{Failure, Or, And}

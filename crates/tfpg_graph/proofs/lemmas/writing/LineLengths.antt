@@ -8,7 +8,7 @@ use Rattle.std.proofs.lemmas.List.{length-append}
 use Rattle.std.proofs.lemmas.List.Elements.{All-head, All-tail}
 use Rattle.tfpg_base.specs.Words.{is_name, line_of}
 use Rattle.tfpg_base.specs.declared.limits.TheConstants.{LONGEST_LINE, LONGEST_NAME, MAX_TIME}
-use Rattle.tfpg_base.proofs.WordLengths.{name_short, number_short}
+use Rattle.tfpg_base.proofs.lemmas.WordLengths.{name_short, number_short}
 use Rattle.tfpg_graph.specs.declared.kind.Kind.{Kind}
 use Rattle.tfpg_graph.specs.declared.kind.Lag.{Lag}
 use Rattle.tfpg_graph.specs.declared.kind.Kind.TheVariants.{Failure, Or, And}
@@ -21,8 +21,8 @@ use Rattle.tfpg_graph.specs.Text.{header, mode_line, node_words, tmax_word, edge
 use Rattle.tfpg_graph.specs.inside.writing.Written.{watch_words, modes_before, mode_names_before}
 use Rattle.tfpg_graph.specs.Valid.{HasValidNumber, IsValidLag, IsValidEdge}
 use Rattle.tfpg_graph.proofs.lemmas.writing.ModeBits.{modes_before-few}
-use Rattle.tfpg_base.proofs.lists.Passing.{length-filter_map, All-filter_map-slice_get}
-use Rattle.tfpg_base.proofs.lists.Joined.{length-join}
+use Rattle.tfpg_base.proofs.lemmas.lists.Passing.{length-filter_map, All-filter_map-slice_get}
+use Rattle.tfpg_base.proofs.lemmas.lists.Joined.{length-join}
 
 pub short_header : (version : Version) → length (header version) ≤ LONGEST_LINE
 short_header One = omega arith

@@ -9,7 +9,7 @@ use Rattle.std.proofs.lemmas.List.FromFn.{length-range_with_len, get_or-range_wi
 use Rattle.std.proofs.lemmas.List.Kept.{AllPairs-filter}
 use Rattle.std.proofs.lemmas.List.{map-id}
 use Rattle.tfpg_base.specs.SetBits.{ones_below, bits_of}
-use Rattle.tfpg_base.proofs.Sets.{bits_of-ones_below}
+use Rattle.tfpg_base.proofs.lemmas.Sets.{bits_of-ones_below}
 use Rattle.tfpg_graph.specs.inside.writing.Written.{modes_before}
 
 -- one mode more stands after the others, where its bit is set

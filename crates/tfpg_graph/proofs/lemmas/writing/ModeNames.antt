@@ -6,7 +6,7 @@ use Rattle.std.proofs.lemmas.Bool.Decides.{nat_tests}
 use Rattle.std.proofs.lemmas.List.{length-append}
 use Rattle.std.proofs.lemmas.List.Elements.{filter_map-append}
 use Rattle.tfpg_base.specs.TextLine.{separated}
-use Rattle.tfpg_base.proofs.lists.Joined.{join-push}
+use Rattle.tfpg_base.proofs.lemmas.lists.Joined.{join-push}
 use Rattle.tfpg_graph.specs.Graph.{Tfpg}
 use Rattle.tfpg_graph.specs.inside.writing.Written.{modes_before, mode_names_before}
 use Rattle.tfpg_graph.proofs.lemmas.writing.ModeBits.{modes_before-more}

@@ -6,9 +6,9 @@ use Rattle.std.proofs.lemmas.List.Elements.{All-map, All-append, All-cons, All-n
 use Rattle.tfpg_base.specs.Words.{line_of, is_name}
 use Rattle.tfpg_base.specs.Lines.{lines_of, HasNoLineEnd}
 use Rattle.tfpg_base.specs.declared.limits.TheConstants.{LONGEST_LINE}
-use Rattle.tfpg_base.proofs.LinesOf.{lines_of-after}
-use Rattle.tfpg_base.proofs.lists.Filtered.{filter-all}
-use Rattle.tfpg_base.proofs.lists.Zipped.{AllZip-map}
+use Rattle.tfpg_base.proofs.lemmas.LinesOf.{lines_of-after}
+use Rattle.tfpg_base.proofs.lemmas.lists.Filtered.{filter-all}
+use Rattle.tfpg_base.proofs.lemmas.lists.Zipped.{AllZip-map}
 use Rattle.tfpg_graph.specs.declared.kind.Kind.{Kind}
 use Rattle.tfpg_graph.specs.declared.kind.Kind.TheVariants.{Failure, Or, And}
 use Rattle.tfpg_graph.specs.Graph.{Tfpg}

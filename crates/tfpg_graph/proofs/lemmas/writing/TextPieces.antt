@@ -5,7 +5,7 @@ use Rattle.std.proofs.lemmas.Grind.{flat_map-append}
 use Rattle.std.proofs.lemmas.List.Folds.{flat_map-map}
 use Rattle.tfpg_base.specs.Lines.{with_line_end}
 use Rattle.tfpg_base.specs.TextLine.{text_line}
-use Rattle.tfpg_base.proofs.lists.Appended.{append-five_grouped}
+use Rattle.tfpg_base.proofs.lemmas.lists.Appended.{append-five_grouped}
 use Rattle.tfpg_graph.specs.declared.version.Version.{Version}
 use Rattle.tfpg_graph.specs.Graph.{Tfpg}
 use Rattle.tfpg_graph.specs.Text.{header, version_for, mode_line, node_line, node_text, edge_line, modes_word, canonical_text}

@@ -4,8 +4,8 @@ use Rattle.std.proofs.lemmas.Bool.{false≢true}
 use Rattle.std.proofs.lemmas.Bool.Decides.{eqb_tells}
 use Rattle.std.proofs.lemmas.List.Elements.{All-contains}
 use Rattle.std.proofs.lemmas.Option.{same_Some}
-use Rattle.tfpg_base.proofs.lists.Decided.{IsDecided, IsFirstBelow, first_below}
-use Rattle.tfpg_base.proofs.lists.Elements.{slice_get-contains}
+use Rattle.tfpg_base.proofs.lemmas.lists.Decided.{IsDecided, IsFirstBelow, first_below}
+use Rattle.tfpg_base.proofs.lemmas.lists.Elements.{slice_get-contains}
 use Rattle.tfpg_graph.specs.declared.edge.Edge.{Edge}
 use Rattle.tfpg_graph.specs.Graph.{Tfpg}
 use Rattle.tfpg_graph.specs.Valid.{IsValidEdge, IsValidSoFar, WalksInNoTime, HasNoZeroCycle}

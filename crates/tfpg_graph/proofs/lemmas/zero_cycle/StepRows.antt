@@ -3,7 +3,7 @@ use Rattle.std.proofs.Common.{◌≡◌, ◌≢◌, ℕ, ◌<◌, ◌⊎◌, inl
 use Rattle.std.proofs.lemmas.Bool.{cases_lt, cases_eq}
 use Rattle.std.proofs.lemmas.List.{get_or-replicate, length-replicate, get_or_past, length-set}
 use Rattle.std.proofs.lemmas.List.Elements.{Contains-append_left, Contains-push, Contains-push_cases}
-use Rattle.tfpg_base.proofs.lists.Elements.{Contains-nil}
+use Rattle.tfpg_base.proofs.lemmas.lists.Elements.{Contains-nil}
 use Rattle.tfpg_graph.specs.inside.zero_cycle.ZeroSearch.{row, IsStep, with_step, AreStepsWithin}
 
 row_of_none : (count node : ℕ) → row (replicate count []) node ≡ []

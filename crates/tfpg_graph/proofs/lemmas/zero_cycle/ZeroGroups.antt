@@ -6,7 +6,7 @@ use Rattle.std.proofs.lemmas.List.Elements.{Contains-append_left}
 use Rattle.tfpg_graph.specs.inside.zero_cycle.ZeroSearch.{IsStep, mark_of, IsMarked, AreReversed, WalksUnmarked, ReachesUnmarked, ClosesGroup, IsVisited, search_of, HasVisited, HasSwept, IsFinishingOrder, IsGroupedFrom, AreGroups}
 use Rattle.tfpg_graph.proofs.lemmas.zero_cycle.StepRows.{IsStep-begin}
 use Rattle.tfpg_graph.proofs.lemmas.zero_cycle.ZeroWalks.{ReachesUnmarked-any, ReachesUnmarked-trans, ReachesUnmarked-reversed}
-use Rattle.tfpg_base.proofs.lists.Choices.{option_cases, some-not_none}
+use Rattle.tfpg_base.proofs.lemmas.lists.Choices.{option_cases, some-not_none}
 
 -- no node has a mark
 pub no_mark : (count node : ℕ) → mark_of (replicate count None) node ≡ None

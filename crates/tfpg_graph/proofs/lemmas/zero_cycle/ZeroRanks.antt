@@ -5,8 +5,8 @@ use Rattle.std.specs.List.{list_any}
 use Rattle.std.proofs.lemmas.Bool.{and_parts, and_from, or_left, or_right, or_cases, eqb-true, eq-eqb, false_from_ne_true, cases_lt}
 use Rattle.std.proofs.lemmas.List.Elements.{All-contains}
 use Rattle.std.proofs.lemmas.List.Folds.{list_any_at}
-use Rattle.tfpg_base.proofs.lists.Elements.{All-from_members, list_any-found}
-use Rattle.tfpg_base.proofs.lists.Sequences.{count_below, count_below-lt}
+use Rattle.tfpg_base.proofs.lemmas.lists.Elements.{All-from_members, list_any-found}
+use Rattle.tfpg_base.proofs.lemmas.lists.Sequences.{count_below, count_below-lt}
 use Rattle.tfpg_graph.specs.declared.edge.Edge.{Edge}
 use Rattle.tfpg_graph.specs.Graph.{Tfpg}
 use Rattle.tfpg_graph.specs.Valid.{IsValid, IsValidEdge, WalksInNoTime}

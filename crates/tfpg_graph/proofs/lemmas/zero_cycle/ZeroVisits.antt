@@ -5,7 +5,7 @@ use Rattle.std.proofs.lemmas.List.{append-nil, length-set, length_push, get_or_a
 use Rattle.std.proofs.lemmas.List.Elements.{Contains-get_or, Contains-append_left, Contains-append_right, Contains-append_cases, Contains-push, Contains-push_cases}
 use Rattle.tfpg_graph.specs.inside.zero_cycle.ZeroSearch.{IsStep, mark_of, IsMarked, unmarked_count, ReachesUnmarked, ClosesGroup, IsVisited, HasGrown, search_of, HasVisited}
 use Rattle.tfpg_graph.proofs.lemmas.zero_cycle.ZeroWalks.{unmarked_before, ReachesUnmarked-weaker, ReachesUnmarked-any, ReachesUnmarked-step}
-use Rattle.tfpg_base.proofs.lists.Choices.{option_cases, some-not_none}
+use Rattle.tfpg_base.proofs.lemmas.lists.Choices.{option_cases, some-not_none}
 
 -- a group that is closed stays so when the order goes on
 pub ClosesGroup-append : (rows : List (List ℕ)) (order more : List ℕ) (index : ℕ) → index < length order

@@ -2,7 +2,7 @@
 use Rattle.std.proofs.Common.{◌≡◌, ℕ, zero, suc, ◌<◌, ◌≤◌, ⊎_elim, true, false, cond, List, [], length, get_or, set, Option, Some, None, is_some, is_none, Contains, refl, sym, ap, ◌∙◌, subst, arith}
 use Rattle.std.proofs.lemmas.List.{get_or_read, get_or_default}
 use Rattle.std.proofs.lemmas.List.Sums.{sum_by-set}
-use Rattle.tfpg_base.proofs.lists.Choices.{is_some-there, is_some-none, option_cases, some-not_none}
+use Rattle.tfpg_base.proofs.lemmas.lists.Choices.{is_some-there, is_some-none, option_cases, some-not_none}
 use Rattle.tfpg_graph.specs.inside.zero_cycle.ZeroSearch.{IsStep, mark_of, IsMarked, unmarked_count, WalksUnmarked, ReachesUnmarked}
 
 -- where marks are kept, a node without one had none

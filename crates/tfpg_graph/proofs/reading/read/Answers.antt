@@ -7,8 +7,8 @@ use Rattle.tfpg_graph.specs.Faults.{IsRefusalOf}
 use Rattle.tfpg_graph.specs.inside.reading.Turns.{ReaderRepresents}
 use Rattle.tfpg_graph.specs.inside.reading.TurnResults.{refusal_at}
 use Rattle.tfpg_graph.proofs.lemmas.reading.graphs.RepresentedLines.{ReaderRepresents-ok}
-use Rattle.tfpg_base.proofs.LinesOf.{parts_of_some}
-use Rattle.tfpg_base.proofs.lists.Cuts.{cut_read}
+use Rattle.tfpg_base.proofs.lemmas.LinesOf.{parts_of_some}
+use Rattle.tfpg_base.proofs.lemmas.lists.Cuts.{cut_read}
 use Rattle.tfpg_graph.proofs.lemmas.reading.faults.WholeText.{IsBody, IsRefusalOf-line, IsGraphResult-refused, IfOk-spelled, IfErr-refused, IsGraphResult-end}
 use Rattle.tfpg_graph.proofs.lemmas.reading.faults.OneFault.{IsFaultResult-from}
 use Rattle.tfpg_graph.proofs.reading.read.Goals as goal

@@ -1,7 +1,7 @@
 use Rattle.std.proofs.Common.{arith}
-use Rattle.tfpg_base.proofs.Appended.{Appends-err_after}
-use Rattle.tfpg_base.proofs.lists.Appended.{appended_next, appended_all}
-use Rattle.tfpg_base.proofs.lists.Elements.{All-at}
+use Rattle.tfpg_base.proofs.lemmas.Appended.{Appends-err_after}
+use Rattle.tfpg_base.proofs.lemmas.lists.Appended.{appended_next, appended_all}
+use Rattle.tfpg_base.proofs.lemmas.lists.Elements.{All-at}
 use Rattle.tfpg_graph.specs.Valid.{IsValidEdge}
 use Rattle.tfpg_graph.specs.inside.writing.Written.{edge_text}
 use Rattle.tfpg_graph.proofs.writing.append_edges.Goals as goal

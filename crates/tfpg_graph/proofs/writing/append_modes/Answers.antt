@@ -1,6 +1,6 @@
 use Rattle.std.proofs.Common.{arith}
-use Rattle.tfpg_base.proofs.Appended.{Appends-err_after}
-use Rattle.tfpg_base.proofs.lists.Appended.{appended_next, appended_all}
+use Rattle.tfpg_base.proofs.lemmas.Appended.{Appends-err_after}
+use Rattle.tfpg_base.proofs.lemmas.lists.Appended.{appended_next, appended_all}
 use Rattle.tfpg_graph.specs.inside.writing.Written.{mode_text}
 use Rattle.tfpg_graph.proofs.writing.append_modes.Goals as goal
 

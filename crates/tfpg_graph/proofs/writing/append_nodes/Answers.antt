@@ -1,8 +1,8 @@
 use Rattle.std.proofs.Common.{arith}
-use Rattle.tfpg_base.proofs.Appended.{Appends-err_after}
-use Rattle.tfpg_base.proofs.lists.Appended.{appended_next, appended_all}
+use Rattle.tfpg_base.proofs.lemmas.Appended.{Appends-err_after}
+use Rattle.tfpg_base.proofs.lemmas.lists.Appended.{appended_next, appended_all}
 use Rattle.tfpg_graph.specs.Text.{node_text}
-use Rattle.tfpg_graph.proofs.NodeAt.{node_at}
+use Rattle.tfpg_graph.proofs.lemmas.NodeAt.{node_at}
 use Rattle.tfpg_graph.proofs.writing.append_nodes.Goals as goal
 
 pub returns-in_err-append_node : goal.returns-in_err-append_node

@@ -3,7 +3,7 @@ use Rattle.tfpg_base.specs.Append.{Appends}
 use Rattle.tfpg_graph.proofs.lemmas.writing.Spelled.{Spells-canonical}
 use Rattle.tfpg_graph.proofs.lemmas.writing.TextPieces.{canonical_text-pieces}
 use Rattle.tfpg_graph.proofs.writing.write.Goals as goal
-use Rattle.tfpg_base.proofs.Appended.{Appends-after_four}
+use Rattle.tfpg_base.proofs.lemmas.Appended.{Appends-after_four}
 
 pub returns-in_err-append_header-clause-spelled : goal.returns-in_err-append_header-clause-spelled
 returns-in_err-append_header-clause-spelled c = Spells-canonical c.args.graph.now c.node_count-nodes.ensures.valid

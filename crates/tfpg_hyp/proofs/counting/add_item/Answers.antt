@@ -1,5 +1,5 @@
 use Rattle.std.proofs.Common.{◌-◌, ◌<◌, ◌^◌, get_or, refl, arith, subst}
-use Rattle.tfpg_hyp.proofs.CountedSoFar.{IsCountedFrom, IsCountedFrom-start, IsCountedFrom-next, IsCountedFrom-end}
+use Rattle.tfpg_hyp.proofs.lemmas.CountedSoFar.{IsCountedFrom, IsCountedFrom-start, IsCountedFrom-next, IsCountedFrom-end}
 use Rattle.tfpg_hyp.proofs.counting.add_item.Goals as goal
 
 pub loop-size-init : goal.loop-size-init

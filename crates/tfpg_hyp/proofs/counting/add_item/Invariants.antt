@@ -1,5 +1,5 @@
 use Rattle.std.proofs.Common.{◌≤◌}
-use Rattle.tfpg_hyp.proofs.CountedSoFar.{IsCountedFrom}
+use Rattle.tfpg_hyp.proofs.lemmas.CountedSoFar.{IsCountedFrom}
 use Rattle.tfpg_hyp.proofs.counting.add_item.Given as goal
 
 abbrev pub invariant-loop-size : goal.invariant-loop-size

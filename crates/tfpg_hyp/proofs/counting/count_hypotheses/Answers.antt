@@ -1,7 +1,7 @@
 use Rattle.std.proofs.Common.{◌≡◌, ◌+◌, ◌*◌, ◌^◌, ◌≤◌, get_or, min, refl, arith, ◌∙◌, ap, subst}
 use Rattle.tfpg_hyp.specs.inside.Choices.{counted_below}
-use Rattle.tfpg_hyp.proofs.Counted.{counted-least}
-use Rattle.tfpg_hyp.proofs.CountedSoFar.{HasCounts, HasCounts-start, HasCounts-failure, HasCounts-monitor, HasCounts-small, total-next}
+use Rattle.tfpg_hyp.proofs.lemmas.Counted.{counted-least}
+use Rattle.tfpg_hyp.proofs.lemmas.CountedSoFar.{HasCounts, HasCounts-start, HasCounts-failure, HasCounts-monitor, HasCounts-small, total-next}
 use Rattle.tfpg_hyp.proofs.counting.count_hypotheses.Goals as goal
 
 pub loop-monitor-init : goal.loop-monitor-init

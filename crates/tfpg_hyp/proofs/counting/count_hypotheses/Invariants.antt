@@ -1,6 +1,6 @@
 use Rattle.std.proofs.Common.{◌≡◌, ◌≤◌, ◌*◌, ◌^◌}
 use Rattle.tfpg_hyp.specs.inside.Choices.{counted_below}
-use Rattle.tfpg_hyp.proofs.CountedSoFar.{HasCounts}
+use Rattle.tfpg_hyp.proofs.lemmas.CountedSoFar.{HasCounts}
 use Rattle.tfpg_hyp.proofs.counting.count_hypotheses.Given as goal
 
 abbrev pub invariant-loop-monitor : goal.invariant-loop-monitor

@@ -1,4 +1,4 @@
-use Rattle.tfpg_hyp.proofs.Subsets.{by_size, fewer_members}
+use Rattle.tfpg_hyp.proofs.lemmas.Subsets.{by_size, fewer_members}
 use Rattle.tfpg_hyp.proofs.laws.hypotheses_stand_by_size.Goals as goal
 
 pub returns : goal.returns

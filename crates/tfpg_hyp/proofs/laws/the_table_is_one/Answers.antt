@@ -1,5 +1,5 @@
-use Rattle.tfpg_hyp.proofs.Tables.{one_table, one_count}
-use Rattle.tfpg_hyp.proofs.Subsets.{once}
+use Rattle.tfpg_hyp.proofs.lemmas.Tables.{one_table, one_count}
+use Rattle.tfpg_hyp.proofs.lemmas.Subsets.{once}
 use Rattle.tfpg_hyp.proofs.laws.the_table_is_one.Goals as goal
 
 pub returns : goal.returns

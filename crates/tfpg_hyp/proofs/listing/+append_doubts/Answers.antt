@@ -2,8 +2,8 @@ use Rattle.std.proofs.Common.{◌≡◌, ◌++◌, ◌∷◌, length, map, arith
 use Rattle.std.proofs.lemmas.List.{append-nil}
 use Rattle.std.proofs.lemmas.Result.{on_ok_weaker}
 use Rattle.tfpg_base.specs.Hypothesis.{Hypothesis}
-use Rattle.tfpg_hyp.proofs.Counted.{doubted-past}
-use Rattle.tfpg_hyp.proofs.Listed.{AreBelow, doubting_after, doubted-next, IsNodeSet-later, below_first, below_later, below_with_first}
+use Rattle.tfpg_hyp.proofs.lemmas.Counted.{doubted-past}
+use Rattle.tfpg_hyp.proofs.lemmas.Listed.{AreBelow, doubting_after, doubted-next, IsNodeSet-later, below_first, below_later, below_with_first}
 use Rattle.tfpg_hyp.proofs.listing.+append_doubts.Goals as goal
 
 pub returns-then-monitors-size : goal.returns-then-monitors-size

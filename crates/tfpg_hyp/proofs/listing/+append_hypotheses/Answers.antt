@@ -2,10 +2,10 @@ use Rattle.std.proofs.Common.{◌≡◌, ◌++◌, ◌<◌, ◌+◌, [], All, ma
 use Rattle.std.proofs.lemmas.List.{append-nil}
 use Rattle.std.proofs.lemmas.List.Elements.{All-weaker}
 use Rattle.std.proofs.lemmas.Result.{on_ok_weaker}
-use Rattle.tfpg_base.proofs.Sets.{All-with_member}
+use Rattle.tfpg_base.proofs.lemmas.Sets.{All-with_member}
 use Rattle.tfpg_hyp.specs.inside.Choices.{chosen, doubted}
-use Rattle.tfpg_hyp.proofs.Counted.{chosen-past, chosen-past_all}
-use Rattle.tfpg_hyp.proofs.Listed.{after, doubting_after, appended-next, appended-doubts}
+use Rattle.tfpg_hyp.proofs.lemmas.Counted.{chosen-past, chosen-past_all}
+use Rattle.tfpg_hyp.proofs.lemmas.Listed.{after, doubting_after, appended-next, appended-doubts}
 use Rattle.tfpg_hyp.proofs.listing.+append_hypotheses.Goals as goal
 use Rattle.tfpg_hyp.proofs.listing.+append_hypotheses.Goals.{then-count-doubt-via-then-count-doubt, then-count-doubt-via-else-count-doubt+then-count-monitors}
 

@@ -1,6 +1,6 @@
 use Rattle.std.proofs.Common.{◌≡◌, ◌+◌, min, arith, ◌∙◌, ap}
 use Rattle.tfpg_hyp.specs.inside.Choices.{chosen_below}
-use Rattle.tfpg_hyp.proofs.Listed.{listed-next, listed-least}
+use Rattle.tfpg_hyp.proofs.lemmas.Listed.{listed-next, listed-least}
 use Rattle.tfpg_hyp.proofs.listing.list_hypotheses.Goals as goal
 
 pub loop-size-preserved : goal.loop-size-preserved

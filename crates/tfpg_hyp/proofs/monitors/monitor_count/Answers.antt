@@ -1,5 +1,5 @@
 use Rattle.std.proofs.Common.{length, arith, sym, ◌∙◌, ap}
-use Rattle.tfpg_hyp.proofs.MonitorNumbers.{monitors-none, counted-with, monitors-without, monitors-all}
+use Rattle.tfpg_hyp.proofs.lemmas.MonitorNumbers.{monitors-none, counted-with, monitors-without, monitors-all}
 use Rattle.tfpg_hyp.proofs.monitors.monitor_count.Goals as goal
 use Rattle.tfpg_hyp.proofs.monitors.monitor_count.Goals.{then-is_monitored, else-is_monitored}
 

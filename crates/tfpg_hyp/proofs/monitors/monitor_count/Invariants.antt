@@ -1,5 +1,5 @@
 use Rattle.std.proofs.Common.{◌≡◌, ◌≤◌, length}
-use Rattle.tfpg_base.proofs.lists.Below.{below}
+use Rattle.tfpg_base.proofs.lemmas.lists.Below.{below}
 use Rattle.tfpg_hyp.specs.Table.{monitors}
 use Rattle.tfpg_hyp.proofs.monitors.monitor_count.Given as goal
 

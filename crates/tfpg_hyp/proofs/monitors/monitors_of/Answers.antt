@@ -1,5 +1,5 @@
 use Rattle.std.proofs.Common.{◌++◌, ◌∷◌, [], arith, sym, ◌∙◌, ap}
-use Rattle.tfpg_hyp.proofs.MonitorNumbers.{monitors-none, monitors-with, monitors-without, monitors-all}
+use Rattle.tfpg_hyp.proofs.lemmas.MonitorNumbers.{monitors-none, monitors-with, monitors-without, monitors-all}
 use Rattle.tfpg_hyp.proofs.monitors.monitors_of.Goals as goal
 use Rattle.tfpg_hyp.proofs.monitors.monitors_of.Goals.{then-is_monitored+in_ok-push, else-is_monitored}
 

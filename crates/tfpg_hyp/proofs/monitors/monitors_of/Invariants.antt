@@ -1,5 +1,5 @@
 use Rattle.std.proofs.Common.{◌≡◌}
-use Rattle.tfpg_base.proofs.lists.Below.{below}
+use Rattle.tfpg_base.proofs.lemmas.lists.Below.{below}
 use Rattle.tfpg_hyp.specs.Table.{monitors}
 use Rattle.tfpg_hyp.proofs.monitors.monitors_of.Given as goal
 

@@ -1,6 +1,6 @@
 use Rattle.std.proofs.Common.{◌+◌, ◌*◌, arith, sym, ◌∙◌}
 use Rattle.std.proofs.lemmas.Bool.{false≢true}
-use Rattle.tfpg_hyp.proofs.Ranks.{cost-none, cost-with, cost-without, cost-all}
+use Rattle.tfpg_hyp.proofs.lemmas.Ranks.{cost-none, cost-with, cost-without, cost-all}
 use Rattle.tfpg_hyp.proofs.ranking.cost.Goals as goal
 use Rattle.tfpg_hyp.proofs.ranking.cost.Goals.{then-has, else-has}
 

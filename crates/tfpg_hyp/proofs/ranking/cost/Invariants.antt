@@ -1,7 +1,7 @@
 use Rattle.std.proofs.Common.{◌≡◌, ◌≤◌, ◌*◌}
 use Rattle.std.specs.List.{sum_by}
 use Rattle.tfpg_hyp.specs.Ranking.{rarity_at}
-use Rattle.tfpg_base.proofs.lists.Below.{below}
+use Rattle.tfpg_base.proofs.lemmas.lists.Below.{below}
 use Rattle.tfpg_graph.specs.declared.limits.TheConstants.{MAX_RARITY}
 use Rattle.tfpg_hyp.proofs.ranking.cost.Given as goal
 

@@ -1,4 +1,4 @@
-use Rattle.tfpg_hyp.proofs.Ranks.{rarity_small}
+use Rattle.tfpg_hyp.proofs.lemmas.Ranks.{rarity_small}
 use Rattle.tfpg_hyp.proofs.ranking.rarity.Goals as goal
 
 pub returns-in-Failure-clause-small : goal.returns-in-Failure-clause-small

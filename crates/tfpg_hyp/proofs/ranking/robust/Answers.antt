@@ -3,8 +3,8 @@ use Rattle.std.specs.Option.{is_some}
 use Rattle.std.proofs.lemmas.Bool.{false≢true}
 use Rattle.tfpg_log.specs.Log.{alarm_of}
 use Rattle.tfpg_hyp.specs.Ranking.{is_believed}
-use Rattle.tfpg_base.proofs.lists.Below.{below, below-zero}
-use Rattle.tfpg_hyp.proofs.Ranks.{AreCounted-none, counted-absent, counted-hidden, counted-alarmed, counted-silent, robustness-none, robustness-some}
+use Rattle.tfpg_base.proofs.lemmas.lists.Below.{below, below-zero}
+use Rattle.tfpg_hyp.proofs.lemmas.Ranks.{AreCounted-none, counted-absent, counted-hidden, counted-alarmed, counted-silent, robustness-none, robustness-some}
 use Rattle.tfpg_hyp.proofs.ranking.robust.Goals as goal
 use Rattle.tfpg_hyp.proofs.ranking.robust.Goals.{then-has+then-is_believed+then-is_some, then-has+then-is_believed+else-is_some, else-has, else-has-via-then-has+else-is_believed, else-has-via-else-has}
 

@@ -1,6 +1,6 @@
 use Rattle.std.proofs.Common.{◌≤◌}
-use Rattle.tfpg_base.proofs.lists.Below.{below}
-use Rattle.tfpg_hyp.proofs.Ranks.{AreCounted}
+use Rattle.tfpg_base.proofs.lemmas.lists.Below.{below}
+use Rattle.tfpg_hyp.proofs.lemmas.Ranks.{AreCounted}
 use Rattle.tfpg_hyp.proofs.ranking.robust.Given as goal
 
 abbrev pub invariant-loop-node : goal.invariant-loop-node

@@ -1,6 +1,6 @@
 use Rattle.std.proofs.Common.{arith, sym, ◌∙◌}
 use Rattle.std.proofs.lemmas.Bool.{false≢true}
-use Rattle.tfpg_hyp.proofs.Growing.{IsGrowing-none, IsGrowing-passed, IsGrowing-with, IsReach-grown}
+use Rattle.tfpg_hyp.proofs.lemmas.Growing.{IsGrowing-none, IsGrowing-passed, IsGrowing-with, IsReach-grown}
 use Rattle.tfpg_hyp.proofs.reaches.grow.Goals as goal
 use Rattle.tfpg_hyp.proofs.reaches.grow.Goals.{then-has, else-has}
 

@@ -1,4 +1,4 @@
-use Rattle.tfpg_hyp.proofs.Growing.{IsGrowing}
+use Rattle.tfpg_hyp.proofs.lemmas.Growing.{IsGrowing}
 use Rattle.tfpg_hyp.proofs.reaches.grow.Given as goal
 
 abbrev pub invariant-loop-position : goal.invariant-loop-position

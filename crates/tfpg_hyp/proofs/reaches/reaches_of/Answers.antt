@@ -1,10 +1,10 @@
 use Rattle.std.proofs.Common.{bytes_eq, arith, ap, sym, subst, ◌∙◌}
 use Rattle.std.proofs.lemmas.Bool.{not-false}
-use Rattle.tfpg_base.proofs.lists.SameBytes.{bytes_eq-true}
+use Rattle.tfpg_base.proofs.lemmas.lists.SameBytes.{bytes_eq-true}
 use Rattle.tfpg_base.specs.Hypothesis.{Hypothesis}
 use Rattle.tfpg_graph.specs.Graph.{AreFailures}
-use Rattle.tfpg_hyp.proofs.Growing.{AreFailures-part}
-use Rattle.tfpg_hyp.proofs.Tables.{AreReachedWith-next}
+use Rattle.tfpg_hyp.proofs.lemmas.Growing.{AreFailures-part}
+use Rattle.tfpg_hyp.proofs.lemmas.Tables.{AreReachedWith-next}
 use Rattle.tfpg_hyp.proofs.reaches.reaches_of.Goals as goal
 use Rattle.tfpg_hyp.proofs.reaches.reaches_of.Goals.{then-ne, else-ne}
 

@@ -1,5 +1,5 @@
 use Rattle.tfpg_graph.specs.Reach.{IsReach}
-use Rattle.tfpg_hyp.proofs.Tables.{AreReachedWith}
+use Rattle.tfpg_hyp.proofs.lemmas.Tables.{AreReachedWith}
 use Rattle.tfpg_hyp.proofs.reaches.reaches_of.Given as goal
 
 abbrev pub invariant-loop-hypothesis : goal.invariant-loop-hypothesis

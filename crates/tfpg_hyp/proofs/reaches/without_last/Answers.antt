@@ -1,7 +1,7 @@
 use Rattle.std.proofs.Common.{subst, sym, List, ℕ}
 use Rattle.std.specs.List.{Contains}
 use Rattle.tfpg_base.specs.Set.{IsSubset}
-use Rattle.tfpg_base.proofs.Sets.{All-with_member}
+use Rattle.tfpg_base.proofs.lemmas.Sets.{All-with_member}
 use Rattle.tfpg_hyp.proofs.reaches.without_last.Goals as goal
 use Rattle.tfpg_hyp.proofs.reaches.without_last.Goals.{then-has, else-has}
 

@@ -1,4 +1,4 @@
-use Rattle.tfpg_json.proofs.StoodFor.{at_most_one_fault, no_fault}
+use Rattle.tfpg_json.proofs.lemmas.StoodFor.{at_most_one_fault, no_fault}
 use Rattle.tfpg_json.proofs.laws.a_text_has_at_most_one_first_fault_as_json.Goals as goal
 
 pub returns-clause-one : goal.returns-clause-one

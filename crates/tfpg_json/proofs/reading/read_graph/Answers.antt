@@ -1,6 +1,6 @@
 use Rattle.std.proofs.Common.{sym, subst}
 use Rattle.tfpg_graph.specs.Faults.{IsFirstFault}
-use Rattle.tfpg_json.proofs.StoodFor.{first_fault_of}
+use Rattle.tfpg_json.proofs.lemmas.StoodFor.{first_fault_of}
 use Rattle.tfpg_json.proofs.reading.read_graph.Goals as goal
 
 pub returns-clause-faulty : goal.returns-clause-faulty

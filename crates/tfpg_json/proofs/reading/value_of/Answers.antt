@@ -1,5 +1,5 @@
 use Rattle.std.proofs.Common.{refl, ◌∙◌}
-use Rattle.tfpg_json.proofs.ListsRead.{data_in-none, data_in-utf8}
+use Rattle.tfpg_json.proofs.lemmas.ListsRead.{data_in-none, data_in-utf8}
 use Rattle.tfpg_json.proofs.reading.value_of.Goals as goal
 
 pub returns-in-Ok : goal.returns-in-Ok

@@ -1,7 +1,7 @@
 use Rattle.std.proofs.Common.{[], ◌∷◌, ◌++◌, ap, ◌∙◌, append_assoc}
 use Rattle.serde_json.specs.Written.{compact_text}
 use Rattle.tfpg_json.specs.GraphData.{graph_data}
-use Rattle.tfpg_json.proofs.TokensWritten.{text_written}
+use Rattle.tfpg_json.proofs.lemmas.TokensWritten.{text_written}
 use Rattle.tfpg_json.proofs.writing.write_graph.Goals as goal
 
 pub returns : goal.returns

@@ -1,5 +1,5 @@
 use Rattle.tfpg_json.specs.RoundData.{round_data}
-use Rattle.tfpg_json.proofs.TokensWritten.{text_appended}
+use Rattle.tfpg_json.proofs.lemmas.TokensWritten.{text_appended}
 use Rattle.tfpg_json.proofs.writing.write_round.Goals as goal
 
 pub returns : goal.returns

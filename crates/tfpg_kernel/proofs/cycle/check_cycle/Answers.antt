@@ -16,8 +16,8 @@ use Rattle.tfpg_kernel.specs.inside.Chains.{chain_of, with_constraint, closing_f
 use Rattle.tfpg_clause.specs.Case.{case_of}
 use Rattle.tfpg_clause.specs.Trees.{stated}
 use Rattle.tfpg_clause.specs.Paths.{chosen_on}
-use Rattle.tfpg_base.proofs.lists.Choices.{each_of-map_push, ok_or-err, ok_or-ok}
-use Rattle.tfpg_kernel.proofs.Chained.{chain_push, closes, breaks, first_fault}
+use Rattle.tfpg_base.proofs.lemmas.lists.Choices.{each_of-map_push, ok_or-err, ok_or-ok}
+use Rattle.tfpg_kernel.proofs.lemmas.Chained.{chain_push, closes, breaks, first_fault}
 use Rattle.tfpg_kernel.proofs.cycle.check_cycle.Goals as goal
 
 module _ (states : Reason → Option Constraint) (reasons : List Reason) where

@@ -1,4 +1,4 @@
-use Rattle.tfpg_kernel.proofs.StepResults.{ResultLaws, refused, moved}
+use Rattle.tfpg_kernel.proofs.lemmas.StepResults.{ResultLaws, refused, moved}
 use Rattle.tfpg_kernel.proofs.step_results.moves_are_results.Goals as goal
 
 pub returns : goal.returns

@@ -1,8 +1,8 @@
 use Rattle.std.proofs.Common.{◌≡◌, ℕ, ◌<◌, ◌∙◌, List, ap, length, take, nat_eq}
 use Rattle.std.proofs.lemmas.List.{take_all}
 use Rattle.std.proofs.lemmas.List.Elements.{All-get_or, All-same}
-use Rattle.tfpg_base.proofs.lists.Numbered.{All-below-numbers_from}
-use Rattle.tfpg_log.proofs.changes.ModesInto.{are_active_in, active_more, all_into}
+use Rattle.tfpg_base.proofs.lemmas.lists.Numbered.{All-below-numbers_from}
+use Rattle.tfpg_log.proofs.lemmas.changes.ModesInto.{are_active_in, active_more, all_into}
 use Rattle.tfpg_log.proofs.active_modes.modes_into.Goals as goal
 
 pub edge-requires : goal.edge-requires

@@ -1,4 +1,4 @@
-use Rattle.tfpg_log.proofs.logs_of_lines.LogsOfLines.{log_of_lines-push, of-log_of_lines, ordered-log_of_lines}
+use Rattle.tfpg_log.proofs.lemmas.logs_of_lines.LogsOfLines.{log_of_lines-push, of-log_of_lines, ordered-log_of_lines}
 use Rattle.tfpg_log.proofs.laws.a_log_of_lines_is_of_its_graph.Goals as goal
 
 pub returns : goal.returns

@@ -1,4 +1,4 @@
-use Rattle.tfpg_log.proofs.ages.Ages.{has_age, has_lesser, age_since_start, has_greatest, one_age, grows}
+use Rattle.tfpg_log.proofs.lemmas.ages.Ages.{has_age, has_lesser, age_since_start, has_greatest, one_age, grows}
 use Rattle.tfpg_log.proofs.laws.age_is_the_greatest.Goals as goal
 
 pub returns : goal.returns

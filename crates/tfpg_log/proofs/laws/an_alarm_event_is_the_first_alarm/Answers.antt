@@ -1,4 +1,4 @@
-use Rattle.tfpg_log.proofs.events.AlarmEvents.{alarm_event_is, alarm_event_first, alarm_event_of}
+use Rattle.tfpg_log.proofs.lemmas.events.AlarmEvents.{alarm_event_is, alarm_event_first, alarm_event_of}
 use Rattle.tfpg_log.proofs.laws.an_alarm_event_is_the_first_alarm.Goals as goal
 
 pub returns : goal.returns

@@ -1,5 +1,5 @@
 use Rattle.tfpg_graph.proofs.lemmas.zero_cycle.ZeroRanks.{HasZeroOrder-valid}
-use Rattle.tfpg_log.proofs.causes.InReach.{trace_in_reach}
+use Rattle.tfpg_log.proofs.lemmas.causes.InReach.{trace_in_reach}
 use Rattle.tfpg_log.proofs.laws.nothing_outside_reach.Goals as goal
 
 pub returns : goal.returns

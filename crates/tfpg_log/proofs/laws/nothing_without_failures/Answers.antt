@@ -1,7 +1,7 @@
 use Rattle.std.proofs.Common.{[], subst}
 use Rattle.tfpg_graph.proofs.lemmas.zero_cycle.ZeroRanks.{HasZeroOrder-valid}
 use Rattle.tfpg_log.specs.Explains.{Explains}
-use Rattle.tfpg_log.proofs.causes.NoFailures.{none_active}
+use Rattle.tfpg_log.proofs.lemmas.causes.NoFailures.{none_active}
 use Rattle.tfpg_log.proofs.laws.nothing_without_failures.Goals as goal
 
 pub returns : goal.returns

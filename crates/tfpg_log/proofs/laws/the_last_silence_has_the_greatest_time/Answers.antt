@@ -1,4 +1,4 @@
-use Rattle.tfpg_log.proofs.events.SilenceTimes.{last_is_latest}
+use Rattle.tfpg_log.proofs.lemmas.events.SilenceTimes.{last_is_latest}
 use Rattle.tfpg_log.proofs.laws.the_last_silence_has_the_greatest_time.Goals as goal
 
 pub returns : goal.returns

@@ -1,4 +1,4 @@
-use Rattle.tfpg_log.proofs.logs_of_lines.AcceptedEvents.{is_accepted, is_short, is_clean}
+use Rattle.tfpg_log.proofs.lemmas.logs_of_lines.AcceptedEvents.{is_accepted, is_short, is_clean}
 use Rattle.tfpg_log.proofs.laws.the_line_of_an_event_is_accepted.Goals as goal
 
 pub returns : goal.returns

@@ -1,4 +1,4 @@
-use Rattle.tfpg_log.proofs.logs_of_lines.AcceptedLines.{log_there, lines_accepted}
+use Rattle.tfpg_log.proofs.lemmas.logs_of_lines.AcceptedLines.{log_there, lines_accepted}
 use Rattle.tfpg_log.proofs.laws.the_lines_of_events_make_their_log.Goals as goal
 
 pub returns : goal.returns

@@ -1,4 +1,4 @@
-use Rattle.tfpg_log.proofs.instants.WindowRuns.{edge_window, edge_window_there, node_window, node_window_there}
+use Rattle.tfpg_log.proofs.lemmas.instants.WindowRuns.{edge_window, edge_window_there, node_window, node_window_there}
 use Rattle.tfpg_log.proofs.laws.windows_are_runs_of_spans.Goals as goal
 
 pub returns : goal.returns

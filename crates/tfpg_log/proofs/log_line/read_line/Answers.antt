@@ -1,6 +1,6 @@
 use Rattle.std.proofs.Common.{sym, ap, ◌∙◌}
 use Rattle.tfpg_log.specs.LogStatements.{log_statement_in}
-use Rattle.tfpg_log.proofs.logs_of_lines.LogLines.{log_statement_of-words}
+use Rattle.tfpg_log.proofs.lemmas.logs_of_lines.LogLines.{log_statement_of-words}
 use Rattle.tfpg_log.proofs.log_line.read_line.Goals as goal
 
 pub returns : goal.returns

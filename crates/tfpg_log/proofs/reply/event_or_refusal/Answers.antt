@@ -2,7 +2,7 @@ use Rattle.std.proofs.Common.{sym, ap, ◌∙◌}
 use Rattle.std.proofs.lemmas.Result.{err_from_is_err_and}
 use Rattle.tfpg_log.specs.Accepted.{offered}
 use Rattle.tfpg_log.specs.inside.LogLine.{log_statement_seen}
-use Rattle.tfpg_log.proofs.logs_of_lines.Judgements.{reply-time_refused, reply-judged}
+use Rattle.tfpg_log.proofs.lemmas.logs_of_lines.Judgements.{reply-time_refused, reply-judged}
 use Rattle.tfpg_log.proofs.reply.event_or_refusal.Goals as goal
 
 pub returns-in_err-time : goal.returns-in_err-time

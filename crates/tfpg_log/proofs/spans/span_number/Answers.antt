@@ -1,7 +1,7 @@
 use Rattle.std.proofs.Common.{ltb, rules}
 use Rattle.std.proofs.lemmas.List.Sorted.{IsPartitionPoint-from_clause, IsPartitionedBy-ltb}
 use Rattle.tfpg_log.specs.declared.mode_change.ModeChange.{ModeChange}
-use Rattle.tfpg_log.proofs.changes.SpanStarts.{within_point}
+use Rattle.tfpg_log.proofs.lemmas.changes.SpanStarts.{within_point}
 use Rattle.tfpg_log.proofs.spans.span_number.Goals as goal
 
 pub returns : goal.returns

@@ -1,6 +1,6 @@
 use Rattle.std.proofs.Common.{◌≡◌, false, ◌∙◌}
 use Rattle.tfpg_log.specs.inside.ActiveModes.{has_mode}
-use Rattle.tfpg_log.proofs.changes.WindowStarts.{none_without_span, none_in_other_mode, no_beginning, window_walked}
+use Rattle.tfpg_log.proofs.lemmas.changes.WindowStarts.{none_without_span, none_in_other_mode, no_beginning, window_walked}
 use Rattle.tfpg_log.proofs.windows.window_round.Goals as goal
 
 pub returns-in_err-span : goal.returns-in_err-span

@@ -2,7 +2,7 @@ use Rattle.std.proofs.Common.{rules, ◌≡◌, None, sym, ap, ◌∙◌}
 use Rattle.tfpg_graph.specs.Graph.{node_named}
 use Rattle.tfpg_base.specs.Words.{number_of, number_up_to}
 use Rattle.tfpg_base.specs.declared.limits.TheConstants.{MAX_TIME}
-use Rattle.tfpg_report.proofs.MemberWords.{node_of_word, word_of_named}
+use Rattle.tfpg_report.proofs.lemmas.MemberWords.{node_of_word, word_of_named}
 use Rattle.tfpg_map.proofs.lemmas.LineWords.{time_read, time_spelled}
 use Rattle.tfpg_map.proofs.lines.activation_of.Goals as goal
 

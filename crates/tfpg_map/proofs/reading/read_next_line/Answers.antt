@@ -1,7 +1,7 @@
 use Rattle.std.proofs.Common.{Err, ap}
 use Rattle.tfpg_map.specs.declared.map.NoMap.TheVariants.{Lines}
 use Rattle.tfpg_map.specs.InputMap.{LacksMap}
-use Rattle.tfpg_base.proofs.lists.Choices.{IfErr-from}
+use Rattle.tfpg_base.proofs.lemmas.lists.Choices.{IfErr-from}
 use Rattle.tfpg_map.proofs.lemmas.NextLines.{lacks_by_fault, met_end, met_long, met_read, met_faulty, met_no_memory}
 use Rattle.tfpg_map.proofs.reading.read_next_line.Goals as goal
 

@@ -2,12 +2,12 @@
 use Rattle.std.proofs.Common.{◌≡◌, ℕ, ◌<◌, List, [], ◌∷◌, refl, sym, ap, subst, ◌∙◌, arith}
 use Rattle.std.proofs.lemmas.List.Elements.{All-nil, All-cons, All-same}
 use Rattle.std.specs.Prelude.{IsTrue}
-use Rattle.tfpg_base.proofs.lists.Elements.{AllPairs-cons}
+use Rattle.tfpg_base.proofs.lemmas.lists.Elements.{AllPairs-cons}
 use Rattle.tfpg_graph.specs.Graph.{Sizes}
 use Rattle.tfpg_evidence.specs.declared.finding.Finding.{Finding}
 use Rattle.tfpg_evidence.specs.declared.round.Round.{Round}
 use Rattle.tfpg_evidence.specs.RoundOf.{IsFindingOf, IsRankedIn, IsRoundOf, is_ranked}
-use Rattle.tfpg_evidence.proofs.FindingsByNumber.{RiseByNumber, finding_numbered-at}
+use Rattle.tfpg_evidence.proofs.lemmas.FindingsByNumber.{RiseByNumber, finding_numbered-at}
 use Rattle.tfpg_model_tests.proofs.report.round_of_alarm.Goals as goal
 
 -- three findings whose numbers rise

@@ -1,7 +1,7 @@
 use Rattle.std.proofs.Common.{All, List, subst, sym}
 use Rattle.tfpg_evidence.specs.declared.finding.Finding.{Finding}
 use Rattle.tfpg_evidence.specs.RoundOf.{IsFindingOf}
-use Rattle.tfpg_evidence.proofs.FindingsByNumber.{RiseByNumber}
+use Rattle.tfpg_evidence.proofs.lemmas.FindingsByNumber.{RiseByNumber}
 use Rattle.tfpg_graph.specs.Graph.{sizes_of}
 use Rattle.tfpg_panel_lines.proofs.lemmas.BestFinding.{found_holds}
 use Rattle.tfpg_panel_lines.proofs.panel_lines.best_of.Goals as goal

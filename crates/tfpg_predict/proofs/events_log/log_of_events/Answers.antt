@@ -1,5 +1,5 @@
 use Rattle.tfpg_log.specs.declared.event.Event.TheVariants.{Alarm}
-use Rattle.tfpg_predict.proofs.keeping.NextEvents.{next_at}
+use Rattle.tfpg_predict.proofs.lemmas.keeping.NextEvents.{next_at}
 use Rattle.tfpg_predict.proofs.events_log.log_of_events.Goals as goal
 
 pub add-requires-clause-next : goal.add-requires-clause-next

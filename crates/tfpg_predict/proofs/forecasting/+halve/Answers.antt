@@ -2,7 +2,7 @@ use Rattle.std.proofs.Common.{◌+◌, ◌-◌, ◌/◌, refl, subst}
 use Rattle.tfpg_predict.specs.inside.Quests.{asked_by}
 use Rattle.tfpg_predict.specs.inside.Tried.{IsTried}
 use Rattle.tfpg_predict.specs.declared.trial.Tried.{Tried}
-use Rattle.tfpg_predict.proofs.Halving.{unsettled_within}
+use Rattle.tfpg_predict.proofs.lemmas.Halving.{unsettled_within}
 use Rattle.tfpg_predict.proofs.forecasting.+halve.Goals as goal
 
 pub returns-in-Spent : goal.returns-in-Spent

@@ -3,7 +3,7 @@ use Rattle.tfpg_log.specs.Log.{ignoring}
 use Rattle.tfpg_predict.specs.LeastTime.{lookahead_of}
 use Rattle.tfpg_predict.specs.inside.Tried.{IsTried}
 use Rattle.tfpg_predict.specs.declared.trial.Tried.{Tried}
-use Rattle.tfpg_predict.proofs.Halving.{halved_none, never_by_its_end, unsettled_at_end}
+use Rattle.tfpg_predict.proofs.lemmas.Halving.{halved_none, never_by_its_end, unsettled_at_end}
 use Rattle.tfpg_predict.proofs.forecasting.forecast.Goals as goal
 
 pub returns-in-Out : goal.returns-in-Out

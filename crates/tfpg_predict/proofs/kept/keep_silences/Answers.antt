@@ -1,4 +1,4 @@
-use Rattle.tfpg_predict.proofs.Tables.{silences_turn}
+use Rattle.tfpg_predict.proofs.lemmas.Tables.{silences_turn}
 use Rattle.tfpg_predict.proofs.kept.keep_silences.Goals as goal
 
 pub loop-node-preserved : goal.loop-node-preserved

@@ -1,7 +1,7 @@
 use Rattle.std.proofs.Common.{◌∙◌, length, ap, arith}
 use Rattle.std.proofs.lemmas.List.FromFn.{length-map-range_with_len}
 use Rattle.tfpg_predict.specs.inside.KeptEvents.{last_silence}
-use Rattle.tfpg_predict.proofs.Tables.{kept_turn, kept_done}
+use Rattle.tfpg_predict.proofs.lemmas.Tables.{kept_turn, kept_done}
 use Rattle.tfpg_predict.proofs.kept.kept_events.Goals as goal
 
 pub keep-requires : goal.keep-requires

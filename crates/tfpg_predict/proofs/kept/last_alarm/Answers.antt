@@ -1,4 +1,4 @@
-use Rattle.tfpg_predict.proofs.Tables.{last_alarm_is}
+use Rattle.tfpg_predict.proofs.lemmas.Tables.{last_alarm_is}
 use Rattle.tfpg_predict.proofs.kept.last_alarm.Goals as goal
 
 pub returns : goal.returns

@@ -2,7 +2,7 @@ use Rattle.std.proofs.Common.{◌≡◌, ◌+◌, ◌-◌, ◌<◌, true, ap, sy
 use Rattle.std.specs.Prelude.{is_some}
 use Rattle.tfpg_graph.specs.Graph.{node_named}
 use Rattle.tfpg_graph.specs.declared.limits.TheConstants.{MAX_NODES}
-use Rattle.tfpg_predict.proofs.ProbeNames.{taken_more, taken_within}
+use Rattle.tfpg_predict.proofs.lemmas.ProbeNames.{taken_more, taken_within}
 use Rattle.tfpg_predict.proofs.probe_name.probe_name.Goals as goal
 
 pub overflow_add-number : goal.overflow_add-number

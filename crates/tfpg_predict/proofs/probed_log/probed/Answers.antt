@@ -6,8 +6,8 @@ use Rattle.tfpg_log.specs.LogOfLines.{log_of_events}
 use Rattle.tfpg_predict.specs.LeastTime.{lookahead_of}
 use Rattle.tfpg_predict.specs.Probed.{IsProbed, probed_log}
 use Rattle.tfpg_predict.specs.inside.ProbeNames.{IsProbeName}
-use Rattle.tfpg_predict.proofs.AsProbed.{as_probed, of_probed}
-use Rattle.tfpg_predict.proofs.Making.{takes_probe, probed_is, next_events}
+use Rattle.tfpg_predict.proofs.lemmas.AsProbed.{as_probed, of_probed}
+use Rattle.tfpg_predict.proofs.lemmas.Making.{takes_probe, probed_is, next_events}
 use Rattle.tfpg_predict.proofs.probed_log.probed.Goals as goal
 
 pub with_probe-requires : goal.with_probe-requires

@@ -2,8 +2,8 @@ use Rattle.std.proofs.Common.{ℕ, List, sym, subst, ◌∙◌}
 use Rattle.tfpg_graph.specs.Graph.{AreFailures}
 use Rattle.tfpg_graph.specs.Reach.{IsReach}
 use Rattle.tfpg_predict.specs.inside.Quests.{asked_by}
-use Rattle.tfpg_predict.proofs.AsProbed.{able_ignoring, ordered_ignoring, members, of_probed, some_event}
-use Rattle.tfpg_predict.proofs.Searching.{represents_none, tried_by}
+use Rattle.tfpg_predict.proofs.lemmas.AsProbed.{able_ignoring, ordered_ignoring, members, of_probed, some_event}
+use Rattle.tfpg_predict.proofs.lemmas.Searching.{represents_none, tried_by}
 use Rattle.tfpg_predict.proofs.trial.search.Goals as goal
 
 pub reach-reach-requires : goal.reach-reach-requires

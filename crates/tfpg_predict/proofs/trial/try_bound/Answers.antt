@@ -2,7 +2,7 @@ use Rattle.std.proofs.Common.{sym, subst, ap, ◌∙◌}
 use Rattle.tfpg_log.specs.Log.{Logbook, ignoring}
 use Rattle.tfpg_predict.specs.Probed.{IsProbed}
 use Rattle.tfpg_predict.specs.inside.Quests.{asked_by}
-use Rattle.tfpg_predict.proofs.AsProbed.{probed_ignoring}
+use Rattle.tfpg_predict.proofs.lemmas.AsProbed.{probed_ignoring}
 use Rattle.tfpg_predict.proofs.trial.try_bound.Goals as goal
 
 pub search-requires-clause-probed : goal.search-requires-clause-probed

@@ -2,7 +2,7 @@ use Rattle.std.proofs.Common.{◌≡◌, ◌+◌, List, take, subst, sym}
 use Rattle.tfpg_base.specs.declared.activation.Activation.{Activation}
 use Rattle.tfpg_base.specs.Trace.{IsRisingByNode}
 use Rattle.tfpg_predict.specs.Probed.{without_probe}
-use Rattle.tfpg_predict.proofs.explained.ProbedTraces.{without_more}
+use Rattle.tfpg_predict.proofs.lemmas.explained.ProbedTraces.{without_more}
 use Rattle.tfpg_predict.proofs.without_probe.without_probe.Goals as goal
 
 pub loop-activation-preserved : goal.loop-activation-preserved

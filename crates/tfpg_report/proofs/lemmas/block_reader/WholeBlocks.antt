@@ -6,7 +6,7 @@ use Rattle.std.proofs.lemmas.Bool.{false≢true}
 use Rattle.std.proofs.lemmas.List.Folds.{fold_stays}
 use Rattle.std.proofs.lemmas.List.Sums.{fold-append}
 use Rattle.std.proofs.lemmas.Option.{same_Some}
-use Rattle.tfpg_base.proofs.lists.Choices.{then_some-true}
+use Rattle.tfpg_base.proofs.lemmas.lists.Choices.{then_some-true}
 use Rattle.tfpg_report.specs.declared.stand.Stand.{Stand}
 use Rattle.tfpg_report.specs.declared.stand.Stand.TheVariants as stand
 use Rattle.tfpg_report.specs.declared.report_line.ReportLine.{ReportLine}

@@ -8,8 +8,8 @@ use Rattle.std.proofs.lemmas.List.Sums.{fold-append}
 use Rattle.tfpg_base.specs.Trace.{IsRisingByNode}
 use Rattle.tfpg_base.specs.declared.terms.Terms.{Terms}
 use Rattle.tfpg_base.specs.declared.activation.Activation.{Activation}
-use Rattle.tfpg_base.proofs.lists.Elements.{AllPairs-head, AllPairs-tail}
-use Rattle.tfpg_base.proofs.lists.LookedUp.{flat_map-filter_map}
+use Rattle.tfpg_base.proofs.lemmas.lists.Elements.{AllPairs-head, AllPairs-tail}
+use Rattle.tfpg_base.proofs.lemmas.lists.LookedUp.{flat_map-filter_map}
 use Rattle.tfpg_evidence.specs.declared.reason.Reason.{Reason}
 use Rattle.tfpg_evidence.specs.declared.step.Step.{Step}
 use Rattle.tfpg_evidence.specs.declared.step.Step.TheVariants as step
@@ -28,7 +28,7 @@ use Rattle.tfpg_report.specs.ReadRounds.{step_lines}
 use Rattle.tfpg_report.specs.Blocks.{lines_of_finding, lines_if_ranked, open_line, rejected_line, round_lines, Loss, loss_line, Block, RefusedBlock, RoundBlock, block_lines}
 use Rattle.tfpg_report.specs.Reading.{IsHead}
 use Rattle.tfpg_report.specs.InOrder.{HasRisingTrace, HasRisingTraces, RiseByPanel, IsInOrder}
-use Rattle.tfpg_evidence.proofs.FindingsByNumber.{finding_numbered-all}
+use Rattle.tfpg_evidence.proofs.lemmas.FindingsByNumber.{finding_numbered-all}
 use Rattle.tfpg_report.proofs.lemmas.block_reader.Turns.{steps_or_rank, rank_or_open, open_or_reject}
 
 -- ---- lines in a row

@@ -20,7 +20,7 @@ use Rattle.tfpg_report.specs.Reading.{Completes, IsHead, IsReadFrom, begun_in, i
 use Rattle.tfpg_report.specs.Represents.{ReaderRepresents, ReaderState}
 use Rattle.tfpg_report.specs.RenderedRounds.{IsWithinFormat, MayReturnInTurn, CompletesRound}
 use Rattle.tfpg_report.specs.Stands.{may_begin_block, stand_of}
-use Rattle.tfpg_report.proofs.CleanLines.{lines_of_text}
+use Rattle.tfpg_report.proofs.lemmas.CleanLines.{lines_of_text}
 use Rattle.tfpg_report.proofs.lemmas.block_reader.BegunLines.{IsWithin, before_counts_within, begun_in_on}
 use Rattle.tfpg_report.proofs.lemmas.block_reader.WholeBlocks.{comes_by, none_begun}
 use Rattle.tfpg_report.proofs.lemmas.reading.LinesSay.{one_line}

@@ -5,7 +5,7 @@ use Rattle.tfpg_graph.specs.Graph.{Tfpg, node_named}
 use Rattle.tfpg_report.specs.ReportLines.{Says}
 use Rattle.tfpg_report.specs.declared.report_line.ReportLine.TheVariants.{At}
 use Rattle.tfpg_report.specs.inside.FirstWords.{number_within}
-use Rattle.tfpg_report.proofs.MemberWords.{word_of_named}
+use Rattle.tfpg_report.proofs.lemmas.MemberWords.{word_of_named}
 use Rattle.tfpg_report.proofs.lemmas.reading.FirstWords.{number_within-is}
 
 -- The name of a node and a time say its activation.

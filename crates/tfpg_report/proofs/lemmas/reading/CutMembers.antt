@@ -8,12 +8,12 @@ use Rattle.std.proofs.lemmas.List.{length-map, map-append, take-append-drop}
 use Rattle.std.proofs.lemmas.List.Elements.{All-head, All-map, All-tail}
 use Rattle.tfpg_base.specs.Hypothesis.{Hypothesis}
 use Rattle.tfpg_base.specs.Words.{is_name}
-use Rattle.tfpg_base.proofs.lists.Positions.{position-cons, position-map}
+use Rattle.tfpg_base.proofs.lemmas.lists.Positions.{position-cons, position-map}
 use Rattle.tfpg_graph.specs.Graph.{Tfpg, failure_word}
 use Rattle.tfpg_graph.specs.Valid.{IsValid}
 use Rattle.tfpg_report.specs.SetText.{IsHypothesisOf}
 use Rattle.tfpg_graph.specs.Members.{doubt_word, member_words}
-use Rattle.tfpg_report.proofs.MemberWords.{failure_word-is_name}
+use Rattle.tfpg_report.proofs.lemmas.MemberWords.{failure_word-is_name}
 use Rattle.tfpg_report.specs.inside.ReadMembers.{is_marked, IsPosition, IsMonitor, AreRisingFrom}
 
 -- no name has a mark

@@ -10,9 +10,9 @@ use Rattle.std.proofs.lemmas.Option.{option_and_then_some, same_Some, slice_get-
 use Rattle.tfpg_base.specs.declared.word.Number.{Number}
 use Rattle.tfpg_base.specs.declared.word.Number.TheVariants.{Value, TooLarge, NotANumber}
 use Rattle.tfpg_base.specs.Words.{number_of, number_up_to}
-use Rattle.tfpg_base.proofs.Numbers.{number_of-decimal, decimal-number_of, number_up_to-value}
-use Rattle.tfpg_base.proofs.lists.Positions.{position-at}
-use Rattle.tfpg_base.proofs.lists.SameBytes.{bytes_eq-true}
+use Rattle.tfpg_base.proofs.lemmas.Numbers.{number_of-decimal, decimal-number_of, number_up_to-value}
+use Rattle.tfpg_base.proofs.lemmas.lists.Positions.{position-at}
+use Rattle.tfpg_base.proofs.lemmas.lists.SameBytes.{bytes_eq-true}
 use Rattle.tfpg_graph.specs.Graph.{Tfpg, name_word, node_named, edge_from_to}
 use Rattle.tfpg_graph.specs.Valid.{IsSamePair, IsValid}
 use Rattle.tfpg_graph.specs.declared.edge.Edge.{Edge}
@@ -20,7 +20,7 @@ use Rattle.tfpg_report.specs.LineWords.{edge_words}
 use Rattle.tfpg_report.specs.ReportLines.{Has32Bits}
 use Rattle.tfpg_report.specs.inside.FirstWords.{value_of, number_within, small, number_first, small_first, node_first, edge_first, after_word, number_after, small_after, if_last, set_last}
 use Rattle.tfpg_report.specs.inside.LinesRead.{Rest}
-use Rattle.tfpg_report.proofs.MemberWords.{node_of_word, word_of_named}
+use Rattle.tfpg_report.proofs.lemmas.MemberWords.{node_of_word, word_of_named}
 
 -- ---- what was read is said
 

@@ -9,8 +9,8 @@ use Rattle.std.proofs.lemmas.Option.{same_Some}
 use Rattle.tfpg_base.specs.Hypothesis.{Hypothesis}
 use Rattle.tfpg_base.specs.Words.{words_of}
 use Rattle.tfpg_base.specs.declared.limits.TheConstants.{LONGEST_LINE, MAX_WORDS}
-use Rattle.tfpg_base.proofs.Separators.{join_with_byte-words_of}
-use Rattle.tfpg_base.proofs.lists.SameBytes.{bytes_eq-same}
+use Rattle.tfpg_base.proofs.lemmas.Separators.{join_with_byte-words_of}
+use Rattle.tfpg_base.proofs.lemmas.lists.SameBytes.{bytes_eq-same}
 use Rattle.tfpg_graph.specs.Graph.{Tfpg}
 use Rattle.tfpg_graph.specs.Valid.{IsValid}
 use Rattle.tfpg_report.specs.SetText.{IsHypothesisOf, set_word}
@@ -23,7 +23,7 @@ use Rattle.tfpg_report.specs.declared.reading.read_line.LineRefusal.{LineRefusal
 use Rattle.tfpg_report.specs.declared.reading.read_line.LineRefusal.TheVariants.{NotALine, NoMemory}
 use Rattle.tfpg_report.specs.inside.LinesRead.{numbered_in, plain_line_in, ranked_in}
 use Rattle.tfpg_report.specs.inside.WordsRead.{AreNumberedRead, AreWordsRead, HasNumbered, HasWords, plain_words_in}
-use Rattle.tfpg_report.proofs.SetWords.{one_hypothesis}
+use Rattle.tfpg_report.proofs.lemmas.SetWords.{one_hypothesis}
 use Rattle.tfpg_report.proofs.lemmas.reading.ReadLines.{IsOpen, IsRanked, IsRejected, KindOf, kind_of}
 use Rattle.tfpg_report.proofs.lemmas.reading.SaidLines.{plain_line-is}
 use Rattle.tfpg_report.proofs.lemmas.reading.SetLines.{AreRankedWithin, numbered-is, numbered-reads, ranked-is, ranked-reads, ranked_words}

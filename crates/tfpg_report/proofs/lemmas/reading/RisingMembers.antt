@@ -7,14 +7,14 @@ use Rattle.std.proofs.lemmas.List.Elements.{All-cons, All-head, All-tail, All-we
 use Rattle.std.proofs.lemmas.List.Quantifiers.{position-Some}
 use Rattle.std.proofs.lemmas.Option.{slice_get-get_or, same_Some}
 use Rattle.tfpg_base.specs.Set.{with_member}
-use Rattle.tfpg_base.proofs.lists.Elements.{AllPairs-head, AllPairs-tail, AllPairs-cons}
+use Rattle.tfpg_base.proofs.lemmas.lists.Elements.{AllPairs-head, AllPairs-tail, AllPairs-cons}
 use Rattle.tfpg_graph.specs.Graph.{Tfpg, name_word, node_named, failures, failure_at, position_of_failure, failure_word, is_monitored}
 use Rattle.tfpg_graph.specs.Valid.{IsValid}
-use Rattle.tfpg_graph.proofs.NodeAt.{monitored_within}
+use Rattle.tfpg_graph.proofs.lemmas.NodeAt.{monitored_within}
 use Rattle.tfpg_graph.specs.Members.{doubt_word}
-use Rattle.tfpg_report.proofs.MemberWords.{failure_word-named, failure_word-node, node_of_word}
+use Rattle.tfpg_report.proofs.lemmas.MemberWords.{failure_word-named, failure_word-node, node_of_word}
 use Rattle.tfpg_report.specs.inside.ReadMembers.{position_named, monitor_named, doubt_named, IsPosition, IsMonitor, AreRisingFrom}
-use Rattle.tfpg_report.proofs.MemberWords.{word_of_named}
+use Rattle.tfpg_report.proofs.lemmas.MemberWords.{word_of_named}
 
 -- ---- words that name numbers
 

@@ -5,7 +5,7 @@ use Rattle.std.proofs.Common.{◌≡◌, ℕ, ◌<◌, ◌≤◌, ◌==◌, Bool
 use Rattle.std.specs.Prelude.{decimal}
 use Rattle.std.specs.Str.{bytes_eq}
 use Rattle.tfpg_base.specs.declared.limits.TheConstants.{MAX_BUDGET, MAX_DOUBT, MAX_K, MAX_LINE_NUMBER, MAX_PANEL_NUMBER, MAX_TIME}
-use Rattle.tfpg_base.proofs.lists.SameBytes.{bytes_eq-true}
+use Rattle.tfpg_base.proofs.lemmas.lists.SameBytes.{bytes_eq-true}
 use Rattle.tfpg_graph.specs.Graph.{Tfpg, name_word}
 use Rattle.tfpg_log.specs.declared.refusal.Refusal.{Refusal}
 use Rattle.tfpg_log.specs.declared.refusal.Refusal.TheVariants as refusal

@@ -8,14 +8,14 @@ use Rattle.std.proofs.lemmas.List.{take-append-drop}
 use Rattle.std.proofs.lemmas.List.Elements.{All-head, All-tail}
 use Rattle.std.proofs.lemmas.List.Quantifiers.{position-Some}
 use Rattle.std.proofs.lemmas.Option.{same_Some}
-use Rattle.tfpg_base.proofs.lists.Lacking.{Lacks}
-use Rattle.tfpg_base.proofs.lists.Positions.{position-cons}
+use Rattle.tfpg_base.proofs.lemmas.lists.Lacking.{Lacks}
+use Rattle.tfpg_base.proofs.lemmas.lists.Positions.{position-cons}
 use Rattle.tfpg_report.specs.LineWords.{robustness_word}
 use Rattle.tfpg_report.specs.ReportLines.{Has32Bits}
 use Rattle.tfpg_report.specs.inside.FirstWords.{after_word, set_last, small, small_after, small_first}
 use Rattle.tfpg_report.specs.inside.LinesRead.{counts_first, numbered_in, ranked_first, ranked_in, robust_at, robust_first, robust_in, without_first}
 use Rattle.tfpg_report.specs.declared.reading.read_findings.RankedNumbers.{RankedNumbers}
-use Rattle.tfpg_report.proofs.CleanLines.{number_lacks}
+use Rattle.tfpg_report.proofs.lemmas.CleanLines.{number_lacks}
 use Rattle.tfpg_report.proofs.lemmas.reading.FirstWords.{after_word-is, made_of, number_within-is, set_last-is, small-reads, small_after-is, small_first-is, small_first-reads, went_on}
 
 -- ---- two counts with a slash between

@@ -13,7 +13,7 @@ use Rattle.tfpg_graph.specs.Valid.{IsValid}
 use Rattle.tfpg_report.specs.ReadSets.{IsHypothesisIn}
 use Rattle.tfpg_report.specs.SetText.{IsHypothesisOf, hyphen_or_joined, set_word}
 use Rattle.tfpg_graph.specs.Members.{member_words}
-use Rattle.tfpg_report.proofs.SetWords.{set_word-parts}
+use Rattle.tfpg_report.proofs.lemmas.SetWords.{set_word-parts}
 
 -- a word whose parts are the words for the members of a hypothesis is the text of its set
 set_of_parts : (word : List ℕ) (words : List (List ℕ)) → words ≡ comma_parts word → word ≡ hyphen_or_joined words

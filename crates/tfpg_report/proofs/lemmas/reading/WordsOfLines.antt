@@ -6,9 +6,9 @@ use Rattle.std.specs.Option.{option_map}
 use Rattle.std.proofs.lemmas.List.Elements.{All-append, All-nil}
 use Rattle.tfpg_base.specs.declared.limits.TheConstants.{MAX_WORDS}
 use Rattle.tfpg_base.specs.Words.{is_name, words_of}
-use Rattle.tfpg_base.proofs.Separators.{name_lacks}
-use Rattle.tfpg_base.proofs.lists.Lacking.{Lacks, lacks_checked, slice_split-join}
-use Rattle.tfpg_base.proofs.lists.Elements.{All-at}
+use Rattle.tfpg_base.proofs.lemmas.Separators.{name_lacks}
+use Rattle.tfpg_base.proofs.lemmas.lists.Lacking.{Lacks, lacks_checked, slice_split-join}
+use Rattle.tfpg_base.proofs.lemmas.lists.Elements.{All-at}
 use Rattle.tfpg_graph.specs.Graph.{Node, Tfpg, name_word}
 use Rattle.tfpg_graph.specs.Valid.{IsValid}
 use Rattle.tfpg_log.specs.declared.refusal.Refusal.TheVariants.{BadLine, BadNumber, TimeTooLarge, TimeBack, UnknownName, NotMonitored, NotAMode, LogFull, ModesFull}
@@ -22,8 +22,8 @@ use Rattle.tfpg_report.specs.declared.report_line.ReportLine.{ReportLine}
 use Rattle.tfpg_report.specs.declared.report_line.ReportLine.TheVariants.{Head, OldHead, Refused, Round, Hyp, Split, Cycle, Why, Again, Ranked, At, Open, Rejected, Counts, Panel}
 use Rattle.tfpg_report.specs.LineWords.{cause_words, clause_words, edge_words, reason_words, robustness_word}
 use Rattle.tfpg_report.specs.ReportLines.{IsLineWithin, IsNameWithin, line_words, written_line}
-use Rattle.tfpg_report.proofs.CleanLines.{number_lacks}
-use Rattle.tfpg_report.proofs.SetWords.{set_word-no_space}
+use Rattle.tfpg_report.proofs.lemmas.CleanLines.{number_lacks}
+use Rattle.tfpg_report.proofs.lemmas.SetWords.{set_word-no_space}
 use Rattle.tfpg_report.proofs.lemmas.reading.FirstWords.{edge_at}
 
 -- Words that a line can have: there is one, there are not more than this, and none has a space.

@@ -1,4 +1,4 @@
-use Rattle.tfpg_base.proofs.Appended.{Appends-err_after}
+use Rattle.tfpg_base.proofs.lemmas.Appended.{Appends-err_after}
 use Rattle.tfpg_report.proofs.ranked_lines.append_activations.Goals as goal
 
 pub returns-in_err-append_activation : goal.returns-in_err-append_activation

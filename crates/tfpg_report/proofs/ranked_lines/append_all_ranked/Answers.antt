@@ -1,7 +1,7 @@
 use Rattle.std.proofs.Common.{List, ℕ, ◌++◌, ◌∙◌, ap, sym}
-use Rattle.tfpg_base.proofs.Appended.{Appends-err_after}
-use Rattle.tfpg_base.proofs.lists.Appended.{appended_all}
-use Rattle.tfpg_base.proofs.lists.LookedUp.{flat_map-filter_map}
+use Rattle.tfpg_base.proofs.lemmas.Appended.{Appends-err_after}
+use Rattle.tfpg_base.proofs.lemmas.lists.Appended.{appended_all}
+use Rattle.tfpg_base.proofs.lemmas.lists.LookedUp.{flat_map-filter_map}
 use Rattle.tfpg_evidence.specs.RoundOf.{finding_numbered}
 use Rattle.tfpg_report.specs.inside.Texts.{ranked_text}
 use Rattle.tfpg_report.specs.inside.Numbered.{numbered_text}

@@ -1,7 +1,7 @@
 use Rattle.std.proofs.Common.{sym}
 use Rattle.tfpg_evidence.specs.RoundOf.{IsFindingOf}
 use Rattle.tfpg_graph.specs.Graph.{sizes_of}
-use Rattle.tfpg_evidence.proofs.FindingsByNumber.{finding_numbered-all}
+use Rattle.tfpg_evidence.proofs.lemmas.FindingsByNumber.{finding_numbered-all}
 use Rattle.tfpg_report.proofs.ranked_lines.append_numbered.Goals as goal
 
 pub append_ranked-requires : goal.append_ranked-requires

@@ -1,8 +1,8 @@
 use Rattle.std.proofs.Common.{subst, sym}
 use Rattle.tfpg_base.specs.Append.{Appends}
-use Rattle.tfpg_base.proofs.Appended.{Appends-after_five}
-use Rattle.tfpg_report.proofs.SectionLines.{open_lines, rejected_lines}
-use Rattle.tfpg_report.proofs.WrittenLines.{written_rounds}
+use Rattle.tfpg_base.proofs.lemmas.Appended.{Appends-after_five}
+use Rattle.tfpg_report.proofs.lemmas.SectionLines.{open_lines, rejected_lines}
+use Rattle.tfpg_report.proofs.lemmas.WrittenLines.{written_rounds}
 use Rattle.tfpg_report.proofs.round_block.render.Goals as goal
 
 pub returns : goal.returns

@@ -1,4 +1,4 @@
-use Rattle.tfpg_base.proofs.Appended.{Appends-err_after}
+use Rattle.tfpg_base.proofs.lemmas.Appended.{Appends-err_after}
 use Rattle.tfpg_report.proofs.sections.append_section.Goals as goal
 
 pub returns-in_err-append_entry : goal.returns-in_err-append_entry

@@ -1,6 +1,6 @@
 use Rattle.std.proofs.Common.{◌<◌, length, All}
 use Rattle.tfpg_graph.specs.Members.{doubt_word}
-use Rattle.tfpg_report.proofs.WrittenMembers.{IsPartWritten, words_left}
+use Rattle.tfpg_report.proofs.lemmas.WrittenMembers.{IsPartWritten, words_left}
 use Rattle.tfpg_report.proofs.set_line.append_doubts.Given as goal
 
 -- the words for the members that are left are still to be written

@@ -2,7 +2,7 @@ use Rattle.std.proofs.Common.{◌≡◌, ◌<◌, List, ℕ, ◌∷◌, ◌++◌
 use Rattle.std.proofs.lemmas.List.Elements.{All-tail}
 use Rattle.tfpg_base.specs.TextLine.{separated}
 use Rattle.tfpg_graph.specs.Graph.{AreFailures, failure_word, failures}
-use Rattle.tfpg_report.proofs.WrittenMembers.{IsPartWritten-more, words_left}
+use Rattle.tfpg_report.proofs.lemmas.WrittenMembers.{IsPartWritten-more, words_left}
 use Rattle.tfpg_report.proofs.set_line.append_failures.Goals as goal
 
 pub loop-parts-preserved : goal.loop-parts-preserved

@@ -1,6 +1,6 @@
 use Rattle.std.proofs.Common.{true, length}
 use Rattle.tfpg_graph.specs.Graph.{AreFailures, failure_word}
-use Rattle.tfpg_report.proofs.WrittenMembers.{IsPartWritten, words_left}
+use Rattle.tfpg_report.proofs.lemmas.WrittenMembers.{IsPartWritten, words_left}
 use Rattle.tfpg_report.proofs.set_line.append_failures.Given as goal
 
 -- the words for the members that are left are still to be written

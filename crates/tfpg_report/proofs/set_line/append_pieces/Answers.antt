@@ -1,5 +1,5 @@
-use Rattle.tfpg_base.proofs.Appended.{Appends-err_after}
-use Rattle.tfpg_base.proofs.lists.Appended.{kept_same}
+use Rattle.tfpg_base.proofs.lemmas.Appended.{Appends-err_after}
+use Rattle.tfpg_base.proofs.lemmas.lists.Appended.{kept_same}
 use Rattle.tfpg_report.proofs.set_line.append_pieces.Goals as goal
 
 pub returns-in_err-extend_from_slice : goal.returns-in_err-extend_from_slice

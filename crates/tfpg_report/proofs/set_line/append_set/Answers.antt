@@ -2,12 +2,12 @@ use Rattle.std.proofs.Common.{◌≡◌, Bool, true, [], ◌++◌, map, ap, subs
 use Rattle.std.proofs.lemmas.Bool.{both_ways}
 use Rattle.tfpg_base.specs.Append.{Appends}
 use Rattle.tfpg_base.specs.Hypothesis.{Hypothesis}
-use Rattle.tfpg_base.proofs.Appended.{Appends-after}
+use Rattle.tfpg_base.proofs.lemmas.Appended.{Appends-after}
 use Rattle.tfpg_graph.specs.Graph.{failure_word}
 use Rattle.tfpg_graph.specs.Members.{doubt_word}
 use Rattle.tfpg_report.specs.SetText.{set_word}
 use Rattle.tfpg_report.specs.inside.Further.{further_words}
-use Rattle.tfpg_report.proofs.WrittenMembers.{set_written, still_first-test}
+use Rattle.tfpg_report.proofs.lemmas.WrittenMembers.{set_written, still_first-test}
 use Rattle.tfpg_report.proofs.set_line.append_set.Goals as goal
 
 pub returns : goal.returns

@@ -1,4 +1,4 @@
-use Rattle.tfpg_base.proofs.Appended.{Appends-err_after}
+use Rattle.tfpg_base.proofs.lemmas.Appended.{Appends-err_after}
 use Rattle.tfpg_report.proofs.step_lines.append_reasons.Goals as goal
 
 pub returns-in_err-append_reason : goal.returns-in_err-append_reason

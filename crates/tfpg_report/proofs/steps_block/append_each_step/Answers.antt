@@ -1,4 +1,4 @@
-use Rattle.tfpg_base.proofs.Appended.{Appends-err_after}
+use Rattle.tfpg_base.proofs.lemmas.Appended.{Appends-err_after}
 use Rattle.tfpg_report.proofs.steps_block.append_each_step.Goals as goal
 
 pub returns-in_err-append_step : goal.returns-in_err-append_step

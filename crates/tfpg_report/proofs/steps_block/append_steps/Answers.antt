@@ -1,6 +1,6 @@
 use Rattle.std.proofs.Common.{subst, sym}
 use Rattle.tfpg_base.specs.Append.{Appends}
-use Rattle.tfpg_report.proofs.WrittenLines.{texts_of_steps}
+use Rattle.tfpg_report.proofs.lemmas.WrittenLines.{texts_of_steps}
 use Rattle.tfpg_report.proofs.steps_block.append_steps.Goals as goal
 
 -- the lines of the steps have the steps' texts

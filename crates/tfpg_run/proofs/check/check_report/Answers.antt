@@ -1,5 +1,5 @@
 use Rattle.std.proofs.Common.{Err, sym, ◌∙◌}
-use Rattle.tfpg_base.proofs.lists.Choices.{IfErr-from}
+use Rattle.tfpg_base.proofs.lemmas.lists.Choices.{IfErr-from}
 use Rattle.tfpg_diagnose.specs.declared.fault.CheckFault.{CheckFault}
 use Rattle.tfpg_diagnose.specs.declared.fault.CheckFault.TheVariants.{Stream}
 use Rattle.tfpg_streams.specs.declared.fault.StreamFault.TheVariants.{NoMemory, WriteFault}

@@ -1,5 +1,5 @@
 use Rattle.std.proofs.Common.{Ok, Err}
-use Rattle.tfpg_base.proofs.lists.Choices.{IfErr-from}
+use Rattle.tfpg_base.proofs.lemmas.lists.Choices.{IfErr-from}
 use Rattle.tfpg_run.specs.EndsOf.{end_of_explain_fault}
 use Rattle.tfpg_run.specs.World.{world}
 use Rattle.tfpg_run.specs.explain.Explaining.{ExplainEnds}

@@ -5,7 +5,7 @@ use Rattle.tfpg_streams.specs.declared.fault.StreamFault.TheVariants.{WriteFault
 use Rattle.tfpg_run.specs.explain.Explaining.{ExplainsMap}
 use Rattle.tfpg_log.specs.Log.{ignoring}
 use Rattle.tfpg_streams.specs.Streams.{streams}
-use Rattle.tfpg_base.proofs.lists.Choices.{IfErr-from}
+use Rattle.tfpg_base.proofs.lemmas.lists.Choices.{IfErr-from}
 use Rattle.tfpg_run.proofs.lemmas.explain.ExplainedMaps.{ignoring_of, explains_well, explains_badly}
 use Rattle.tfpg_run.proofs.lemmas.explain.NamedNodes.{names_node}
 use Rattle.tfpg_run.proofs.explain.explain_map.Goals as goal

@@ -1,6 +1,6 @@
 use Rattle.std.proofs.Common.{[], false, refl}
 use Rattle.std.proofs.lemmas.Result.{err_from_is_err_and}
-use Rattle.tfpg_base.proofs.lists.Choices.{IfErr-from}
+use Rattle.tfpg_base.proofs.lemmas.lists.Choices.{IfErr-from}
 use Rattle.tfpg_graph.specs.Faults.{IsFirstFault}
 use Rattle.tfpg_run.specs.Fetch.{HasFile}
 use Rattle.tfpg_run.specs.inside.Faults.{IsFetchFault, fetch_fault_of_shelf}

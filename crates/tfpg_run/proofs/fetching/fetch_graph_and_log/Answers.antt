@@ -1,5 +1,5 @@
 use Rattle.std.proofs.Common.{[], ◌∷◌}
-use Rattle.tfpg_base.proofs.lists.Choices.{IfErr-from}
+use Rattle.tfpg_base.proofs.lemmas.lists.Choices.{IfErr-from}
 use Rattle.tfpg_run.specs.declared.fault.FetchFault.TheVariants.{NoMemory}
 use Rattle.tfpg_run.specs.inside.Faults.{IsFetchFault}
 use Rattle.tfpg_run.proofs.fetching.fetch_graph_and_log.Goals as goal

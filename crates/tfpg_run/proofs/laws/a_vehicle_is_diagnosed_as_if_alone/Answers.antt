@@ -1,7 +1,7 @@
 use Rattle.std.proofs.Common.{◌+◌, take}
 use Rattle.std.specs.Prelude.{flat_map}
 use Rattle.tfpg_check.specs.Report.{rounds_of}
-use Rattle.tfpg_check.proofs.RoundsOfReports.{round_there}
+use Rattle.tfpg_check.proofs.lemmas.RoundsOfReports.{round_there}
 use Rattle.tfpg_fleet.specs.Belonging.{lines_for}
 use Rattle.tfpg_run.specs.fleet.Answers.{blocks_for}
 use Rattle.tfpg_run.proofs.laws.a_vehicle_is_diagnosed_as_if_alone.Goals as goal

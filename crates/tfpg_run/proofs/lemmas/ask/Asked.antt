@@ -7,11 +7,11 @@ use Rattle.tfpg_base.specs.Lines.{lines_of}
 use Rattle.tfpg_base.specs.Append.{Appends}
 use Rattle.tfpg_base.specs.Outside.{SinkState, Puts, Rose}
 use Rattle.tfpg_base.specs.declared.no_memory.NoMemory.{NoMemory}
-use Rattle.tfpg_base.proofs.lists.Choices.{IfErr-from}
+use Rattle.tfpg_base.proofs.lemmas.lists.Choices.{IfErr-from}
 use Rattle.tfpg_base.specs.Terms.{AreReportTerms}
 use Rattle.tfpg_base.specs.declared.terms.Terms.{Terms}
 use Rattle.tfpg_graph.specs.Graph.{Tfpg}
-use Rattle.tfpg_graph.proofs.NodeAt.{monitored_within}
+use Rattle.tfpg_graph.proofs.lemmas.NodeAt.{monitored_within}
 use Rattle.tfpg_log.specs.Log.{Logbook}
 use Rattle.tfpg_log.specs.LogOfLines.{log_of_lines}
 use Rattle.tfpg_evidence.specs.declared.round.Round.{Round}

@@ -6,10 +6,10 @@ use Rattle.std.proofs.lemmas.Option.{slice_get-get_or}
 use Rattle.std.proofs.lemmas.List.Elements.{All-nil, All-cons, All-weaker}
 use Rattle.tfpg_base.specs.Choice.{numbers_from}
 use Rattle.tfpg_base.specs.Set.{Rises}
-use Rattle.tfpg_base.proofs.lists.Cuts.{take-next}
-use Rattle.tfpg_base.proofs.lists.Elements.{AllPairs-cons}
-use Rattle.tfpg_base.proofs.lists.Numbered.{numbers_from-push, All-below-numbers_from}
-use Rattle.tfpg_base.proofs.lists.Ordered.{AllPairs-nil}
+use Rattle.tfpg_base.proofs.lemmas.lists.Cuts.{take-next}
+use Rattle.tfpg_base.proofs.lemmas.lists.Elements.{AllPairs-cons}
+use Rattle.tfpg_base.proofs.lemmas.lists.Numbered.{numbers_from-push, All-below-numbers_from}
+use Rattle.tfpg_base.proofs.lemmas.lists.Ordered.{AllPairs-nil}
 use Rattle.tfpg_evidence.specs.declared.finding.Finding.{Finding}
 use Rattle.tfpg_evidence.specs.declared.round.Round.{Round}
 use Rattle.tfpg_engine.specs.Work.{is_ranked_or_open}

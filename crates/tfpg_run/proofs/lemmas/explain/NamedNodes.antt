@@ -3,11 +3,11 @@ use Rattle.std.proofs.Common.{◌≡◌, ℕ, suc, ◌-◌, List, ap, ◌∙◌,
 use Rattle.std.specs.Option.{option_and_then}
 use Rattle.tfpg_base.specs.declared.activation.Activation.{Activation}
 use Rattle.tfpg_graph.specs.Graph.{Tfpg}
-use Rattle.tfpg_graph.proofs.NodeAt.{monitored_within}
+use Rattle.tfpg_graph.proofs.lemmas.NodeAt.{monitored_within}
 use Rattle.tfpg_log.specs.declared.event.Event.{Event}
 use Rattle.tfpg_log.specs.declared.event.Event.TheVariants as event
 use Rattle.tfpg_log.specs.Log.{Logbook, IsLogOf, first_events, silence_time}
-use Rattle.tfpg_log.proofs.events.SilentNodes.{event_own, silent_within}
+use Rattle.tfpg_log.proofs.lemmas.events.SilentNodes.{event_own, silent_within}
 use Rattle.tfpg_trace.specs.declared.verdict.Verdict.{Verdict}
 use Rattle.tfpg_trace.specs.declared.verdict.Verdict.TheVariants.{Yes, Late, Stranger, May, Must, Alarm, Silence}
 use Rattle.tfpg_trace.specs.FirstFault.{IsVerdict}

@@ -8,10 +8,10 @@ use Rattle.tfpg_base.specs.declared.line.LineFault.TheVariants as fault
 use Rattle.tfpg_base.specs.Outside.{SourceState, SinkState, Rose, Takes, Puts}
 use Rattle.tfpg_base.specs.Lines.{LinesState, LinesRepresent, Continues, with_bytes, with_line, lines_of, whole_lines, new_reading}
 use Rattle.tfpg_base.specs.declared.limits.TheConstants.{LONGEST_LINE, MAX_BYTES, MAX_LINE_NUMBER}
-use Rattle.tfpg_base.proofs.Taking.{Takes-append, Takes-nothing}
-use Rattle.tfpg_base.proofs.ReadingOn.{GaveLine, Continues-turn, Continues-text, Continues-too_long}
-use Rattle.tfpg_base.proofs.lists.Cuts.{front_is_within, front_before, front_with}
-use Rattle.tfpg_base.proofs.lists.Passing.{length-filter_map}
+use Rattle.tfpg_base.proofs.lemmas.Taking.{Takes-append, Takes-nothing}
+use Rattle.tfpg_base.proofs.lemmas.ReadingOn.{GaveLine, Continues-turn, Continues-text, Continues-too_long}
+use Rattle.tfpg_base.proofs.lemmas.lists.Cuts.{front_is_within, front_before, front_with}
+use Rattle.tfpg_base.proofs.lemmas.lists.Passing.{length-filter_map}
 use Rattle.tfpg_graph.specs.Graph.{Tfpg}
 use Rattle.tfpg_check.specs.Report.{HasReports}
 use Rattle.tfpg_fleet.specs.Belonging.{addressee, line_for, lines_for}

@@ -3,8 +3,8 @@ use Rattle.std.proofs.Common.{◌≡◌, ◌↔◌, ℕ, List, [], ◌∷◌, le
 use Rattle.std.specs.Prelude.{IsErrAnd, IfErr, OnOk}
 use Rattle.tfpg_base.specs.declared.terms.Terms.{Terms}
 use Rattle.tfpg_base.specs.Terms.{AreReportTerms}
-use Rattle.tfpg_base.proofs.lists.Choices.{IfErr-from, same_Err}
-use Rattle.tfpg_base.proofs.lists.Sequences.{not_above}
+use Rattle.tfpg_base.proofs.lemmas.lists.Choices.{IfErr-from, same_Err}
+use Rattle.tfpg_base.proofs.lemmas.lists.Sequences.{not_above}
 use Rattle.tfpg_graph.specs.Graph.{Tfpg}
 use Rattle.tfpg_hyp.specs.declared.limits.TheConstants.{MAX_HYPOTHESES}
 use Rattle.tfpg_hyp.specs.declared.table.TableFault.{TableFault}

@@ -10,9 +10,9 @@ use Rattle.std.proofs.lemmas.List.{append-nil, length-replicate, length-set, map
 use Rattle.std.proofs.lemmas.List.Elements.{All-replicate}
 use Rattle.std.proofs.lemmas.Option.{same_Some, slice_get_within}
 use Rattle.tfpg_base.specs.Choice.{last_of}
-use Rattle.tfpg_base.proofs.lists.Elements.{All-at}
-use Rattle.tfpg_base.proofs.lists.Valued.{filter_map-push_none, filter_map-push_some}
-use Rattle.tfpg_base.proofs.lists.Written.{slice_get-set_other, slice_get-set_same, slice_get-push_at}
+use Rattle.tfpg_base.proofs.lemmas.lists.Elements.{All-at}
+use Rattle.tfpg_base.proofs.lemmas.lists.Valued.{filter_map-push_none, filter_map-push_some}
+use Rattle.tfpg_base.proofs.lemmas.lists.Written.{slice_get-set_other, slice_get-set_same, slice_get-push_at}
 use Rattle.tfpg_base.specs.declared.terms.Terms.{Terms}
 use Rattle.tfpg_graph.specs.Graph.{Tfpg, failures}
 use Rattle.tfpg_graph.specs.Valid.{IsValid}
@@ -23,8 +23,8 @@ use Rattle.tfpg_fleet.specs.declared.fleet_told.FleetTold.{FleetTold}
 use Rattle.tfpg_fleet.specs.declared.fleet_told.FleetTold.TheVariants.{Stray, Of}
 use Rattle.tfpg_fleet.specs.Belonging.{addressee, belongs, lines_for, vehicle_line}
 use Rattle.tfpg_fleet.specs.FleetState.{FleetBrings, FleetRepresents, FleetState, IsToldTo, names_of, rounds_after, rounds_with}
-use Rattle.tfpg_fleet.proofs.FleetTells.{represents_stray}
-use Rattle.tfpg_fleet.proofs.LinesFor.{lines-other, lines-own, lines-stray}
+use Rattle.tfpg_fleet.proofs.lemmas.FleetTells.{represents_stray}
+use Rattle.tfpg_fleet.proofs.lemmas.LinesFor.{lines-other, lines-own, lines-stray}
 use Rattle.tfpg_report.specs.Blocks.{Block}
 use Rattle.tfpg_check.specs.Report.{IsBlock, progress_of, rounds_of}
 use Rattle.tfpg_run.specs.declared.fleet.watch.Watch.{Watch}

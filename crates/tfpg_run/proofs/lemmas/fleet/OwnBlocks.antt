@@ -16,8 +16,8 @@ use Rattle.tfpg_engine.specs.declared.told.Told.{Told}
 use Rattle.tfpg_engine.specs.declared.told.Told.TheVariants as told
 use Rattle.tfpg_fleet.specs.Belonging.{belongs, lines_for, vehicle_line}
 use Rattle.tfpg_fleet.specs.FleetState.{FleetState, IsToldTo, VehicleRepresents, VehicleState, rounds_with}
-use Rattle.tfpg_fleet.proofs.FleetTells.{LogsGrow, told_represents}
-use Rattle.tfpg_fleet.proofs.LinesFor.{own_short}
+use Rattle.tfpg_fleet.proofs.lemmas.FleetTells.{LogsGrow, told_represents}
+use Rattle.tfpg_fleet.proofs.lemmas.LinesFor.{own_short}
 use Rattle.tfpg_report.specs.Blocks.{round_text}
 use Rattle.tfpg_check.specs.Report.{Progress, progress_of, rounds_of}
 use Rattle.tfpg_run.specs.declared.fleet.watch.Watch.{Watch}

@@ -1,14 +1,14 @@
 -- A log whose lines are all accepted has an event for each.
 use Rattle.std.proofs.Common.{◌≡◌, ℕ, zero, suc, ◌≤◌, cond, List, [], ◌∷◌, ◌++◌, length, take, refl, sym, ap, ◌∙◌, arith}
 use Rattle.std.proofs.lemmas.List.{take_all, length_push}
-use Rattle.tfpg_base.proofs.lists.Cuts.{take-item}
-use Rattle.tfpg_base.proofs.lists.Elements.{slice_get-there}
+use Rattle.tfpg_base.proofs.lemmas.lists.Cuts.{take-item}
+use Rattle.tfpg_base.proofs.lemmas.lists.Elements.{slice_get-there}
 use Rattle.tfpg_graph.specs.Graph.{Tfpg}
 use Rattle.tfpg_log.specs.Accepted.{reply_to}
 use Rattle.tfpg_log.specs.AcceptedLog.{AreAccepted, IsAccepted}
 use Rattle.tfpg_log.specs.Log.{Logbook, with_event}
 use Rattle.tfpg_log.specs.LogOfLines.{log_after_reply, log_of_lines}
-use Rattle.tfpg_log.proofs.logs_of_lines.LogsOfLines.{log_of_lines-push}
+use Rattle.tfpg_log.proofs.lemmas.logs_of_lines.LogsOfLines.{log_of_lines-push}
 
 module _ (graph : Tfpg) where
   -- an accepted line is one event more

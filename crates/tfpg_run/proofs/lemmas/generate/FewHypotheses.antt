@@ -3,7 +3,7 @@ use Rattle.std.proofs.Common.{◌≡◌, ℕ, ◌<◌, length, refl, sym, arith}
 use Rattle.tfpg_graph.specs.Graph.{Tfpg, failures}
 use Rattle.tfpg_hyp.specs.Hypotheses.{HasHypotheses}
 use Rattle.tfpg_hyp.specs.declared.limits.TheConstants.{MAX_HYPOTHESES}
-use Rattle.tfpg_hyp.proofs.Tables.{one_count, HasHypotheses-counted}
+use Rattle.tfpg_hyp.proofs.lemmas.Tables.{one_count, HasHypotheses-counted}
 use Rattle.tfpg_sim.specs.declared.limits.TheConstants.{FAILURE_COUNT}
 use Rattle.tfpg_run.specs.declared.limits.TheConstants.{GENERATED_K}
 use Rattle.tfpg_run.specs.generate.Terms.{generated_terms}

@@ -10,7 +10,7 @@ use Rattle.tfpg_log.specs.Log.{Logbook, IsLogOf, IsOrdered}
 use Rattle.tfpg_log.specs.AcceptedLog.{AreAccepted}
 use Rattle.tfpg_log.specs.LogOfLines.{log_of_lines}
 use Rattle.tfpg_log.specs.Explains.{Explains, Fits}
-use Rattle.tfpg_log.proofs.logs_of_lines.LogsOfLines.{of-log_of_lines, ordered-log_of_lines}
+use Rattle.tfpg_log.proofs.lemmas.logs_of_lines.LogsOfLines.{of-log_of_lines, ordered-log_of_lines}
 use Rattle.tfpg_evidence.specs.declared.finding.Finding.{Finding}
 use Rattle.tfpg_evidence.specs.declared.round.Round.{Round}
 use Rattle.tfpg_evidence.specs.Findings.{hypothesis_of}
@@ -24,10 +24,10 @@ use Rattle.tfpg_sim.specs.declared.limits.TheConstants.{FAILURE_COUNT}
 use Rattle.tfpg_sim.specs.declared.simulated.Simulated.{Simulated}
 use Rattle.tfpg_sim.specs.Generated.{generated_graph, generated_script}
 use Rattle.tfpg_sim.specs.Simulated.{IsSimulationOf}
-use Rattle.tfpg_base.proofs.lists.Elements.{Contains-at}
-use Rattle.tfpg_sim.proofs.simulations.SimulatedSets.{simulated_members}
-use Rattle.tfpg_sim.proofs.drawn.GeneratedGraphs.{generated_valid, generated_failures}
-use Rattle.tfpg_sim.proofs.drawn.GeneratedScripts.{generated_set, generated_log}
+use Rattle.tfpg_base.proofs.lemmas.lists.Elements.{Contains-at}
+use Rattle.tfpg_sim.proofs.lemmas.simulations.SimulatedSets.{simulated_members}
+use Rattle.tfpg_sim.proofs.lemmas.drawn.GeneratedGraphs.{generated_valid, generated_failures}
+use Rattle.tfpg_sim.proofs.lemmas.drawn.GeneratedScripts.{generated_set, generated_log}
 use Rattle.tfpg_diagnose.specs.declared.diagnosis.Diagnosis.{Diagnosis}
 use Rattle.tfpg_diagnose.specs.Rounds.{AreRoundsOf}
 use Rattle.tfpg_run.specs.generate.Generating.{HasSummary}

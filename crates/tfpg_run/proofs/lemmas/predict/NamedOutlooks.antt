@@ -4,7 +4,7 @@ use Rattle.std.specs.Prelude.{All}
 use Rattle.std.proofs.lemmas.Bool.{cases_lt}
 use Rattle.std.proofs.lemmas.List.{length_push}
 use Rattle.std.proofs.lemmas.List.Elements.{All-nil}
-use Rattle.tfpg_base.proofs.lists.Images.{All-unmap}
+use Rattle.tfpg_base.proofs.lemmas.lists.Images.{All-unmap}
 use Rattle.tfpg_graph.specs.declared.kind.Lag.{Lag}
 use Rattle.tfpg_graph.specs.Graph.{Tfpg, Sizes, sizes_of}
 use Rattle.tfpg_graph.specs.Probe.{with_probe, probe_node}
@@ -16,14 +16,14 @@ use Rattle.tfpg_evidence.specs.RoundOf.{IsStepOf}
 use Rattle.tfpg_clause.specs.Case.{Case}
 use Rattle.tfpg_clause.specs.Paths.{judged_by, with_steps}
 use Rattle.tfpg_clause.specs.Trees.{Judged}
-use Rattle.tfpg_clause.proofs.trees.NamedSteps.{AreStepsOfGraph, partial_named, refutation_named}
+use Rattle.tfpg_clause.proofs.lemmas.trees.NamedSteps.{AreStepsOfGraph, partial_named, refutation_named}
 use Rattle.tfpg_predict.specs.declared.outlook.Outlook.{Outlook}
 use Rattle.tfpg_predict.specs.declared.outlook.Outlook.TheVariants.{Earliest, Never, Unsettled}
 use Rattle.tfpg_predict.specs.LeastTime.{Lookahead, lookahead_of}
 use Rattle.tfpg_predict.specs.Outlooks.{IsOutlook, IsProbeCase, IsRefutedAt, IsSpentAt}
 use Rattle.tfpg_predict.specs.Probed.{IsProbeable, probe_lag, probe_word}
-use Rattle.tfpg_predict.proofs.AsProbed.{able_ignoring, by_its_end, of_probed}
-use Rattle.tfpg_predict.proofs.explained.ProbeParts.{failures_same}
+use Rattle.tfpg_predict.proofs.lemmas.AsProbed.{able_ignoring, by_its_end, of_probed}
+use Rattle.tfpg_predict.proofs.lemmas.explained.ProbeParts.{failures_same}
 use Rattle.tfpg_run.specs.declared.predict.query.Query.{Query}
 use Rattle.tfpg_run.specs.inside.predict.Forecasting.{IsAskable, IsOutlookOf, IsQuery}
 use Rattle.tfpg_run.specs.predict.Forecasts.{probed_names}

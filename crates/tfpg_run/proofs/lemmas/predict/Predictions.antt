@@ -8,18 +8,18 @@ use Rattle.std.proofs.lemmas.Option.{slice_get-get_or}
 use Rattle.tfpg_base.specs.declared.limits.TheConstants.{MAX_TIME}
 use Rattle.tfpg_base.specs.declared.terms.Terms.{Terms}
 use Rattle.tfpg_base.specs.Hypothesis.{Hypothesis}
-use Rattle.tfpg_base.proofs.lists.Elements.{Contains-at}
+use Rattle.tfpg_base.proofs.lemmas.lists.Elements.{Contains-at}
 use Rattle.tfpg_graph.specs.Graph.{Tfpg, failures, is_monitored, node_named}
 use Rattle.tfpg_graph.specs.declared.limits.TheConstants.{MAX_NODES, MAX_EDGES}
 use Rattle.tfpg_log.specs.Log.{Logbook, IsLogOf, IsOrdered, now_of}
 use Rattle.tfpg_log.specs.LogOfLines.{log_of_lines}
-use Rattle.tfpg_log.proofs.events.Order.{last_upto}
+use Rattle.tfpg_log.proofs.lemmas.events.Order.{last_upto}
 use Rattle.tfpg_evidence.specs.declared.finding.Finding.{Finding}
 use Rattle.tfpg_evidence.specs.declared.round.Round.{Round}
 use Rattle.tfpg_evidence.specs.Findings.{ranked_in_order}
-use Rattle.tfpg_evidence.proofs.FindingsByNumber.{RiseByNumber}
+use Rattle.tfpg_evidence.proofs.lemmas.FindingsByNumber.{RiseByNumber}
 use Rattle.tfpg_hyp.specs.Rounds.{IsRound}
-use Rattle.tfpg_hyp.proofs.FindingsOfRound.{HasFindingAt, evidence}
+use Rattle.tfpg_hyp.proofs.lemmas.FindingsOfRound.{HasFindingAt, evidence}
 use Rattle.tfpg_predict.specs.LeastTime.{lookahead_of}
 use Rattle.tfpg_predict.specs.Probed.{IsProbeable}
 use Rattle.tfpg_diagnose.specs.declared.diagnosis.Diagnosis.{Diagnosis}

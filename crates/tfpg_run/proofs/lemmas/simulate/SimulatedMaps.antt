@@ -9,7 +9,7 @@ use Rattle.tfpg_graph.specs.Graph.{Tfpg, IsSetOf}
 use Rattle.tfpg_graph.specs.Valid.{IsValid}
 use Rattle.tfpg_log.specs.Log.{Logbook, IsOrdered, now_of}
 use Rattle.tfpg_log.specs.Explains.{Explains}
-use Rattle.tfpg_clause.proofs.logs.TimesInRange.{now_in_range}
+use Rattle.tfpg_clause.proofs.lemmas.logs.TimesInRange.{now_in_range}
 use Rattle.tfpg_sim.specs.declared.simulated.Simulated.{Simulated}
 use Rattle.tfpg_map.specs.Spelling.{IsActivationOf, SpellsMap}
 use Rattle.tfpg_map.specs.MapText.{map_text}

@@ -1,6 +1,6 @@
 use Rattle.tfpg_base.specs.Lines.{lines_of}
 use Rattle.tfpg_log.specs.LogOfLines.{log_of_lines}
-use Rattle.tfpg_sim.proofs.simulations.SimulatedSets.{simulated_members}
+use Rattle.tfpg_sim.proofs.lemmas.simulations.SimulatedSets.{simulated_members}
 use Rattle.tfpg_run.proofs.lemmas.simulate.SimulatedMaps.{simulation_spells}
 use Rattle.tfpg_run.proofs.simulate.simulation_text.Goals as goal
 

@@ -1,4 +1,4 @@
-use Rattle.tfpg_search.proofs.calls.CutTimes.{more_cut, all_cut}
+use Rattle.tfpg_search.proofs.lemmas.calls.CutTimes.{more_cut, all_cut}
 use Rattle.tfpg_search.proofs.cut.cut.Goals as goal
 
 pub loop-node-preserved : goal.loop-node-preserved

@@ -1,8 +1,8 @@
 -- The last alarm says most.
 use Rattle.std.proofs.Common.{arith, subst}
 use Rattle.tfpg_log.specs.LastAlarm.{IsLastAlarm}
-use Rattle.tfpg_clause.proofs.logs.TimesInRange.{now_in_range}
-use Rattle.tfpg_search.proofs.facts.StatedBounds.{left_by_now, low_of_last}
+use Rattle.tfpg_clause.proofs.lemmas.logs.TimesInRange.{now_in_range}
+use Rattle.tfpg_search.proofs.lemmas.facts.StatedBounds.{left_by_now, low_of_last}
 use Rattle.tfpg_search.proofs.fact_bounds.after_alarm.Goals as goal
 
 pub returns-in-Some-clause-greatest : goal.returns-in-Some-clause-greatest

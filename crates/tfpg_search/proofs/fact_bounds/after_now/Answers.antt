@@ -1,7 +1,7 @@
 -- Now is in range.
 use Rattle.std.proofs.Common.{arith}
-use Rattle.tfpg_clause.proofs.logs.TimesInRange.{now_in_range}
-use Rattle.tfpg_search.proofs.facts.StatedBounds.{low_by_now}
+use Rattle.tfpg_clause.proofs.lemmas.logs.TimesInRange.{now_in_range}
+use Rattle.tfpg_search.proofs.lemmas.facts.StatedBounds.{low_by_now}
 use Rattle.tfpg_search.proofs.fact_bounds.after_now.Goals as goal
 
 pub overflow_add-result : goal.overflow_add-result

@@ -1,8 +1,8 @@
 -- The first alarm says most.
 use Rattle.std.proofs.Common.{sym, ◌∙◌, arith, ◌⊎◌, ◌≡◌, true, None, Option, ℕ, subst}
 use Rattle.tfpg_log.specs.Log.{is_ignored}
-use Rattle.tfpg_clause.proofs.logs.TimesInRange.{now_in_range}
-use Rattle.tfpg_search.proofs.facts.StatedBounds.{left_by_now, high_of_first, high_of_none, first_there}
+use Rattle.tfpg_clause.proofs.lemmas.logs.TimesInRange.{now_in_range}
+use Rattle.tfpg_search.proofs.lemmas.facts.StatedBounds.{left_by_now, high_of_first, high_of_none, first_there}
 use Rattle.tfpg_search.proofs.fact_bounds.high.Goals as goal
 
 pub left_by-requires : goal.left_by-requires

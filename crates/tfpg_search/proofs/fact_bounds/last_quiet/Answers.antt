@@ -1,7 +1,7 @@
 use Rattle.std.proofs.Common.{sym, ◌∙◌, arith}
-use Rattle.tfpg_log.proofs.events.SilenceTimes.{last_is_latest}
-use Rattle.tfpg_clause.proofs.logs.TimesInRange.{now_in_range}
-use Rattle.tfpg_search.proofs.facts.StatedBounds.{quiet_by_now}
+use Rattle.tfpg_log.proofs.lemmas.events.SilenceTimes.{last_is_latest}
+use Rattle.tfpg_clause.proofs.lemmas.logs.TimesInRange.{now_in_range}
+use Rattle.tfpg_search.proofs.lemmas.facts.StatedBounds.{quiet_by_now}
 use Rattle.tfpg_search.proofs.fact_bounds.last_quiet.Goals as goal
 
 pub returns-clause-last : goal.returns-clause-last

@@ -6,7 +6,7 @@ use Rattle.tfpg_graph.proofs.lemmas.reach.Reaches.{among-from_Contains, Contains
 use Rattle.tfpg_graph.specs.Reach.{is_among}
 use Rattle.tfpg_base.specs.Bounds.{at_least}
 use Rattle.tfpg_clause.specs.Facts.{fact}
-use Rattle.tfpg_search.proofs.facts.StatedBounds.{low_of_events, unreached_stated}
+use Rattle.tfpg_search.proofs.lemmas.facts.StatedBounds.{low_of_events, unreached_stated}
 use Rattle.tfpg_search.proofs.fact_bounds.low.Goals as goal
 use Rattle.tfpg_clause.specs.Case.{case_of}
 

@@ -1,4 +1,4 @@
-use Rattle.tfpg_search.proofs.work.LimitThere.{limit_there, one_limit, unchanged_limit}
+use Rattle.tfpg_search.proofs.lemmas.work.LimitThere.{limit_there, one_limit, unchanged_limit}
 use Rattle.tfpg_search.proofs.laws.a_round_has_one_work_limit.Goals as goal
 
 pub returns : goal.returns

@@ -1,4 +1,4 @@
-use Rattle.tfpg_search.proofs.solutions.LatestSolution.{latest_there, one_latest}
+use Rattle.tfpg_search.proofs.lemmas.solutions.LatestSolution.{latest_there, one_latest}
 use Rattle.tfpg_search.proofs.laws.a_solved_leaf_has_one_latest_solution.Goals as goal
 
 pub returns : goal.returns

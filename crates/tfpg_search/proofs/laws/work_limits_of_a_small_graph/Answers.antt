@@ -1,4 +1,4 @@
-use Rattle.tfpg_search.proofs.work.LimitsWorkedOut.{limit_at_alarm, limit_at_tick, limit_of_unreached}
+use Rattle.tfpg_search.proofs.lemmas.work.LimitsWorkedOut.{limit_at_alarm, limit_at_tick, limit_of_unreached}
 use Rattle.tfpg_search.proofs.laws.work_limits_of_a_small_graph.Goals as goal
 
 pub returns-clause-alarm : goal.returns-clause-alarm

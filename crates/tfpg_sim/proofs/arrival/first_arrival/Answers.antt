@@ -4,7 +4,7 @@ use Rattle.tfpg_graph.specs.Graph.{incoming}
 use Rattle.tfpg_sim.specs.inside.Arrivals.{AreNearFlights}
 use Rattle.tfpg_sim.specs.inside.Flights.{LandsBy}
 use Rattle.tfpg_sim.specs.Simulation.{IsFirst}
-use Rattle.tfpg_sim.proofs.flights.ArrivingFlights.{flights_small, or_arrival, and_arrival, no_arrival}
+use Rattle.tfpg_sim.proofs.lemmas.flights.ArrivingFlights.{flights_small, or_arrival, and_arrival, no_arrival}
 use Rattle.tfpg_sim.proofs.arrival.first_arrival.Goals as goal
 
 pub first_landing-requires-clause-flights : goal.first_landing-requires-clause-flights

@@ -1,8 +1,8 @@
 use Rattle.std.proofs.Common.{◌≢◌, not, sym, ap, subst, ◌∙◌}
 use Rattle.tfpg_sim.specs.inside.Settling.{simulation_case, IsCandidate}
-use Rattle.tfpg_sim.proofs.simulations.SettledNodes.{keeps_candidate}
+use Rattle.tfpg_sim.proofs.lemmas.simulations.SettledNodes.{keeps_candidate}
 use Rattle.tfpg_sim.proofs.candidates.candidate_after.Goals as goal
-use Rattle.tfpg_base.proofs.lists.Choices.{is_some-none}
+use Rattle.tfpg_base.proofs.lemmas.lists.Choices.{is_some-none}
 
 pub returns-then-is_none : goal.returns-then-is_none
 returns-then-is_none c log limit before time are is absent own =

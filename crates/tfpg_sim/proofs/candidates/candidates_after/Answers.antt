@@ -1,6 +1,6 @@
 use Rattle.std.proofs.Common.{◌+◌, length, None, ap, ◌∙◌, arith}
 use Rattle.std.proofs.lemmas.List.{length_push}
-use Rattle.tfpg_base.proofs.lists.Written.{each_get_or-push}
+use Rattle.tfpg_base.proofs.lemmas.lists.Written.{each_get_or-push}
 use Rattle.tfpg_sim.specs.inside.Settling.{simulation_case, IsCandidate}
 use Rattle.tfpg_sim.proofs.candidates.candidates_after.Goals as goal
 

@@ -1,4 +1,4 @@
-use Rattle.tfpg_sim.proofs.simulations.SettledNodes.{earliest_all}
+use Rattle.tfpg_sim.proofs.lemmas.simulations.SettledNodes.{earliest_all}
 use Rattle.tfpg_sim.proofs.candidates.earliest.Goals as goal
 
 pub returns : goal.returns

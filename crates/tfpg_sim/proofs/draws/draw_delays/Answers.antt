@@ -1,7 +1,7 @@
 use Rattle.std.proofs.Common.{◌+◌, ◌≤◌, length, subst, ◌++◌, ◌∷◌, [], sym, ap, ◌∙◌}
 use Rattle.tfpg_sim.specs.inside.Arrivals.{AreNearDelays, far}
 use Rattle.tfpg_sim.specs.Draws.{drawn, after_draw, delay_of}
-use Rattle.tfpg_sim.proofs.simulations.DrawLists.{delays_from-more, after_edges-more}
+use Rattle.tfpg_sim.proofs.lemmas.simulations.DrawLists.{delays_from-more, after_edges-more}
 use Rattle.tfpg_sim.proofs.draws.draw_delays.Goals as goal
 use Rattle.std.proofs.lemmas.List.{length_push}
 use Rattle.std.proofs.lemmas.List.Elements.{All-append, All-cons, All-nil}

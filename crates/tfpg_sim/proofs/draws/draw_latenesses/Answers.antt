@@ -3,7 +3,7 @@ use Rattle.tfpg_graph.specs.Graph.{lag_of}
 use Rattle.tfpg_sim.specs.declared.draws.Lateness.{Lateness}
 use Rattle.tfpg_sim.specs.Draws.{after_lag, lateness_drawn}
 use Rattle.tfpg_sim.specs.inside.Entries.{IsLatenessInRange, AreLatenessesInRange}
-use Rattle.tfpg_sim.proofs.simulations.DrawLists.{latenesses_from-more, after_nodes-more, valid_lag}
+use Rattle.tfpg_sim.proofs.lemmas.simulations.DrawLists.{latenesses_from-more, after_nodes-more, valid_lag}
 use Rattle.tfpg_sim.proofs.draws.draw_latenesses.Goals as goal
 use Rattle.std.proofs.lemmas.List.{length_push}
 use Rattle.std.proofs.lemmas.Option.{IfSome_then}

@@ -1,9 +1,9 @@
 use Rattle.std.proofs.Common.{◌+◌, ◌∙◌, ◌∷◌, drop, get_or, sym, ap, subst, add-one}
 use Rattle.std.proofs.Math.Seq.{drop-cons}
 use Rattle.tfpg_log.specs.declared.span.Span.{Span}
-use Rattle.tfpg_sim.proofs.flights.Landing.{IsBefore, goes_on, ends_at, at_first, at_last}
+use Rattle.tfpg_sim.proofs.lemmas.flights.Landing.{IsBefore, goes_on, ends_at, at_first, at_last}
 use Rattle.tfpg_sim.proofs.flight.landing_in.Goals as goal
-use Rattle.tfpg_base.proofs.lists.Choices.{is_some-none, is_some-there}
+use Rattle.tfpg_base.proofs.lemmas.lists.Choices.{is_some-none, is_some-there}
 use Rattle.std.proofs.lemmas.List.{drop_all}
 
 -- no span

@@ -1,7 +1,7 @@
 use Rattle.std.proofs.Common.{◌≡◌, ℕ, ◌+◌, length, drop}
 use Rattle.tfpg_log.specs.Log.{Logbook}
 use Rattle.tfpg_sim.specs.inside.ModeSpans.{AreSpans}
-use Rattle.tfpg_sim.proofs.flights.Landing.{IsBefore}
+use Rattle.tfpg_sim.proofs.lemmas.flights.Landing.{IsBefore}
 use Rattle.tfpg_sim.proofs.flight.landing_in.Given as goal
 
 -- nothing has landed before the next span

@@ -1,5 +1,5 @@
 use Rattle.std.proofs.Common.{◌≡◌, ◌+◌, ◌≤◌, ◌↔◌, length, arith, sym, subst}
-use Rattle.tfpg_sim.proofs.flights.ReachedTimes.{EachBelow, each_more}
+use Rattle.tfpg_sim.proofs.lemmas.flights.ReachedTimes.{EachBelow, each_more}
 use Rattle.tfpg_sim.proofs.flight.latest.Goals as goal
 
 pub loop-pending-preserved : goal.loop-pending-preserved

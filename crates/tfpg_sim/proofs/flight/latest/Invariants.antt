@@ -1,5 +1,5 @@
 use Rattle.std.proofs.Common.{ℕ, ◌≤◌, ◌↔◌}
-use Rattle.tfpg_sim.proofs.flights.ReachedTimes.{EachBelow}
+use Rattle.tfpg_sim.proofs.lemmas.flights.ReachedTimes.{EachBelow}
 use Rattle.tfpg_sim.proofs.flight.latest.Given as goal
 
 -- from when on the times so far are reached

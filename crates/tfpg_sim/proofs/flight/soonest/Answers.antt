@@ -1,6 +1,6 @@
 use Rattle.std.proofs.Common.{◌≡◌, ◌↔◌, length, refl, arith, subst}
 use Rattle.tfpg_sim.specs.inside.Flights.{IsReached}
-use Rattle.tfpg_sim.proofs.flights.ReachedTimes.{SomeBelow, some_more, earlier-reached}
+use Rattle.tfpg_sim.proofs.lemmas.flights.ReachedTimes.{SomeBelow, some_more, earlier-reached}
 use Rattle.tfpg_sim.proofs.flight.soonest.Goals as goal
 
 pub loop-pending-preserved : goal.loop-pending-preserved

@@ -1,6 +1,6 @@
 use Rattle.std.proofs.Common.{ℕ, ◌↔◌}
 use Rattle.tfpg_sim.specs.inside.Flights.{IsReached}
-use Rattle.tfpg_sim.proofs.flights.ReachedTimes.{SomeBelow}
+use Rattle.tfpg_sim.proofs.lemmas.flights.ReachedTimes.{SomeBelow}
 use Rattle.tfpg_sim.proofs.flight.soonest.Given as goal
 
 -- from when on one of the times so far is reached

@@ -3,8 +3,8 @@ use Rattle.tfpg_graph.specs.Valid.{IsValid}
 use Rattle.tfpg_sim.specs.Generated.{draft_after, draft_of, drawn_graph, script_drawn}
 use Rattle.tfpg_sim.specs.inside.GraphText.{HasDrawnModes}
 use Rattle.tfpg_graph.specs.Text.{version_for}
-use Rattle.tfpg_sim.proofs.drawn.DrawnVersions.{generated_version}
-use Rattle.tfpg_sim.proofs.drawn.GeneratedGraphs.{generated_valid, generated_kinds, generated_modes}
+use Rattle.tfpg_sim.proofs.lemmas.drawn.DrawnVersions.{generated_version}
+use Rattle.tfpg_sim.proofs.lemmas.drawn.GeneratedGraphs.{generated_valid, generated_kinds, generated_modes}
 use Rattle.tfpg_sim.proofs.generating.generate.Goals as goal
 
 pub drawn_graph-requires-clause-valid : goal.drawn_graph-requires-clause-valid

@@ -1,4 +1,4 @@
-use Rattle.tfpg_sim.proofs.drawn.GeneratedGraphs.{generated_valid}
+use Rattle.tfpg_sim.proofs.lemmas.drawn.GeneratedGraphs.{generated_valid}
 use Rattle.tfpg_sim.proofs.laws.a_generated_graph_is_valid.Goals as goal
 
 pub returns : goal.returns

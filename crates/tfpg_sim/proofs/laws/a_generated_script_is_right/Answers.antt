@@ -1,5 +1,5 @@
-use Rattle.tfpg_sim.proofs.drawn.GeneratedGraphs.{generated_failures}
-use Rattle.tfpg_sim.proofs.drawn.GeneratedScripts.{never_at_fault, generated_set, generated_log}
+use Rattle.tfpg_sim.proofs.lemmas.drawn.GeneratedGraphs.{generated_failures}
+use Rattle.tfpg_sim.proofs.lemmas.drawn.GeneratedScripts.{never_at_fault, generated_set, generated_log}
 use Rattle.tfpg_sim.proofs.laws.a_generated_script_is_right.Goals as goal
 
 pub returns-clause-failures : goal.returns-clause-failures

@@ -1,4 +1,4 @@
-use Rattle.tfpg_sim.proofs.logged.ExplainedLogs.{accepted, events_are, explained}
+use Rattle.tfpg_sim.proofs.lemmas.logged.ExplainedLogs.{accepted, events_are, explained}
 use Rattle.tfpg_sim.proofs.laws.a_simulated_log_is_accepted_and_explained.Goals as goal
 
 pub returns-clause-accepted : goal.returns-clause-accepted

@@ -1,4 +1,4 @@
-use Rattle.tfpg_sim.proofs.simulations.KeptRules.{keeps}
+use Rattle.tfpg_sim.proofs.lemmas.simulations.KeptRules.{keeps}
 use Rattle.tfpg_sim.proofs.laws.a_simulated_trace_keeps_the_rules.Goals as goal
 
 pub returns : goal.returns

@@ -1,4 +1,4 @@
-use Rattle.tfpg_base.proofs.Appended.{Appends-err_after}
+use Rattle.tfpg_base.proofs.lemmas.Appended.{Appends-err_after}
 use Rattle.tfpg_sim.proofs.log_lines.append_events.Goals as goal
 
 pub returns-in_err-append_event : goal.returns-in_err-append_event

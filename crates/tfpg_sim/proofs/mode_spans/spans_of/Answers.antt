@@ -1,6 +1,6 @@
 use Rattle.std.proofs.Common.{◌≤◌, ◌+◌, take, get_or, sym, ap, subst, ◌∙◌, arith, Vec, Global}
 use Rattle.std.proofs.lemmas.List.{take_more, take_all}
-use Rattle.tfpg_base.proofs.lists.Elements.{AllPairs-before}
+use Rattle.tfpg_base.proofs.lemmas.lists.Elements.{AllPairs-before}
 use Rattle.tfpg_log.specs.declared.span.Span.{Span}
 use Rattle.tfpg_sim.specs.inside.Arrivals.{AreNearSpans, far}
 use Rattle.tfpg_sim.specs.declared.entry.Entry.{Entry}
@@ -8,7 +8,7 @@ use Rattle.tfpg_sim.specs.declared.entry.Entry.TheVariants.{Start}
 use Rattle.tfpg_sim.specs.Script.{time_of_entry}
 use Rattle.tfpg_sim.specs.Simulation.{script_log}
 use Rattle.tfpg_sim.specs.inside.ModeSpans.{AreSpans}
-use Rattle.tfpg_sim.proofs.flights.SplitSpans.{IsSplit, split_next, split_last, split_past, small_more, small_after}
+use Rattle.tfpg_sim.proofs.lemmas.flights.SplitSpans.{IsSplit, split_next, split_last, split_past, small_more, small_after}
 use Rattle.tfpg_sim.proofs.mode_spans.spans_of.Goals as goal
 use Rattle.tfpg_sim.proofs.mode_spans.spans_of.Goals.{then-current-stop+in_ok-push, else-current-stop}
 

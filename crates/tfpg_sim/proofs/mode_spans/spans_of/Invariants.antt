@@ -1,5 +1,5 @@
 use Rattle.std.proofs.Common.{◌≤◌, take}
-use Rattle.tfpg_sim.proofs.flights.SplitSpans.{IsSplit}
+use Rattle.tfpg_sim.proofs.lemmas.flights.SplitSpans.{IsSplit}
 use Rattle.tfpg_sim.proofs.mode_spans.spans_of.Given as goal
 use Rattle.tfpg_sim.specs.inside.Arrivals.{AreNearSpans, far}
 

@@ -4,14 +4,14 @@ use Rattle.std.proofs.lemmas.Iterator.Consumers.{YieldsList-so_far, YieldsList-t
 use Rattle.std.proofs.lemmas.Iterator.Splits.{YieldsList-from_slice_split}
 use Rattle.std.proofs.lemmas.List.{map_push}
 use Rattle.tfpg_base.specs.Lines.{lines_of, parts_of}
-use Rattle.tfpg_base.proofs.lists.Cuts.{cut_read}
+use Rattle.tfpg_base.proofs.lemmas.lists.Cuts.{cut_read}
 use Rattle.tfpg_sim.specs.Script.{has_stopped}
 use Rattle.tfpg_sim.specs.inside.ScriptReading.{next_entry}
 use Rattle.tfpg_sim.specs.inside.ScriptReading.{read_lines, with_next}
 use Rattle.tfpg_sim.specs.inside.Entries.{IsScript}
-use Rattle.tfpg_sim.proofs.scripts.SpelledScripts.{SpellsScript-read, IsScriptFault-read}
-use Rattle.tfpg_sim.proofs.scripts.ScriptLines.{script_push, script_none}
-use Rattle.tfpg_sim.proofs.scripts.ReadLines.{read_lines-push, script_of-empty, script_of-fault, script_of-stopped, script_of-missing}
+use Rattle.tfpg_sim.proofs.lemmas.scripts.SpelledScripts.{SpellsScript-read, IsScriptFault-read}
+use Rattle.tfpg_sim.proofs.lemmas.scripts.ScriptLines.{script_push, script_none}
+use Rattle.tfpg_sim.proofs.lemmas.scripts.ReadLines.{read_lines-push, script_of-empty, script_of-fault, script_of-stopped, script_of-missing}
 use Rattle.tfpg_sim.proofs.script.read_script.Goals as goal
 use Rattle.tfpg_sim.proofs.script.read_script.Goals.{After-next, In-Some, In-None}
 

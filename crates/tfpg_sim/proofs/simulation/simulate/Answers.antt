@@ -3,7 +3,7 @@ use Rattle.tfpg_sim.specs.Script.{time_so_far}
 use Rattle.tfpg_sim.specs.Draws.{delays, latenesses}
 use Rattle.tfpg_sim.specs.Simulation.{IsSimulated}
 use Rattle.tfpg_sim.specs.SimulatedLog.{set_of, log_events, log_text}
-use Rattle.tfpg_sim.proofs.logged.ExplainedLogs.{accepted, explained}
+use Rattle.tfpg_sim.proofs.lemmas.logged.ExplainedLogs.{accepted, explained}
 use Rattle.tfpg_sim.proofs.simulation.simulate.Goals as goal
 
 pub log_events-requires-clause-few : goal.log_events-requires-clause-few

@@ -5,7 +5,7 @@ use Rattle.tfpg_base.specs.Trace.{time_of}
 use Rattle.tfpg_sim.specs.declared.entry.Entry.TheVariants.{Start}
 use Rattle.tfpg_sim.specs.Simulation.{start_of}
 use Rattle.tfpg_sim.specs.inside.Settling.{IsFailureStart}
-use Rattle.tfpg_sim.proofs.scripts.ScriptOrder.{start_step, own_step}
+use Rattle.tfpg_sim.proofs.lemmas.scripts.ScriptOrder.{start_step, own_step}
 use Rattle.tfpg_sim.proofs.trace.started.Goals as goal
 
 pub loop-entry-preserved : goal.loop-entry-preserved

@@ -4,9 +4,9 @@ use Rattle.tfpg_sim.specs.Script.{time_of_entry}
 use Rattle.tfpg_sim.specs.Simulation.{script_log, start_of}
 use Rattle.tfpg_sim.specs.inside.Settling.{simulation_case, IsUnderWay, AreCandidates, IsEarliest, candidate_at, waiting_count}
 use Rattle.tfpg_sim.specs.inside.ModeSpans.{AreSpans}
-use Rattle.tfpg_sim.proofs.scripts.ScriptOrder.{in_order, all_by_last, small}
-use Rattle.tfpg_sim.proofs.simulations.SettledNodes.{is_absent}
-use Rattle.tfpg_sim.proofs.simulations.WholeRuns.{begins, goes_on, ends, times_after, waiting_less}
+use Rattle.tfpg_sim.proofs.lemmas.scripts.ScriptOrder.{in_order, all_by_last, small}
+use Rattle.tfpg_sim.proofs.lemmas.simulations.SettledNodes.{is_absent}
+use Rattle.tfpg_sim.proofs.lemmas.simulations.WholeRuns.{begins, goes_on, ends, times_after, waiting_less}
 use Rattle.tfpg_sim.proofs.trace.trace_of.Goals as goal
 use Rattle.tfpg_sim.proofs.trace.trace_of.Goals.{In-Some}
 

@@ -1,4 +1,4 @@
-use Rattle.tfpg_trace.proofs.AgesByWindow.{no_window, by_both}
+use Rattle.tfpg_trace.proofs.lemmas.AgesByWindow.{no_window, by_both}
 use Rattle.tfpg_trace.proofs.ages.has_age.Goals as goal
 
 pub returns-in-None : goal.returns-in-None

@@ -1,5 +1,5 @@
 use Rattle.std.proofs.Common.{refl, sym, ◌∙◌}
-use Rattle.tfpg_log.proofs.events.ShownByLookUp.{shows_alarm_by_interval, shows_alarm_in, shows_alarm_unheard}
+use Rattle.tfpg_log.proofs.lemmas.events.ShownByLookUp.{shows_alarm_by_interval, shows_alarm_in, shows_alarm_unheard}
 use Rattle.tfpg_trace.proofs.alarms.shows_alarm.Goals as goal
 
 pub returns-in-Some : goal.returns-in-Some

@@ -1,7 +1,7 @@
 use Rattle.std.proofs.Common.{ℕ, sym, subst, ◌∙◌}
 use Rattle.std.specs.Prelude.{MatchOption}
 use Rattle.tfpg_trace.specs.inside.Shown.{IsAlarmTime, AreAlarmTimes}
-use Rattle.tfpg_trace.proofs.NodeTimes.{no_alarm_time, alarm_times_are}
+use Rattle.tfpg_trace.proofs.lemmas.NodeTimes.{no_alarm_time, alarm_times_are}
 use Rattle.tfpg_trace.proofs.all_shown.alarm_times.Goals as goal
 
 pub returns-in_err-first : goal.returns-in_err-first

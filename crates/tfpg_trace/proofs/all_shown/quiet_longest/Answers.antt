@@ -1,5 +1,5 @@
 use Rattle.std.proofs.Common.{sym}
-use Rattle.tfpg_trace.proofs.NodeTimes.{longest_is}
+use Rattle.tfpg_trace.proofs.lemmas.NodeTimes.{longest_is}
 use Rattle.tfpg_trace.proofs.all_shown.quiet_longest.Goals as goal
 
 pub returns : goal.returns

@@ -1,5 +1,5 @@
 use Rattle.std.proofs.Common.{refl}
-use Rattle.tfpg_trace.proofs.ShownByNode.{alarms_shown}
+use Rattle.tfpg_trace.proofs.lemmas.ShownByNode.{alarms_shown}
 use Rattle.tfpg_trace.proofs.all_shown.shows_alarms.Goals as goal
 
 pub returns-then-shows_alarm : goal.returns-then-shows_alarm

@@ -1,6 +1,6 @@
 use Rattle.std.proofs.Common.{refl, arith}
 use Rattle.std.proofs.lemmas.Bool.{iff_false}
-use Rattle.tfpg_trace.proofs.ShownByNode.{ShowNodesBefore-more, all_shown, node_shown}
+use Rattle.tfpg_trace.proofs.lemmas.ShownByNode.{ShowNodesBefore-more, all_shown, node_shown}
 use Rattle.tfpg_trace.proofs.all_shown.shows_all.Goals as goal
 
 pub returns-then-not-shows_node : goal.returns-then-not-shows_node

@@ -1,4 +1,4 @@
-use Rattle.tfpg_trace.proofs.ShownByNode.{ShowNodesBefore}
+use Rattle.tfpg_trace.proofs.lemmas.ShownByNode.{ShowNodesBefore}
 use Rattle.tfpg_trace.proofs.all_shown.shows_all.Given as goal
 
 abbrev pub invariant-loop-node : goal.invariant-loop-node

@@ -1,5 +1,5 @@
 use Rattle.std.proofs.lemmas.Bool.{ltb-true, lt-ltb}
-use Rattle.tfpg_trace.proofs.ShownByNode.{silences_shown, active_after}
+use Rattle.tfpg_trace.proofs.lemmas.ShownByNode.{silences_shown, active_after}
 use Rattle.tfpg_trace.proofs.all_shown.shows_silences.Goals as goal
 
 pub returns-in-Some-quiet_longest : goal.returns-in-Some-quiet_longest

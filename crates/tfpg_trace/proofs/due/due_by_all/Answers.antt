@@ -1,10 +1,10 @@
 use Rattle.std.proofs.Common.{◌+◌, Some, None, length, sym, subst, arith}
 use Rattle.tfpg_graph.proofs.lemmas.reach.Sources.{incoming_within}
 use Rattle.tfpg_trace.specs.inside.Due.{Begins, AllDue}
-use Rattle.tfpg_trace.proofs.Beginnings.{EachOf, each_of_none, begins_each_more, never_each}
-use Rattle.tfpg_trace.proofs.SpanOrder.{in_order}
-use Rattle.tfpg_trace.proofs.DueInto.{DueAt, all_by_indexes}
-use Rattle.tfpg_trace.proofs.GapsOver.{gap_at}
+use Rattle.tfpg_trace.proofs.lemmas.Beginnings.{EachOf, each_of_none, begins_each_more, never_each}
+use Rattle.tfpg_trace.proofs.lemmas.SpanOrder.{in_order}
+use Rattle.tfpg_trace.proofs.lemmas.DueInto.{DueAt, all_by_indexes}
+use Rattle.tfpg_trace.proofs.lemmas.GapsOver.{gap_at}
 use Rattle.tfpg_trace.proofs.due.due_by_all.Goals as goal
 
 pub loop-index-init : goal.loop-index-init

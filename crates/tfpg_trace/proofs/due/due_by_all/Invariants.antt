@@ -2,8 +2,8 @@ use Rattle.std.proofs.Common.{ℕ, Some}
 use Rattle.tfpg_log.specs.Log.{Logbook}
 use Rattle.tfpg_trace.specs.inside.Due.{Begins}
 use Rattle.tfpg_trace.specs.inside.Gaps.{StartsSpan}
-use Rattle.tfpg_trace.proofs.Beginnings.{EachOf}
-use Rattle.tfpg_trace.proofs.DueInto.{DueAt}
+use Rattle.tfpg_trace.proofs.lemmas.Beginnings.{EachOf}
+use Rattle.tfpg_trace.proofs.lemmas.DueInto.{DueAt}
 use Rattle.tfpg_trace.proofs.due.due_by_all.Given as goal
 
 abbrev pub invariant-loop-index : goal.invariant-loop-index

@@ -1,5 +1,5 @@
 use Rattle.std.proofs.Common.{sym, ◌∙◌}
-use Rattle.tfpg_trace.proofs.DueEdges.{without_mode, behind}
+use Rattle.tfpg_trace.proofs.lemmas.DueEdges.{without_mode, behind}
 use Rattle.tfpg_trace.proofs.due.due_by_edge.Goals as goal
 
 pub returns-then-not-is_active_in : goal.returns-then-not-is_active_in

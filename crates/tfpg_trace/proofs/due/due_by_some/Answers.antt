@@ -1,9 +1,9 @@
 use Rattle.std.proofs.Common.{◌+◌, sym, subst, arith}
 use Rattle.tfpg_graph.proofs.lemmas.reach.Sources.{incoming_within}
 use Rattle.tfpg_trace.specs.inside.Due.{Begins}
-use Rattle.tfpg_trace.proofs.Beginnings.{OneOf, begins_one_more}
-use Rattle.tfpg_trace.proofs.DueInto.{DueAt, some_by_indexes}
-use Rattle.tfpg_trace.proofs.GapsOver.{gap_at}
+use Rattle.tfpg_trace.proofs.lemmas.Beginnings.{OneOf, begins_one_more}
+use Rattle.tfpg_trace.proofs.lemmas.DueInto.{DueAt, some_by_indexes}
+use Rattle.tfpg_trace.proofs.lemmas.GapsOver.{gap_at}
 use Rattle.tfpg_trace.proofs.due.due_by_some.Goals as goal
 
 pub due_by_edge-requires : goal.due_by_edge-requires

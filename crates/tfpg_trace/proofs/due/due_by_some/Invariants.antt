@@ -2,8 +2,8 @@ use Rattle.std.proofs.Common.{ℕ}
 use Rattle.tfpg_log.specs.Log.{Logbook}
 use Rattle.tfpg_trace.specs.inside.Due.{Begins}
 use Rattle.tfpg_trace.specs.inside.Gaps.{StartsSpan}
-use Rattle.tfpg_trace.proofs.Beginnings.{OneOf}
-use Rattle.tfpg_trace.proofs.DueInto.{DueAt}
+use Rattle.tfpg_trace.proofs.lemmas.Beginnings.{OneOf}
+use Rattle.tfpg_trace.proofs.lemmas.DueInto.{DueAt}
 use Rattle.tfpg_trace.proofs.due.due_by_some.Given as goal
 
 abbrev pub invariant-loop-index : goal.invariant-loop-index

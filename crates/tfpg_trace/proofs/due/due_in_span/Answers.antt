@@ -1,4 +1,4 @@
-use Rattle.tfpg_trace.proofs.MustFaults.{must_by_some, must_by_all}
+use Rattle.tfpg_trace.proofs.lemmas.MustFaults.{must_by_some, must_by_all}
 use Rattle.tfpg_trace.proofs.due.due_in_span.Goals as goal
 
 pub returns-in-Or : goal.returns-in-Or

@@ -1,7 +1,7 @@
 use Rattle.std.proofs.Common.{nat_eq, refl, sym, ◌∙◌}
 use Rattle.std.proofs.lemmas.Bool.{false≢true}
 use Rattle.tfpg_trace.specs.inside.Due.{CanBeDue}
-use Rattle.tfpg_base.proofs.lists.Numbered.{number_within, not_all_at_index, all_at_indexes}
+use Rattle.tfpg_base.proofs.lemmas.lists.Numbered.{number_within, not_all_at_index, all_at_indexes}
 use Rattle.tfpg_trace.proofs.due_first.all_can_be_due.Goals as goal
 
 pub edge_can_be_due-requires : goal.edge_can_be_due-requires

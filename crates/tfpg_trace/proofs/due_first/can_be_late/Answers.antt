@@ -1,5 +1,5 @@
 use Rattle.std.proofs.lemmas.Bool.{iff_false}
-use Rattle.tfpg_trace.proofs.NotDueBefore.{kept_at_failure, kept_at_or, kept_at_and}
+use Rattle.tfpg_trace.proofs.lemmas.NotDueBefore.{kept_at_failure, kept_at_or, kept_at_and}
 use Rattle.tfpg_trace.proofs.due_first.can_be_late.Goals as goal
 
 pub returns-in-Failure : goal.returns-in-Failure

@@ -3,7 +3,7 @@ use Rattle.std.specs.Prelude.{IsSomeAnd}
 use Rattle.std.proofs.lemmas.List.Elements.{All-more}
 use Rattle.std.proofs.lemmas.Bool.{false≢true}
 use Rattle.tfpg_trace.specs.inside.Due.{CanBeDue}
-use Rattle.tfpg_base.proofs.lists.Numbered.{number_within, some_at_index, none_at_indexes}
+use Rattle.tfpg_base.proofs.lemmas.lists.Numbered.{number_within, some_at_index, none_at_indexes}
 use Rattle.tfpg_trace.proofs.due_first.some_can_be_due.Goals as goal
 
 pub edge_can_be_due-requires : goal.edge_can_be_due-requires

@@ -1,6 +1,6 @@
 use Rattle.std.proofs.Common.{subst}
 use Rattle.tfpg_trace.specs.FirstFault.{IsVerdict}
-use Rattle.tfpg_trace.proofs.Explained.{only_yes}
+use Rattle.tfpg_trace.proofs.lemmas.Explained.{only_yes}
 use Rattle.tfpg_trace.proofs.judge.explains.Goals as goal
 
 pub returns-clause-yes : goal.returns-clause-yes

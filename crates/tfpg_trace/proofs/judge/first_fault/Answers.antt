@@ -1,5 +1,5 @@
-use Rattle.tfpg_trace.proofs.Explained.{explained}
-use Rattle.tfpg_trace.proofs.SomeVerdict.{by_event}
+use Rattle.tfpg_trace.proofs.lemmas.Explained.{explained}
+use Rattle.tfpg_trace.proofs.lemmas.SomeVerdict.{by_event}
 use Rattle.tfpg_trace.proofs.judge.first_fault.Goals as goal
 
 pub returns-in-Some-first_not_shown : goal.returns-in-Some-first_not_shown

@@ -1,7 +1,7 @@
 use Rattle.std.proofs.Common.{nat_eq, refl, sym, ◌∙◌}
 use Rattle.std.proofs.lemmas.Bool.{false≢true}
 use Rattle.tfpg_log.specs.Rules.{HasAge}
-use Rattle.tfpg_base.proofs.lists.Numbered.{number_within, not_all_at_index, all_at_indexes}
+use Rattle.tfpg_base.proofs.lemmas.lists.Numbered.{number_within, not_all_at_index, all_at_indexes}
 use Rattle.tfpg_trace.proofs.may.all_arrive.Goals as goal
 
 pub has_carried-requires-clause-edge : goal.has_carried-requires-clause-edge

@@ -1,4 +1,4 @@
-use Rattle.tfpg_trace.proofs.MayRule.{may_of_and}
+use Rattle.tfpg_trace.proofs.lemmas.MayRule.{may_of_and}
 use Rattle.tfpg_trace.proofs.may.keeps_may.Goals as goal
 
 pub returns-in-And : goal.returns-in-And

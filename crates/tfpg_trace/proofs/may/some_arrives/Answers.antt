@@ -3,7 +3,7 @@ use Rattle.std.specs.Prelude.{IsSomeAnd}
 use Rattle.std.proofs.lemmas.List.Elements.{All-more}
 use Rattle.std.proofs.lemmas.Bool.{false≢true}
 use Rattle.tfpg_log.specs.Rules.{HasAge}
-use Rattle.tfpg_base.proofs.lists.Numbered.{number_within, some_at_index, none_at_indexes}
+use Rattle.tfpg_base.proofs.lemmas.lists.Numbered.{number_within, some_at_index, none_at_indexes}
 use Rattle.tfpg_trace.proofs.may.some_arrives.Goals as goal
 
 pub has_carried-requires-clause-edge : goal.has_carried-requires-clause-edge

@@ -1,7 +1,7 @@
 use Rattle.std.proofs.Common.{Some, None, sym, subst}
 use Rattle.tfpg_trace.specs.inside.FirstFaultIn.{IsFirstFaultIn}
-use Rattle.tfpg_trace.proofs.MustFaults.{span_reported, without_span}
-use Rattle.tfpg_trace.proofs.GapsOver.{gaps_over, gaps_kept}
+use Rattle.tfpg_trace.proofs.lemmas.MustFaults.{span_reported, without_span}
+use Rattle.tfpg_trace.proofs.lemmas.GapsOver.{gaps_over, gaps_kept}
 use Rattle.tfpg_trace.proofs.must.fault_at.Goals as goal
 
 pub returns-in_err-span-clause-fault : goal.returns-in_err-span-clause-fault

@@ -1,7 +1,7 @@
 use Rattle.std.proofs.Common.{sym, subst}
 use Rattle.std.proofs.lemmas.Bool.{both_ways}
 use Rattle.tfpg_trace.specs.inside.FirstFaultIn.{IsFirstFaultIn}
-use Rattle.tfpg_trace.proofs.MustFaults.{never_due, in_time, first_fault}
+use Rattle.tfpg_trace.proofs.lemmas.MustFaults.{never_due, in_time, first_fault}
 use Rattle.tfpg_trace.proofs.must.fault_in_span.Goals as goal
 
 pub returns-in_err-due : goal.returns-in_err-due

@@ -1,8 +1,8 @@
 use Rattle.std.proofs.Common.{◌+◌, ◌≤◌, length, arith}
 use Rattle.tfpg_graph.specs.Graph.{incoming}
 use Rattle.tfpg_graph.specs.declared.limits.TheConstants.{MAX_INCOMING}
-use Rattle.tfpg_trace.proofs.GapsOver.{no_gaps}
-use Rattle.tfpg_trace.proofs.FirstMustFaults.{one_span_more, first_of_all, none_at_all}
+use Rattle.tfpg_trace.proofs.lemmas.GapsOver.{no_gaps}
+use Rattle.tfpg_trace.proofs.lemmas.FirstMustFaults.{one_span_more, first_of_all, none_at_all}
 use Rattle.tfpg_trace.proofs.must.first_must_fault.Goals as goal
 
 pub loop-number-init : goal.loop-number-init

@@ -1,4 +1,4 @@
-use Rattle.tfpg_trace.proofs.FirstNodes.{KeepRulesBefore-more}
+use Rattle.tfpg_trace.proofs.lemmas.FirstNodes.{KeepRulesBefore-more}
 use Rattle.tfpg_trace.proofs.rules.broken_rule.Goals as goal
 
 pub loop-node-preserved : goal.loop-node-preserved

@@ -1,5 +1,5 @@
 use Rattle.std.proofs.Common.{refl, inr}
-use Rattle.tfpg_trace.proofs.Sweeps.{sweep_shown, silence_not_shown}
+use Rattle.tfpg_trace.proofs.lemmas.Sweeps.{sweep_shown, silence_not_shown}
 use Rattle.tfpg_trace.proofs.shows.not_shown.Goals as goal
 
 pub returns-in-Some : goal.returns-in-Some

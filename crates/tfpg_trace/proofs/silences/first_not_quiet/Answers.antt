@@ -1,5 +1,5 @@
 use Rattle.tfpg_trace.specs.inside.Shown.{IsNotQuiet}
-use Rattle.tfpg_trace.proofs.FirstNodes.{NoneBefore-more}
+use Rattle.tfpg_trace.proofs.lemmas.FirstNodes.{NoneBefore-more}
 use Rattle.tfpg_trace.proofs.silences.first_not_quiet.Goals as goal
 
 pub loop-node-preserved : goal.loop-node-preserved

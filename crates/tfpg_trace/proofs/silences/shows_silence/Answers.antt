@@ -1,6 +1,6 @@
 use Rattle.std.proofs.Common.{not, refl, sym, ap, ◌∙◌}
 use Rattle.std.proofs.lemmas.Bool.{not-true, false_from_ne_true, iff_false}
-use Rattle.tfpg_log.proofs.events.ShownByLookUp.{shows_silence_by_instant, shows_silence_until, shows_silence_unheard}
+use Rattle.tfpg_log.proofs.lemmas.events.ShownByLookUp.{shows_silence_by_instant, shows_silence_until, shows_silence_unheard}
 use Rattle.tfpg_trace.proofs.silences.shows_silence.Goals as goal
 
 pub returns-in-Some : goal.returns-in-Some

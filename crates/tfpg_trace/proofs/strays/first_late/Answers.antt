@@ -1,5 +1,5 @@
 use Rattle.std.proofs.Common.{◌∙◌, sym}
-use Rattle.tfpg_trace.proofs.NoStrays.{none_late}
+use Rattle.tfpg_trace.proofs.lemmas.NoStrays.{none_late}
 use Rattle.tfpg_trace.proofs.strays.first_late.Goals as goal
 
 pub returns-then-all_upto : goal.returns-then-all_upto

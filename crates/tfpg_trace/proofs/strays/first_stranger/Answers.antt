@@ -1,4 +1,4 @@
-use Rattle.tfpg_trace.proofs.NoStrays.{no_stranger}
+use Rattle.tfpg_trace.proofs.lemmas.NoStrays.{no_stranger}
 use Rattle.tfpg_trace.proofs.strays.first_stranger.Goals as goal
 
 pub returns-then-has_no_outsider : goal.returns-then-has_no_outsider

@@ -3,7 +3,7 @@ use Rattle.std.specs.Prelude.{All}
 use Rattle.std.proofs.lemmas.List.Elements.{All-push}
 use Rattle.std.proofs.lemmas.Option.{slice_get-get_or}
 use Rattle.tfpg_base.specs.declared.activation.Activation.{Activation}
-use Rattle.tfpg_base.proofs.lists.Cuts.{take-next}
+use Rattle.tfpg_base.proofs.lemmas.lists.Cuts.{take-next}
 use Rattle.tfpg_trace.specs.inside.Strays.{IsOutside}
 use Rattle.tfpg_trace.proofs.strays.has_no_outsider.Goals as goal
 

@@ -1,5 +1,5 @@
 use Rattle.std.proofs.Common.{sym}
-use Rattle.tfpg_trace.proofs.FailureModes.{outside_by_position, none_outside}
+use Rattle.tfpg_trace.proofs.lemmas.FailureModes.{outside_by_position, none_outside}
 use Rattle.tfpg_trace.proofs.strays.is_outside.Goals as goal
 
 pub returns-in-Some : goal.returns-in-Some

@@ -2,8 +2,8 @@ use Rattle.std.proofs.Common.{ℕ, Option, Some, None, get_or, ◌≡◌, ◌<�
 use Rattle.std.proofs.lemmas.List.{length-replicate, length-set}
 use Rattle.std.proofs.lemmas.Option.{slice_get-get_or}
 use Rattle.tfpg_base.specs.declared.activation.Activation.{Activation}
-use Rattle.tfpg_base.proofs.lists.Elements.{All-at}
-use Rattle.tfpg_trace.proofs.TimesFilled.{nothing_filled, filled_more, all_filled}
+use Rattle.tfpg_base.proofs.lemmas.lists.Elements.{All-at}
+use Rattle.tfpg_trace.proofs.lemmas.TimesFilled.{nothing_filled, filled_more, all_filled}
 use Rattle.tfpg_trace.proofs.trace_table.times_by_node.Goals as goal
 
 pub loop-activation-init : goal.loop-activation-init

@@ -1,5 +1,5 @@
 use Rattle.std.proofs.Common.{◌≡◌, length}
-use Rattle.tfpg_trace.proofs.TimesFilled.{AreFilledUpto}
+use Rattle.tfpg_trace.proofs.lemmas.TimesFilled.{AreFilledUpto}
 use Rattle.tfpg_trace.proofs.trace_table.times_by_node.Given as goal
 
 abbrev pub invariant-loop-activation : goal.invariant-loop-activation

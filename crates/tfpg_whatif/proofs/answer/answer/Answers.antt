@@ -1,7 +1,7 @@
 use Rattle.std.proofs.Common.{ap, ◌∙◌}
 use Rattle.tfpg_log.specs.LogOfLines.{log_after_reply}
-use Rattle.tfpg_whatif.proofs.LastEvents.{alone_accepted}
-use Rattle.tfpg_whatif.proofs.Questioned.{asked_after}
+use Rattle.tfpg_whatif.proofs.lemmas.LastEvents.{alone_accepted}
+use Rattle.tfpg_whatif.proofs.lemmas.Questioned.{asked_after}
 use Rattle.tfpg_whatif.proofs.answer.answer.Goals as goal
 
 pub outcomes_at-requires-clause-log : goal.outcomes_at-requires-clause-log

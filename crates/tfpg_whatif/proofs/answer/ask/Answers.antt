@@ -1,6 +1,6 @@
 use Rattle.std.proofs.lemmas.Result.{IfOk-weaker}
 use Rattle.tfpg_whatif.specs.Outcomes.{asked_of}
-use Rattle.tfpg_whatif.proofs.Asked.{answer_outcomes, answer_keeps, answer_foresees, answer_known}
+use Rattle.tfpg_whatif.proofs.lemmas.Asked.{answer_outcomes, answer_keeps, answer_foresees, answer_known}
 use Rattle.tfpg_whatif.proofs.answer.ask.Goals as goal
 
 pub returns-clause-outcomes : goal.returns-clause-outcomes

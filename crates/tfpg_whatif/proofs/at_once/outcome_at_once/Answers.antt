@@ -1,5 +1,5 @@
 use Rattle.tfpg_clause.specs.Case.{case_of}
-use Rattle.tfpg_whatif.proofs.AtOnce.{kept, kept_is, refuted}
+use Rattle.tfpg_whatif.proofs.lemmas.AtOnce.{kept, kept_is, refuted}
 use Rattle.tfpg_whatif.proofs.at_once.outcome_at_once.Goals as goal
 
 pub returns-in-Some : goal.returns-in-Some

@@ -1,4 +1,4 @@
-use Rattle.tfpg_whatif.proofs.AtOnce.{refutes}
+use Rattle.tfpg_whatif.proofs.lemmas.AtOnce.{refutes}
 use Rattle.tfpg_whatif.proofs.at_once.refuted_by_alarm.Goals as goal
 
 pub returns : goal.returns

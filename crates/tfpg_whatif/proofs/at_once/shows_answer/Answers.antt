@@ -1,5 +1,5 @@
 use Rattle.std.proofs.Common.{sym, ◌∙◌}
-use Rattle.tfpg_whatif.proofs.AtOnce.{answers_alarm, answers_silence}
+use Rattle.tfpg_whatif.proofs.lemmas.AtOnce.{answers_alarm, answers_silence}
 use Rattle.tfpg_whatif.proofs.at_once.shows_answer.Goals as goal
 
 pub returns-in-Silent : goal.returns-in-Silent

@@ -1,7 +1,7 @@
 use Rattle.std.proofs.Common.{◌+◌, length, take, refl}
 use Rattle.std.proofs.lemmas.Option.{slice_get_read}
-use Rattle.tfpg_base.proofs.lists.Cuts.{take-next}
-use Rattle.tfpg_whatif.proofs.Judging.{none_taken, one_more_taken}
+use Rattle.tfpg_base.proofs.lemmas.lists.Cuts.{take-next}
+use Rattle.tfpg_whatif.proofs.lemmas.Judging.{none_taken, one_more_taken}
 use Rattle.tfpg_whatif.proofs.early.is_refutation.Goals as goal
 
 pub loop-step-init : goal.loop-step-init

@@ -1,5 +1,5 @@
 use Rattle.std.proofs.Common.{refl}
-use Rattle.tfpg_whatif.proofs.Judging.{has_taken}
+use Rattle.tfpg_whatif.proofs.lemmas.Judging.{has_taken}
 use Rattle.tfpg_whatif.proofs.early.takes.Goals as goal
 
 pub returns-in-Open : goal.returns-in-Open

@@ -1,4 +1,4 @@
-use Rattle.tfpg_whatif.proofs.Rounds.{foresee}
+use Rattle.tfpg_whatif.proofs.lemmas.Rounds.{foresee}
 use Rattle.tfpg_whatif.proofs.laws.outcomes_foresee_rounds.Goals as goal
 
 pub returns : goal.returns

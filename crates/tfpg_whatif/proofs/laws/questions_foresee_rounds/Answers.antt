@@ -1,4 +1,4 @@
-use Rattle.tfpg_whatif.proofs.Rounds.{question_foresees}
+use Rattle.tfpg_whatif.proofs.lemmas.Rounds.{question_foresees}
 use Rattle.tfpg_whatif.proofs.laws.questions_foresee_rounds.Goals as goal
 
 pub returns : goal.returns

@@ -2,7 +2,7 @@ use Rattle.std.proofs.Common.{sym, subst}
 use Rattle.std.specs.Prelude.{IfSome}
 use Rattle.tfpg_log.specs.Explains.{Explains}
 use Rattle.tfpg_whatif.specs.inside.Asking.{CanContinue}
-use Rattle.tfpg_whatif.proofs.Continued.{continues}
+use Rattle.tfpg_whatif.proofs.lemmas.Continued.{continues}
 use Rattle.tfpg_whatif.proofs.outcomes.continued.Goals as goal
 
 pub returns : goal.returns

@@ -6,9 +6,9 @@ use Rattle.tfpg_base.specs.Hypothesis.{Hypothesis}
 use Rattle.tfpg_hyp.specs.Hypotheses.{Hypotheses}
 use Rattle.tfpg_log.specs.Log.{ignoring}
 use Rattle.tfpg_whatif.specs.inside.Asking.{asked_by}
-use Rattle.tfpg_whatif.proofs.AtOnce.{explained_before, own_last, shown_at_once}
-use Rattle.tfpg_whatif.proofs.Asked.{found_by, its_members, its_reach, its_log, has_event}
-use Rattle.tfpg_whatif.proofs.Continued.{can_continue}
+use Rattle.tfpg_whatif.proofs.lemmas.AtOnce.{explained_before, own_last, shown_at_once}
+use Rattle.tfpg_whatif.proofs.lemmas.Asked.{found_by, its_members, its_reach, its_log, has_event}
+use Rattle.tfpg_whatif.proofs.lemmas.Continued.{can_continue}
 use Rattle.tfpg_whatif.proofs.outcomes.outcome_of.Goals as goal
 
 pub outcome_at_once-requires : goal.outcome_at_once-requires

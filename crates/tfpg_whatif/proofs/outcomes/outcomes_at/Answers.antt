@@ -1,6 +1,6 @@
 use Rattle.std.proofs.Common.{get_or, ◌∙◌}
 use Rattle.std.proofs.lemmas.Option.{slice_get-get_or}
-use Rattle.tfpg_whatif.proofs.Asked.{asked_same, found_next}
+use Rattle.tfpg_whatif.proofs.lemmas.Asked.{asked_same, found_next}
 use Rattle.tfpg_whatif.proofs.outcomes.outcomes_at.Goals as goal
 
 pub outcome_of-requires-clause-log : goal.outcome_of-requires-clause-log

@@ -1,7 +1,7 @@
 use Rattle.std.proofs.Common.{sym, subst, ◌∙◌}
 use Rattle.tfpg_clause.specs.Case.{case_of}
 use Rattle.tfpg_whatif.specs.inside.Asking.{IsShown}
-use Rattle.tfpg_whatif.proofs.Searched.{represents_some, is_shown}
+use Rattle.tfpg_whatif.proofs.lemmas.Searched.{represents_some, is_shown}
 use Rattle.tfpg_whatif.proofs.outcomes.search_anew.Goals as goal
 
 pub round-requires-clause-represents : goal.round-requires-clause-represents

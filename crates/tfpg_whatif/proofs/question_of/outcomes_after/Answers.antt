@@ -1,6 +1,6 @@
 use Rattle.std.proofs.Common.{refl, ◌∙◌}
-use Rattle.tfpg_whatif.proofs.LastEvents.{known_before}
-use Rattle.tfpg_whatif.proofs.Questioned.{next_lent, asked_after}
+use Rattle.tfpg_whatif.proofs.lemmas.LastEvents.{known_before}
+use Rattle.tfpg_whatif.proofs.lemmas.Questioned.{next_lent, asked_after}
 use Rattle.tfpg_whatif.proofs.question_of.outcomes_after.Goals as goal
 
 pub add-requires-clause-next : goal.add-requires-clause-next

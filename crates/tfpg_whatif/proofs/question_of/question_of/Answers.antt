@@ -1,6 +1,6 @@
 use Rattle.tfpg_log.specs.Log.{with_event}
 use Rattle.tfpg_log.specs.declared.event.Event.TheVariants.{Alarm, Silent}
-use Rattle.tfpg_whatif.proofs.Questioned.{next_silence, next_alarm, few_outcomes, is_question, is_known}
+use Rattle.tfpg_whatif.proofs.lemmas.Questioned.{next_silence, next_alarm, few_outcomes, is_question, is_known}
 use Rattle.tfpg_whatif.proofs.question_of.question_of.Goals as goal
 
 pub outcomes_after-requires-clause-next : goal.outcomes_after-requires-clause-next

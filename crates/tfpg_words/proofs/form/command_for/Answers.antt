@@ -3,7 +3,7 @@ use Rattle.std.specs.Borrow.{Bor}
 use Rattle.clap.specs.Walk.{Rule, Text}
 use Rattle.clap.specs.Simple.{with_rule}
 use Rattle.tfpg_words.specs.inside.Rows.{app_with, flag_arg, option_arg}
-use Rattle.tfpg_base.proofs.lists.Images.{map-map_more}
+use Rattle.tfpg_base.proofs.lemmas.lists.Images.{map-map_more}
 use Rattle.tfpg_words.proofs.form.command_for.Goals as goal
 
 no_name : Bor Text

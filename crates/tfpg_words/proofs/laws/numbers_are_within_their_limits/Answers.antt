@@ -3,7 +3,7 @@ use Rattle.std.specs.Prelude.{Result, IfOk}
 use Rattle.tfpg_words.specs.Meaning.{Meaning, Ask, Diagnose, Simulate, Generate, meaning, Fleet, Predict}
 use Rattle.tfpg_words.specs.Words.{Word}
 use Rattle.tfpg_words.specs.declared.usage_cause.UsageCause.{UsageCause}
-use Rattle.tfpg_words.proofs.WithinLimits.{AreInLimits, meaning_within}
+use Rattle.tfpg_words.proofs.lemmas.WithinLimits.{AreInLimits, meaning_within}
 use Rattle.tfpg_words.proofs.laws.numbers_are_within_their_limits.Goals as goal
 
 within : (words : List Word) (means : Meaning) → meaning words ≡ Ok means → AreInLimits means

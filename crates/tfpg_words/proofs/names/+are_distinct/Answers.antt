@@ -1,5 +1,5 @@
 use Rattle.std.proofs.Common.{rules, ◌≡◌, ◌∷◌}
-use Rattle.tfpg_words.proofs.NamesTested.{first_again, first_once}
+use Rattle.tfpg_words.proofs.lemmas.NamesTested.{first_again, first_once}
 use Rattle.tfpg_words.proofs.names.+are_distinct.Goals as goal
 
 pub returns-then-is_among : goal.returns-then-is_among

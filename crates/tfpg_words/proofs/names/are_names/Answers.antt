@@ -1,4 +1,4 @@
-use Rattle.tfpg_words.proofs.NamesTested.{all_formed, not_formed}
+use Rattle.tfpg_words.proofs.lemmas.NamesTested.{all_formed, not_formed}
 use Rattle.tfpg_words.proofs.names.are_names.Goals as goal
 
 pub returns-then-not-have_form : goal.returns-then-not-have_form

@@ -1,6 +1,6 @@
 use Rattle.std.proofs.Common.{Some, ap, get_or, map, sym, ◌∙◌}
 use Rattle.tfpg_words.specs.PanelWords.{panel_named, panels_named}
-use Rattle.tfpg_words.proofs.PanelsRead.{NamesPanels-passed, named_bad, named_more, no_word}
+use Rattle.tfpg_words.proofs.lemmas.PanelsRead.{NamesPanels-passed, named_bad, named_more, no_word}
 use Rattle.tfpg_words.proofs.panels.panels_of.Goals as goal
 
 pub returns-in_err-panel_of : goal.returns-in_err-panel_of

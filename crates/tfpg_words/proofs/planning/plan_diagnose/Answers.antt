@@ -5,7 +5,7 @@ use Rattle.tfpg_words.specs.Meaning.{Meant, terms_form}
 use Rattle.tfpg_words.specs.Plans.{IsPlanOf}
 use Rattle.tfpg_words.specs.Words.{parts_of_words}
 use Rattle.tfpg_words.specs.inside.Parts.{rows_in}
-use Rattle.tfpg_words.proofs.Commands.{diagnose_is}
+use Rattle.tfpg_words.proofs.lemmas.Commands.{diagnose_is}
 use Rattle.tfpg_words.proofs.planning.plan_diagnose.Goals as goal
 
 pub returns : goal.returns

@@ -5,7 +5,7 @@ use Rattle.tfpg_words.specs.Meaning.{Meaning, terms_form}
 use Rattle.tfpg_words.specs.inside.CommandOf.{IsCommandOf}
 use Rattle.tfpg_words.specs.Words.{parts_of_words}
 use Rattle.tfpg_words.specs.inside.Parts.{rows_in}
-use Rattle.tfpg_words.proofs.Commands.{fleet_is}
+use Rattle.tfpg_words.proofs.lemmas.Commands.{fleet_is}
 use Rattle.tfpg_words.proofs.planning.plan_fleet.Goals as goal
 
 pub returns : goal.returns

@@ -1,7 +1,7 @@
 use Rattle.std.proofs.Common.{◌∙◌}
 use Rattle.tfpg_words.specs.Meaning.{both}
 use Rattle.tfpg_words.specs.inside.Parts.{rows_in}
-use Rattle.tfpg_words.proofs.WithinLimits.{numbers_small}
+use Rattle.tfpg_words.proofs.lemmas.WithinLimits.{numbers_small}
 use Rattle.tfpg_words.proofs.planning.predict_numbers.Goals as goal
 
 pub returns-clause-numbers : goal.returns-clause-numbers

@@ -1,5 +1,5 @@
 use Rattle.tfpg_words.specs.inside.Parts.{rows_in}
-use Rattle.tfpg_words.proofs.WithinLimits.{terms_small}
+use Rattle.tfpg_words.proofs.lemmas.WithinLimits.{terms_small}
 use Rattle.tfpg_words.proofs.planning.terms_in.Goals as goal
 
 pub returns-clause-small : goal.returns-clause-small

@@ -1,5 +1,5 @@
 use Rattle.std.proofs.Common.{sym, ◌∙◌}
-use Rattle.tfpg_base.proofs.SetTests.{equal_exactly}
+use Rattle.tfpg_base.proofs.lemmas.SetTests.{equal_exactly}
 use Rattle.tfpg_base.proofs.doubts.Doubts.is_same.Goals as goal
 
 pub returns-then-len : goal.returns-then-len

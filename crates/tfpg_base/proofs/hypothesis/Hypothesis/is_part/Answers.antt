@@ -1,4 +1,4 @@
-use Rattle.tfpg_base.proofs.SetTests.{part_by_doubts, no_part_by_set}
+use Rattle.tfpg_base.proofs.lemmas.SetTests.{part_by_doubts, no_part_by_set}
 use Rattle.tfpg_base.proofs.hypothesis.Hypothesis.is_part.Goals as goal
 
 pub returns-then-is_subset : goal.returns-then-is_subset

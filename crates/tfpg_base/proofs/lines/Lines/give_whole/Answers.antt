@@ -1,7 +1,7 @@
 use Rattle.std.proofs.Common.{ap, ◌∙◌, arith}
 use Rattle.tfpg_base.specs.Lines.{LinesState}
 use Rattle.tfpg_base.specs.inside.LineSearch.{lent_of}
-use Rattle.tfpg_base.proofs.lists.Ranges.{slice_range-after, slice_range-before, end-above}
+use Rattle.tfpg_base.proofs.lemmas.lists.Ranges.{slice_range-after, slice_range-before, end-above}
 use Rattle.tfpg_base.proofs.lines.Lines.give_whole.Goals as goal
 
 pub returns-clause-waiting : goal.returns-clause-waiting

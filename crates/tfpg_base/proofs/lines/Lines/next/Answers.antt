@@ -1,8 +1,8 @@
 use Rattle.std.proofs.Common.{◌≡◌, ◌≤◌, None, ap, ◌∙◌, sym, subst, arith}
 use Rattle.tfpg_base.specs.Lines.{LinesState, HasNoLineEnd}
 use Rattle.tfpg_base.specs.declared.limits.TheConstants.{MAX_BYTES}
-use Rattle.tfpg_base.proofs.Histories.{Continues-searched}
-use Rattle.tfpg_base.proofs.Searches.{Continues-at_once}
+use Rattle.tfpg_base.proofs.lemmas.Histories.{Continues-searched}
+use Rattle.tfpg_base.proofs.lemmas.Searches.{Continues-at_once}
 use Rattle.tfpg_base.proofs.lines.Lines.next.Goals as goal
 
 pub returns-in-Some-line_end : goal.returns-in-Some-line_end

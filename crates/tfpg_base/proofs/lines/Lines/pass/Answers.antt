@@ -1,6 +1,6 @@
 use Rattle.std.proofs.Common.{ap}
 use Rattle.tfpg_base.specs.Lines.{LinesState}
-use Rattle.tfpg_base.proofs.lists.Ranges.{slice_range-after}
+use Rattle.tfpg_base.proofs.lemmas.lists.Ranges.{slice_range-after}
 use Rattle.tfpg_base.proofs.lines.Lines.pass.Goals as goal
 
 pub returns-clause-waiting : goal.returns-clause-waiting

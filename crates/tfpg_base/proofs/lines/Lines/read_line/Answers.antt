@@ -4,8 +4,8 @@ use Rattle.tfpg_base.specs.declared.line.Line.{Line}
 use Rattle.tfpg_base.specs.declared.line.LineFault.{LineFault}
 use Rattle.tfpg_base.specs.Lines.{HasNoLineEnd, CountsReadFault}
 use Rattle.tfpg_base.specs.inside.LineSearch.{IsAtLineEnd, GivesLast, Searched}
-use Rattle.tfpg_base.proofs.Searches.{IsReading-start, IsReading-more, Searched-read, Searched-given_last, Searched-fault, Searched-further, after_seen}
-use Rattle.tfpg_base.proofs.Taking.{CountsReadFault-later}
+use Rattle.tfpg_base.proofs.lemmas.Searches.{IsReading-start, IsReading-more, Searched-read, Searched-given_last, Searched-fault, Searched-further, after_seen}
+use Rattle.tfpg_base.proofs.lemmas.Taking.{CountsReadFault-later}
 use Rattle.tfpg_base.proofs.lines.Lines.read_line.Goals as goal
 
 pub loop-self-init : goal.loop-self-init

@@ -1,6 +1,6 @@
 use Rattle.std.proofs.Common.{◌+◌, ◌-◌}
 use Rattle.tfpg_base.specs.declared.limits.TheConstants.{MAX_BYTES}
-use Rattle.tfpg_base.proofs.Searches.{IsReading}
+use Rattle.tfpg_base.proofs.lemmas.Searches.{IsReading}
 use Rattle.tfpg_base.proofs.lines.Lines.read_line.Given as goal
 
 abbrev pub invariant-loop-self : goal.invariant-loop-self

@@ -2,10 +2,10 @@ use Rattle.std.proofs.Common.{◌≡◌, ℕ, ◌+◌, ◌≤◌, List, [], ◌�
 use Rattle.tfpg_base.specs.declared.outside.Failed.{Failed}
 use Rattle.tfpg_base.specs.Lines.{LinesState}
 use Rattle.tfpg_base.specs.declared.limits.TheConstants.{MAX_BYTES}
-use Rattle.tfpg_base.proofs.Taking.{Takes-same}
-use Rattle.tfpg_base.proofs.lists.Ranges.{slice_range-longer, length-slice_range-written}
-use Rattle.tfpg_base.proofs.lists.Elements.{one_element}
-use Rattle.tfpg_base.proofs.lists.Sequences.{only_one}
+use Rattle.tfpg_base.proofs.lemmas.Taking.{Takes-same}
+use Rattle.tfpg_base.proofs.lemmas.lists.Ranges.{slice_range-longer, length-slice_range-written}
+use Rattle.tfpg_base.proofs.lemmas.lists.Elements.{one_element}
+use Rattle.tfpg_base.proofs.lemmas.lists.Sequences.{only_one}
 use Rattle.tfpg_base.proofs.lines.Lines.refill.Goals as goal
 
 pub returns-then-self-gt-MAX_BYTES-clause-refilled : goal.returns-then-self-gt-MAX_BYTES-clause-refilled

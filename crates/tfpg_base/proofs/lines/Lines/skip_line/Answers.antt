@@ -4,8 +4,8 @@ use Rattle.tfpg_base.specs.declared.line.Line.{Line}
 use Rattle.tfpg_base.specs.declared.line.LineFault.{LineFault}
 use Rattle.tfpg_base.specs.Lines.{HasNoLineEnd, CountsReadFault}
 use Rattle.tfpg_base.specs.inside.LineSearch.{Searched}
-use Rattle.tfpg_base.proofs.Searches.{SoFar-more, Searched-long, Searched-long_last, Searched-fault}
-use Rattle.tfpg_base.proofs.Taking.{CountsReadFault-later}
+use Rattle.tfpg_base.proofs.lemmas.Searches.{SoFar-more, Searched-long, Searched-long_last, Searched-fault}
+use Rattle.tfpg_base.proofs.lemmas.Taking.{CountsReadFault-later}
 use Rattle.tfpg_base.proofs.lines.Lines.skip_line.Goals as goal
 
 pub returns-in_err-refill-clause-searched : goal.returns-in_err-refill-clause-searched

@@ -1,6 +1,6 @@
 use Rattle.std.proofs.Common.{◌≡◌, ◌<◌, ◌+◌, ◌-◌, length, None}
 use Rattle.tfpg_base.specs.declared.limits.TheConstants.{MAX_BYTES}
-use Rattle.tfpg_base.proofs.Searches.{SoFar}
+use Rattle.tfpg_base.proofs.lemmas.Searches.{SoFar}
 use Rattle.tfpg_base.proofs.lines.Lines.skip_line.Given as goal
 
 abbrev pub invariant-loop-self : goal.invariant-loop-self

@@ -1,7 +1,7 @@
 use Rattle.std.proofs.Common.{arith}
 use Rattle.std.proofs.lemmas.Bool.{ltb-true}
 use Rattle.tfpg_base.specs.declared.limits.TheConstants.{MAX_NODE_NUMBERS}
-use Rattle.tfpg_base.proofs.NodeSets.{IsNodeSet-from_words, bit_says_node, beyond_no_node}
+use Rattle.tfpg_base.proofs.lemmas.NodeSets.{IsNodeSet-from_words, bit_says_node, beyond_no_node}
 use Rattle.tfpg_base.proofs.node_numbers.NodeNumbers.has.Goals as goal
 
 pub returns-then-node-lt-MAX_NODE_NUMBERS-clause-member : goal.returns-then-node-lt-MAX_NODE_NUMBERS-clause-member

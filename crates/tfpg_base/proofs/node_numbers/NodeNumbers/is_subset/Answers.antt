@@ -1,5 +1,5 @@
 use Rattle.std.proofs.Common.{arith, refl}
-use Rattle.tfpg_base.proofs.NodeSets.{IsSubset-from_words, bits_kept_by_IsSubset}
+use Rattle.tfpg_base.proofs.lemmas.NodeSets.{IsSubset-from_words, bits_kept_by_IsSubset}
 use Rattle.tfpg_base.proofs.node_numbers.NodeNumbers.is_subset.Goals as goal
 
 pub returns-then-self-number : goal.returns-then-self-number

@@ -1,4 +1,4 @@
-use Rattle.tfpg_base.proofs.NodeSets.{KeepsBits}
+use Rattle.tfpg_base.proofs.lemmas.NodeSets.{KeepsBits}
 use Rattle.tfpg_base.proofs.node_numbers.NodeNumbers.is_subset.Given as goal
 
 abbrev pub invariant-loop-number : goal.invariant-loop-number

@@ -4,7 +4,7 @@ use Rattle.std.proofs.lemmas.List.Elements.{All-get_or}
 use Rattle.std.proofs.lemmas.List.Sums.{sum_by_more}
 use Rattle.std.proofs.lemmas.Nat.{ones-le}
 use Rattle.std.proofs.lemmas.List.{take_all}
-use Rattle.tfpg_base.proofs.NodeSets.{IsNodeSet-from_words, ones_say_count}
+use Rattle.tfpg_base.proofs.lemmas.NodeSets.{IsNodeSet-from_words, ones_say_count}
 use Rattle.tfpg_base.proofs.node_numbers.NodeNumbers.len.Goals as goal
 
 pub loop-word-preserved : goal.loop-word-preserved

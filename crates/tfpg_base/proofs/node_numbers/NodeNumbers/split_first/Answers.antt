@@ -1,5 +1,5 @@
 use Rattle.std.proofs.Common.{arith}
-use Rattle.tfpg_base.proofs.NodeSets.{words_split, words_without_bits}
+use Rattle.tfpg_base.proofs.lemmas.NodeSets.{words_split, words_without_bits}
 use Rattle.tfpg_base.proofs.node_numbers.NodeNumbers.split_first.Goals as goal
 
 pub returns-then-word-ne0 : goal.returns-then-word-ne0

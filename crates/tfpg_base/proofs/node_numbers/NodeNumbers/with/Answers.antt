@@ -1,7 +1,7 @@
 use Rattle.std.proofs.Common.{◌≡◌, ◌⊎◌, ◌↔◌, sym, subst}
 use Rattle.std.specs.List.{Contains}
-use Rattle.tfpg_base.proofs.Sets.{members-with_member}
-use Rattle.tfpg_base.proofs.NodeSets.{AreWords-with_bit, IsNodeSet-with_bit, with_bit_keeps_node}
+use Rattle.tfpg_base.proofs.lemmas.Sets.{members-with_member}
+use Rattle.tfpg_base.proofs.lemmas.NodeSets.{AreWords-with_bit, IsNodeSet-with_bit, with_bit_keeps_node}
 use Rattle.tfpg_base.proofs.node_numbers.NodeNumbers.with.Goals as goal
 
 pub invariant_of-result : goal.invariant_of-result

@@ -1,6 +1,6 @@
 use Rattle.std.proofs.Common.{sym, ap, ◌∙◌}
 use Rattle.tfpg_base.specs.SetBits.{bits_of}
-use Rattle.tfpg_base.proofs.Sets.{IsSet-from_bits, bits_of-members_of}
+use Rattle.tfpg_base.proofs.lemmas.Sets.{IsSet-from_bits, bits_of-members_of}
 use Rattle.tfpg_base.proofs.set.Set.bits.Goals as goal
 
 pub returns-clause-worth : goal.returns-clause-worth

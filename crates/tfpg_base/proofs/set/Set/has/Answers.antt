@@ -1,7 +1,7 @@
 use Rattle.std.proofs.Common.{arith}
 use Rattle.std.proofs.lemmas.Bool.{ltb-true}
 use Rattle.tfpg_base.specs.declared.limits.TheConstants.{MAX_MEMBERS}
-use Rattle.tfpg_base.proofs.Sets.{IsSet-from_bits, bit_says_member, beyond_no_member}
+use Rattle.tfpg_base.proofs.lemmas.Sets.{IsSet-from_bits, bit_says_member, beyond_no_member}
 use Rattle.tfpg_base.proofs.set.Set.has.Goals as goal
 
 pub returns-then-place-lt-MAX_MEMBERS-clause-member : goal.returns-then-place-lt-MAX_MEMBERS-clause-member

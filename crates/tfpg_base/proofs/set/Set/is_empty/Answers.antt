@@ -1,5 +1,5 @@
 use Rattle.std.proofs.Common.{lit<}
-use Rattle.tfpg_base.proofs.Sets.{members_of-zero, bits_say_equal}
+use Rattle.tfpg_base.proofs.lemmas.Sets.{members_of-zero, bits_say_equal}
 use Rattle.tfpg_base.proofs.set.Set.is_empty.Goals as goal
 
 pub returns : goal.returns

@@ -1,4 +1,4 @@
-use Rattle.tfpg_base.proofs.Sets.{bits_say_subset}
+use Rattle.tfpg_base.proofs.lemmas.Sets.{bits_say_subset}
 use Rattle.tfpg_base.proofs.set.Set.is_subset.Goals as goal
 
 pub returns : goal.returns

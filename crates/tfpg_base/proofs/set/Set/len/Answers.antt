@@ -1,5 +1,5 @@
 use Rattle.std.proofs.Common.{◌∙◌, sym, ap, length}
-use Rattle.tfpg_base.proofs.Sets.{IsSet-from_bits, length-members_of}
+use Rattle.tfpg_base.proofs.lemmas.Sets.{IsSet-from_bits, length-members_of}
 use Rattle.tfpg_base.proofs.set.Set.len.Goals as goal
 
 pub returns-clause-count : goal.returns-clause-count

@@ -2,7 +2,7 @@ use Rattle.std.proofs.Common.{◌≡◌, ◌⊎◌, ◌↔◌, ◌∙◌, ap, sy
 use Rattle.std.proofs.lemmas.Nat.{or_lt, mod_below}
 use Rattle.std.specs.List.{Contains}
 use Rattle.tfpg_base.specs.Set.{with_member}
-use Rattle.tfpg_base.proofs.Sets.{IsSet-members_of, members_of-set, members-with_member}
+use Rattle.tfpg_base.proofs.lemmas.Sets.{IsSet-members_of, members_of-set, members-with_member}
 use Rattle.tfpg_base.proofs.set.Set.with.Goals as goal
 
 pub invariant_of-result : goal.invariant_of-result

@@ -1,6 +1,6 @@
 use Rattle.std.proofs.lemmas.Bool.Decides.{same_from_decides}
 use Rattle.std.specs.Cmp.Lexicographic.{bytes_decides}
-use Rattle.tfpg_base.proofs.Sets.{bits_say_equal}
+use Rattle.tfpg_base.proofs.lemmas.Sets.{bits_say_equal}
 use Rattle.tfpg_base.proofs.set.SetPartialEq.eq.Goals as goal
 
 pub returns : goal.returns

@@ -1,5 +1,5 @@
 use Rattle.std.proofs.Common.{◌∙◌}
-use Rattle.tfpg_base.proofs.Traces.{time_of-stands, time_of-absent}
+use Rattle.tfpg_base.proofs.lemmas.Traces.{time_of-stands, time_of-absent}
 use Rattle.tfpg_base.proofs.trace.Trace.at.Goals as goal
 
 pub returns-in-Ok : goal.returns-in-Ok

@@ -1,5 +1,5 @@
 use Rattle.std.proofs.Common.{◌∙◌}
-use Rattle.tfpg_base.proofs.Traces.{TimesAfter-with_time, with_time-stands, with_time-absent}
+use Rattle.tfpg_base.proofs.lemmas.Traces.{TimesAfter-with_time, with_time-stands, with_time-absent}
 use Rattle.tfpg_base.proofs.trace.Trace.set.Goals as goal
 
 pub returns-in-Ok-clause-list : goal.returns-in-Ok-clause-list

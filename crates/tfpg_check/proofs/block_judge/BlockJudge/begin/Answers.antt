@@ -1,5 +1,5 @@
 -- The hypotheses that was made is kept.
-use Rattle.tfpg_check.proofs.going_on.BlocksJudged.{begins}
+use Rattle.tfpg_check.proofs.lemmas.going_on.BlocksJudged.{begins}
 use Rattle.tfpg_check.proofs.block_judge.BlockJudge.begin.Goals as goal
 
 pub returns-clause-judged : goal.returns-clause-judged

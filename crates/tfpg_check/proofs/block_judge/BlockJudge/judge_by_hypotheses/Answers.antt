@@ -1,5 +1,5 @@
 -- What is kept of the hypotheses judges the round.
-use Rattle.tfpg_check.proofs.going_on.BlocksJudged.{judged_by_kept, still_of_graph, table_after}
+use Rattle.tfpg_check.proofs.lemmas.going_on.BlocksJudged.{judged_by_kept, still_of_graph, table_after}
 use Rattle.tfpg_check.proofs.block_judge.BlockJudge.judge_by_hypotheses.Goals as goal
 
 pub judge_round-requires-clause-table : goal.judge_round-requires-clause-table

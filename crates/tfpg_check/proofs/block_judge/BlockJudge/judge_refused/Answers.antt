@@ -2,7 +2,7 @@
 use Rattle.std.proofs.Common.{◌≡◌, rules, ap, subst, ◌∙◌}
 use Rattle.tfpg_check.specs.JudgeState.{BlocksState}
 use Rattle.tfpg_check.specs.inside.BlockSteps.{IsNextLine}
-use Rattle.tfpg_check.proofs.going_on.BlocksJudged.{refused_as_said}
+use Rattle.tfpg_check.proofs.lemmas.going_on.BlocksJudged.{refused_as_said}
 use Rattle.tfpg_check.proofs.block_judge.BlockJudge.judge_refused.Goals as goal
 
 pub returns-then-number-passed-clause-judged : goal.returns-then-number-passed-clause-judged

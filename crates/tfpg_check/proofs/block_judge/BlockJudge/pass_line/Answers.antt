@@ -1,7 +1,7 @@
 -- The line that was offered is the next one.
 use Rattle.std.proofs.Common.{subst, sym}
 use Rattle.tfpg_check.specs.inside.BlockSteps.{IsNextLine}
-use Rattle.tfpg_check.proofs.going_on.BlocksJudged.{offered_is_passed, passed_is_next}
+use Rattle.tfpg_check.proofs.lemmas.going_on.BlocksJudged.{offered_is_passed, passed_is_next}
 use Rattle.tfpg_check.proofs.block_judge.BlockJudge.pass_line.Goals as goal
 
 pub returns-clause-next : goal.returns-clause-next

@@ -4,7 +4,7 @@ use Rattle.std.proofs.lemmas.Bool.{false≢true}
 use Rattle.tfpg_check.specs.declared.cause.CheckCause.TheVariants as cause
 use Rattle.tfpg_check.specs.Causes.{AreRight, EndFails}
 use Rattle.tfpg_check.specs.JudgeState.{JudgeState}
-use Rattle.tfpg_check.proofs.going_on.AtTheEnd.{whole_at_end, early_at_end}
+use Rattle.tfpg_check.proofs.lemmas.going_on.AtTheEnd.{whole_at_end, early_at_end}
 use Rattle.tfpg_check.proofs.judge.Judge.end.Goals as goal
 
 pub returns-then-is_whole-clause-ends : goal.returns-then-is_whole-clause-ends

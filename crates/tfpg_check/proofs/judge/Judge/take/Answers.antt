@@ -3,7 +3,7 @@ use Rattle.std.proofs.Common.{ℕ, ◌+◌, subst, sym, ap, ◌∙◌}
 use Rattle.tfpg_graph.specs.Valid.{IsValid}
 use Rattle.tfpg_check.specs.JudgeState.{JudgeState, JudgeRepresents}
 use Rattle.tfpg_check.specs.inside.LineSteps.{IsLineJudged}
-use Rattle.tfpg_check.proofs.going_on.JudgedLines.{line_goes_on, line_is_judged, can_read_still}
+use Rattle.tfpg_check.proofs.lemmas.going_on.JudgedLines.{line_goes_on, line_is_judged, can_read_still}
 use Rattle.tfpg_check.proofs.judge.Judge.take.Goals as goal
 
 pub invariant_of-self : goal.invariant_of-self

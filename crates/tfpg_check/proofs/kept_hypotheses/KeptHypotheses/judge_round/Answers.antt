@@ -11,9 +11,9 @@ use Rattle.tfpg_check.specs.inside.AfterRound.{after_round}
 use Rattle.tfpg_check.specs.inside.Kept.{RestFails}
 use Rattle.tfpg_check.specs.inside.KeptFlags.{AreKept}
 use Rattle.tfpg_check.specs.inside.Parts.{kept_of}
-use Rattle.tfpg_check.proofs.judging.Lookups.{closed_flags_are}
-use Rattle.tfpg_check.proofs.judging.NothingAdded.{nothing_taken, kept_where}
-use Rattle.tfpg_check.proofs.judging.RoundJudged.{fault_at, part_fails, round_passes, round_fails, kept_as, kept_after, taken_of, keeps_here, on_ok, written_back}
+use Rattle.tfpg_check.proofs.lemmas.judging.Lookups.{closed_flags_are}
+use Rattle.tfpg_check.proofs.lemmas.judging.NothingAdded.{nothing_taken, kept_where}
+use Rattle.tfpg_check.proofs.lemmas.judging.RoundJudged.{fault_at, part_fails, round_passes, round_fails, kept_as, kept_after, taken_of, keeps_here, on_ok, written_back}
 use Rattle.tfpg_check.proofs.kept_hypotheses.KeptHypotheses.judge_round.Goals as goal
 
 pub returns-in_err-judge_parts-clause-fails : goal.returns-in_err-judge_parts-clause-fails

@@ -15,8 +15,8 @@ use Rattle.tfpg_check.specs.inside.Kept.{RestFails}
 use Rattle.tfpg_check.specs.inside.LargestParts.{SayFlaggedParts}
 use Rattle.tfpg_hyp.specs.Hypotheses.{IsTableOf}
 use Rattle.tfpg_check.specs.declared.round_fault.RoundFault.{RoundFault}
-use Rattle.tfpg_check.proofs.judging.Lookups.{lookup_is, said_of_ranked, parts_before}
-use Rattle.tfpg_check.proofs.judging.NothingAdded.{flags_kept, same_flagged}
+use Rattle.tfpg_check.proofs.lemmas.judging.Lookups.{lookup_is, said_of_ranked, parts_before}
+use Rattle.tfpg_check.proofs.lemmas.judging.NothingAdded.{flags_kept, same_flagged}
 use Rattle.tfpg_check.proofs.kept_hypotheses.KeptHypotheses.judge_statuses.Goals as goal
 
 pub returns-in_err-judge_rest-clause-rest : goal.returns-in_err-judge_rest-clause-rest

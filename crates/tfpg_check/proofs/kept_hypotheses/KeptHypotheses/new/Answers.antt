@@ -1,9 +1,9 @@
 use Rattle.std.proofs.Common.{refl}
 use Rattle.std.proofs.lemmas.Result.{err_from_is_err_and}
-use Rattle.tfpg_base.proofs.lists.Choices.{ok-err}
-use Rattle.tfpg_base.proofs.lists.Sequences.{not_above}
+use Rattle.tfpg_base.proofs.lemmas.lists.Choices.{ok-err}
+use Rattle.tfpg_base.proofs.lemmas.lists.Sequences.{not_above}
 use Rattle.tfpg_hyp.specs.declared.limits.TheConstants.{MAX_HYPOTHESES}
-use Rattle.tfpg_check.proofs.judging.NewHypotheses.{new_keeps, too_many_by, not_too_many, one_checker_each}
+use Rattle.tfpg_check.proofs.lemmas.judging.NewHypotheses.{new_keeps, too_many_by, not_too_many, one_checker_each}
 use Rattle.tfpg_check.proofs.kept_hypotheses.KeptHypotheses.new.Goals as goal
 
 pub returns-in_err-table-clause-too_many : goal.returns-in_err-table-clause-too_many

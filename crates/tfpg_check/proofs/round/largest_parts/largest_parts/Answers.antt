@@ -1,7 +1,7 @@
 use Rattle.std.proofs.Common.{◌-◌, ℕ, List, sym, subst, arith, ◌∙◌}
 use Rattle.std.proofs.lemmas.Bool.{false≢true}
 use Rattle.tfpg_check.specs.inside.LargestParts.{IsPartAmong, IsPartOfOne, AreLargestFrom}
-use Rattle.tfpg_check.proofs.judging.PartsByNumber.{largest_over, largest_more}
+use Rattle.tfpg_check.proofs.lemmas.judging.PartsByNumber.{largest_over, largest_more}
 use Rattle.tfpg_check.proofs.round.largest_parts.largest_parts.Goals as goal
 use Rattle.tfpg_check.proofs.round.largest_parts.largest_parts.Goals.{else-is_part-via-then-is_part+else-not-is_part_of_any, else-is_part-via-else-is_part}
 

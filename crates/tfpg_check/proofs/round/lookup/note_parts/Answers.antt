@@ -1,6 +1,6 @@
 use Rattle.std.proofs.Common.{◌∙◌, get_or, arith}
 use Rattle.std.proofs.lemmas.Option.{slice_get-get_or}
-use Rattle.tfpg_check.proofs.judging.NotedParts.{noted_more}
+use Rattle.tfpg_check.proofs.lemmas.judging.NotedParts.{noted_more}
 use Rattle.tfpg_check.proofs.round.lookup.note_parts.Goals as goal
 
 pub loop-index-preserved : goal.loop-index-preserved

@@ -1,8 +1,8 @@
 use Rattle.std.proofs.Common.{get_or, refl, inl}
 use Rattle.std.proofs.lemmas.Option.{slice_get-get_or}
-use Rattle.tfpg_base.proofs.lists.Written.{slice_get-set_other}
-use Rattle.tfpg_check.proofs.judging.PartsTaken.{may_only, table_reached, part_judged, unfinished_within}
-use Rattle.tfpg_check.proofs.judging.TestsInTurn.{not_where_false}
+use Rattle.tfpg_base.proofs.lemmas.lists.Written.{slice_get-set_other}
+use Rattle.tfpg_check.proofs.lemmas.judging.PartsTaken.{may_only, table_reached, part_judged, unfinished_within}
+use Rattle.tfpg_check.proofs.lemmas.judging.TestsInTurn.{not_where_false}
 use Rattle.tfpg_check.proofs.round.parts.judge_part.Goals as goal
 
 pub returns-then-not-may_have_steps-clause-taken : goal.returns-then-not-may_have_steps-clause-taken

@@ -7,8 +7,8 @@ use Rattle.tfpg_check.specs.Tests.{InTurn}
 use Rattle.tfpg_check.specs.inside.InTurn.{IsFaultOf}
 use Rattle.tfpg_check.specs.inside.Parts.{kept_of}
 use Rattle.tfpg_check.specs.declared.round_fault.RoundFault.{RoundFault}
-use Rattle.tfpg_check.proofs.judging.PartsSoFar.{first_none, first_more, first_all, keeps_number, fails_here}
-use Rattle.tfpg_check.proofs.judging.TestsInTurn.{next_none, next_step}
+use Rattle.tfpg_check.proofs.lemmas.judging.PartsSoFar.{first_none, first_more, first_all, keeps_number, fails_here}
+use Rattle.tfpg_check.proofs.lemmas.judging.TestsInTurn.{next_none, next_step}
 use Rattle.tfpg_check.proofs.round.parts.judge_parts.Goals as goal
 
 pub loop-part-init : goal.loop-part-init

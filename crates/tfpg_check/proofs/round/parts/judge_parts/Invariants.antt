@@ -4,7 +4,7 @@ use Rattle.tfpg_report.specs.declared.read_round.Part.{Part}
 use Rattle.tfpg_check.specs.HypothesesState.{KeepsBasis}
 use Rattle.tfpg_check.specs.Judging.{RoundBasis}
 use Rattle.tfpg_check.specs.inside.Parts.{IsNextAfter, kept_of}
-use Rattle.tfpg_check.proofs.judging.PartsSoFar.{AreFirstTaken}
+use Rattle.tfpg_check.proofs.lemmas.judging.PartsSoFar.{AreFirstTaken}
 use Rattle.tfpg_check.proofs.round.parts.judge_parts.Given as goal
 
 abbrev pub invariant-loop-part : goal.invariant-loop-part

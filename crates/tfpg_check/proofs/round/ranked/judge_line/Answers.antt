@@ -1,6 +1,6 @@
 use Rattle.std.proofs.Common.{refl, inl, inr}
-use Rattle.tfpg_check.proofs.judging.LookupSays.{ranked_exactly_by, explained_by}
-use Rattle.tfpg_check.proofs.judging.TestsInTurn.{not_where_false, owes_passes}
+use Rattle.tfpg_check.proofs.lemmas.judging.LookupSays.{ranked_exactly_by, explained_by}
+use Rattle.tfpg_check.proofs.lemmas.judging.TestsInTurn.{not_where_false, owes_passes}
 use Rattle.tfpg_check.proofs.round.ranked.judge_line.Goals as goal
 
 pub returns-then-not-may_be_ranked-clause-ranked : goal.returns-then-not-may_be_ranked-clause-ranked

@@ -1,15 +1,15 @@
 use Rattle.std.proofs.Common.{[], ◌∙◌, length, take, refl, sym, ap, subst, arith}
 use Rattle.std.proofs.lemmas.Result.{err_from_is_err_and}
-use Rattle.tfpg_base.proofs.lists.Elements.{All-at}
+use Rattle.tfpg_base.proofs.lemmas.lists.Elements.{All-at}
 use Rattle.tfpg_check.specs.inside.ReadRoundOf.{IsRankedLineOf}
 use Rattle.tfpg_check.specs.Judging.{RankedFails}
 use Rattle.tfpg_check.specs.Tests.{InTurn}
 use Rattle.tfpg_check.specs.Passing.{RankedPasses}
 use Rattle.tfpg_check.specs.inside.InTurn.{IsFailure, PassesWith}
 use Rattle.tfpg_check.specs.declared.round_fault.FailedTest.{FailedTest}
-use Rattle.tfpg_check.proofs.judging.LastKeys.{last_step}
-use Rattle.tfpg_check.proofs.judging.PassingTests.{ranked_not_fails}
-use Rattle.tfpg_check.proofs.judging.TestsInTurn.{hold_before_more, hold_before_all, hold_before_weaker, in_turn_fails, item_read}
+use Rattle.tfpg_check.proofs.lemmas.judging.LastKeys.{last_step}
+use Rattle.tfpg_check.proofs.lemmas.judging.PassingTests.{ranked_not_fails}
+use Rattle.tfpg_check.proofs.lemmas.judging.TestsInTurn.{hold_before_more, hold_before_all, hold_before_weaker, in_turn_fails, item_read}
 use Rattle.tfpg_check.proofs.round.ranked.judge_ranked.Goals as goal
 
 pub judge_line-requires-clause-line : goal.judge_line-requires-clause-line

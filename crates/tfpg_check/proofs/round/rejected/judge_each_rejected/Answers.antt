@@ -1,10 +1,10 @@
 use Rattle.std.proofs.Common.{◌≡◌, ◌<◌, ◌+◌, ℕ, length, map, take, sym, ap, subst, arith, ◌∙◌}
 use Rattle.tfpg_check.specs.Judging.{RejectedFails, named_hypothesis}
 use Rattle.tfpg_check.specs.inside.Lookups.{is_newly_closed}
-use Rattle.tfpg_check.proofs.judging.NewlyClosed.{passing_below, below_few}
-use Rattle.tfpg_check.proofs.judging.RejectedLines.{rejected_pass, rejected_differ, rejected_left}
-use Rattle.tfpg_check.proofs.judging.RejectedSoFar.{rejected_more, rejected_same}
-use Rattle.tfpg_check.proofs.judging.TestsInTurn.{not_where_false}
+use Rattle.tfpg_check.proofs.lemmas.judging.NewlyClosed.{passing_below, below_few}
+use Rattle.tfpg_check.proofs.lemmas.judging.RejectedLines.{rejected_pass, rejected_differ, rejected_left}
+use Rattle.tfpg_check.proofs.lemmas.judging.RejectedSoFar.{rejected_more, rejected_same}
+use Rattle.tfpg_check.proofs.lemmas.judging.TestsInTurn.{not_where_false}
 use Rattle.tfpg_check.proofs.round.rejected.judge_each_rejected.Goals as goal
 use Rattle.tfpg_check.proofs.round.rejected.judge_each_rejected.Goals.{then-is_newly_closed+else-not-names, else-is_newly_closed}
 

@@ -2,7 +2,7 @@
 use Rattle.std.proofs.Common.{◌≡◌, length, map, take}
 use Rattle.tfpg_check.specs.Judging.{named_hypothesis}
 use Rattle.tfpg_check.specs.inside.Lookups.{is_newly_closed}
-use Rattle.tfpg_check.proofs.judging.NewlyClosed.{passing_below}
+use Rattle.tfpg_check.proofs.lemmas.judging.NewlyClosed.{passing_below}
 use Rattle.tfpg_check.proofs.round.rejected.judge_each_rejected.Given as goal
 
 abbrev pub invariant-loop-number : goal.invariant-loop-number

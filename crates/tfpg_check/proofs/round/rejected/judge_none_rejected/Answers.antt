@@ -1,6 +1,6 @@
 use Rattle.std.proofs.Common.{length, sym, ap, subst}
 use Rattle.tfpg_check.specs.Judging.{RejectedFails}
-use Rattle.tfpg_check.proofs.judging.RejectedLines.{none_pass, none_left, none_there, some_there}
+use Rattle.tfpg_check.proofs.lemmas.judging.RejectedLines.{none_pass, none_left, none_there, some_there}
 use Rattle.tfpg_check.proofs.round.rejected.judge_none_rejected.Goals as goal
 
 pub returns-then-is_empty : goal.returns-then-is_empty

@@ -1,7 +1,7 @@
 use Rattle.std.proofs.Common.{length, refl, ap, arith}
 use Rattle.std.proofs.lemmas.Bool.{false≢true}
-use Rattle.tfpg_check.proofs.judging.LookupSays.{flagged_has_status, statuses_hold, statuses_fail}
-use Rattle.tfpg_check.proofs.judging.TestsInTurn.{not_where_false}
+use Rattle.tfpg_check.proofs.lemmas.judging.LookupSays.{flagged_has_status, statuses_hold, statuses_fail}
+use Rattle.tfpg_check.proofs.lemmas.judging.TestsInTurn.{not_where_false}
 use Rattle.tfpg_check.proofs.round.statuses.each_has_status.Goals as goal
 
 pub returns-then-is_each_known : goal.returns-then-is_each_known

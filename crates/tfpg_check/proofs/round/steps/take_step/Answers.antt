@@ -2,7 +2,7 @@ use Rattle.std.proofs.Common.{List, ℕ, sym, ap, subst}
 use Rattle.tfpg_clause.specs.Case.{case_of}
 use Rattle.tfpg_kernel.specs.CheckerState.{CheckerState}
 use Rattle.tfpg_check.specs.inside.Parts.{IsTakenAs, broken_by}
-use Rattle.tfpg_check.proofs.judging.StepsTaken.{goes_on_itself, roomier, taken_as}
+use Rattle.tfpg_check.proofs.lemmas.judging.StepsTaken.{goes_on_itself, roomier, taken_as}
 use Rattle.tfpg_check.proofs.round.steps.take_step.Goals as goal
 
 pub returns-clause-taken : goal.returns-clause-taken

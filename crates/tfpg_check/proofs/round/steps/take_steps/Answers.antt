@@ -2,8 +2,8 @@ use Rattle.std.proofs.Common.{◌<◌, length, take, ap, subst, arith, ◌∙◌
 use Rattle.tfpg_clause.specs.Case.{case_of}
 use Rattle.tfpg_clause.specs.Paths.{with_steps}
 use Rattle.tfpg_check.specs.inside.Parts.{IsTakenAs}
-use Rattle.tfpg_check.proofs.judging.StepsTaken.{taken_more, taken_bad, taken_all}
-use Rattle.tfpg_check.proofs.judging.TestsInTurn.{item_read, value_read}
+use Rattle.tfpg_check.proofs.lemmas.judging.StepsTaken.{taken_more, taken_bad, taken_all}
+use Rattle.tfpg_check.proofs.lemmas.judging.TestsInTurn.{item_read, value_read}
 use Rattle.tfpg_check.proofs.round.steps.take_steps.Goals as goal
 
 pub returns-in-Some-clause-taken : goal.returns-in-Some-clause-taken

@@ -2,7 +2,7 @@
 use Rattle.std.proofs.Common.{◌≡◌, List}
 use Rattle.tfpg_clause.specs.Trees.{Judged}
 use Rattle.tfpg_kernel.specs.Represents.{CheckerRepresents}
-use Rattle.tfpg_check.proofs.judging.StepsTaken.{HasTakenFirst}
+use Rattle.tfpg_check.proofs.lemmas.judging.StepsTaken.{HasTakenFirst}
 use Rattle.tfpg_check.proofs.round.steps.take_steps.Given as goal
 
 abbrev pub invariant-loop-index : goal.invariant-loop-index

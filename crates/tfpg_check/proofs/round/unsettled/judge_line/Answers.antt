@@ -1,6 +1,6 @@
 use Rattle.std.proofs.Common.{refl}
-use Rattle.tfpg_check.proofs.judging.LookupSays.{open_exactly}
-use Rattle.tfpg_check.proofs.judging.TestsInTurn.{not_where_false}
+use Rattle.tfpg_check.proofs.lemmas.judging.LookupSays.{open_exactly}
+use Rattle.tfpg_check.proofs.lemmas.judging.TestsInTurn.{not_where_false}
 use Rattle.tfpg_check.proofs.round.unsettled.judge_line.Goals as goal
 
 pub returns-then-not-may_be_open-clause-unsettled : goal.returns-then-not-may_be_open-clause-unsettled

@@ -5,7 +5,7 @@ use Rattle.tfpg_check.specs.Judging.{MayBeOpen, OpenFails}
 use Rattle.tfpg_check.specs.Tests.{InTurn}
 use Rattle.tfpg_check.specs.inside.InTurn.{IsFailure}
 use Rattle.tfpg_check.specs.declared.round_fault.FailedTest.{FailedTest}
-use Rattle.tfpg_check.proofs.judging.TestsInTurn.{owes_passes, next_none, next_step, hold_before_none, hold_before_more, hold_before_all, in_turn_fails, item_read}
+use Rattle.tfpg_check.proofs.lemmas.judging.TestsInTurn.{owes_passes, next_none, next_step, hold_before_none, hold_before_more, hold_before_all, in_turn_fails, item_read}
 use Rattle.tfpg_check.proofs.round.unsettled.judge_open.Goals as goal
 
 pub loop-named-init : goal.loop-named-init

@@ -1,4 +1,4 @@
-use Rattle.tfpg_clause.proofs.trees.TreesStay.{leaf_stays, path_stays, partial_stays, refutation_stays, stated_stays}
+use Rattle.tfpg_clause.proofs.lemmas.trees.TreesStay.{leaf_stays, path_stays, partial_stays, refutation_stays, stated_stays}
 use Rattle.tfpg_clause.proofs.laws.tree_laws.a_tree_stays.Goals as goal
 
 pub returns : goal.returns

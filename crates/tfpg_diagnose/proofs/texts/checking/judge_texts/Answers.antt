@@ -1,6 +1,6 @@
 use Rattle.std.proofs.Common.{◌≤◌, length, rules}
 use Rattle.tfpg_base.specs.declared.limits.TheConstants.{LONGEST_FILE}
-use Rattle.tfpg_base.proofs.lists.Choices.{IfErr-from}
+use Rattle.tfpg_base.proofs.lemmas.lists.Choices.{IfErr-from}
 use Rattle.tfpg_diagnose.specs.texts.Checks.{IsCheckTextsFault, checked_texts}
 use Rattle.tfpg_diagnose.specs.inside.texts.Faults.{check_texts_fault_of_refusal}
 use Rattle.tfpg_diagnose.proofs.lemmas.texts.Judged.{judges_no_graph, judges_no_rounds, judges_short}

@@ -1,6 +1,6 @@
 use Rattle.std.proofs.Common.{rules}
 use Rattle.std.specs.Prelude.{IsTrue}
-use Rattle.tfpg_base.proofs.lists.Choices.{IfErr-from}
+use Rattle.tfpg_base.proofs.lemmas.lists.Choices.{IfErr-from}
 use Rattle.tfpg_diagnose.specs.texts.Opening.{IsOpenFault}
 use Rattle.tfpg_diagnose.specs.inside.texts.Faults.{open_fault_of_refusal, open_fault_of_table}
 use Rattle.tfpg_diagnose.proofs.lemmas.texts.Opened.{opens_engine, opens_no_graph, opens_no_table}

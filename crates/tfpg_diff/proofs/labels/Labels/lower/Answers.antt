@@ -1,7 +1,7 @@
 -- What the number had stands at the end of the trail.
 use Rattle.std.proofs.Common.{length, refl}
 use Rattle.std.proofs.lemmas.Option.{slice_get_read}
-use Rattle.tfpg_diff.proofs.Undoing.{Remembers-lowered}
+use Rattle.tfpg_diff.proofs.lemmas.Undoing.{Remembers-lowered}
 use Rattle.tfpg_diff.proofs.labels.Labels.lower.Goals as goal
 
 pub returns-clause-remembers : goal.returns-clause-remembers

@@ -3,7 +3,7 @@ use Rattle.std.proofs.Common.{ℕ, ◌<◌, ◌≤◌, sym, ◌∙◌, subst, ar
 use Rattle.std.specs.Prelude.{All}
 use Rattle.std.proofs.lemmas.List.{length-set}
 use Rattle.tfpg_diff.specs.declared.trail.Saved.{Saved}
-use Rattle.tfpg_diff.proofs.Undoing.{undone_to-step, All-popped}
+use Rattle.tfpg_diff.proofs.lemmas.Undoing.{undone_to-step, All-popped}
 use Rattle.tfpg_diff.proofs.labels.Labels.undo_to.Goals as goal
 
 pub loop-saved-preserved : goal.loop-saved-preserved

@@ -8,7 +8,7 @@ use Rattle.tfpg_diff.specs.declared.why.Why.TheVariants.{Given}
 use Rattle.tfpg_diff.specs.VariableBounds.{VariableBounds}
 use Rattle.tfpg_diff.specs.Demands.{Demands, demands_of}
 use Rattle.tfpg_diff.specs.Solution.{HasSolution}
-use Rattle.tfpg_diff.proofs.Totals.{HasNoSolution-cycle}
+use Rattle.tfpg_diff.proofs.lemmas.Totals.{HasNoSolution-cycle}
 use Rattle.tfpg_diff.specs.Cycle.{NamesNegativeCycle}
 use Rattle.tfpg_diff.specs.SystemState.{SystemState, with_ceiling}
 use Rattle.tfpg_diff.specs.inside.Linked.{demands_linked}
@@ -16,11 +16,11 @@ use Rattle.tfpg_diff.specs.declared.labels.Labels.{Labels}
 use Rattle.tfpg_diff.specs.inside.Kept.{AreKept, IsSound, MeetsPicks}
 use Rattle.tfpg_diff.specs.inside.Undone.{Remembers}
 use Rattle.tfpg_diff.specs.inside.Ready.{IsReady, CanTakeBack, TakesBack}
-use Rattle.tfpg_diff.proofs.Undoing.{Remembers-more}
-use Rattle.tfpg_diff.proofs.TakingBack.{AreSized-kept, IsReady-afresh, CanTakeBack-conflict, IsReady-taken_back}
-use Rattle.tfpg_diff.proofs.Bounding.{under}
-use Rattle.tfpg_base.proofs.lists.Written.{set_back}
-use Rattle.tfpg_diff.proofs.Outcomes as outcome
+use Rattle.tfpg_diff.proofs.lemmas.Undoing.{Remembers-more}
+use Rattle.tfpg_diff.proofs.lemmas.TakingBack.{AreSized-kept, IsReady-afresh, CanTakeBack-conflict, IsReady-taken_back}
+use Rattle.tfpg_diff.proofs.lemmas.Bounding.{under}
+use Rattle.tfpg_base.proofs.lemmas.lists.Written.{set_back}
+use Rattle.tfpg_diff.proofs.lemmas.Outcomes as outcome
 use Rattle.tfpg_diff.proofs.system.System.add_ceiling.Goals as goal
 use Rattle.tfpg_diff.proofs.system.System.add_ceiling.Goals.{After-index-old, Else-ceiling, After-with_ceiling, After-index, After-restart, After-deref-2, After-lower_until_met, After-deref-in-Err-2}
 

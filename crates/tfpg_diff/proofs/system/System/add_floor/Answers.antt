@@ -2,13 +2,13 @@
 use Rattle.std.proofs.Common.{◌≡◌, ℕ, ◌+◌, ◌<◌, ◌≤◌, ◌∷◌, [], length, Some, refl, sym, ap, subst, arith}
 use Rattle.std.specs.Prelude.{slice_get, slice_index, vec_capacity}
 use Rattle.std.proofs.lemmas.List.{get_or_read_under}
-use Rattle.tfpg_base.proofs.lists.Choices.{cond-same}
+use Rattle.tfpg_base.proofs.lemmas.lists.Choices.{cond-same}
 use Rattle.tfpg_diff.specs.declared.why.Why.TheVariants.{Given}
 use Rattle.tfpg_diff.specs.Demands.{Demands, demands_of}
 use Rattle.tfpg_diff.specs.SystemState.{SystemState}
 use Rattle.tfpg_diff.specs.inside.Linked.{demands_linked}
 use Rattle.tfpg_diff.specs.inside.Kept.{IsSound, AreKept, Walked}
-use Rattle.tfpg_diff.proofs.Outcomes as outcome
+use Rattle.tfpg_diff.proofs.lemmas.Outcomes as outcome
 use Rattle.tfpg_diff.proofs.system.System.add_floor.Goals as goal
 use Rattle.tfpg_diff.proofs.system.System.add_floor.Goals.{After-index-old, Else-least-floor, After-index, After-deref-then-index-least}
 

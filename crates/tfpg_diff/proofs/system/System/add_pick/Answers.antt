@@ -15,10 +15,10 @@ use Rattle.tfpg_diff.specs.declared.why.Why.{Why}
 use Rattle.tfpg_diff.specs.inside.Kept.{IsMetBy, AreKept, IsSound, MeetsPicks}
 use Rattle.tfpg_diff.specs.inside.Undone.{Remembers}
 use Rattle.tfpg_diff.specs.inside.Ready.{IsReady, CanTakeBack, TakesBack}
-use Rattle.tfpg_diff.proofs.TakingBack.{AreSized-kept, IsReady-lengthened, CanTakeBack-conflict, IsReady-taken_back}
-use Rattle.tfpg_diff.proofs.Totals.{HasNoSolution-cycle}
-use Rattle.tfpg_diff.proofs.Relaxing.{small-kept}
-use Rattle.tfpg_diff.proofs.Outcomes as outcome
+use Rattle.tfpg_diff.proofs.lemmas.TakingBack.{AreSized-kept, IsReady-lengthened, CanTakeBack-conflict, IsReady-taken_back}
+use Rattle.tfpg_diff.proofs.lemmas.Totals.{HasNoSolution-cycle}
+use Rattle.tfpg_diff.proofs.lemmas.Relaxing.{small-kept}
+use Rattle.tfpg_diff.proofs.lemmas.Outcomes as outcome
 use Rattle.tfpg_diff.proofs.system.System.add_pick.Goals as goal
 use Rattle.tfpg_diff.proofs.system.System.add_pick.Goals.{After-push_in_room, After-is_broken, After-deref-3, After-lower_until_met, After-deref-in-Err-2}
 

@@ -3,7 +3,7 @@ use Rattle.std.proofs.Common.{◌≡◌, length, ◌∙◌, ap, arith}
 use Rattle.std.specs.Prelude.{vec_capacity}
 use Rattle.tfpg_diff.specs.declared.trail.Trail.{Trail}
 use Rattle.tfpg_diff.specs.SystemState.{unbounded_from}
-use Rattle.tfpg_diff.proofs.Fresh.{length-unbounded_from, IsReady-new}
+use Rattle.tfpg_diff.proofs.lemmas.Fresh.{length-unbounded_from, IsReady-new}
 use Rattle.tfpg_diff.proofs.system.System.new.Goals as goal
 use Rattle.tfpg_diff.proofs.system.System.new.Goals.{After-deref}
 

@@ -5,8 +5,8 @@ use Rattle.tfpg_diff.specs.declared.pick.Pick.{Pick}
 use Rattle.tfpg_diff.specs.Demands.{Demands, demands_of}
 use Rattle.tfpg_diff.specs.SystemState.{SystemState}
 use Rattle.tfpg_diff.specs.inside.Ready.{IsReady, CanTakeBack, TakesBack}
-use Rattle.tfpg_diff.proofs.Outcomes.{demands_read}
-use Rattle.tfpg_diff.proofs.TakingBack.{CanTakeBack-popped, IsReady-popped}
+use Rattle.tfpg_diff.proofs.lemmas.Outcomes.{demands_read}
+use Rattle.tfpg_diff.proofs.lemmas.TakingBack.{CanTakeBack-popped, IsReady-popped}
 use Rattle.tfpg_diff.proofs.system.System.pop_to.Goals as goal
 use Rattle.tfpg_diff.proofs.system.System.pop_to.Goals.{After-deref-2}
 

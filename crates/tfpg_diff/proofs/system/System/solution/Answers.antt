@@ -8,8 +8,8 @@ use Rattle.tfpg_diff.specs.SystemState.{SystemState}
 use Rattle.std.specs.Prelude.{All}
 use Rattle.std.proofs.lemmas.List.Elements.{All-drop}
 use Rattle.tfpg_diff.specs.inside.Linked.{demands_linked}
-use Rattle.tfpg_diff.proofs.Relaxing.{small-kept}
-use Rattle.tfpg_diff.proofs.Latest.{IsLatest-kept}
+use Rattle.tfpg_diff.proofs.lemmas.Relaxing.{small-kept}
+use Rattle.tfpg_diff.proofs.lemmas.Latest.{IsLatest-kept}
 use Rattle.tfpg_diff.proofs.system.System.solution.Goals as goal
 
 pub returns-clause-latest : goal.returns-clause-latest

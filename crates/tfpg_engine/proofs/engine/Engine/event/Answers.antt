@@ -4,8 +4,8 @@ use Rattle.tfpg_log.specs.LogOfLines.{log_after_reply}
 use Rattle.std.specs.Prelude.{Ok}
 use Rattle.tfpg_engine.specs.declared.told.Told.TheVariants as told
 use Rattle.tfpg_engine.specs.EngineState.{EngineRepresents}
-use Rattle.tfpg_engine.proofs.CallsCounted.{event_calls}
-use Rattle.tfpg_engine.proofs.EventBringsRound.{of_graph, same_refusal, lent_go_on, engine_now, gives_from, counts_from}
+use Rattle.tfpg_engine.proofs.lemmas.CallsCounted.{event_calls}
+use Rattle.tfpg_engine.proofs.lemmas.EventBringsRound.{of_graph, same_refusal, lent_go_on, engine_now, gives_from, counts_from}
 use Rattle.tfpg_engine.proofs.engine.Engine.event.Goals as goal
 
 pub make-requires-clause-table : goal.make-requires-clause-table

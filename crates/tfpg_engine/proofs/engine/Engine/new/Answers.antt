@@ -1,8 +1,8 @@
 use Rattle.std.proofs.Common.{ℕ, refl}
 use Rattle.std.proofs.lemmas.Result.{err_from_is_err_and}
-use Rattle.tfpg_engine.proofs.CallsCounted.{untouched_calls}
-use Rattle.tfpg_engine.proofs.EventBringsRound.{new_engine, new_represents, too_many_by, not_too_many}
-use Rattle.tfpg_base.proofs.lists.Choices.{ok-err}
+use Rattle.tfpg_engine.proofs.lemmas.CallsCounted.{untouched_calls}
+use Rattle.tfpg_engine.proofs.lemmas.EventBringsRound.{new_engine, new_represents, too_many_by, not_too_many}
+use Rattle.tfpg_base.proofs.lemmas.lists.Choices.{ok-err}
 use Rattle.tfpg_base.specs.declared.terms.Terms.{Terms}
 use Rattle.tfpg_engine.proofs.engine.Engine.new.Goals as goal
 

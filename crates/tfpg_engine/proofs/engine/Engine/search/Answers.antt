@@ -4,7 +4,7 @@ use Rattle.std.proofs.lemmas.Bool.{ltb-true}
 use Rattle.std.proofs.lemmas.Option.{slice_get-get_or}
 use Rattle.tfpg_engine.specs.declared.slot.Slot.TheVariants.{Searched, Untouched}
 use Rattle.tfpg_engine.specs.EngineState.{EngineState, IsLentSearch}
-use Rattle.tfpg_engine.proofs.LentSearch.{is_lent, lends}
+use Rattle.tfpg_engine.proofs.lemmas.LentSearch.{is_lent, lends}
 use Rattle.tfpg_engine.proofs.engine.Engine.search.Goals as goal
 
 pub returns-in-Searched-clause-represents : goal.returns-in-Searched-clause-represents

@@ -1,7 +1,7 @@
 use Rattle.std.proofs.Common.{◌≡◌, ℕ, List, ap, subst}
 use Rattle.std.specs.Prelude.{IfOk}
 use Rattle.tfpg_engine.specs.declared.listed.Listed.{Listed}
-use Rattle.tfpg_engine.proofs.KeptStaysRight.{begins_untouched}
+use Rattle.tfpg_engine.proofs.lemmas.KeptStaysRight.{begins_untouched}
 use Rattle.tfpg_engine.proofs.slot.Slot.into_search.Goals as goal
 
 pub returns-in-Untouched-clause-represents : goal.returns-in-Untouched-clause-represents

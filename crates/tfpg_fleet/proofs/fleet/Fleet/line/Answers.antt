@@ -2,11 +2,11 @@ use Rattle.std.proofs.Common.{List, length, map, set, ap, sym, subst, ◌∙◌}
 use Rattle.std.specs.Prelude.{Err, Ok}
 use Rattle.std.proofs.lemmas.Option.{slice_get_read}
 use Rattle.std.proofs.lemmas.Result.{err_from_is_err_and}
-use Rattle.tfpg_base.proofs.lists.Choices.{ok-err, same_Err, some-not_none}
+use Rattle.tfpg_base.proofs.lemmas.lists.Choices.{ok-err, same_Err, some-not_none}
 use Rattle.tfpg_fleet.specs.Belonging.{belongs}
 use Rattle.tfpg_fleet.specs.declared.fleet_told.FleetTold.TheVariants.{Of}
 use Rattle.tfpg_fleet.specs.FleetState.{FleetState, VehicleState, names_of}
-use Rattle.tfpg_fleet.proofs.FleetTells.{Comes, fails, represents_stray, same_answer, tells}
+use Rattle.tfpg_fleet.proofs.lemmas.FleetTells.{Comes, fails, represents_stray, same_answer, tells}
 use Rattle.tfpg_fleet.proofs.fleet.Fleet.line.Goals as goal
 
 pub returns-in_default-clause-represents : goal.returns-in_default-clause-represents

@@ -1,7 +1,7 @@
 use Rattle.std.proofs.Common.{ℕ, refl, ap, length}
 use Rattle.std.proofs.lemmas.Result.{err_from_is_err_and}
-use Rattle.tfpg_fleet.proofs.Excess.{few_each, not_too_many, too_many}
-use Rattle.tfpg_fleet.proofs.FleetTells.{represents_new}
+use Rattle.tfpg_fleet.proofs.lemmas.Excess.{few_each, not_too_many, too_many}
+use Rattle.tfpg_fleet.proofs.lemmas.FleetTells.{represents_new}
 use Rattle.tfpg_base.specs.declared.terms.Terms.{Terms}
 use Rattle.tfpg_fleet.proofs.fleet.Fleet.new.Goals as goal
 

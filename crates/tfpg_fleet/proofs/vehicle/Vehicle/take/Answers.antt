@@ -1,4 +1,4 @@
-use Rattle.tfpg_fleet.proofs.RefusedLines.{refuses}
+use Rattle.tfpg_fleet.proofs.lemmas.RefusedLines.{refuses}
 use Rattle.tfpg_fleet.proofs.vehicle.Vehicle.take.Goals as goal
 
 pub returns-clause-refused : goal.returns-clause-refused

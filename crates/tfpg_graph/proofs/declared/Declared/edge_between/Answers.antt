@@ -2,8 +2,8 @@ use Rattle.std.proofs.Common.{◌<◌, ◌∙◌, sym, length, nat_eq}
 use Rattle.std.proofs.lemmas.Bool.{eq-eqb, ne_eqb}
 use Rattle.std.proofs.lemmas.List.{drop_all}
 use Rattle.std.proofs.lemmas.List.Elements.{All-get_or, All-same}
-use Rattle.tfpg_base.proofs.lists.FirstFound.{find-past, find-here}
-use Rattle.tfpg_base.proofs.lists.Numbered.{All-below-numbers_from}
+use Rattle.tfpg_base.proofs.lemmas.lists.FirstFound.{find-past, find-here}
+use Rattle.tfpg_base.proofs.lemmas.lists.Numbered.{All-below-numbers_from}
 use Rattle.tfpg_graph.proofs.lemmas.declaring.Leaving.{is_leaving, is_leaving-edge, find-leaving}
 use Rattle.tfpg_graph.proofs.declared.Declared.edge_between.Goals as goal
 

@@ -1,7 +1,7 @@
 use Rattle.std.specs.Prelude.{bit_and}
 use Rattle.std.specs.Int.{bit_at}
 use Rattle.std.proofs.lemmas.Nat.Bits.{bit_at-lt, bit_at_and}
-use Rattle.tfpg_base.proofs.lists.Sequences.{both_ones}
+use Rattle.tfpg_base.proofs.lemmas.lists.Sequences.{both_ones}
 use Rattle.tfpg_graph.proofs.edge.Edge.active_with.Goals as goal
 
 pub returns-clause-active : goal.returns-clause-active

@@ -1,5 +1,5 @@
 use Rattle.std.proofs.Common.{rules, ◌<◌, ◌≤◌, ℕ, List, ◌++◌, length, sym, subst, arith}
-use Rattle.tfpg_base.proofs.NodeSets.{IsNodeSet-few}
+use Rattle.tfpg_base.proofs.lemmas.NodeSets.{IsNodeSet-few}
 use Rattle.tfpg_graph.specs.declared.limits.TheConstants.{MAX_NODES}
 use Rattle.tfpg_graph.specs.inside.reach.Reaching.{IsFullBut}
 use Rattle.tfpg_graph.proofs.lemmas.reach.Reaches.{Widens-along}

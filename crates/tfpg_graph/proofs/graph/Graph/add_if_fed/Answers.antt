@@ -1,6 +1,6 @@
 use Rattle.std.proofs.Common.{ℕ, List, sym, subst, ◌∙◌}
 use Rattle.std.specs.List.{Contains}
-use Rattle.tfpg_base.proofs.Sets.{Contains-with_member, with_member-only}
+use Rattle.tfpg_base.proofs.lemmas.Sets.{Contains-with_member, with_member-only}
 use Rattle.std.proofs.lemmas.Bool.{false≢true}
 use Rattle.tfpg_graph.proofs.lemmas.reach.Reaches.{Widens-to}
 use Rattle.tfpg_graph.proofs.graph.Graph.add_if_fed.Goals as goal

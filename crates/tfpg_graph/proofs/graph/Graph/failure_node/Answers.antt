@@ -1,6 +1,6 @@
 use Rattle.std.proofs.Common.{◌<◌, length, subst}
 use Rattle.tfpg_graph.specs.Graph.{Tfpg}
-use Rattle.tfpg_graph.proofs.Numbered.{failure_at-below}
+use Rattle.tfpg_graph.proofs.lemmas.Numbered.{failure_at-below}
 use Rattle.tfpg_graph.proofs.graph.Graph.failure_node.Goals as goal
 
 pub returns-clause-within : goal.returns-clause-within

@@ -1,6 +1,6 @@
 use Rattle.std.proofs.Common.{ℕ, ◌<◌, List, length, All, sym, subst}
 use Rattle.tfpg_graph.specs.Graph.{Tfpg}
-use Rattle.tfpg_graph.proofs.Numbered.{incoming-below}
+use Rattle.tfpg_graph.proofs.lemmas.Numbered.{incoming-below}
 use Rattle.tfpg_graph.proofs.graph.Graph.incoming.Goals as goal
 
 pub returns-clause-within : goal.returns-clause-within

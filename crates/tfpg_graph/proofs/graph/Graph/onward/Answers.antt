@@ -1,6 +1,6 @@
 use Rattle.std.proofs.Common.{◌<◌, length, arith}
 use Rattle.std.proofs.lemmas.Option.{get_or_from_slice_get}
-use Rattle.tfpg_base.proofs.lists.Elements.{All-at}
+use Rattle.tfpg_base.proofs.lemmas.lists.Elements.{All-at}
 use Rattle.tfpg_graph.specs.Valid.{IsValidEdge}
 use Rattle.tfpg_graph.proofs.lemmas.reach.Onward.{AreOnward-next}
 use Rattle.tfpg_graph.proofs.graph.Graph.onward.Goals as goal

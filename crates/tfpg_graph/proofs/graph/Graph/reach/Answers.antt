@@ -1,5 +1,5 @@
 use Rattle.std.proofs.Common.{arith}
-use Rattle.tfpg_base.proofs.NodeSets.{IsNodeSet-few}
+use Rattle.tfpg_base.proofs.lemmas.NodeSets.{IsNodeSet-few}
 use Rattle.tfpg_graph.proofs.lemmas.reach.Reaches.{AreReached-widened, IsReach-full}
 use Rattle.tfpg_graph.proofs.graph.Graph.reach.Goals as goal
 

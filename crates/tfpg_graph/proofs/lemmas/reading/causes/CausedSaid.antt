@@ -13,8 +13,8 @@ use Rattle.tfpg_graph.specs.Declares.{lag_of_words, numbers_of_words, kind_of_wo
 use Rattle.tfpg_base.specs.Choice.{first_of}
 use Rattle.tfpg_graph.specs.Causes.{causes, numbers_in, cause_at}
 use Rattle.tfpg_graph.specs.inside.reading.Turns.{HasValue, is_misplaced}
-use Rattle.tfpg_base.proofs.lists.Choices.{is_some-option_map, is_some-both}
-use Rattle.tfpg_base.proofs.Numbers.{is_some-number_of}
+use Rattle.tfpg_base.proofs.lemmas.lists.Choices.{is_some-option_map, is_some-both}
+use Rattle.tfpg_base.proofs.lemmas.Numbers.{is_some-number_of}
 use Rattle.tfpg_graph.proofs.lemmas.reading.causes.WithoutCause.{HasNoCause-from_none}
 use Rattle.tfpg_graph.proofs.lemmas.reading.graphs.DeclaredBy.{AllHaveValues, is_misplaced-said}
 use Rattle.tfpg_graph.proofs.lemmas.reading.causes.CauseAt.{cause-unended}

@@ -14,7 +14,7 @@ use Rattle.tfpg_graph.specs.declared.reading.reader.ReadingStage.{ReadingStage}
 use Rattle.tfpg_graph.specs.declared.reading.reader.ReadingStage.TheVariants.{Header, Declarations, Ended}
 use Rattle.tfpg_graph.specs.declared.reading.reader.Reader.{Reader}
 use Rattle.tfpg_graph.specs.inside.reading.Turns.{is_misplaced, reader_with, cause_or_value, turn_said, turn_header, turn_of, turn, part_after, HasValue, ReaderRepresents}
-use Rattle.tfpg_base.proofs.lists.Choices.{is_some-option_map}
+use Rattle.tfpg_base.proofs.lemmas.lists.Choices.{is_some-option_map}
 use Rattle.tfpg_graph.proofs.lemmas.reading.graphs.DeclaredBy.{AllHaveValues}
 use Rattle.tfpg_graph.proofs.lemmas.reading.causes.CauseAt.{cause-ended, cause-unended}
 use Rattle.tfpg_graph.proofs.lemmas.reading.causes.CausedSaid.{HasValue-no_cause, cause_declared, cause-said}

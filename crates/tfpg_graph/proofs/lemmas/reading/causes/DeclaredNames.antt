@@ -10,7 +10,7 @@ use Rattle.std.proofs.lemmas.List.Quantifiers.{position-Some}
 use Rattle.std.proofs.lemmas.Slice.Eq.{bytes_eq-Decides}
 use Rattle.tfpg_base.specs.Choice.{first_of}
 use Rattle.tfpg_base.specs.Words.{is_name}
-use Rattle.tfpg_base.proofs.lists.LookedUp.{found}
+use Rattle.tfpg_base.proofs.lemmas.lists.LookedUp.{found}
 use Rattle.tfpg_graph.specs.declared.cause.GraphCause.TheVariants.{BadLine, BadName, DuplicateName, UnknownName}
 use Rattle.tfpg_graph.specs.declared.kind.Kind.TheVariants.{Failure}
 use Rattle.tfpg_graph.specs.Graph.{Tfpg, Node, node_named, mode_named}

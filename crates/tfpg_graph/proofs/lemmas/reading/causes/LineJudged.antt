@@ -13,7 +13,7 @@ use Rattle.tfpg_base.specs.Choice.{first_of}
 use Rattle.tfpg_graph.specs.Causes.{causes, are_failure_words}
 use Rattle.tfpg_graph.specs.inside.reading.LineCauses.{node_number_causes, node_name_causes, node_room_causes, edge_name_causes, delay_causes, end_causes, edge_room_causes}
 use Rattle.tfpg_graph.specs.inside.reading.Turns.{is_misplaced}
-use Rattle.tfpg_base.proofs.lists.Choices.{first_of-append_some, first_of-append_none}
+use Rattle.tfpg_base.proofs.lemmas.lists.Choices.{first_of-append_some, first_of-append_none}
 
 -- ---- a node
 

@@ -11,14 +11,14 @@ use Rattle.tfpg_graph.specs.Declares.{modes_listed}
 use Rattle.std.proofs.lemmas.List.Sums.{sum_by-cons}
 use Rattle.tfpg_base.specs.Set.{with_member}
 use Rattle.tfpg_base.specs.SetBits.{bits_of}
-use Rattle.tfpg_base.proofs.Sets.{with_member-only, sum_by-with_member}
-use Rattle.tfpg_base.proofs.lists.Elements.{All-from_members, Contains-head, Contains-tail}
-use Rattle.tfpg_base.proofs.lists.LookedUp.{filter_map-some, filter_map-unlike_others}
+use Rattle.tfpg_base.proofs.lemmas.Sets.{with_member-only, sum_by-with_member}
+use Rattle.tfpg_base.proofs.lemmas.lists.Elements.{All-from_members, Contains-head, Contains-tail}
+use Rattle.tfpg_base.proofs.lemmas.lists.LookedUp.{filter_map-some, filter_map-unlike_others}
 use Rattle.tfpg_graph.specs.Graph.{Tfpg, mode_named}
 use Rattle.tfpg_graph.specs.Causes.{has_twice}
 use Rattle.tfpg_graph.specs.inside.reading.LineCauses.{with_option}
 use Rattle.tfpg_graph.proofs.lemmas.reading.saying.SaidModes.{mode_found}
-use Rattle.tfpg_base.proofs.lists.Passing.{All-filter_map}
+use Rattle.tfpg_base.proofs.lemmas.lists.Passing.{All-filter_map}
 
 module _ (graph : Tfpg) (name : List ℕ) (others : List (List ℕ)) (members : List ℕ) (once : has_twice (name ∷ others) ≡ false)
     (named : All (Contains (filter_map (mode_named graph) others)) members)

@@ -1,6 +1,6 @@
 -- Names in a list, as references to their bytes.
 use Rattle.std.proofs.Common.{◌≡◌, ℕ, true, false, ◌||◌, List, ◌∷◌, map, drop, sym, ap, ◌∙◌}
-use Rattle.tfpg_base.proofs.lists.Images.{list_any-map}
+use Rattle.tfpg_base.proofs.lemmas.lists.Images.{list_any-map}
 use Rattle.std.specs.List.{list_any}
 use Rattle.std.specs.Borrow.{Bor}
 use Rattle.std.specs.Str.{bytes_eq}

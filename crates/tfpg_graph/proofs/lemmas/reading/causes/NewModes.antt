@@ -10,9 +10,9 @@ use Rattle.std.proofs.lemmas.Slice.Eq.{bytes_eq-Decides}
 use Rattle.std.proofs.lemmas.Option.{none-some, same_Some}
 use Rattle.tfpg_base.specs.Set.{with_member}
 use Rattle.tfpg_base.specs.SetBits.{bits_of}
-use Rattle.tfpg_base.proofs.Sets.{Contains-with_member, with_member-keeps, with_member-only, sum_by-with_member}
-use Rattle.tfpg_base.proofs.lists.Elements.{All-from_members}
-use Rattle.tfpg_base.proofs.lists.LookedUp.{filter_map-unlike_others}
+use Rattle.tfpg_base.proofs.lemmas.Sets.{Contains-with_member, with_member-keeps, with_member-only, sum_by-with_member}
+use Rattle.tfpg_base.proofs.lemmas.lists.Elements.{All-from_members}
+use Rattle.tfpg_base.proofs.lemmas.lists.LookedUp.{filter_map-unlike_others}
 use Rattle.tfpg_graph.specs.Graph.{Tfpg, mode_named}
 use Rattle.tfpg_graph.specs.Causes.{has_twice}
 use Rattle.tfpg_graph.specs.inside.reading.EdgeNames.{NameNewModes}

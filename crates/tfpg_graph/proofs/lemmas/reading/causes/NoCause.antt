@@ -9,7 +9,7 @@ use Rattle.std.proofs.lemmas.Bool.{and_right, le-ltb, lt-leb}
 use Rattle.std.proofs.lemmas.Fmt.{decimal_is_IsNumeral}
 use Rattle.std.proofs.lemmas.Option.{same_Some}
 use Rattle.tfpg_base.specs.Words.{is_name, is_number}
-use Rattle.tfpg_base.proofs.Numbers.{is_number-decimal, decimal-differs}
+use Rattle.tfpg_base.proofs.lemmas.Numbers.{is_number-decimal, decimal-differs}
 use Rattle.tfpg_graph.specs.declared.cause.GraphCause.TheVariants.{BadLine, BadName, DuplicateName, UnknownName, BadNumber, NumberTooLarge, MinOverMax, EdgeIntoFailure, SelfEdge, DuplicateEdge, NoModes, TooManyNodes, TooManyFailures, TooManyEdges, TooManyModes, TooManyIncoming}
 use Rattle.tfpg_graph.specs.declared.kind.Kind.{Kind}
 use Rattle.tfpg_graph.specs.declared.kind.Lag.{Lag}
@@ -24,8 +24,8 @@ use Rattle.tfpg_graph.specs.Declares.{modes_listed}
 use Rattle.std.specs.Bool.{then_some}
 use Rattle.tfpg_base.specs.Choice.{first_of}
 use Rattle.tfpg_graph.specs.Causes.{has_bad_name, has_duplicate_name, has_unknown_name, has_bad_number, has_large_number, has_min_over_max, enters_failure, is_self_edge, is_second_edge, names_no_mode, lacks_node_room, lacks_failure_room, lacks_edge_room, lacks_mode_room, lacks_incoming_room, are_failure_words, has_twice, causes}
-use Rattle.tfpg_base.proofs.lists.SameBytes.{bytes_eq-differ}
-use Rattle.tfpg_base.proofs.lists.Digits.{digits_value-decimal_within}
+use Rattle.tfpg_base.proofs.lemmas.lists.SameBytes.{bytes_eq-differ}
+use Rattle.tfpg_base.proofs.lemmas.lists.Digits.{digits_value-decimal_within}
 use Rattle.tfpg_graph.specs.inside.declaring.Declaring.{AreDelays}
 
 -- none of the conditions holds

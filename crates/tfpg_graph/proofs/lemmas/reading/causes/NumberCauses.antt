@@ -17,7 +17,7 @@ use Rattle.std.proofs.lemmas.Option.{cond_some}
 use Rattle.tfpg_base.specs.Choice.{first_of}
 use Rattle.tfpg_graph.specs.inside.reading.LineCauses.{number_causes, range_causes, node_number_causes, delay_causes}
 use Rattle.tfpg_graph.specs.inside.reading.Turns.{ReadAs}
-use Rattle.tfpg_base.proofs.Numbers.{number_up_to-value}
+use Rattle.tfpg_base.proofs.lemmas.Numbers.{number_up_to-value}
 
 one_word : (is large : Bool) (cause : GraphCause) → first_of (then_some (not (is && true)) BadNumber ∷ then_some (large || false) NumberTooLarge ∷ []) ≡ Some cause
     → first_of (then_some (not (is && true)) BadNumber ∷ then_some (large || false) NumberTooLarge ∷ then_some false MinOverMax ∷ []) ≡ Some cause

@@ -6,7 +6,7 @@ use Rattle.tfpg_graph.specs.Statements.{Statement}
 use Rattle.tfpg_base.specs.Choice.{first_of}
 use Rattle.tfpg_graph.proofs.lemmas.reading.causes.NoCause.{HasNoCause}
 use Rattle.tfpg_graph.specs.Causes.{causes, has_bad_name, has_duplicate_name, has_unknown_name, has_bad_number, has_large_number, has_min_over_max, enters_failure, is_self_edge, is_second_edge, names_no_mode, lacks_node_room, lacks_failure_room, lacks_edge_room, lacks_mode_room, lacks_incoming_room}
-use Rattle.tfpg_base.proofs.lists.Choices.{first_of-none_tested}
+use Rattle.tfpg_base.proofs.lemmas.lists.Choices.{first_of-none_tested}
 
 -- A statement without a cause meets none of the conditions.
 pub HasNoCause-from_none : (out_of_order : Bool) (graph : Tfpg) (said : Statement)

@@ -15,12 +15,12 @@ use Rattle.tfpg_graph.specs.Statements.{Statement, DeclaresMode, Ends, ends_text
 use Rattle.tfpg_graph.specs.Declares.{edge_declared, graph_said}
 use Rattle.tfpg_base.specs.Choice.{first_of}
 use Rattle.tfpg_graph.specs.Causes.{is_out_of_order, causes, cause_of_said}
-use Rattle.tfpg_base.proofs.lists.Elements.{All-front, All-middle, AllPairs-middle, length-middle}
-use Rattle.tfpg_base.proofs.lists.LookedUp.{filter_map-related}
-use Rattle.tfpg_base.proofs.lists.Numbered.{numbers_from-middle}
-use Rattle.tfpg_base.proofs.lists.Positions.{position-All_fail}
-use Rattle.tfpg_base.proofs.lists.SameBytes.{position-bytes_none}
-use Rattle.tfpg_base.proofs.lists.Zipped.{AllZip-push}
+use Rattle.tfpg_base.proofs.lemmas.lists.Elements.{All-front, All-middle, AllPairs-middle, length-middle}
+use Rattle.tfpg_base.proofs.lemmas.lists.LookedUp.{filter_map-related}
+use Rattle.tfpg_base.proofs.lemmas.lists.Numbered.{numbers_from-middle}
+use Rattle.tfpg_base.proofs.lemmas.lists.Positions.{position-All_fail}
+use Rattle.tfpg_base.proofs.lemmas.lists.SameBytes.{position-bytes_none}
+use Rattle.tfpg_base.proofs.lemmas.lists.Zipped.{AllZip-push}
 use Rattle.tfpg_graph.proofs.lemmas.reading.spelling.SpelledEdges.{edge_statement, is_name-name_word, node_named-name_word, IsModesWord-spelled, edge_declared-said}
 use Rattle.tfpg_graph.proofs.lemmas.reading.causes.NoCause.{HasNoCause, no_first_cause, HasNoCause-mode, HasNoCause-node, HasNoCause-edge, HasNoCause-end, IsEdgeRight}
 use Rattle.tfpg_graph.proofs.lemmas.reading.spelling.SaidSoFar.{node_statement, said_so_far, IsOfEdge, not_ended-so_far, graph_said-so_far, modes_only-so_far, no_edges-so_far, has_mode-so_far, said_so_far-mode, said_so_far-node, said_so_far-edge}

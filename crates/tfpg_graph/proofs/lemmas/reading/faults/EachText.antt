@@ -5,7 +5,7 @@ use Rattle.std.proofs.lemmas.List.{append-nil}
 use Rattle.std.proofs.lemmas.List.Elements.{All-nil}
 use Rattle.std.proofs.lemmas.List.Sums.{sum_by-cons}
 use Rattle.tfpg_base.specs.Lines.{lines_of}
-use Rattle.tfpg_base.proofs.lists.Decided.{IsDecided, IsFirstBelow, first_below, test_decided}
+use Rattle.tfpg_base.proofs.lemmas.lists.Decided.{IsDecided, IsFirstBelow, first_below, test_decided}
 use Rattle.tfpg_graph.specs.declared.cause.GraphCause.{GraphCause}
 use Rattle.tfpg_graph.specs.declared.cause.GraphCause.TheVariants.{BadHeader, NoIncoming, ZeroCycle, MissingEnd}
 use Rattle.tfpg_graph.specs.declared.cause.GraphFault.{GraphFault}

@@ -6,8 +6,8 @@ use Rattle.std.proofs.lemmas.List.{append-nil}
 use Rattle.std.proofs.lemmas.List.Elements.{All-head, All-tail, All-same, All-filter}
 use Rattle.std.proofs.lemmas.List.Folds.{list_any-append}
 use Rattle.std.proofs.lemmas.Option.{none-some}
-use Rattle.tfpg_base.proofs.lists.Elements.{All-front, All-back}
-use Rattle.tfpg_base.proofs.lists.Zipped.{AllZip-append, AllZip-maps}
+use Rattle.tfpg_base.proofs.lemmas.lists.Elements.{All-front, All-back}
+use Rattle.tfpg_base.proofs.lemmas.lists.Zipped.{AllZip-append, AllZip-maps}
 use Rattle.tfpg_base.specs.Lines.{lines_of}
 use Rattle.tfpg_base.specs.declared.limits.TheConstants.{LONGEST_LINE}
 use Rattle.tfpg_graph.specs.declared.cause.GraphCause.TheVariants.{BadHeader, AfterEnd}

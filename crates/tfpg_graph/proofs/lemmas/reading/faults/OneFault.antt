@@ -13,8 +13,8 @@ use Rattle.tfpg_graph.specs.Declares.{declared_by}
 use Rattle.tfpg_graph.specs.Causes.{cause_at}
 use Rattle.tfpg_graph.specs.Faults.{IsLineFault, IsLineSaying, IsIncomingFault, IsCycleFault, IsEndFault, IsWholeFault, IsFirstFault, IsRefusalOf, IsFaultResult, LacksIncoming, says}
 use Rattle.tfpg_base.specs.Lines.{lines_of}
-use Rattle.tfpg_base.proofs.lists.Sequences.{same_from_neither}
-use Rattle.tfpg_base.proofs.lists.Filtered.{count_by-take_lt}
+use Rattle.tfpg_base.proofs.lemmas.lists.Sequences.{same_from_neither}
+use Rattle.tfpg_base.proofs.lemmas.lists.Filtered.{count_by-take_lt}
 use Rattle.tfpg_graph.proofs.lemmas.reading.faults.NoFault.{no_line_fault, Spells-no_fault}
 
 -- two faults with the same line and the same cause are the same

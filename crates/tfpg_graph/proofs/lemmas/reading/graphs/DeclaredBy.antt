@@ -10,10 +10,10 @@ use Rattle.tfpg_graph.specs.Declares.{kind_of_words, mode_declared, node_declare
 use Rattle.tfpg_graph.specs.Causes.{is_out_of_order}
 use Rattle.tfpg_graph.specs.inside.reading.Turns.{HasValue, is_misplaced}
 use Rattle.tfpg_graph.proofs.lemmas.reading.graphs.GraphsSaid.{graph_said-end}
-use Rattle.tfpg_base.proofs.lists.Valued.{filter_map-push_none, count_by-valued}
-use Rattle.tfpg_base.proofs.lists.Sequences.{zero-not_some}
-use Rattle.tfpg_base.proofs.lists.Elements.{list_any-count, list_any-or, All-list_any_none}
-use Rattle.tfpg_base.proofs.lists.Choices.{is_some-option_map}
+use Rattle.tfpg_base.proofs.lemmas.lists.Valued.{filter_map-push_none, count_by-valued}
+use Rattle.tfpg_base.proofs.lemmas.lists.Sequences.{zero-not_some}
+use Rattle.tfpg_base.proofs.lemmas.lists.Elements.{list_any-count, list_any-or, All-list_any_none}
+use Rattle.tfpg_base.proofs.lemmas.lists.Choices.{is_some-option_map}
 
 -- a statement that declares a mode has its name
 mode-valued : (said : Statement) → is_some (mode_declared said) ≡ declares_mode said

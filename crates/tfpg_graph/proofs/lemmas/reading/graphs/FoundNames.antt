@@ -1,7 +1,7 @@
 -- In a valid graph a node is found by its name.
 use Rattle.std.proofs.Common.{◌≡◌, ℕ, ◌<◌, List, [], length, IsTrue, Some, slice_get, unwrap_or, ap, subst}
 use Rattle.std.proofs.lemmas.Option.{slice_get_within}
-use Rattle.tfpg_base.proofs.lists.Choices.{option_map-some}
+use Rattle.tfpg_base.proofs.lemmas.lists.Choices.{option_map-some}
 use Rattle.tfpg_base.specs.Words.{is_name}
 use Rattle.tfpg_graph.specs.Graph.{Tfpg, Node, name_at, name_word, node_named}
 use Rattle.tfpg_graph.specs.Valid.{IsValid}

@@ -3,8 +3,8 @@ use Rattle.std.proofs.Common.{◌≡◌, ℕ, ◌<◌, true, false, not, List, [
 use Rattle.std.specs.List.{list_any, filter_map}
 use Rattle.std.specs.Option.{option_map}
 use Rattle.std.proofs.lemmas.Bool.{or_parts}
-use Rattle.tfpg_base.proofs.lists.LookedUp.{filter_map-unlike}
-use Rattle.tfpg_base.proofs.lists.Valued.{filter_map-push_some, filter_map-push_none}
+use Rattle.tfpg_base.proofs.lemmas.lists.LookedUp.{filter_map-unlike}
+use Rattle.tfpg_base.proofs.lemmas.lists.Valued.{filter_map-push_some, filter_map-push_none}
 use Rattle.tfpg_graph.specs.declared.kind.Kind.{Kind}
 use Rattle.tfpg_graph.specs.declared.edge.Edge.{Edge}
 use Rattle.tfpg_graph.specs.Graph.{Tfpg, Node}

@@ -14,10 +14,10 @@ use Rattle.tfpg_base.specs.SetBits.{bits_of}
 use Rattle.tfpg_base.specs.Words.{is_name, is_number, number_of}
 use Rattle.tfpg_base.specs.Choice.{first_of}
 use Rattle.tfpg_base.specs.declared.limits.TheConstants.{MAX_TIME}
-use Rattle.tfpg_base.proofs.Numbers.{number_of-within}
-use Rattle.tfpg_base.proofs.Sets.{bits_of-below, bits_of-some, Rises-with_member}
-use Rattle.tfpg_base.proofs.lists.LookedUp.{found}
-use Rattle.tfpg_base.proofs.lists.SameBytes.{bytes_eq-false}
+use Rattle.tfpg_base.proofs.lemmas.Numbers.{number_of-within}
+use Rattle.tfpg_base.proofs.lemmas.Sets.{bits_of-below, bits_of-some, Rises-with_member}
+use Rattle.tfpg_base.proofs.lemmas.lists.LookedUp.{found}
+use Rattle.tfpg_base.proofs.lemmas.lists.SameBytes.{bytes_eq-false}
 use Rattle.tfpg_graph.specs.declared.cause.GraphCause.{GraphCause}
 use Rattle.tfpg_graph.specs.declared.kind.Kind.{Kind}
 use Rattle.tfpg_graph.specs.declared.kind.Lag.{Lag}

@@ -2,7 +2,7 @@
 use Rattle.std.proofs.Common.{◌≡◌, ℕ, ◌+◌, ◌<◌, ◌≤◌, Bool, true, false, List, [], length, get_or, take, count_by, refl, ap, sym, ◌∙◌, subst}
 use Rattle.std.proofs.lemmas.List.{take_all}
 use Rattle.std.proofs.lemmas.List.Sums.{count_by_more_yes, count_by_more_no}
-use Rattle.tfpg_base.proofs.lists.LookedUp.{count_by-filter_map}
+use Rattle.tfpg_base.proofs.lemmas.lists.LookedUp.{count_by-filter_map}
 use Rattle.tfpg_graph.specs.declared.version.Version.{Version}
 use Rattle.tfpg_graph.specs.Text.{version_of}
 use Rattle.tfpg_graph.specs.Statements.{Statement, statement_of, statements_of, declares_node, declares_edge}

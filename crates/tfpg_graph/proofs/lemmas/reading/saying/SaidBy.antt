@@ -10,7 +10,7 @@ use Rattle.tfpg_graph.specs.Text.{header, version_said, version_of}
 use Rattle.tfpg_graph.specs.Statements.{is_empty_or_comment, Statement, statement_of, statements_of, is_skipped}
 use Rattle.tfpg_graph.specs.Declares.{said_by}
 use Rattle.tfpg_graph.proofs.lemmas.reading.saying.SaidWords.{skipped_says_nothing}
-use Rattle.tfpg_base.proofs.lists.Valued.{filter_map-push_some, filter_map-push_none}
+use Rattle.tfpg_base.proofs.lemmas.lists.Valued.{filter_map-push_some, filter_map-push_none}
 
 -- A line that is skipped says nothing.
 pub statement_of-skipped : (version : Version) (line : List ℕ) → is_skipped line ≡ true → statement_of version line ≡ None

@@ -6,9 +6,9 @@ use Rattle.std.proofs.lemmas.List.{nil_from_length}
 use Rattle.std.proofs.lemmas.List.Elements.{All-nil, All-cons, All-head, All-tail, All-contains}
 use Rattle.tfpg_base.specs.Words.{words_of}
 use Rattle.tfpg_base.specs.declared.limits.TheConstants.{LONGEST_LINE}
-use Rattle.tfpg_base.proofs.lists.Choices.{cond-some_second}
-use Rattle.tfpg_base.proofs.lists.Elements.{All-from_members}
-use Rattle.tfpg_base.proofs.lists.Lacking.{Lacks}
+use Rattle.tfpg_base.proofs.lemmas.lists.Choices.{cond-some_second}
+use Rattle.tfpg_base.proofs.lemmas.lists.Elements.{All-from_members}
+use Rattle.tfpg_base.proofs.lemmas.lists.Lacking.{Lacks}
 use Rattle.tfpg_graph.specs.declared.version.Version.{Version}
 use Rattle.tfpg_graph.specs.Statements.{FailureWords, OrWords, AndWords, Statement, DeclaresMode, DeclaresNode, DeclaresEdge, Ends, words_of_statement, IsLineWord, SaysStatement, statement_of}
 use Rattle.tfpg_graph.proofs.lemmas.reading.saying.SaidWords.{statement_in_words, statement_in-words, said_by_words}

@@ -8,13 +8,13 @@ use Rattle.std.proofs.lemmas.List.Splits.{length-slice_split, join_with_byte-sli
 use Rattle.std.proofs.lemmas.List.Quantifiers.{position-Some}
 use Rattle.std.proofs.lemmas.Option.{slice_get-get_or}
 use Rattle.std.proofs.lemmas.Slice.Eq.{bytes_eq-Decides}
-use Rattle.tfpg_base.proofs.lists.Elements.{AllPairs-cons}
-use Rattle.tfpg_base.proofs.lists.LookedUp.{filter_map-some, filter_map-back, filter_map-unlike_others}
+use Rattle.tfpg_base.proofs.lemmas.lists.Elements.{AllPairs-cons}
+use Rattle.tfpg_base.proofs.lemmas.lists.LookedUp.{filter_map-some, filter_map-back, filter_map-unlike_others}
 use Rattle.tfpg_graph.specs.Graph.{Tfpg, mode_named}
 use Rattle.tfpg_graph.specs.Text.{SpellsModes}
 use Rattle.tfpg_graph.specs.Declares.{modes_listed, modes_of_word}
 use Rattle.tfpg_graph.specs.Causes.{has_twice}
-use Rattle.tfpg_base.proofs.lists.Passing.{All-filter_map}
+use Rattle.tfpg_base.proofs.lemmas.lists.Passing.{All-filter_map}
 
 -- values that lead back to the words
 module _ {Y : Type 0} (look : List ℕ → Option Y) (read : Y → Option (List ℕ))

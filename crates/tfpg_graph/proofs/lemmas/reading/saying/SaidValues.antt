@@ -8,8 +8,8 @@ use Rattle.std.specs.Option.{option_map, option_and_then}
 use Rattle.std.proofs.lemmas.Bool.{and_parts, or_parts, not-false}
 use Rattle.std.proofs.lemmas.Slice.Eq.{bytes_eq-Decides}
 use Rattle.tfpg_base.specs.Words.{line_of, is_number, number_of}
-use Rattle.tfpg_base.proofs.Numbers.{number_of-within}
-use Rattle.tfpg_base.proofs.lists.LookedUp.{found}
+use Rattle.tfpg_base.proofs.lemmas.Numbers.{number_of-within}
+use Rattle.tfpg_base.proofs.lemmas.lists.LookedUp.{found}
 use Rattle.tfpg_graph.specs.declared.kind.Kind.{Kind}
 use Rattle.tfpg_graph.specs.declared.kind.Lag.{Lag}
 use Rattle.tfpg_graph.specs.declared.kind.Kind.TheVariants.{Failure, Or, And}

@@ -5,11 +5,11 @@ use Rattle.std.specs.List.{onto_first}
 use Rattle.std.specs.Option.{option_map}
 use Rattle.std.proofs.lemmas.Bool.{ltb-false, eqb-true, cond_both}
 use Rattle.std.proofs.lemmas.Option.{same_Some}
-use Rattle.tfpg_base.proofs.lists.Choices.{option_map-some, cond-some_second}
+use Rattle.tfpg_base.proofs.lemmas.lists.Choices.{option_map-some, cond-some_second}
 use Rattle.std.proofs.lemmas.Slice.Eq.{bytes_eq-Decides}
 use Rattle.tfpg_base.specs.Words.{line_of, words_of, has_empty_word}
 use Rattle.tfpg_base.specs.declared.limits.TheConstants.{LONGEST_LINE}
-use Rattle.tfpg_base.proofs.Separators.{join_with_byte-words_of}
+use Rattle.tfpg_base.proofs.lemmas.Separators.{join_with_byte-words_of}
 use Rattle.tfpg_base.specs.Lines.{is_too_long}
 use Rattle.tfpg_graph.specs.declared.version.Version.{Version}
 use Rattle.tfpg_graph.specs.declared.version.Version.TheVariants.{One, Two}

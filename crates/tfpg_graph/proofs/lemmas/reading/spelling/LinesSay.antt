@@ -9,10 +9,10 @@ use Rattle.std.proofs.lemmas.List.{append-nil}
 use Rattle.std.proofs.lemmas.List.Elements.{All-weaker, All-from_recursion}
 use Rattle.tfpg_base.specs.Words.{line_of, is_name}
 use Rattle.tfpg_base.specs.declared.limits.TheConstants.{LONGEST_LINE, MAX_TIME}
-use Rattle.tfpg_base.proofs.Numbers.{is_number-decimal, number_nonempty}
-use Rattle.tfpg_base.proofs.Separators.{name_lacks}
-use Rattle.tfpg_base.proofs.lists.Lacking.{Lacks, lacks_checked, decimal_lacks, slice_split-join}
-use Rattle.tfpg_base.proofs.lists.Joined.{All-join}
+use Rattle.tfpg_base.proofs.lemmas.Numbers.{is_number-decimal, number_nonempty}
+use Rattle.tfpg_base.proofs.lemmas.Separators.{name_lacks}
+use Rattle.tfpg_base.proofs.lemmas.lists.Lacking.{Lacks, lacks_checked, decimal_lacks, slice_split-join}
+use Rattle.tfpg_base.proofs.lemmas.lists.Joined.{All-join}
 use Rattle.tfpg_graph.specs.declared.kind.Kind.{Kind}
 use Rattle.tfpg_graph.specs.declared.kind.Lag.{Lag}
 use Rattle.tfpg_graph.specs.declared.kind.Kind.TheVariants.{Failure, Or, And}

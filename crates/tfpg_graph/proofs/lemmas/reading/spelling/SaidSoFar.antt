@@ -5,8 +5,8 @@ use Rattle.std.specs.List.{list_any, filter_map}
 use Rattle.std.proofs.lemmas.List.{append-nil, map_push}
 use Rattle.std.proofs.lemmas.List.Elements.{All-nil, All-append, All-map, filter_map-append}
 use Rattle.std.proofs.lemmas.List.Folds.{list_any_none}
-use Rattle.tfpg_base.proofs.lists.LookedUp.{filter_map-made}
-use Rattle.tfpg_base.proofs.lists.Valued.{filter_map-none}
+use Rattle.tfpg_base.proofs.lemmas.lists.LookedUp.{filter_map-made}
+use Rattle.tfpg_base.proofs.lemmas.lists.Valued.{filter_map-none}
 use Rattle.tfpg_graph.specs.declared.edge.Edge.{Edge}
 use Rattle.tfpg_graph.specs.Graph.{Tfpg, Node}
 use Rattle.tfpg_graph.specs.Valid.{HasValidNumber}

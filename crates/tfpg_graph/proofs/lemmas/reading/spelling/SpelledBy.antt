@@ -26,7 +26,7 @@ use Rattle.tfpg_graph.proofs.lemmas.reading.saying.SaidBy.{header-said, version_
 use Rattle.tfpg_graph.proofs.lemmas.writing.LineLengths.{short_header}
 use Rattle.tfpg_graph.proofs.lemmas.reading.saying.SaidWords.{said_by_words, skipped_says_nothing}
 use Rattle.tfpg_graph.proofs.lemmas.reading.spelling.SpelledSoFar.{SpellsSoFar, AreSpelled, statement_spelled}
-use Rattle.tfpg_base.proofs.lists.Choices.{cond-none_second}
+use Rattle.tfpg_base.proofs.lemmas.lists.Choices.{cond-none_second}
 
 -- ---- one line more
 

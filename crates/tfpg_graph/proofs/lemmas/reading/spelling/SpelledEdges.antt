@@ -13,7 +13,7 @@ use Rattle.std.proofs.lemmas.List.Folds.{list_any_none}
 use Rattle.tfpg_base.specs.SetBits.{bits_of}
 use Rattle.tfpg_base.specs.Words.{is_name}
 use Rattle.tfpg_base.specs.declared.limits.TheConstants.{LONGEST_LINE, MAX_TIME}
-use Rattle.tfpg_base.proofs.Numbers.{number_of-decimal}
+use Rattle.tfpg_base.proofs.lemmas.Numbers.{number_of-decimal}
 use Rattle.tfpg_graph.specs.declared.kind.Kind.TheVariants.{Failure}
 use Rattle.tfpg_graph.specs.declared.edge.Edge.{Edge}
 use Rattle.tfpg_graph.specs.declared.version.Version.{Version}
@@ -25,9 +25,9 @@ use Rattle.tfpg_graph.specs.Declares.{modes_listed, modes_of_word, edge_declared
 use Rattle.tfpg_graph.specs.Causes.{has_twice}
 use Rattle.tfpg_graph.proofs.lemmas.reading.spelling.LinesSay.{IsWord, IsWord-star, IsWord-names, statement_of-edge}
 use Rattle.tfpg_graph.proofs.lemmas.reading.spelling.SpelledValues.{tmax_of_word-tmax, names_at, has_twice-names, all_names, join-not, modes_listed-join}
-use Rattle.tfpg_base.proofs.lists.SameBytes.{position-bytes}
-use Rattle.tfpg_base.proofs.lists.Images.{list_any-map}
-use Rattle.tfpg_base.proofs.lists.LookedUp.{filter_map-made, filter_map-slice_get}
+use Rattle.tfpg_base.proofs.lemmas.lists.SameBytes.{position-bytes}
+use Rattle.tfpg_base.proofs.lemmas.lists.Images.{list_any-map}
+use Rattle.tfpg_base.proofs.lemmas.lists.LookedUp.{filter_map-made, filter_map-slice_get}
 
 -- What the line of an edge says, with the word for its modes.
 abbrev pub edge_statement : Tfpg → Edge → List ℕ → Statement

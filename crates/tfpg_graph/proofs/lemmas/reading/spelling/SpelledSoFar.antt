@@ -4,8 +4,8 @@ use Rattle.std.specs.List.{AllZip, list_any}
 use Rattle.std.proofs.lemmas.Bool.{not-false}
 use Rattle.std.proofs.lemmas.List.{map-append}
 use Rattle.std.proofs.lemmas.List.Elements.{All-push}
-use Rattle.tfpg_base.proofs.lists.Appended.{append-first_of_four, append-second_of_four, append-third_of_four, append-fourth_of_four}
-use Rattle.tfpg_base.proofs.lists.Zipped.{AllZip-push, AllZip-none}
+use Rattle.tfpg_base.proofs.lemmas.lists.Appended.{append-first_of_four, append-second_of_four, append-third_of_four, append-fourth_of_four}
+use Rattle.tfpg_base.proofs.lemmas.lists.Zipped.{AllZip-push, AllZip-none}
 use Rattle.tfpg_graph.specs.declared.kind.Kind.{Kind}
 use Rattle.tfpg_graph.specs.declared.edge.Edge.{Edge}
 use Rattle.tfpg_graph.specs.declared.version.Version.{Version}

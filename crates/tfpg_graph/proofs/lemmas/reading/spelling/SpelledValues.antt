@@ -9,10 +9,10 @@ use Rattle.std.proofs.lemmas.List.{append-nil}
 use Rattle.std.proofs.lemmas.List.Elements.{All-head, All-tail}
 use Rattle.std.proofs.lemmas.List.Folds.{list_any_none}
 use Rattle.tfpg_base.specs.Words.{is_name, is_letter, number_of}
-use Rattle.tfpg_base.proofs.Numbers.{number_of-decimal, decimal-differs}
-use Rattle.tfpg_base.proofs.Separators.{name_lacks}
-use Rattle.tfpg_base.proofs.lists.Lacking.{Lacks, slice_split-join}
-use Rattle.tfpg_base.proofs.lists.Elements.{AllPairs-head, AllPairs-tail}
+use Rattle.tfpg_base.proofs.lemmas.Numbers.{number_of-decimal, decimal-differs}
+use Rattle.tfpg_base.proofs.lemmas.Separators.{name_lacks}
+use Rattle.tfpg_base.proofs.lemmas.lists.Lacking.{Lacks, slice_split-join}
+use Rattle.tfpg_base.proofs.lemmas.lists.Elements.{AllPairs-head, AllPairs-tail}
 use Rattle.tfpg_graph.specs.declared.kind.Kind.{Kind}
 use Rattle.tfpg_graph.specs.declared.kind.Lag.{Lag}
 use Rattle.tfpg_graph.specs.declared.kind.Kind.TheVariants.{Failure, Or, And}
@@ -21,9 +21,9 @@ use Rattle.tfpg_base.specs.declared.limits.TheConstants.{MAX_TIME}
 use Rattle.tfpg_graph.specs.Valid.{HasValidNumber, IsValidLag}
 use Rattle.tfpg_graph.specs.Declares.{kind_of_words, lag_of_words, tmax_of_word, modes_listed}
 use Rattle.tfpg_graph.specs.Causes.{has_twice}
-use Rattle.tfpg_base.proofs.lists.SameBytes.{bytes_eq-differ}
-use Rattle.tfpg_base.proofs.lists.Images.{list_any-map}
-use Rattle.tfpg_base.proofs.lists.Distinct.{get_or-differ}
+use Rattle.tfpg_base.proofs.lemmas.lists.SameBytes.{bytes_eq-differ}
+use Rattle.tfpg_base.proofs.lemmas.lists.Images.{list_any-map}
+use Rattle.tfpg_base.proofs.lemmas.lists.Distinct.{get_or-differ}
 
 lag_read : (lag : Option Lag) → IfSome lag IsValidLag → lag_of_words (option_map lag_words lag) ≡ Some lag
 lag_read None small = refl

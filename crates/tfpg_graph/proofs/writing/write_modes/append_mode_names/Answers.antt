@@ -1,6 +1,6 @@
 use Rattle.std.proofs.Common.{ℕ, ◌≡◌, ◌++◌, ◌∙◌, length, sym, ap, arith}
 use Rattle.std.specs.List.{join_with_byte}
-use Rattle.tfpg_base.proofs.Appended.{Appends-err_after}
+use Rattle.tfpg_base.proofs.lemmas.Appended.{Appends-err_after}
 use Rattle.tfpg_graph.specs.inside.writing.Written.{mode_names_before}
 use Rattle.tfpg_graph.proofs.lemmas.writing.ModeNames.{AreListed-none, AreListed-more, AreListed-same}
 use Rattle.tfpg_graph.proofs.writing.write_modes.append_mode_names.Goals as goal

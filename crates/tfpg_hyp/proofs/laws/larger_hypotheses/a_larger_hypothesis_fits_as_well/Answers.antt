@@ -1,4 +1,4 @@
-use Rattle.tfpg_hyp.proofs.IgnoredMore.{explains_ignoring, whole_fits}
+use Rattle.tfpg_hyp.proofs.lemmas.IgnoredMore.{explains_ignoring, whole_fits}
 use Rattle.tfpg_hyp.proofs.laws.larger_hypotheses.a_larger_hypothesis_fits_as_well.Goals as goal
 
 pub returns : goal.returns

@@ -1,4 +1,4 @@
-use Rattle.tfpg_hyp.proofs.RoundOfGraph.{round_of}
+use Rattle.tfpg_hyp.proofs.lemmas.RoundOfGraph.{round_of}
 use Rattle.tfpg_hyp.proofs.laws.names.a_round_is_of_its_graph.Goals as goal
 
 pub returns : goal.returns

@@ -1,4 +1,4 @@
-use Rattle.tfpg_hyp.proofs.FittingSets.{rejected_exactly, rejected_not, no_fitting_part}
+use Rattle.tfpg_hyp.proofs.lemmas.FittingSets.{rejected_exactly, rejected_not, no_fitting_part}
 use Rattle.tfpg_hyp.proofs.laws.round_laws.rounds_say_which_sets_fit.Goals as goal
 
 pub returns : goal.returns

@@ -1,4 +1,4 @@
-use Rattle.tfpg_hyp.proofs.FittingSets.{ranked_of, covered_of, rejected_of}
+use Rattle.tfpg_hyp.proofs.lemmas.FittingSets.{ranked_of, covered_of, rejected_of}
 use Rattle.tfpg_hyp.proofs.laws.round_laws.statuses_are_those_of_minimal_sets.Goals as goal
 
 pub returns : goal.returns

@@ -1,5 +1,5 @@
-use Rattle.tfpg_hyp.proofs.MonitorNumbers.{few_monitors}
-use Rattle.tfpg_hyp.proofs.Tables.{HasHypotheses-counted}
+use Rattle.tfpg_hyp.proofs.lemmas.MonitorNumbers.{few_monitors}
+use Rattle.tfpg_hyp.proofs.lemmas.Tables.{HasHypotheses-counted}
 use Rattle.tfpg_hyp.proofs.table.Table.count.Goals as goal
 
 pub count_hypotheses-requires-clause-few_monitors : goal.count_hypotheses-requires-clause-few_monitors

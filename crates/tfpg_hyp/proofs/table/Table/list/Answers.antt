@@ -3,8 +3,8 @@ use Rattle.tfpg_base.specs.NodeSet.{IsNodeSet}
 use Rattle.tfpg_base.specs.Hypothesis.{Hypothesis}
 use Rattle.tfpg_hyp.specs.Hypotheses.{AreReaches}
 use Rattle.tfpg_hyp.specs.inside.Choices.{chosen_below}
-use Rattle.tfpg_hyp.proofs.MonitorNumbers.{IsNodeSet-monitors}
-use Rattle.tfpg_hyp.proofs.Tables.{IsTable-hypotheses, members_failing, few_hypotheses}
+use Rattle.tfpg_hyp.proofs.lemmas.MonitorNumbers.{IsNodeSet-monitors}
+use Rattle.tfpg_hyp.proofs.lemmas.Tables.{IsTable-hypotheses, members_failing, few_hypotheses}
 use Rattle.tfpg_hyp.proofs.table.Table.list.Goals as goal
 
 pub list_hypotheses-requires-clause-monitors : goal.list_hypotheses-requires-clause-monitors

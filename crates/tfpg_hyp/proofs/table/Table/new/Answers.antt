@@ -1,7 +1,7 @@
 use Rattle.std.proofs.Common.{Ok, arith}
 use Rattle.std.proofs.lemmas.Result.{err_from_is_err_and}
-use Rattle.tfpg_hyp.proofs.MonitorNumbers.{few_monitors}
-use Rattle.tfpg_hyp.proofs.Tables.{HasHypotheses-counted, too_many-exactly, not_too_many}
+use Rattle.tfpg_hyp.proofs.lemmas.MonitorNumbers.{few_monitors}
+use Rattle.tfpg_hyp.proofs.lemmas.Tables.{HasHypotheses-counted, too_many-exactly, not_too_many}
 use Rattle.tfpg_hyp.proofs.table.Table.new.Goals as goal
 
 pub returns-then-count-from-clause-too_many : goal.returns-then-count-from-clause-too_many

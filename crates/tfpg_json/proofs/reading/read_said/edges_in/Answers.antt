@@ -1,7 +1,7 @@
 use Rattle.std.proofs.Common.{Some, sym, ap, ◌∙◌}
 use Rattle.tfpg_json.specs.GraphSaid.{edge_from}
-use Rattle.tfpg_json.proofs.ListsRead.{each_missing, each_more, each_read}
-use Rattle.tfpg_json.proofs.Refused.{ReadAs-passed}
+use Rattle.tfpg_json.proofs.lemmas.ListsRead.{each_missing, each_more, each_read}
+use Rattle.tfpg_json.proofs.lemmas.Refused.{ReadAs-passed}
 use Rattle.tfpg_json.proofs.reading.read_said.edges_in.Goals as goal
 
 pub returns-in_err-edge_in : goal.returns-in_err-edge_in

@@ -2,9 +2,9 @@ use Rattle.std.proofs.Common.{List, ℕ, Some, Bor, [], ◌∷◌, map, sym, ap,
 use Rattle.std.specs.Option.{option_map}
 use Rattle.std.proofs.lemmas.List.{map-append}
 use Rattle.serde_json.specs.Find.{as_str}
-use Rattle.tfpg_base.proofs.lists.Choices.{ok_or-err}
-use Rattle.tfpg_json.proofs.ListsRead.{each_missing, each_more, each_read}
-use Rattle.tfpg_json.proofs.Refused.{ReadAs-missing, no_graph}
+use Rattle.tfpg_base.proofs.lemmas.lists.Choices.{ok_or-err}
+use Rattle.tfpg_json.proofs.lemmas.ListsRead.{each_missing, each_more, each_read}
+use Rattle.tfpg_json.proofs.lemmas.Refused.{ReadAs-missing, no_graph}
 use Rattle.tfpg_json.proofs.reading.read_said.names_in.Goals as goal
 
 pub returns-in_err-ok_or : goal.returns-in_err-ok_or

@@ -1,8 +1,8 @@
 use Rattle.std.proofs.Common.{Some, sym, ap, ◌∙◌}
-use Rattle.tfpg_base.proofs.lists.Choices.{ok_or-err}
+use Rattle.tfpg_base.proofs.lemmas.lists.Choices.{ok_or-err}
 use Rattle.tfpg_json.specs.GraphSaid.{node_in}
-use Rattle.tfpg_json.proofs.ListsRead.{each_missing, each_more, each_read}
-use Rattle.tfpg_json.proofs.Refused.{ReadAs-missing, no_graph}
+use Rattle.tfpg_json.proofs.lemmas.ListsRead.{each_missing, each_more, each_read}
+use Rattle.tfpg_json.proofs.lemmas.Refused.{ReadAs-missing, no_graph}
 use Rattle.tfpg_json.proofs.reading.read_said.nodes_in.Goals as goal
 
 pub returns-in_err-ok_or : goal.returns-in_err-ok_or

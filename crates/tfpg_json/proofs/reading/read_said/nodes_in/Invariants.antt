@@ -1,7 +1,7 @@
 use Rattle.std.proofs.Common.{◌≡◌, map, take, Some}
 use Rattle.tfpg_base.specs.Choice.{each_of}
 use Rattle.tfpg_json.specs.GraphSaid.{node_in}
-use Rattle.tfpg_json.proofs.ListsRead.{read_value}
+use Rattle.tfpg_json.proofs.lemmas.ListsRead.{read_value}
 use Rattle.tfpg_json.proofs.reading.read_said.nodes_in.Given as goal
 
 -- the nodes so far are read

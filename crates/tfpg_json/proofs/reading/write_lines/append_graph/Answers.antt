@@ -4,11 +4,11 @@ use Rattle.std.proofs.lemmas.List.Folds.{flat_map-map}
 use Rattle.tfpg_base.specs.Append.{Appends}
 use Rattle.tfpg_base.specs.Lines.{with_line_end}
 use Rattle.tfpg_base.specs.TextLine.{text_line}
-use Rattle.tfpg_base.proofs.Appended.{Appends-after_four}
+use Rattle.tfpg_base.proofs.lemmas.Appended.{Appends-after_four}
 use Rattle.tfpg_graph.specs.declared.version.Version.TheVariants.{Two}
 use Rattle.tfpg_graph.specs.Text.{header, node_text}
 use Rattle.tfpg_json.specs.GraphSaid.{GraphSaid}
-use Rattle.tfpg_json.proofs.LinesSaid.{mode_text, edge_said_text, text_said-pieces}
+use Rattle.tfpg_json.proofs.lemmas.LinesSaid.{mode_text, edge_said_text, text_said-pieces}
 use Rattle.tfpg_json.proofs.reading.write_lines.append_graph.Goals as goal
 
 pub returns : goal.returns

@@ -1,4 +1,4 @@
-use Rattle.tfpg_json.proofs.LinesSaid.{joined_goes_on}
+use Rattle.tfpg_json.proofs.lemmas.LinesSaid.{joined_goes_on}
 use Rattle.tfpg_json.proofs.reading.write_lines.append_joined.Goals as goal
 
 pub loop-index-preserved : goal.loop-index-preserved

@@ -1,4 +1,4 @@
-use Rattle.tfpg_base.proofs.Appended.{Appends-err_after}
+use Rattle.tfpg_base.proofs.lemmas.Appended.{Appends-err_after}
 use Rattle.tfpg_json.proofs.reading.write_lines.append_nodes.Goals as goal
 
 pub returns-in_err-append_node : goal.returns-in_err-append_node

@@ -5,7 +5,7 @@ use Rattle.tfpg_graph.specs.inside.writing.Written.{mode_names_before}
 use Rattle.tfpg_graph.proofs.lemmas.writing.ModeNames.{mode_names_before-more, mode_names_before-same}
 use Rattle.tfpg_json.proofs.writing.from_graph.append_active_modes.Goals.{then-is_active_in+in_ok-string, else-is_active_in}
 use Rattle.tfpg_json.specs.inside.Tokens.{each_tokens}
-use Rattle.tfpg_json.proofs.TokensWritten.{begun, item_written, list_ended_last}
+use Rattle.tfpg_json.proofs.lemmas.TokensWritten.{begun, item_written, list_ended_last}
 use Rattle.tfpg_json.proofs.writing.from_graph.append_active_modes.Goals as goal
 
 pub loop-mode-preserved : goal.loop-mode-preserved

@@ -2,7 +2,7 @@ use Rattle.std.proofs.Common.{◌≡◌, ◌++◌, codes, map}
 use Rattle.serde_json.specs.Data.{string}
 use Rattle.tfpg_graph.specs.inside.writing.Written.{mode_names_before}
 use Rattle.tfpg_json.specs.inside.Tokens.{each_tokens}
-use Rattle.tfpg_json.proofs.TokensWritten.{begun}
+use Rattle.tfpg_json.proofs.lemmas.TokensWritten.{begun}
 use Rattle.tfpg_json.proofs.writing.from_graph.append_active_modes.Given as goal
 
 -- the names of the edge's modes before this one are written

@@ -1,8 +1,8 @@
 use Rattle.std.proofs.Common.{codes, map, ap, ◌∙◌, arith}
 use Rattle.std.proofs.lemmas.List.{take_all}
 use Rattle.tfpg_json.specs.GraphData.{edge_data}
-use Rattle.tfpg_json.proofs.DataLists.{item_next}
-use Rattle.tfpg_json.proofs.TokensWritten.{begun, item_written, list_ended_last}
+use Rattle.tfpg_json.proofs.lemmas.DataLists.{item_next}
+use Rattle.tfpg_json.proofs.lemmas.TokensWritten.{begun, item_written, list_ended_last}
 use Rattle.tfpg_json.proofs.writing.from_graph.append_edges.Goals as goal
 
 pub loop-number-preserved : goal.loop-number-preserved

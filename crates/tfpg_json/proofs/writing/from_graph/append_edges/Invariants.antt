@@ -1,7 +1,7 @@
 use Rattle.std.proofs.Common.{◌≡◌, ◌++◌, codes, map, take}
 use Rattle.tfpg_json.specs.GraphData.{edge_data}
 use Rattle.tfpg_json.specs.inside.Tokens.{each_tokens}
-use Rattle.tfpg_json.proofs.TokensWritten.{begun}
+use Rattle.tfpg_json.proofs.lemmas.TokensWritten.{begun}
 use Rattle.tfpg_json.proofs.writing.from_graph.append_edges.Given as goal
 
 -- the edges so far are written

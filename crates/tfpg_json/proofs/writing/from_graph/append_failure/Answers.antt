@@ -3,7 +3,7 @@ use Rattle.json.specs.Token.{begin_object, end_object}
 use Rattle.serde_json.specs.Data.{string}
 use Rattle.tfpg_json.specs.GraphData.{whole}
 use Rattle.tfpg_json.specs.inside.Tokens.{member_tokens}
-use Rattle.tfpg_json.proofs.TokensWritten.{written_first, written_last}
+use Rattle.tfpg_json.proofs.lemmas.TokensWritten.{written_first, written_last}
 use Rattle.tfpg_json.proofs.writing.from_graph.append_failure.Goals as goal
 
 pub returns-clause-ok : goal.returns-clause-ok

@@ -1,9 +1,9 @@
 use Rattle.std.proofs.Common.{codes, map, ap, ◌∙◌, arith}
 use Rattle.std.proofs.lemmas.List.{take_all}
-use Rattle.tfpg_graph.proofs.NodeAt.{node_at}
+use Rattle.tfpg_graph.proofs.lemmas.NodeAt.{node_at}
 use Rattle.tfpg_json.specs.GraphData.{node_data}
-use Rattle.tfpg_json.proofs.DataLists.{item_next}
-use Rattle.tfpg_json.proofs.TokensWritten.{begun, item_written, list_ended_last}
+use Rattle.tfpg_json.proofs.lemmas.DataLists.{item_next}
+use Rattle.tfpg_json.proofs.lemmas.TokensWritten.{begun, item_written, list_ended_last}
 use Rattle.tfpg_json.proofs.writing.from_graph.append_nodes.Goals as goal
 
 pub loop-node-preserved : goal.loop-node-preserved

@@ -1,5 +1,5 @@
 use Rattle.std.specs.Str.{IsUtf8}
-use Rattle.tfpg_json.proofs.NameTexts.{IsOk-unless, IsUtf8-name}
+use Rattle.tfpg_json.proofs.lemmas.NameTexts.{IsOk-unless, IsUtf8-name}
 use Rattle.tfpg_json.proofs.writing.from_names.name_text.Goals as goal
 
 pub unwrap-requires : goal.unwrap-requires

@@ -2,7 +2,7 @@ use Rattle.std.proofs.Common.{[], ◌∷◌, ◌++◌, codes}
 use Rattle.json.specs.Token.{begin_object, end_object, key}
 use Rattle.tfpg_json.specs.GraphData.{whole}
 use Rattle.tfpg_json.specs.inside.Tokens.{member_tokens}
-use Rattle.tfpg_json.proofs.TokensWritten.{written_first}
+use Rattle.tfpg_json.proofs.lemmas.TokensWritten.{written_first}
 use Rattle.tfpg_json.proofs.writing.from_round.append_counts.Goals as goal
 
 pub returns-clause-ok : goal.returns-clause-ok

@@ -3,7 +3,7 @@ use Rattle.std.proofs.lemmas.List.Elements.{All-tail}
 use Rattle.serde_json.specs.Data.{string}
 use Rattle.tfpg_graph.specs.Graph.{AreFailures, failure_word, failures}
 use Rattle.tfpg_json.specs.inside.Tokens.{data_tokens}
-use Rattle.tfpg_json.proofs.TokensWritten.{item_left, none_left}
+use Rattle.tfpg_json.proofs.lemmas.TokensWritten.{item_left, none_left}
 use Rattle.tfpg_json.proofs.writing.from_round.append_failures.Goals as goal
 
 pub loop-parts-preserved : goal.loop-parts-preserved

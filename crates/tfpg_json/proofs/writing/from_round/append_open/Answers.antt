@@ -4,8 +4,8 @@ use Rattle.tfpg_evidence.specs.RoundOf.{is_open}
 use Rattle.tfpg_evidence.specs.declared.finding.Finding.{Finding}
 use Rattle.tfpg_json.specs.RoundData.{set_data}
 use Rattle.tfpg_json.specs.inside.Tokens.{each_tokens}
-use Rattle.tfpg_json.proofs.DataLists.{passing_next, failing_next}
-use Rattle.tfpg_json.proofs.TokensWritten.{begun, item_written, list_ended}
+use Rattle.tfpg_json.proofs.lemmas.DataLists.{passing_next, failing_next}
+use Rattle.tfpg_json.proofs.lemmas.TokensWritten.{begun, item_written, list_ended}
 use Rattle.tfpg_json.proofs.writing.from_round.append_open.Goals.{then-is_open+in_ok-append_set, else-is_open}
 use Rattle.tfpg_json.proofs.writing.from_round.append_open.Goals as goal
 

@@ -2,7 +2,7 @@ use Rattle.std.proofs.Common.{◌≡◌, ◌++◌, codes, map, filter, take}
 use Rattle.tfpg_evidence.specs.RoundOf.{is_open}
 use Rattle.tfpg_json.specs.RoundData.{set_data}
 use Rattle.tfpg_json.specs.inside.Tokens.{each_tokens}
-use Rattle.tfpg_json.proofs.TokensWritten.{begun}
+use Rattle.tfpg_json.proofs.lemmas.TokensWritten.{begun}
 use Rattle.tfpg_json.proofs.writing.from_round.append_open.Given as goal
 
 -- the sets of the open hypotheses so far are written

@@ -4,8 +4,8 @@ use Rattle.tfpg_evidence.specs.Findings.{findings_at}
 use Rattle.tfpg_evidence.specs.RoundOf.{finding_numbered}
 use Rattle.tfpg_evidence.specs.declared.finding.Finding.{Finding}
 use Rattle.tfpg_json.specs.RoundData.{ranked_data}
-use Rattle.tfpg_json.proofs.DataLists.{found_next}
-use Rattle.tfpg_json.proofs.TokensWritten.{begun, found_written, list_ended}
+use Rattle.tfpg_json.proofs.lemmas.DataLists.{found_next}
+use Rattle.tfpg_json.proofs.lemmas.TokensWritten.{begun, found_written, list_ended}
 use Rattle.tfpg_json.proofs.writing.from_round.append_ranked.Goals as goal
 
 pub loop-number-preserved : goal.loop-number-preserved

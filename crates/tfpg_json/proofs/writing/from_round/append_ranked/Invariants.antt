@@ -2,7 +2,7 @@ use Rattle.std.proofs.Common.{◌≡◌, ◌++◌, codes, filter_map, take}
 use Rattle.tfpg_evidence.specs.Findings.{findings_at}
 use Rattle.tfpg_json.specs.RoundData.{ranked_data}
 use Rattle.tfpg_json.specs.inside.Tokens.{each_tokens}
-use Rattle.tfpg_json.proofs.TokensWritten.{begun}
+use Rattle.tfpg_json.proofs.lemmas.TokensWritten.{begun}
 use Rattle.tfpg_json.proofs.writing.from_round.append_ranked.Given as goal
 
 -- the ranked hypotheses of the numbers so far are written

@@ -3,8 +3,8 @@ use Rattle.std.proofs.lemmas.List.{take_all}
 use Rattle.tfpg_evidence.specs.Findings.{is_rejected_now}
 use Rattle.tfpg_json.specs.RoundData.{set_data}
 use Rattle.tfpg_json.specs.inside.Tokens.{each_tokens}
-use Rattle.tfpg_json.proofs.DataLists.{passing_next, failing_next}
-use Rattle.tfpg_json.proofs.TokensWritten.{begun, item_written, list_ended}
+use Rattle.tfpg_json.proofs.lemmas.DataLists.{passing_next, failing_next}
+use Rattle.tfpg_json.proofs.lemmas.TokensWritten.{begun, item_written, list_ended}
 use Rattle.tfpg_json.proofs.writing.from_round.append_rejected.Goals.{then-is_rejected_now+in_ok-append_set, else-is_rejected_now}
 use Rattle.tfpg_json.proofs.writing.from_round.append_rejected.Goals as goal
 

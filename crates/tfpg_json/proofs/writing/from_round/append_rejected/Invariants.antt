@@ -2,7 +2,7 @@ use Rattle.std.proofs.Common.{◌≡◌, ◌++◌, codes, map, filter, take}
 use Rattle.tfpg_evidence.specs.Findings.{is_rejected_now}
 use Rattle.tfpg_json.specs.RoundData.{set_data}
 use Rattle.tfpg_json.specs.inside.Tokens.{each_tokens}
-use Rattle.tfpg_json.proofs.TokensWritten.{begun}
+use Rattle.tfpg_json.proofs.lemmas.TokensWritten.{begun}
 use Rattle.tfpg_json.proofs.writing.from_round.append_rejected.Given as goal
 
 -- the sets of the hypotheses so far that this round rejected are written

@@ -3,7 +3,7 @@ use Rattle.json.specs.Token.{begin_object, end_object}
 use Rattle.tfpg_json.specs.GraphData.{whole}
 use Rattle.tfpg_json.specs.RoundData.{counts_data}
 use Rattle.tfpg_json.specs.inside.Tokens.{member_tokens}
-use Rattle.tfpg_json.proofs.TokensWritten.{written_first, open_member, ranked_member, rejected_member, after_open, round_tokens_are}
+use Rattle.tfpg_json.proofs.lemmas.TokensWritten.{written_first, open_member, ranked_member, rejected_member, after_open, round_tokens_are}
 use Rattle.tfpg_json.proofs.writing.from_round.append_round.Goals as goal
 
 pub returns-clause-ok : goal.returns-clause-ok

@@ -3,7 +3,7 @@ use Rattle.std.proofs.lemmas.List.{map-append}
 use Rattle.serde_json.specs.Data.{string}
 use Rattle.tfpg_graph.specs.Graph.{failure_word}
 use Rattle.tfpg_graph.specs.Members.{doubt_word}
-use Rattle.tfpg_json.proofs.TokensWritten.{list_of_two}
+use Rattle.tfpg_json.proofs.lemmas.TokensWritten.{list_of_two}
 use Rattle.tfpg_json.proofs.writing.from_round.append_set.Goals as goal
 
 pub returns-clause-ok : goal.returns-clause-ok

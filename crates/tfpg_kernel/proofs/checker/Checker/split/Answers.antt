@@ -1,7 +1,7 @@
 use Rattle.std.proofs.Common.{[], ◌∷◌, ◌++◌, List, Some, ap, refl, ◌∙◌}
 use Rattle.tfpg_clause.specs.declared.path.PathSplit.{PathSplit}
 use Rattle.tfpg_clause.specs.Clauses.{count_of}
-use Rattle.tfpg_clause.proofs.trees.LeafPaths.{new_split_some, new_split_none}
+use Rattle.tfpg_clause.proofs.lemmas.trees.LeafPaths.{new_split_some, new_split_none}
 use Rattle.tfpg_kernel.proofs.checker.Checker.split.Goals as goal
 
 pub returns-in-Some-clause-moves : goal.returns-in-Some-clause-moves

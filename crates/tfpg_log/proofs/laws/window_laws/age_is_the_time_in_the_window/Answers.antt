@@ -1,4 +1,4 @@
-use Rattle.tfpg_log.proofs.ages.WindowAges.{at_least, exactly, only_there, age, stays}
+use Rattle.tfpg_log.proofs.lemmas.ages.WindowAges.{at_least, exactly, only_there, age, stays}
 use Rattle.tfpg_log.proofs.laws.window_laws.age_is_the_time_in_the_window.Goals as goal
 
 pub returns : goal.returns

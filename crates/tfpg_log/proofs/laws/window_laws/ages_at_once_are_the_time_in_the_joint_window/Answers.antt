@@ -1,4 +1,4 @@
-use Rattle.tfpg_log.proofs.ages.JointAges.{all_at_least, each_its_own}
+use Rattle.tfpg_log.proofs.lemmas.ages.JointAges.{all_at_least, each_its_own}
 use Rattle.tfpg_log.proofs.laws.window_laws.ages_at_once_are_the_time_in_the_joint_window.Goals as goal
 
 pub returns : goal.returns

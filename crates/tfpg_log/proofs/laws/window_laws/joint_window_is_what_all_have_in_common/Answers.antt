@@ -1,4 +1,4 @@
-use Rattle.tfpg_log.proofs.instants.JointWindows.{joint_there, inside, throughout, of_each, begins, ends}
+use Rattle.tfpg_log.proofs.lemmas.instants.JointWindows.{joint_there, inside, throughout, of_each, begins, ends}
 use Rattle.tfpg_log.proofs.laws.window_laws.joint_window_is_what_all_have_in_common.Goals as goal
 
 pub returns : goal.returns

@@ -4,7 +4,7 @@ use Rattle.tfpg_log.specs.declared.event.Event.{Event}
 use Rattle.tfpg_log.specs.declared.limits.TheConstants.{MAX_EVENTS}
 use Rattle.tfpg_log.specs.Log.{Logbook, now_of, time_of_event, with_event}
 use Rattle.tfpg_log.specs.inside.LogIndex.{IsLogIndex}
-use Rattle.tfpg_log.proofs.events.Indexes.{indexed_tick}
+use Rattle.tfpg_log.proofs.lemmas.events.Indexes.{indexed_tick}
 use Rattle.tfpg_log.proofs.log.Log.accept.Goals as goal
 
 pub invariant_of-self-in-Tick : goal.invariant_of-self-in-Tick

@@ -2,7 +2,7 @@ use Rattle.std.proofs.Common.{◌<◌, ◌≤◌, length, arith, ap}
 use Rattle.std.specs.Prelude.{count_by}
 use Rattle.tfpg_log.specs.declared.limits.TheConstants.{MAX_EVENTS}
 use Rattle.tfpg_log.specs.Log.{Logbook, now_of, is_mode_change}
-use Rattle.tfpg_log.proofs.events.Indexes.{indexed_mode}
+use Rattle.tfpg_log.proofs.lemmas.events.Indexes.{indexed_mode}
 use Rattle.tfpg_log.proofs.log.Log.accept_mode_change.Goals as goal
 
 pub invariant_of-self-2 : goal.invariant_of-self-2

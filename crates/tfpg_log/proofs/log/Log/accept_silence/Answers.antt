@@ -2,7 +2,7 @@ use Rattle.std.proofs.Common.{◌+◌, ◌<◌, ◌≤◌, length, arith, ap, sy
 use Rattle.tfpg_log.specs.declared.limits.TheConstants.{MAX_EVENTS}
 use Rattle.tfpg_log.specs.Log.{Logbook, now_of}
 use Rattle.tfpg_log.specs.inside.NodeEvents.{IsNodeEvents}
-use Rattle.tfpg_log.proofs.events.Indexes.{indexed_silence}
+use Rattle.tfpg_log.proofs.lemmas.events.Indexes.{indexed_silence}
 use Rattle.tfpg_log.proofs.log.Log.accept_silence.Goals as goal
 
 pub invariant_of-self-2 : goal.invariant_of-self-2

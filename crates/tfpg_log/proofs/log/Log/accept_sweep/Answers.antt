@@ -1,7 +1,7 @@
 use Rattle.std.proofs.Common.{◌+◌, ◌<◌, ◌≤◌, length, arith, ap}
 use Rattle.tfpg_log.specs.declared.limits.TheConstants.{MAX_EVENTS}
 use Rattle.tfpg_log.specs.Log.{Logbook, now_of}
-use Rattle.tfpg_log.proofs.events.Indexes.{indexed_sweep}
+use Rattle.tfpg_log.proofs.lemmas.events.Indexes.{indexed_sweep}
 use Rattle.tfpg_log.proofs.log.Log.accept_sweep.Goals as goal
 
 pub invariant_of-self-2 : goal.invariant_of-self-2

@@ -1,4 +1,4 @@
-use Rattle.tfpg_log.proofs.logs_of_lines.Accepting.{of-added}
+use Rattle.tfpg_log.proofs.lemmas.logs_of_lines.Accepting.{of-added}
 use Rattle.tfpg_log.proofs.log.Log.add.Goals as goal
 
 pub accept-requires : goal.accept-requires

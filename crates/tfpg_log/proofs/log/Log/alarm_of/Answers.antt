@@ -1,5 +1,5 @@
 use Rattle.std.proofs.Common.{Some, sym, ap, ◌∙◌}
-use Rattle.tfpg_log.proofs.events.AlarmEvents.{alarm_event_within, alarm_of_event, alarm_event_none}
+use Rattle.tfpg_log.proofs.lemmas.events.AlarmEvents.{alarm_event_within, alarm_of_event, alarm_event_none}
 use Rattle.tfpg_log.proofs.log.Log.alarm_of.Goals as goal
 
 pub event-requires-clause-high : goal.event-requires-clause-high

@@ -1,5 +1,5 @@
 use Rattle.std.proofs.Common.{sym}
-use Rattle.tfpg_log.proofs.events.AlarmEvents.{none_before_alarm, none_before_none}
+use Rattle.tfpg_log.proofs.lemmas.events.AlarmEvents.{none_before_alarm, none_before_none}
 use Rattle.tfpg_log.proofs.log.Log.is_without_alarm.Goals as goal
 
 pub returns-in-Some : goal.returns-in-Some

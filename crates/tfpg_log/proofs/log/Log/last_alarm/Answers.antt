@@ -1,4 +1,4 @@
-use Rattle.tfpg_log.proofs.events.LastAlarms.{as_last_alarm}
+use Rattle.tfpg_log.proofs.lemmas.events.LastAlarms.{as_last_alarm}
 use Rattle.tfpg_log.proofs.log.Log.last_alarm.Goals as goal
 
 pub returns : goal.returns

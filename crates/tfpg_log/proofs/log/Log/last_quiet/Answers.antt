@@ -1,6 +1,6 @@
 use Rattle.std.proofs.Common.{sym, subst, ◌∙◌}
 use Rattle.tfpg_log.specs.Quiet.{IsLastQuiet}
-use Rattle.tfpg_log.proofs.events.LastQuiets.{none_quiet, last_says, last_says_nothing}
+use Rattle.tfpg_log.proofs.lemmas.events.LastQuiets.{none_quiet, last_says, last_says_nothing}
 use Rattle.tfpg_log.proofs.log.Log.last_quiet.Goals as goal
 
 pub returns-in_err-number : goal.returns-in_err-number

@@ -1,6 +1,6 @@
 use Rattle.std.proofs.Common.{subst, sym}
 use Rattle.tfpg_log.specs.inside.NodeEvents.{IsLast, IsSilence}
-use Rattle.tfpg_log.proofs.events.LastQuiets.{last_silence_is}
+use Rattle.tfpg_log.proofs.lemmas.events.LastQuiets.{last_silence_is}
 use Rattle.tfpg_log.proofs.log.Log.last_silence.Goals as goal
 
 pub returns : goal.returns

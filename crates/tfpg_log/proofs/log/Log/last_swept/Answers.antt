@@ -1,7 +1,7 @@
 use Rattle.std.proofs.Common.{◌≡◌, true, sym, subst, ◌∙◌}
 use Rattle.tfpg_graph.specs.Graph.{is_monitored}
 use Rattle.tfpg_log.specs.inside.NodeEvents.{IsLast, IsSweep}
-use Rattle.tfpg_log.proofs.events.LastQuiets.{last_swept_before, last_swept_ever}
+use Rattle.tfpg_log.proofs.lemmas.events.LastQuiets.{last_swept_before, last_swept_ever}
 use Rattle.tfpg_log.proofs.log.Log.last_swept.Goals as goal
 
 pub returns-in-Some : goal.returns-in-Some

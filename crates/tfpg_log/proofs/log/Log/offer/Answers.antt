@@ -1,6 +1,6 @@
 use Rattle.std.proofs.Common.{sym, subst}
 use Rattle.tfpg_log.specs.Log.{IsLogOf}
-use Rattle.tfpg_log.proofs.logs_of_lines.Accepting.{accepted_may_come, of-with_event}
+use Rattle.tfpg_log.proofs.lemmas.logs_of_lines.Accepting.{accepted_may_come, of-with_event}
 use Rattle.tfpg_log.proofs.log.Log.offer.Goals as goal
 
 pub accept-requires : goal.accept-requires

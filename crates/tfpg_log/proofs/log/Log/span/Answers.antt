@@ -3,7 +3,7 @@ use Rattle.tfpg_log.specs.declared.mode_change.ModeChange.{ModeChange}
 use Rattle.tfpg_log.specs.Log.{Logbook, now_of}
 use Rattle.tfpg_log.specs.Spans.{span_at}
 use Rattle.tfpg_log.specs.inside.SpanIndex.{span_in}
-use Rattle.tfpg_log.proofs.changes.SpanStarts.{span_in_is}
+use Rattle.tfpg_log.proofs.lemmas.changes.SpanStarts.{span_in_is}
 use Rattle.tfpg_log.proofs.log.Log.span.Goals as goal
 
 pub returns : goal.returns

@@ -4,7 +4,7 @@ use Rattle.tfpg_log.specs.declared.mode_change.ModeChange.{ModeChange}
 use Rattle.tfpg_log.specs.Log.{Logbook, now_of}
 use Rattle.tfpg_log.specs.Spans.{span_number}
 use Rattle.tfpg_log.specs.inside.SpanIndex.{IsInSpan}
-use Rattle.tfpg_log.proofs.changes.SpanStarts.{number_is}
+use Rattle.tfpg_log.proofs.lemmas.changes.SpanStarts.{number_is}
 use Rattle.tfpg_log.proofs.log.Log.span_of.Goals as goal
 
 pub returns : goal.returns

@@ -1,4 +1,4 @@
-use Rattle.tfpg_panel.proofs.PanelItems.{keeps_seen}
+use Rattle.tfpg_panel.proofs.lemmas.PanelItems.{keeps_seen}
 use Rattle.tfpg_panel.proofs.desk.Desk.always_keeps_its_panels.Goals as goal
 
 pub returns : goal.returns

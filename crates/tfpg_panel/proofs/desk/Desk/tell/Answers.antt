@@ -1,6 +1,6 @@
 use Rattle.std.proofs.Common.{◌≡◌, ◌∙◌, ap, length, arith, true, false}
 use Rattle.tfpg_panel.specs.Desk.{DeskOf, seen_by}
-use Rattle.tfpg_panel.proofs.Tellings.{one_more, all_told}
+use Rattle.tfpg_panel.proofs.lemmas.Tellings.{one_more, all_told}
 use Rattle.tfpg_panel.proofs.desk.Desk.tell.Goals as goal
 
 pub loop-place-preserved-then-tell_at : goal.loop-place-preserved-then-tell_at

@@ -1,7 +1,7 @@
 use Rattle.std.proofs.Common.{◌∙◌, ap, arith}
 use Rattle.std.proofs.lemmas.List.{length-map}
 use Rattle.tfpg_panel.specs.Desk.{seen_by}
-use Rattle.tfpg_panel.proofs.PanelItems.{lent_at}
+use Rattle.tfpg_panel.proofs.lemmas.PanelItems.{lent_at}
 use Rattle.tfpg_panel.proofs.desk.Desk.told.Goals as goal
 
 pub returns : goal.returns

@@ -1,4 +1,4 @@
-use Rattle.tfpg_base.proofs.Appended.{Appends-err_after}
+use Rattle.tfpg_base.proofs.lemmas.Appended.{Appends-err_after}
 use Rattle.tfpg_run.proofs.ask.answer.append_questions.Goals as goal
 
 pub returns-in_err-append_question : goal.returns-in_err-append_question

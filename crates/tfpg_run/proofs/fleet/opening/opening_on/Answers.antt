@@ -1,5 +1,5 @@
 use Rattle.std.proofs.Common.{List, ℕ, [], ◌++◌, ap, ◌∙◌}
-use Rattle.tfpg_base.proofs.lists.Appended.{appended_more}
+use Rattle.tfpg_base.proofs.lemmas.lists.Appended.{appended_more}
 use Rattle.tfpg_report.specs.Blocks.{head_text}
 use Rattle.tfpg_run.specs.fleet.Answers.{naming_text}
 use Rattle.tfpg_run.proofs.fleet.opening.opening_on.Goals as goal

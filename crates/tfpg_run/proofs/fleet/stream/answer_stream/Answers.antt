@@ -2,7 +2,7 @@ use Rattle.std.proofs.Common.{subst, ◌∙◌, Ok, Err}
 use Rattle.tfpg_streams.specs.declared.fault.StreamFault.TheVariants as faults
 use Rattle.tfpg_streams.specs.Streams.{streams}
 use Rattle.tfpg_run.specs.inside.fleet.UnderWay.{ComesTo, answering_at, problem_in}
-use Rattle.tfpg_base.proofs.lists.Choices.{IfErr-from}
+use Rattle.tfpg_base.proofs.lemmas.lists.Choices.{IfErr-from}
 use Rattle.tfpg_streams.proofs.lemmas.Putting.{Puts-same}
 use Rattle.tfpg_streams.proofs.lemmas.InputLines.{falls_short}
 use Rattle.tfpg_run.proofs.lemmas.fleet.AnsweredStreams.{begins_answering, begins_badly, begins_without_memory, counted, few_read, kept_same, not_counted}

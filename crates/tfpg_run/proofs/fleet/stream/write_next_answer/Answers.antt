@@ -2,7 +2,7 @@ use Rattle.std.proofs.Common.{refl, subst, List, ℕ, ◌++◌, ◌∷◌, [], �
 use Rattle.tfpg_streams.specs.declared.fault.StreamFault.TheVariants as faults
 use Rattle.tfpg_streams.specs.Faults.{stream_fault_of_lines}
 use Rattle.tfpg_run.specs.inside.fleet.UnderWay.{Answers, problem_in}
-use Rattle.tfpg_base.proofs.lists.Choices.{IfErr-from}
+use Rattle.tfpg_base.proofs.lemmas.lists.Choices.{IfErr-from}
 use Rattle.tfpg_run.proofs.lemmas.fleet.AnsweredStreams.{ends_by_fault, gave_without_memory, met_end, met_long, met_text, stopped, writes_same, wrote}
 use Rattle.tfpg_streams.specs.Streams.{streams}
 use Rattle.tfpg_run.proofs.lemmas.fleet.NextAnswers.{answers_stray, long_stray}

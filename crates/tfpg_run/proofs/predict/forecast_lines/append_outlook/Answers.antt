@@ -2,7 +2,7 @@ use Rattle.std.proofs.Common.{ℕ, List, [], ◌∷◌, ◌++◌, codes, decimal
 use Rattle.tfpg_base.specs.Append.{Appends}
 use Rattle.tfpg_base.specs.Hypothesis.{Hypothesis}
 use Rattle.tfpg_base.specs.TextLine.{text_line}
-use Rattle.tfpg_base.proofs.Appended.{Appends-after}
+use Rattle.tfpg_base.proofs.lemmas.Appended.{Appends-after}
 use Rattle.tfpg_evidence.specs.declared.step.Step.{Step}
 use Rattle.tfpg_evidence.specs.Findings.{hypothesis_of}
 use Rattle.tfpg_predict.specs.declared.outlook.Outlook.{Outlook}

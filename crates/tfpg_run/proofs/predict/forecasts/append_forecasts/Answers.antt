@@ -4,7 +4,7 @@ use Rattle.tfpg_graph.specs.Graph.{Tfpg}
 use Rattle.tfpg_log.specs.Log.{Logbook}
 use Rattle.tfpg_evidence.specs.declared.finding.Finding.{Finding}
 use Rattle.tfpg_evidence.specs.Findings.{findings_at, ranked_in_order}
-use Rattle.tfpg_evidence.proofs.FindingsByNumber.{RiseByNumber}
+use Rattle.tfpg_evidence.proofs.lemmas.FindingsByNumber.{RiseByNumber}
 use Rattle.tfpg_predict.specs.LeastTime.{lookahead_of}
 use Rattle.tfpg_predict.specs.Probed.{IsProbeable}
 use Rattle.tfpg_run.specs.inside.predict.Forecasting.{IsAskable}

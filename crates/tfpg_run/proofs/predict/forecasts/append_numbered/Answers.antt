@@ -1,7 +1,7 @@
 use Rattle.std.proofs.Common.{List, sym, subst}
 use Rattle.std.specs.Prelude.{OnOk}
 use Rattle.tfpg_evidence.specs.declared.finding.Finding.{Finding}
-use Rattle.tfpg_evidence.proofs.FindingsByNumber.{finding_numbered-all}
+use Rattle.tfpg_evidence.proofs.lemmas.FindingsByNumber.{finding_numbered-all}
 use Rattle.tfpg_run.specs.inside.predict.Forecasting.{AddsForecasts, IsAskable}
 use Rattle.tfpg_run.proofs.lemmas.predict.Appended.{adds_none, found_none, found_one}
 use Rattle.tfpg_run.proofs.predict.forecasts.append_numbered.Goals as goal

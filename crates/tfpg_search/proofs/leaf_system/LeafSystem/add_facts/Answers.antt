@@ -7,8 +7,8 @@ use Rattle.tfpg_diff.specs.SystemState.{with_floor, with_ceiling}
 use Rattle.tfpg_search.specs.inside.Closing.{Closes}
 use Rattle.tfpg_search.specs.inside.Facts.{AreFactsIn}
 use Rattle.tfpg_search.specs.inside.KeptReasons.{low_reason, high_reason}
-use Rattle.tfpg_search.proofs.work.BoundsGiven.{low_there, high_there}
-use Rattle.tfpg_search.proofs.facts.FactsAdded.{facts-tightened, facts-kept}
+use Rattle.tfpg_search.proofs.lemmas.work.BoundsGiven.{low_there, high_there}
+use Rattle.tfpg_search.proofs.lemmas.facts.FactsAdded.{facts-tightened, facts-kept}
 use Rattle.tfpg_search.proofs.leaf_system.LeafSystem.add_facts.Goals as goal
 use Rattle.tfpg_clause.specs.Case.{case_of}
 

@@ -1,7 +1,7 @@
 -- The picks before stay the constraints that they were.
 use Rattle.std.proofs.Common.{sym, ap, length, ◌∙◌}
 use Rattle.tfpg_search.specs.inside.Leaf.{Leaf}
-use Rattle.tfpg_search.proofs.stated_system.KeptAfterCalls.{entered_kept, entered_leaf}
+use Rattle.tfpg_search.proofs.lemmas.stated_system.KeptAfterCalls.{entered_kept, entered_leaf}
 use Rattle.tfpg_search.proofs.leaf_system.LeafSystem.enter.Goals as goal
 
 pub invariant_of-self-2 : goal.invariant_of-self-2

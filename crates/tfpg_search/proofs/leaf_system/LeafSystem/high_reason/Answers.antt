@@ -3,7 +3,7 @@ use Rattle.std.proofs.Common.{◌≡◌, ◌<◌, ◌+◌, ◌∙◌, length, su
 use Rattle.tfpg_evidence.specs.declared.reason.Reason.TheVariants.{Zero}
 use Rattle.tfpg_search.specs.inside.Leaf.{Leaf}
 use Rattle.tfpg_search.specs.inside.EnteredPicks.{entered_picks}
-use Rattle.tfpg_search.proofs.stated_system.ReasonsKept.{reasons_of-high}
+use Rattle.tfpg_search.proofs.lemmas.stated_system.ReasonsKept.{reasons_of-high}
 use Rattle.tfpg_search.proofs.leaf_system.LeafSystem.high_reason.Goals as goal
 
 pub returns : goal.returns

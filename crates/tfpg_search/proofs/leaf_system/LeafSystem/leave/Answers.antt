@@ -3,7 +3,7 @@ use Rattle.std.proofs.Common.{◌≡◌, Some, refl, sym, length, subst, ◌<◌
 use Rattle.std.specs.Prelude.{slice_get}
 use Rattle.std.proofs.lemmas.Option.{slice_get_read}
 use Rattle.tfpg_search.specs.inside.Leaf.{Leaf}
-use Rattle.tfpg_search.proofs.stated_system.KeptAfterCalls.{left_kept, left_leaf}
+use Rattle.tfpg_search.proofs.lemmas.stated_system.KeptAfterCalls.{left_kept, left_leaf}
 use Rattle.tfpg_search.proofs.leaf_system.LeafSystem.leave.Goals as goal
 use Rattle.tfpg_search.proofs.leaf_system.LeafSystem.leave.Goals.{After-truncate}
 

@@ -4,7 +4,7 @@ use Rattle.tfpg_evidence.specs.declared.reason.Reason.TheVariants.{Zero}
 use Rattle.tfpg_search.specs.inside.Leaf.{Leaf}
 use Rattle.tfpg_search.specs.inside.KeptReasons.{low_reason}
 use Rattle.tfpg_search.specs.inside.EnteredPicks.{entered_picks}
-use Rattle.tfpg_search.proofs.stated_system.ReasonsKept.{reasons_of-low}
+use Rattle.tfpg_search.proofs.lemmas.stated_system.ReasonsKept.{reasons_of-low}
 use Rattle.tfpg_search.proofs.leaf_system.LeafSystem.low_reason.Goals as goal
 
 pub returns : goal.returns

@@ -1,7 +1,7 @@
 -- A bound that is no less changes nothing.
 use Rattle.std.proofs.Common.{ℕ, ◌+◌, ◌<◌, ◌≤◌, length, sym, subst, arith}
-use Rattle.tfpg_diff.proofs.Updates.{with_ceiling-looser}
-use Rattle.tfpg_search.proofs.work.BoundsSet.{lowered_counts}
+use Rattle.tfpg_diff.proofs.lemmas.Updates.{with_ceiling-looser}
+use Rattle.tfpg_search.proofs.lemmas.work.BoundsSet.{lowered_counts}
 use Rattle.tfpg_search.proofs.leaf_system.LeafSystem.lower_to.Goals as goal
 
 pub returns-then-ceiling-high-clause-ok : goal.returns-then-ceiling-high-clause-ok

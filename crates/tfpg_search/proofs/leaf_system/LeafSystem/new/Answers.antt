@@ -1,9 +1,9 @@
 -- Nothing is known but that times lie in range.
 use Rattle.std.proofs.Common.{arith}
 use Rattle.tfpg_search.specs.inside.KeptReasons.{kept_reasons}
-use Rattle.tfpg_search.proofs.work.BoundsGiven.{new_widest}
-use Rattle.tfpg_search.proofs.stated_system.KeptAfterCalls.{new_kept, new_long, new_none}
-use Rattle.tfpg_search.proofs.stated_system.NewSystemStated.{IsStated-new}
+use Rattle.tfpg_search.proofs.lemmas.work.BoundsGiven.{new_widest}
+use Rattle.tfpg_search.proofs.lemmas.stated_system.KeptAfterCalls.{new_kept, new_long, new_none}
+use Rattle.tfpg_search.proofs.lemmas.stated_system.NewSystemStated.{IsStated-new}
 use Rattle.tfpg_search.proofs.leaf_system.LeafSystem.new.Goals as goal
 
 pub invariant_of-result : goal.invariant_of-result

@@ -3,8 +3,8 @@ use Rattle.std.proofs.Common.{◌≡◌, ◌<◌, ◌+◌, ◌-◌, ◌*◌, ◌
 use Rattle.tfpg_evidence.specs.declared.reason.Reason.TheVariants.{Zero, Pick}
 use Rattle.tfpg_search.specs.inside.Leaf.{Leaf}
 use Rattle.tfpg_search.specs.inside.EnteredPicks.{entered_picks}
-use Rattle.tfpg_search.proofs.stated_system.PicksEntered.{entered_pick_read, entered_picks-read}
-use Rattle.tfpg_search.proofs.stated_system.ReasonsKept.{reasons_of-pick}
+use Rattle.tfpg_search.proofs.lemmas.stated_system.PicksEntered.{entered_pick_read, entered_picks-read}
+use Rattle.tfpg_search.proofs.lemmas.stated_system.ReasonsKept.{reasons_of-pick}
 use Rattle.tfpg_search.proofs.leaf_system.LeafSystem.pick_reason.Goals as goal
 
 pub overflow_add-result : goal.overflow_add-result

@@ -2,8 +2,8 @@
 use Rattle.std.proofs.Common.{ap, ◌∙◌}
 use Rattle.tfpg_diff.specs.SystemState.{SystemState}
 use Rattle.tfpg_search.specs.inside.KeptReasons.{kept_reasons}
-use Rattle.tfpg_search.proofs.stated_system.DemandsStayStated.{system_of}
-use Rattle.tfpg_search.proofs.stated_system.KeptAfterCalls.{tag_before, same_kept, pushed_kept, pushed_adds, pushed_named, pushed_refused}
+use Rattle.tfpg_search.proofs.lemmas.stated_system.DemandsStayStated.{system_of}
+use Rattle.tfpg_search.proofs.lemmas.stated_system.KeptAfterCalls.{tag_before, same_kept, pushed_kept, pushed_adds, pushed_named, pushed_refused}
 use Rattle.tfpg_search.proofs.leaf_system.LeafSystem.push.Goals as goal
 use Rattle.tfpg_search.proofs.leaf_system.LeafSystem.push.Goals.{in-Ok, in-Err}
 

@@ -3,7 +3,7 @@ use Rattle.std.proofs.Common.{map, subst}
 use Rattle.tfpg_evidence.specs.declared.reason.Reason.{Reason}
 use Rattle.tfpg_search.specs.inside.Closing.{IsFaultOf}
 use Rattle.tfpg_search.specs.inside.KeptReasons.{kept_reasons, reason_or}
-use Rattle.tfpg_search.proofs.stated_system.KeptAfterCalls.{same_kept, raised_kept, raised_adds, raised_named, raised_refused}
+use Rattle.tfpg_search.proofs.lemmas.stated_system.KeptAfterCalls.{same_kept, raised_kept, raised_adds, raised_named, raised_refused}
 use Rattle.tfpg_search.proofs.leaf_system.LeafSystem.raise.Goals as goal
 
 pub invariant_of-self : goal.invariant_of-self

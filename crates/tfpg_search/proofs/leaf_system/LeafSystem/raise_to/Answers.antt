@@ -1,7 +1,7 @@
 -- A bound that is no greater changes nothing.
 use Rattle.std.proofs.Common.{ℕ, ◌<◌, ◌≤◌, sym, subst, arith}
-use Rattle.tfpg_diff.proofs.Updates.{with_floor-looser}
-use Rattle.tfpg_search.proofs.work.BoundsSet.{raised_counts}
+use Rattle.tfpg_diff.proofs.lemmas.Updates.{with_floor-looser}
+use Rattle.tfpg_search.proofs.lemmas.work.BoundsSet.{raised_counts}
 use Rattle.tfpg_search.proofs.leaf_system.LeafSystem.raise_to.Goals as goal
 
 pub returns-then-low-floor-clause-ok : goal.returns-then-low-floor-clause-ok

@@ -1,7 +1,7 @@
 use Rattle.std.proofs.Common.{length, ◌-◌}
 use Rattle.tfpg_search.specs.inside.Counted.{unset}
-use Rattle.tfpg_search.proofs.work.CallsPaid.{unset_kept, given_at, given_kept, added_counts, entered_only}
-use Rattle.tfpg_search.proofs.leaves.MovesStayAtLeaf.{facts_stand, add_loaded, add_closes}
+use Rattle.tfpg_search.proofs.lemmas.work.CallsPaid.{unset_kept, given_at, given_kept, added_counts, entered_only}
+use Rattle.tfpg_search.proofs.lemmas.leaves.MovesStayAtLeaf.{facts_stand, add_loaded, add_closes}
 use Rattle.tfpg_search.proofs.search.Search.add_all.Goals as goal
 use Rattle.tfpg_clause.specs.inside.MarkedTrees.{stated_on}
 use Rattle.tfpg_clause.specs.Case.{case_of}

@@ -5,7 +5,7 @@ use Rattle.tfpg_evidence.specs.declared.step.Step.{Step}
 use Rattle.tfpg_evidence.specs.declared.step.Step.TheVariants.{Cycle}
 use Rattle.tfpg_search.specs.inside.Moves.{GrowsAnyhow}
 use Rattle.tfpg_search.specs.Searched.{call_of}
-use Rattle.tfpg_search.proofs.leaves.MovesStayAtLeaf.{nothing, cycle_moves, cycle_is, close_last, close_some, close_ok}
+use Rattle.tfpg_search.proofs.lemmas.leaves.MovesStayAtLeaf.{nothing, cycle_moves, cycle_is, close_last, close_some, close_ok}
 use Rattle.tfpg_search.proofs.search.Search.close.Goals as goal
 
 pub returns-in_err-push-clause-closing : goal.returns-in_err-push-clause-closing

@@ -2,9 +2,9 @@ use Rattle.std.proofs.Common.{ℕ, refl, sym, ap, subst, ◌∙◌, ◌+◌, len
 use Rattle.tfpg_search.specs.SearchState.{SearchState}
 use Rattle.tfpg_search.specs.inside.Leaf.{pick_reasons}
 use Rattle.tfpg_search.specs.inside.EnteredPicks.{IsNext}
-use Rattle.tfpg_search.proofs.stated_system.PicksEntered.{IsNext-first}
-use Rattle.tfpg_search.proofs.work.CallsPaid.{entered_counts}
-use Rattle.tfpg_search.proofs.leaves.MovesStayAtLeaf.{marked_stated, marked_closes, entered_stands, left_stands}
+use Rattle.tfpg_search.proofs.lemmas.stated_system.PicksEntered.{IsNext-first}
+use Rattle.tfpg_search.proofs.lemmas.work.CallsPaid.{entered_counts}
+use Rattle.tfpg_search.proofs.lemmas.leaves.MovesStayAtLeaf.{marked_stated, marked_closes, entered_stands, left_stands}
 use Rattle.tfpg_search.proofs.search.Search.enter.Goals as goal
 
 pub push_all-requires-clause-stated : goal.push_all-requires-clause-stated

@@ -4,7 +4,7 @@ use Rattle.tfpg_clause.specs.Cut.{cut}
 use Rattle.tfpg_diff.specs.Solution.{IsLatest}
 use Rattle.tfpg_search.specs.inside.Leaf.{Leaf, pick_reasons}
 use Rattle.tfpg_search.specs.SearchState.{SearchState}
-use Rattle.tfpg_search.proofs.leaves.LatestAtLeaf.{latest_here}
+use Rattle.tfpg_search.proofs.lemmas.leaves.LatestAtLeaf.{latest_here}
 use Rattle.tfpg_search.proofs.search.Search.judge_latest.Goals as goal
 
 pub returns-in_ok-cut-in-None : goal.returns-in_ok-cut-in-None

@@ -5,7 +5,7 @@ use Rattle.tfpg_clause.specs.Cut.{cut}
 use Rattle.tfpg_diff.specs.Demands.{demands_of}
 use Rattle.tfpg_diff.specs.Solution.{IsSolution}
 use Rattle.tfpg_search.specs.SearchState.{SearchState}
-use Rattle.tfpg_search.proofs.leaves.ProposedTimes.{facts_met_between, numbers_between}
+use Rattle.tfpg_search.proofs.lemmas.leaves.ProposedTimes.{facts_met_between, numbers_between}
 use Rattle.tfpg_search.proofs.search.Search.judge_times.Goals as goal
 
 pub violated-requires : goal.violated-requires

@@ -2,7 +2,7 @@ use Rattle.std.proofs.Common.{subst}
 use Rattle.std.specs.Prelude.{slice_get}
 use Rattle.tfpg_search.specs.SearchState.{SearchState}
 use Rattle.tfpg_search.specs.inside.Leaving.{Leaves}
-use Rattle.tfpg_search.proofs.leaves.AlternativePushed.{leaves_none}
+use Rattle.tfpg_search.proofs.lemmas.leaves.AlternativePushed.{leaves_none}
 use Rattle.tfpg_search.proofs.search.Search.leave.Goals as goal
 
 pub returns-then-kept-entered_count-clause-leaf : goal.returns-then-kept-entered_count-clause-leaf

@@ -1,10 +1,10 @@
 use Rattle.std.proofs.Common.{refl, subst, ◌∙◌, arith, Bool, Some, None, length, ◌+◌, ◌-◌}
 use Rattle.std.specs.Prelude.{Ok}
 use Rattle.tfpg_search.specs.inside.Moves.{Closing}
-use Rattle.tfpg_search.proofs.calls.FoundInTurn.{keeps_on}
+use Rattle.tfpg_search.proofs.lemmas.calls.FoundInTurn.{keeps_on}
 use Rattle.tfpg_search.specs.inside.Counted.{unset, due}
-use Rattle.tfpg_search.proofs.work.CallsPaid.{unset_kept, given_at, given_kept, one_left, then_loaded, then_none, step_pays, none_left}
-use Rattle.tfpg_search.proofs.steps.StepsAppended.{grows_on}
+use Rattle.tfpg_search.proofs.lemmas.work.CallsPaid.{unset_kept, given_at, given_kept, one_left, then_loaded, then_none, step_pays, none_left}
+use Rattle.tfpg_search.proofs.lemmas.steps.StepsAppended.{grows_on}
 use Rattle.tfpg_search.specs.Searched.{call_of}
 use Rattle.tfpg_search.proofs.search.Search.load.Goals as goal
 

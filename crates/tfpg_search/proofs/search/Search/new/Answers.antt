@@ -2,7 +2,7 @@ use Rattle.std.proofs.Common.{refl, ap, subst, ◌∙◌, ◌<◌, ℕ}
 use Rattle.tfpg_log.specs.Log.{first_events}
 use Rattle.tfpg_clause.specs.Facts.{fact}
 use Rattle.tfpg_search.specs.Work.{widest_bounds}
-use Rattle.tfpg_search.proofs.calls.NewSearch.{zero_is, top_is, new_represents}
+use Rattle.tfpg_search.proofs.lemmas.calls.NewSearch.{zero_is, top_is, new_represents}
 use Rattle.tfpg_search.proofs.search.Search.new.Goals as goal
 use Rattle.tfpg_clause.specs.Case.{case_of}
 

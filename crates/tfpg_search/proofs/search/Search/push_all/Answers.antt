@@ -1,7 +1,7 @@
 use Rattle.std.proofs.Common.{subst, ◌+◌, ◌∙◌, Bool, arith}
 use Rattle.tfpg_evidence.specs.declared.reason.Reason.TheVariants.{Pick}
 use Rattle.tfpg_search.specs.inside.Leaving.{PushesOne}
-use Rattle.tfpg_search.proofs.leaves.AlternativePushed.{loop_stated, loop_next, loop_closes, step_same, step_pushing, step_last, step_picks, step_within, all_pushed}
+use Rattle.tfpg_search.proofs.lemmas.leaves.AlternativePushed.{loop_stated, loop_next, loop_closes, step_same, step_pushing, step_last, step_picks, step_within, all_pushed}
 use Rattle.tfpg_search.proofs.search.Search.push_all.Goals as goal
 use Rattle.tfpg_clause.specs.inside.MarkedTrees.{picked_on}
 

@@ -5,7 +5,7 @@ use Rattle.tfpg_clause.specs.declared.path.PathSplit.{PathSplit}
 use Rattle.tfpg_search.specs.inside.Leaf.{Leaf, IsStated}
 use Rattle.tfpg_search.specs.SearchState.{SearchState}
 use Rattle.tfpg_search.specs.inside.Leaving.{Pushing}
-use Rattle.tfpg_search.proofs.leaves.AlternativePushed.{picked_small, pushing_by}
+use Rattle.tfpg_search.proofs.lemmas.leaves.AlternativePushed.{picked_small, pushing_by}
 use Rattle.tfpg_search.proofs.search.Search.push_one.Goals.{in-Ok, in-Err}
 use Rattle.tfpg_search.proofs.search.Search.push_one.Goals as goal
 use Rattle.tfpg_clause.specs.inside.MarkedTrees.{picked_on, stated_on}

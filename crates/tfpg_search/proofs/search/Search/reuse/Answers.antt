@@ -4,7 +4,7 @@ use Rattle.tfpg_evidence.specs.declared.step.Step.{Step}
 use Rattle.tfpg_evidence.specs.declared.step.Step.TheVariants.{Again}
 use Rattle.tfpg_search.specs.inside.Moves.{GrowsAnyhow}
 use Rattle.tfpg_search.specs.Searched.{call_of}
-use Rattle.tfpg_search.proofs.leaves.MovesStayAtLeaf.{nothing, reuse_moves, close_ok}
+use Rattle.tfpg_search.proofs.lemmas.leaves.MovesStayAtLeaf.{nothing, reuse_moves, close_ok}
 use Rattle.tfpg_search.proofs.search.Search.reuse.Goals as goal
 
 pub returns-in_err-push-clause-closing : goal.returns-in_err-push-clause-closing

@@ -1,5 +1,5 @@
-use Rattle.tfpg_search.proofs.work.BoundsGiven.{round_within}
-use Rattle.tfpg_search.proofs.calls.RoundSearched.{seen_stands, searched, never_spent}
+use Rattle.tfpg_search.proofs.lemmas.work.BoundsGiven.{round_within}
+use Rattle.tfpg_search.proofs.lemmas.calls.RoundSearched.{seen_stands, searched, never_spent}
 use Rattle.tfpg_search.proofs.search.Search.round.Goals as goal
 
 pub search_on-requires-clause-stands : goal.search_on-requires-clause-stands

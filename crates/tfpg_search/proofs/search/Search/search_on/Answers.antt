@@ -3,11 +3,11 @@ use Rattle.std.proofs.Math.Arith.{lt_of_le-ne}
 use Rattle.std.specs.Prelude.{Ok}
 use Rattle.tfpg_search.specs.declared.search.Look.{Look}
 use Rattle.tfpg_search.specs.inside.Moves.{Looking, Sees}
-use Rattle.tfpg_search.proofs.calls.FoundInTurn.{keeps_on, grows_still, found_on}
+use Rattle.tfpg_search.proofs.lemmas.calls.FoundInTurn.{keeps_on, grows_still, found_on}
 use Rattle.tfpg_search.specs.inside.Counted.{unset, due}
 use Rattle.tfpg_search.specs.inside.Leaf.{Leaf}
-use Rattle.tfpg_search.proofs.work.CallsPaid.{given_at, given_kept, one_left, then_looked, step_pays, none_left}
-use Rattle.tfpg_search.proofs.steps.StepsAppended.{grows_on}
+use Rattle.tfpg_search.proofs.lemmas.work.CallsPaid.{given_at, given_kept, one_left, then_looked, step_pays, none_left}
+use Rattle.tfpg_search.proofs.lemmas.steps.StepsAppended.{grows_on}
 use Rattle.tfpg_search.specs.Searched.{call_of}
 use Rattle.tfpg_search.proofs.search.Search.search_on.Goals as goal
 

@@ -3,11 +3,11 @@ use Rattle.std.proofs.lemmas.Result.{err_from_is_err_and}
 use Rattle.tfpg_evidence.specs.declared.step.Step.{Step}
 use Rattle.tfpg_clause.specs.Clauses.{count_of}
 use Rattle.tfpg_clause.specs.declared.path.PathSplit.{PathSplit}
-use Rattle.tfpg_clause.proofs.trees.LeafPaths.{new_split_some}
+use Rattle.tfpg_clause.proofs.lemmas.trees.LeafPaths.{new_split_some}
 use Rattle.tfpg_search.specs.SearchState.{SearchState}
 use Rattle.tfpg_search.specs.inside.Moves.{GrowsAnyhow}
 use Rattle.tfpg_search.specs.Searched.{call_of}
-use Rattle.tfpg_search.proofs.leaves.MovesStayAtLeaf.{nothing, split_ok}
+use Rattle.tfpg_search.proofs.lemmas.leaves.MovesStayAtLeaf.{nothing, split_ok}
 use Rattle.tfpg_search.proofs.search.Search.split.Goals as goal
 
 pub returns-in_err-descend-clause-splitting : goal.returns-in_err-descend-clause-splitting

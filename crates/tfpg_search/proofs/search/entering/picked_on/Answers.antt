@@ -1,5 +1,5 @@
 use Rattle.std.proofs.Common.{◌∙◌}
-use Rattle.tfpg_clause.proofs.trees.Unmarked.{picked_same}
+use Rattle.tfpg_clause.proofs.lemmas.trees.Unmarked.{picked_same}
 use Rattle.tfpg_search.proofs.search.entering.picked_on.Goals as goal
 
 pub returns : goal.returns

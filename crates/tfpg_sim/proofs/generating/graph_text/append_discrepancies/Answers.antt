@@ -1,7 +1,7 @@
 use Rattle.std.proofs.Common.{arith}
-use Rattle.tfpg_base.proofs.Appended.{Appends-err_after}
+use Rattle.tfpg_base.proofs.lemmas.Appended.{Appends-err_after}
 use Rattle.tfpg_sim.specs.declared.limits.TheConstants.{FAILURE_COUNT}
-use Rattle.tfpg_sim.proofs.drawn.GraphTexts.{nodes_next}
+use Rattle.tfpg_sim.proofs.lemmas.drawn.GraphTexts.{nodes_next}
 use Rattle.tfpg_sim.proofs.generating.graph_text.append_discrepancies.Goals as goal
 
 pub returns-in_err-append_node_by_number : goal.returns-in_err-append_node_by_number

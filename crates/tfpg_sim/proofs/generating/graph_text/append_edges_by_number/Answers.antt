@@ -1,4 +1,4 @@
-use Rattle.tfpg_base.proofs.Appended.{Appends-err_after}
+use Rattle.tfpg_base.proofs.lemmas.Appended.{Appends-err_after}
 use Rattle.tfpg_sim.proofs.generating.graph_text.append_edges_by_number.Goals as goal
 
 pub returns-in_err-append_edge_by_number : goal.returns-in_err-append_edge_by_number

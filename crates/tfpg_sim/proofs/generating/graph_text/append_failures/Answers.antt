@@ -1,6 +1,6 @@
 use Rattle.std.proofs.Common.{◌+◌, ap}
-use Rattle.tfpg_base.proofs.Appended.{Appends-err_after}
-use Rattle.tfpg_sim.proofs.drawn.GraphTexts.{failures_next}
+use Rattle.tfpg_base.proofs.lemmas.Appended.{Appends-err_after}
+use Rattle.tfpg_sim.proofs.lemmas.drawn.GraphTexts.{failures_next}
 use Rattle.tfpg_sim.proofs.generating.graph_text.append_failures.Goals as goal
 
 pub returns-in_err-append_node_by_number : goal.returns-in_err-append_node_by_number

@@ -2,7 +2,7 @@ use Rattle.std.proofs.Common.{Err, ap, ◌∙◌, subst, ⊎_elim}
 use Rattle.tfpg_graph.specs.Faults.{IsGraphResult}
 use Rattle.tfpg_sim.specs.Generated.{drawn_graph}
 use Rattle.tfpg_sim.specs.inside.GraphText.{draft_text}
-use Rattle.tfpg_sim.proofs.drawn.GraphTexts.{text_spells}
+use Rattle.tfpg_sim.proofs.lemmas.drawn.GraphTexts.{text_spells}
 use Rattle.tfpg_sim.proofs.generating.graph_text.drawn_graph.Goals as goal
 
 pub returns-in-Ok : goal.returns-in-Ok

@@ -1,6 +1,6 @@
 use Rattle.std.proofs.Common.{false}
 use Rattle.tfpg_words.specs.inside.Parts.{rows_in}
-use Rattle.tfpg_words.proofs.Once.{once_then, once_else}
+use Rattle.tfpg_words.proofs.lemmas.Once.{once_then, once_else}
 use Rattle.tfpg_words.proofs.parts.Parts.are_once.Goals as goal
 
 pub returns-then-options_are_once : goal.returns-then-options_are_once

@@ -2,7 +2,7 @@ use Rattle.std.proofs.Common.{refl, map}
 use Rattle.std.specs.String.{string_bytes}
 use Rattle.tfpg_words.specs.Words.{Any, parts_from}
 use Rattle.tfpg_words.specs.inside.Parts.{flags_in, form_in, options_in, rows_in}
-use Rattle.tfpg_words.proofs.Once.{kept, repeated}
+use Rattle.tfpg_words.proofs.lemmas.Once.{kept, repeated}
 use Rattle.tfpg_words.proofs.parts.Parts.of.Goals as goal
 
 pub returns-then-not-are_once : goal.returns-then-not-are_once

@@ -4,7 +4,7 @@ use Rattle.clap.specs.Simple.{app_of}
 use Rattle.clap.specs.Faults.{is_simple_and_free}
 use Rattle.std.proofs.lemmas.Result.{err_from_is_err_and}
 use Rattle.tfpg_words.specs.inside.Parts.{flags_in, options_in, Parses}
-use Rattle.tfpg_words.proofs.Taken.{taken_ok, taken_err}
+use Rattle.tfpg_words.proofs.lemmas.Taken.{taken_ok, taken_err}
 use Rattle.tfpg_words.proofs.parts.Parts.taken.Goals as goal
 
 pub parsed-requires : goal.parsed-requires

@@ -1,7 +1,7 @@
 use Rattle.std.proofs.Common.{◌∙◌}
 use Rattle.clap.specs.Matches.{found_of}
 use Rattle.clap.proofs.WalkLemmas.{first_value-rows}
-use Rattle.tfpg_words.proofs.Taken.{first_given}
+use Rattle.tfpg_words.proofs.lemmas.Taken.{first_given}
 use Rattle.tfpg_words.specs.inside.Parts.{rows_in}
 use Rattle.tfpg_words.proofs.parts.Parts.value_of.Goals as goal
 

@@ -1,7 +1,7 @@
 use Rattle.std.proofs.Common.{◌||◌, ◌+◌, ◌∷◌, [], ℕ, List, Bool, length, length-append, ap, ◌∙◌}
 use Rattle.std.specs.List.{list_any}
 use Rattle.tfpg_check.specs.inside.Lookups.{flag_at}
-use Rattle.tfpg_check.proofs.judging.PartsByNumber.{flagged_more}
+use Rattle.tfpg_check.proofs.lemmas.judging.PartsByNumber.{flagged_more}
 use Rattle.tfpg_check.proofs.round.largest_parts.LargestParts.flagged.Goals as goal
 
 pub loop-whole-preserved : goal.loop-whole-preserved

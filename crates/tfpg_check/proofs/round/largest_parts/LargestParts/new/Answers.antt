@@ -1,6 +1,6 @@
 use Rattle.std.proofs.Common.{ℕ, Vec, Global, map, ap, ◌∙◌}
 use Rattle.std.proofs.lemmas.List.{map_push}
-use Rattle.tfpg_check.proofs.judging.PartsByNumber.{rows_more}
+use Rattle.tfpg_check.proofs.lemmas.judging.PartsByNumber.{rows_more}
 use Rattle.tfpg_check.proofs.round.largest_parts.LargestParts.new.Goals as goal
 
 pub loop-whole-preserved : goal.loop-whole-preserved

@@ -7,7 +7,7 @@ use Rattle.tfpg_graph.proofs.lemmas.reading.spelling.SpelledBy.{has_mode}
 use Rattle.tfpg_graph.proofs.lemmas.reading.graphs.ValidGraphs.{edge_within, IsValid-whole, IsEndRefusal-cycle, IsEndRefusal-unended}
 use Rattle.tfpg_graph.proofs.reading.reader.Reader.end.Goals as goal
 use Rattle.tfpg_graph.proofs.reading.reader.Reader.end.Goals.{After-without_incoming, In_ok-edge, In-Some-2}
-use Rattle.tfpg_base.proofs.lists.Choices.{none-from_never}
+use Rattle.tfpg_base.proofs.lemmas.lists.Choices.{none-from_never}
 
 -- what is read represents the parts
 stands : (c : After-without_incoming)

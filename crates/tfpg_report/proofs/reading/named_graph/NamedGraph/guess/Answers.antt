@@ -1,7 +1,7 @@
 use Rattle.std.proofs.Common.{◌≡◌, Some, ap, sym, subst, ◌∙◌, arith}
-use Rattle.tfpg_base.proofs.lists.SameBytes.{bytes_eq-true}
+use Rattle.tfpg_base.proofs.lemmas.lists.SameBytes.{bytes_eq-true}
 use Rattle.tfpg_graph.specs.Graph.{Tfpg, name_word, node_named}
-use Rattle.tfpg_report.proofs.MemberWords.{node_of_word}
+use Rattle.tfpg_report.proofs.lemmas.MemberWords.{node_of_word}
 use Rattle.tfpg_report.proofs.reading.named_graph.NamedGraph.guess.Goals as goal
 
 pub returns-then-eq : goal.returns-then-eq

@@ -1,0 +1,17 @@
+pub mod Solutions
+pub mod Linked
+pub mod Undoing
+pub mod Climb
+pub mod Totals
+pub mod Walks
+pub mod Lowering
+pub mod Latest
+pub mod Relaxing
+pub mod Passing
+pub mod Changes
+pub mod Bounding
+pub mod Updates
+pub mod TakingBack
+pub mod Outcomes
+pub mod Fresh
+pub mod Naming

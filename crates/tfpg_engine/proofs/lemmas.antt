@@ -1,0 +1,11 @@
+pub mod InsertedKeys
+pub mod KeptStaysRight
+pub mod NewFindingIsRight
+pub mod FindingsMakeRound
+pub mod EventBringsRound
+pub mod Ignoring
+pub mod EnoughIgnoring
+pub mod FindingWork
+pub mod RoundWork
+pub mod CallsCounted
+pub mod LentSearch

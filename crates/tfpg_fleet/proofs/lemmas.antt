@@ -1,0 +1,7 @@
+pub mod Addressed
+pub mod LinesFor
+pub mod FleetTells
+pub mod SaidTo
+pub mod OneLog
+pub mod Excess
+pub mod RefusedLines

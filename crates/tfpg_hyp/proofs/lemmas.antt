@@ -1,0 +1,15 @@
+pub mod Ranks
+pub mod MonitorNumbers
+pub mod Doubted
+pub mod Chosen
+pub mod Counted
+pub mod CountedSoFar
+pub mod Listed
+pub mod Tables
+pub mod Subsets
+pub mod Growing
+pub mod Fractions
+pub mod FindingsOfRound
+pub mod IgnoredMore
+pub mod FittingSets
+pub mod RoundOfGraph

@@ -1,0 +1,5 @@
+pub mod scripts
+pub mod flights
+pub mod simulations
+pub mod logged
+pub mod drawn

@@ -1,0 +1,11 @@
+pub mod Searched
+pub mod SameRules
+pub mod AtOnce
+pub mod LastEvents
+pub mod Rounds
+pub mod Asked
+pub mod Questioned
+pub mod OnceAsked
+pub mod Continued
+pub mod Judging
+pub mod Inserted
