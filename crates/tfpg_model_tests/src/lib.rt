@@ -2,7 +2,7 @@
 //! file for each crate.
 //!
 //! A crate with tests is proved again together with them. So tests stand apart, and the crates that they call are proved
-//! once. Those of the crates of evidence stand in `tfpg_tests`: the two are proved side by side.
+//! once. Those of the crates of evidence stand in `tfpg_evidence_tests`: the two are proved side by side.
 #![tactic(auto)]
 
 #[cfg(test)]

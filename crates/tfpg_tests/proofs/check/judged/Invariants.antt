@@ -1,5 +1,0 @@
-use Rattle.std.specs.Prelude.{◌≡◌, None}
-use Rattle.tfpg_tests.proofs.check.judged.Given as goal
-
-abbrev pub invariant-loop-index : goal.invariant-loop-index
-invariant-loop-index l = (l.judge.fault ≡ None) × (l.judge.lines ≡ l.index)

@@ -1,5 +1,0 @@
-use Rattle.tfpg_log.specs.Log.{IsLogOf}
-use Rattle.tfpg_tests.proofs.given.log_of.Given as goal
-
-abbrev pub invariant-loop-line : goal.invariant-loop-line
-invariant-loop-line l = IsLogOf l.graph l.log
