@@ -1,1 +1,2 @@
-pub mod Whole
+-- Lemmas on the adapters, and on the lines of file panels.
+pub mod lemmas

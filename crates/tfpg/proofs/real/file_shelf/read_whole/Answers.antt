@@ -1,7 +1,7 @@
 use Rattle.std.proofs.Common.{Ok, sym, ap, subst, ◌∙◌, arith}
 use Rattle.std.specs.Io.KnownBytes.{Consumes}
 use Rattle.std.proofs.KnownBytes.{Consumes-trans}
-use Rattle.tfpg.proofs.Whole.{more_is_known}
+use Rattle.tfpg.proofs.lemmas.Whole.{more_is_known}
 use Rattle.tfpg.proofs.real.file_shelf.read_whole.Goals as goal
 
 pub returns-then-not-branch-clause-front : goal.returns-then-not-branch-clause-front

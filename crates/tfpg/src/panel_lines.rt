@@ -9,7 +9,7 @@ ghost use Rattle.tfpg_evidence.specs.Findings.{ranked_in_order};
 ghost use Rattle.tfpg_evidence.specs.RoundOf.{IsFindingOf, IsRoundOf};
 ghost use Rattle.tfpg_graph.specs.Graph.{sizes_of};
 ghost use Rattle.tfpg_json.specs.RoundData.{round_json};
-ghost use Rattle.tfpg_panel_lines.specs.PanelLines.{best_words, count_line, none_words, panel_line, top_line};
+ghost use Rattle.tfpg.specs.PanelLines.{best_words, count_line, none_words, panel_line, top_line};
 
 use itoa::Buffer;
 use tfpg_base::{NoMemory, append_line};

@@ -3,8 +3,8 @@ use Rattle.tfpg_evidence.specs.declared.finding.Finding.{Finding}
 use Rattle.tfpg_evidence.specs.RoundOf.{IsFindingOf}
 use Rattle.tfpg_evidence.proofs.lemmas.FindingsByNumber.{RiseByNumber}
 use Rattle.tfpg_graph.specs.Graph.{sizes_of}
-use Rattle.tfpg_panel_lines.proofs.lemmas.BestFinding.{found_holds}
-use Rattle.tfpg_panel_lines.proofs.panel_lines.best_of.Goals as goal
+use Rattle.tfpg.proofs.lemmas.BestFinding.{found_holds}
+use Rattle.tfpg.proofs.panel_lines.best_of.Goals as goal
 
 pub finding_numbered-requires : goal.finding_numbered-requires
 finding_numbered-requires c = subst RiseByNumber (sym c.as_slice-2.ensures) c.requires.numbers_rise

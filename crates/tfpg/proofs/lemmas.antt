@@ -1,2 +1,4 @@
+-- Reading to the end.
+pub mod Whole
 -- The finding that a line names.
 pub mod BestFinding

@@ -1,2 +1,0 @@
--- Lemmas on the lines of file panels.
-pub mod lemmas
