@@ -1,7 +1,7 @@
 #!/usr/bin/env python3
 """Compares what two built programs say of the same logs: the statuses of all hypotheses in each round.
 
-    bench/equal_answers.py [--cases N] [--seed N] [--only INDEX] [--keep FOLDER] BEFORE AFTER
+    bench/equal_answers.py [--cases N] [--seed N] [--splits N] [--only SEED] [--no-examples] [--keep FOLDER] BEFORE AFTER
 
 BEFORE and AFTER are programs, as `crates/tfpg/out/tfpg` of two checkouts; one of them may be a trial. First come the logs of the examples,
 each with several terms. Then N graphs and logs are drawn (2,000 if nothing is said), of 3 to 14 nodes of all kinds, with lags, AND nodes,
@@ -15,12 +15,13 @@ counted by themselves, since a budget is no promise:
 - one of the two leaves a hypothesis open;
 - one ranks what the other covers, and each part by which it is covered is open in the first.
 
-All else is a contradiction. Each program must also accept the report of the other (`check`). The last lines count all this. Ends with
-status 1 if there is a contradiction or a report is not accepted; then the texts of the case are kept.
+All else is a contradiction. Each program must also accept the report of the other (`check`). The last lines count all this, also if the
+run is interrupted. Ends with status 1 if there is a contradiction or a report is not accepted; then the texts of the case are kept.
 """
 
 import argparse
 import random
+import re
 import sys
 import tempfile
 from collections import Counter
@@ -34,8 +35,8 @@ from forge import TOP, Program, drawn_graph, random_log, random_script, small_gr
 from slow_judge import Graph
 
 MOST_HYPOTHESES = 250
-MOST_BYTES, FEW_LONGER = 12_000, 100_000  # of a report; one case of fifty may have a longer one
-BUDGETS = ["1", "2", "3", "5", "10", "30", "100", "300", "1000", "1000"]
+MOST_BYTES, LONGER = 20_000, 80_000  # of a report; one case of five may have a longer one
+BUDGETS = [1, 2, 3, 5, 10, 30, 50, 100, 300, 1000, 1000]
 NEVER_ACCEPTED = [b"x", b"", b" 1 tick", b"07 tick", b"-1 tick", b"1e3 tick", b"0 mode NoMode", b"0 alarm NoNode", b"9999999999999 tick", b"0 tick\r"]
 
 
@@ -89,14 +90,14 @@ def spoiled(draws, log):
 
 def drawn_texts(draws, program):
     """A graph and a log of it, or nothing if the graph is refused."""
-    kind = draws.choices(["small", "wide", "banded", "hard"], [3, 4, 3, 1])[0]
+    kind = draws.choices(["small", "wide", "banded", "hard"], [2, 3, 4, 3])[0]
     if kind == "banded":
         nodes, edges = draw_graph(draws, count := draws.randint(6, 14))
         return graph_text(nodes, edges).encode(), spoiled(draws, draw_log(draws, nodes, edges, count)[0].encode())
     if kind == "hard":
         graph = hard_graph(draws)
         program.write("graph", graph)
-        log = simulated(draws, program, hard_script(draws, draws.randint(2, 6)))
+        log = simulated(draws, program, hard_script(draws, draws.randint(2, 12)))
         return graph.encode(), spoiled(draws, with_silences(draws, graph, log))
     graph = small_graph(draws) if kind == "small" else drawn_graph(draws, draws.choice([1, 2, 3]), draws.randint(1, 5), draws.randint(2, 9))
     program.write("graph", graph)
@@ -110,21 +111,28 @@ def count_of(failures, monitors, k, doubt):
     return sum(comb(failures, size - doubted) * comb(monitors, doubted) for size in range(k + 1) for doubted in range(min(doubt, size) + 1))
 
 
-def drawn_case(seed, program):
-    """The case of a seed, whose report by this program is not too long."""
+def drawn_case(seed, program, splits):
+    """The case of a seed. By this program its report is not too long, and some hypothesis has so many splits in a round."""
     draws = random.Random(f"answers {seed}")
-    longest = FEW_LONGER if draws.random() < 0.02 else MOST_BYTES
+    longest = LONGER if draws.random() < 0.2 else MOST_BYTES
     while True:
         texts = drawn_texts(draws, program)
         if texts is None:
             continue
-        k, doubt, budget = draws.randint(0, 3), draws.randint(0, 2), draws.choice(BUDGETS)
+        k, doubt, budget = draws.randint(0, 3), draws.randint(0, 2), draws.choice([one for one in BUDGETS if one >= splits])
         graph = Graph(texts[0])
         if count_of(len(graph.failures), len(graph.monitored), k, doubt) > MOST_HYPOTHESES:
             continue
-        case = Case(str(seed), *texts, ["--k", str(k), "--doubt", str(doubt), "--budget", budget])
-        if len(diagnosed(program, case)) <= longest:
+        case = Case(str(seed), *texts, ["--k", str(k), "--doubt", str(doubt), "--budget", str(budget)])
+        report = diagnosed(program, case)
+        if len(report) <= longest and most_splits(report) >= splits:
             return case
+
+
+def most_splits(report):
+    """The most splits that a hypothesis has in a round."""
+    parts = re.split(rb"^hyp .*$", report, flags=re.MULTILINE)
+    return max(part.count(b"\nsplit ") for part in parts)
 
 
 def diagnosed(program, case):
@@ -197,6 +205,8 @@ class Comparison:
         """Compares two reports."""
         self.counts["reports"] += 1
         self.counts["the same bytes"] += before == after
+        self.counts["splits before"] += before.count(b"\nsplit ")
+        self.counts["splits after"] += after.count(b"\nsplit ")
         one, other = blocks_of(before), blocks_of(after)
         if len(one) != len(other):
             self.wrong.append(f"{len(one)} blocks and {len(other)}")
@@ -284,6 +294,7 @@ def read_words():
     reader = argparse.ArgumentParser(description=__doc__, formatter_class=argparse.RawDescriptionHelpFormatter)
     reader.add_argument("--cases", type=int, default=2000)
     reader.add_argument("--seed", type=int, default=1, help="the seed of the first drawn case")
+    reader.add_argument("--splits", type=int, default=0, help="draw only cases in which AFTER makes so many splits for a hypothesis in a round")
     reader.add_argument("--only", type=int, metavar="SEED", help="only the drawn case of this seed")
     reader.add_argument("--no-examples", action="store_true", help="leave the logs of the examples out")
     reader.add_argument("--keep", type=Path, default=Path(tempfile.gettempdir()) / "unequal", help="where cases that differ are kept")
@@ -300,10 +311,13 @@ def main():
         before, after = (Program(program.resolve(), Path(folder)) for program in (words.before, words.after))
         seeds = range(words.seed, words.seed + words.cases) if words.only is None else [words.only]
         cases = [] if words.no_examples or words.only is not None else list(example_cases())
-        for case in (*cases, *seeds):
-            case = case if isinstance(case, Case) else drawn_case(case, after)
-            tried, wrong = tried + 1, wrong + (not try_case(comparison, before, after, case, words.keep))
-    print(f"{tried} cases, of which {len(cases)} of the examples: {wrong} are wrong")
+        try:
+            for case in (*cases, *seeds):
+                case = case if isinstance(case, Case) else drawn_case(case, after, words.splits)
+                tried, wrong = tried + 1, wrong + (not try_case(comparison, before, after, case, words.keep))
+        except KeyboardInterrupt:
+            print(f"stopped in the case after these {tried}")
+    print(f"{tried} cases, of which {min(tried, len(cases))} of the examples: {wrong} are wrong")
     for what, times in sorted(comparison.counts.items()):
         print(f"{times:9} {what}")
     return int(wrong > 0)
