@@ -15,6 +15,9 @@ turns. The two must write the same bytes, or the row says that they differ.
 - "modes": 64 failure modes, 512 nodes, 2,048 edges and k 2, and the log of a script that starts two of them.
 - "kept": as in `bench/diagnose.py`, the searches of 2,081 and of 4,096 hypotheses over 512 nodes, which stay open and are kept.
   Peak memory is at least that of Python's own start, some 10 MB.
+- "latency": 10,000 lines, given one by one, each once the block of the one before has come: of the pump, and of the graph of "modes" with
+  k 1 and 2. Of each line the processor time of the program until its block is there, the least of three runs; of the lines the median,
+  the 99th of 100 and the worst.
 
 `bench/compare.py --find FIRST LAST PROGRAM` prints which draws give hard graphs.
 """
@@ -25,12 +28,14 @@ import random
 import subprocess
 import sys
 import tempfile
+import time
 from dataclasses import dataclass
 from pathlib import Path
 
-from diagnose import kept_searches, large_graph, large_script
+from diagnose import TOP, kept_searches, large_graph, large_script
 
 MODES = ["M0", "M1", "M2"]
+LATENCY_LINES, LATENCY_RUNS = 10_000, 3
 
 
 @dataclass
@@ -202,6 +207,48 @@ def show_others(programs, rows, runs):
         print(f"{row.name:34}{1000 * before.seconds:12.1f}{1000 * after.seconds:10.1f}{memory}{note(programs, row)}")
 
 
+def latency_rows(program, top):
+    """The rows of lines that are given one by one."""
+    log = (TOP / "examples" / "pump.log").read_text().splitlines(keepends=True)
+    log += [f"{at} tick\n" for at in range(5_400_001, 5_400_001 + LATENCY_LINES - len(log))]
+    (top / "pump").write_text("".join(log))
+    draws = random.Random(7)
+    (top / "wide").write_text(large_graph(draws))
+    (top / "long-script").write_text(large_script(draws, LATENCY_LINES))
+    lines = simulated(program, 5, top / "wide", top / "long-script").splitlines(keepends=True)
+    (top / "long").write_bytes(b"".join(lines[:LATENCY_LINES]))
+    pump = ["diagnose", str(TOP / "examples" / "pump.tfpg")]
+    return [
+        Row("latency, pump", pump, top / "pump"),
+        *[Row(f"latency, 512 nodes and k {k}", ["diagnose", "--k", k, str(top / "wide")], top / "long") for k in "12"],
+    ]
+
+
+def line_times(program, row):
+    """The processor seconds of each line of the log, from the end of the block before it to that of its own."""
+    with subprocess.Popen([program, *row.words], stdin=subprocess.PIPE, stdout=subprocess.PIPE, bufsize=0) as process:
+        clock = (~process.pid << 3) | 2  # the processor clock of that process, as the kernel numbers it
+        ends = []
+        for line in row.log.read_bytes().splitlines(keepends=True):
+            process.stdin.write(line)
+            block = b""
+            while not block.endswith(b"\n") or not block[block.rfind(b"\n", 0, -1) + 1 :].startswith((b"counts ", b"refused ")):
+                block += process.stdout.read(1 << 20)
+            ends.append(time.clock_gettime(clock))
+        process.stdin.close()
+    return [end - begun for begun, end in zip([ends[0], *ends], ends)][1:]
+
+
+def show_latencies(programs, rows):
+    """Of the lines after the first: the median, the 99th of 100, and the worst."""
+    print(f"{'microseconds a line':34}{'median':>12}{'99th of 100':>14}{'worst':>12}")
+    for row in rows:
+        runs = [[line_times(program, row) for program in programs] for _ in range(LATENCY_RUNS)]
+        for when, each in zip(("before", "after"), zip(*runs)):
+            times = sorted(1e6 * min(of_line) for of_line in zip(*each))
+            print(f"{row.name + ', ' + when:34}{times[len(times) // 2]:12.1f}{times[len(times) * 99 // 100]:14.1f}{times[-1]:12.1f}")
+
+
 def find(program, first, last):
     """The draws of a range that need most splits."""
     found = []
@@ -218,7 +265,7 @@ def read_words():
     """The words of the command line."""
     reader = argparse.ArgumentParser(description=__doc__, formatter_class=argparse.RawDescriptionHelpFormatter)
     reader.add_argument("--runs", type=int, default=15, help="runs of each program for each row")
-    reader.add_argument("--only", action="append", metavar="WORD", help="only the rows of this word: hard, generate, ticks, modes or kept")
+    reader.add_argument("--only", action="append", metavar="WORD", help="only the rows of this word: hard, generate, ticks, modes, kept or latency")
     reader.add_argument("--find", nargs=2, type=int, metavar=("FIRST", "LAST"), help="look for hard draws in this range")
     reader.add_argument("programs", nargs="+", type=Path, metavar="PROGRAM")
     words = reader.parse_args()
@@ -241,6 +288,8 @@ def main():
         if wanted("generate"):
             show_generated(words.programs, top, words.runs)
         show_others(words.programs, [row for row in rows if wanted(row.name)], words.runs)
+        if wanted("latency"):
+            show_latencies(words.programs, latency_rows(words.programs[1], top))
 
 
 # Draws that gave hard graphs.

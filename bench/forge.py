@@ -46,9 +46,16 @@ class Source:
 
 
 def small_graph(draws):
-    modes = [f"M{number}" for number in range(draws.choice([1, 1, 2, 2, 3]))]
-    failures = [f"F{number}" for number in range(13 if draws.random() < 0.03 else draws.randint(1, 4))]
-    others = [f"D{number}" for number in range(draws.randint(1, 5))]
+    modes = draws.choice([1, 1, 2, 2, 3])
+    failures = 13 if draws.random() < 0.03 else draws.randint(1, 4)
+    return drawn_graph(draws, modes, failures, draws.randint(1, 5))
+
+
+def drawn_graph(draws, mode_count, failure_count, other_count):
+    """A graph of so many modes, failure modes and discrepancies. It may have one that nothing enters, or a cycle that takes no time."""
+    modes = [f"M{number}" for number in range(mode_count)]
+    failures = [f"F{number}" for number in range(failure_count)]
+    others = [f"D{number}" for number in range(other_count)]
     version = draws.choice([1, 2, 2])
     lines = [f"tfpg {version}", *[f"mode {mode}" for mode in modes]]
     nodes = [f"failure {name} {draws.choice([0, 1, 2, 3, 7, 1000])}" for name in failures]
