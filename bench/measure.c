@@ -3,8 +3,9 @@
  *   measure NAME GRAPH K LOG
  *
  * Opens a session of the graph with this k, gives it each line of the log and asks for each block. Gives the log to a second session, each
- * other tick as an event, and asks for the numbers of each line. Then makes the report of the same log at once, of its first 1,000 lines at
- * most, and judges it. Prints three lines of fields between bars, in which NAME stands first:
+ * other tick as an event, and asks for the numbers of each line, and for the block of each event, first without memory and then with it. Then
+ * makes the report of the same log at once, of its first 1,000 lines at most, and judges it. Prints three lines of fields between bars, in
+ * which NAME stands first:
  *
  * - `memory`: the bytes that the library has once the session is open, and after 1,000, 16,384 and 65,536 accepted lines, or `-`; the most
  *   that it had at once, where a block that is made larger counts as two; the same where each block takes the least power of two that holds
@@ -42,6 +43,9 @@ typedef struct {
 /* Bytes that are taken, the most of them so far, and the same of a pool of powers of two. */
 static size_t taken, most, pool_taken, most_of_pool;
 static unsigned long calls;
+
+/* Whether there is no memory. */
+static bool refuse;
 
 static text graph, history;
 static uint32_t k;
@@ -86,14 +90,14 @@ static heap_answer answer_of(uint8_t *given, size_t size, size_t old) {
 
 heap_answer rattle_alloc(size_t size, size_t align) {
     if (size == 0) size = align;
-    return answer_of((uint8_t *)malloc(size + HEAD), size, 0);
+    return answer_of(refuse ? NULL : (uint8_t *)malloc(size + HEAD), size, 0);
 }
 
 heap_answer rattle_realloc(void *p, size_t kept, size_t size, size_t align) {
     size_t old = size_of(p);
     (void)kept;
     if (size == 0) size = align;
-    return answer_of((uint8_t *)realloc((uint8_t *)p - HEAD, size + HEAD), size, old);
+    return answer_of(refuse ? NULL : (uint8_t *)realloc((uint8_t *)p - HEAD, size + HEAD), size, old);
 }
 
 void rattle_dealloc(void *p) {
@@ -137,6 +141,11 @@ static void expect_done(const char *what, tfpg_answer answer) {
     if (answer.status == TFPG_DONE) return;
     fprintf(stderr, "%s: %s: status %u\n", name, what, answer.status);
     exit((int)answer.status);
+}
+
+static void expect_none(const char *what, tfpg_answer answer) {
+    fprintf(stderr, "%s: %s: status %u\n", name, what, answer.status);
+    exit(70);
 }
 
 /* Where the line ends that begins here. */
@@ -205,6 +214,18 @@ static void ask(tfpg_session *session) {
     for (uint32_t rank = 0; rank < result.ranked; rank++) expect_done("ranked", tfpg_ranked_at(session, rank, &ranked, active, 512));
 }
 
+/* Asks for the block of an event where there is no memory for it, and once more where there is. The session is as before. */
+static void ask_block(tfpg_session *session) {
+    size_t before = taken;
+    tfpg_answer answer;
+    refuse = true;
+    answer = tfpg_block(session, room, sizeof room);
+    refuse = false;
+    if (answer.status != TFPG_NO_MEMORY) expect_none("block without memory", answer);
+    expect_done("block of an event", tfpg_block(session, room, sizeof room));
+    if (taken != before) expect_none("block that leaves memory", answer);
+}
+
 /* What was found of a session that takes each other tick as an event. */
 static size_t ticks[2];
 static uint64_t tick_time[2], ask_time;
@@ -231,6 +252,7 @@ static void *run_events(void *unused) {
         ask(&session);
         ask_time += nanoseconds() - asked;
         calls_of_asking += calls;
+        if (by_event) ask_block(&session);
     }
     tfpg_close(&session);
     left += taken;

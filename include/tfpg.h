@@ -204,16 +204,24 @@ tfpg_answer tfpg_open(tfpg_session *session, const uint8_t *graph, size_t graph_
 tfpg_answer tfpg_line(tfpg_session *session, const uint8_t *line, size_t line_count);
 
 /* Writes the text of the session to the front of the room: the block of the last line, or before any line the first line of the report.
- * `count` is the number of its bytes, also if the room is too small. A program may ask for it any number of times. The session is the same
- * after the call. It is not `const`, since the call takes it out of its place and puts it back, and so writes there.
+ * `count` is the number of its bytes, also if the room is too small. A program may ask for it any number of times.
  *
- * TFPG_DONE, TFPG_ROOM_TOO_SMALL, TFPG_ENDED */
+ * After `tfpg_open` and `tfpg_line` the session has this text, and the call takes no memory. After `tfpg_event` the call makes it, each
+ * time anew, and gives its memory back before it returns. If there is none, the answer is TFPG_NO_MEMORY and nothing is written. The
+ * session is open as before, and a program may go on without the text, or ask again.
+ *
+ * The session is the same after the call. It is not `const`, since the call takes it out of its place and puts it back, and so writes
+ * there.
+ *
+ * TFPG_DONE, TFPG_ROOM_TOO_SMALL, TFPG_NO_MEMORY, TFPG_ENDED */
 tfpg_answer tfpg_block(tfpg_session *session, uint8_t *room, size_t room_count);
 
 /* Takes an event as `tfpg_line` takes its line, `TIME KIND NAME`, where NAME is the name of the node or the mode of this index. What comes
- * of it is what comes of that line, but `count` is 0: `tfpg_block` has the block, and `tfpg_result_of` its numbers. An index that nothing
- * has is refused as a name that nothing has, an unknown kind as `BadLine`; as with lines, an earlier cause comes first. A sweep and a tick
- * have no index. The call makes the line for itself.
+ * of it is what comes of that line. An index that nothing has is refused as a name that nothing has, an unknown kind as `BadLine`; as with
+ * lines, an earlier cause comes first. A sweep and a tick have no index.
+ *
+ * The block is not made, so `count` is 0: `tfpg_result_of` has its numbers, and `tfpg_block` makes it for who asks. The session gives the
+ * text back that it had. The call makes the line for itself, of at most 61 bytes. If memory runs out, the session is closed.
  *
  * TFPG_DONE, TFPG_NO_MEMORY, TFPG_ENDED */
 tfpg_answer tfpg_event(tfpg_session *session, uint64_t time, uint32_t kind, uint32_t index);

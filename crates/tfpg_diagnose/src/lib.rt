@@ -5,7 +5,8 @@
 //! last round.
 //!
 //! For programs that have no files and no streams there are calls over texts: [`diagnose_texts`], [`check_texts`], and a [`Session`] that
-//! takes the lines of a log one by one and keeps the [`Latest`] of them. [`laws`] says that a rejected hypothesis stays rejected.
+//! takes the lines of a log one by one, keeps the [`Latest`] of them, and makes the block of the last one when it is asked. [`laws`] says
+//! that a rejected hypothesis stays rejected.
 //!
 //! ```
 //! let mut session = Session::open(alloc, graph_text, terms)?;
@@ -16,7 +17,8 @@
 //!
 //! - The report of the lines of an input, block by block: `write_report`, `diagnoses`, `work`.
 //! - What is accepted, and why it is not: `judge_report`; `CheckFault`.
-//! - The rows on texts in `docs/promises.md`: `diagnose_texts`, `check_texts`, `Session::open`, `Session::line`.
+//! - The rows on texts in `docs/promises.md`: `diagnose_texts`, `check_texts`, `Session::open`, `Session::take`, `Session::block`,
+//!   `Session::line`.
 //! - The last round of a log in memory: `Diagnosis::take_text`.
 //! - What stays rejected: law `a_rejected_set_stays_rejected`.
 //!

@@ -68,7 +68,7 @@ pub fn write_report<S: Source, K: Sink, P: Panel, L: Ledger>(
 }
 
 /// The first line of the report.
-fn first_line(alloc: Global, terms: Terms) -> Result<Vec<u8>, NoMemory>
+pub(crate) fn first_line(alloc: Global, terms: Terms) -> Result<Vec<u8>, NoMemory>
     ensures { IfOk result (λ line. line.items ≡ head_text terms) }
 {
     let mut line = Vec::new(alloc);

@@ -1,7 +1,7 @@
 //! Calls over texts in memory, for programs that have no files and no streams.
 //!
 //! [`diagnose_texts`] returns the report of a log, and [`check_texts`] judges one. A [`Session`] takes the lines of a log one by one, and
-//! returns the block of each. It keeps the [`Latest`] of them.
+//! returns the block of the last one when it is asked. It keeps the [`Latest`] of them.
 
 mod call_count;
 mod checking;

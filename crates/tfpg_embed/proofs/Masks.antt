@@ -1,82 +1,105 @@
 -- Bits that say who is a member, word by word.
-use Rattle.std.proofs.Common.{◌≡◌, ◌≢◌, ℕ, ◌+◌, ◌*◌, ◌/◌, ◌%◌, ◌<◌, ◌≤◌, ◌^◌, List, length, get_or, set, ◌⊎◌, ◌↔◌, inl, inr, ⊎_elim, bit_or, w64, Bool, true, false, nat_le, nat_lt, IsTrue, refl, arith, sym, ◌∙◌, ap, subst}
+use Rattle.std.proofs.Common.{◌≡◌, ◌≢◌, ℕ, ◌*◌, ◌/◌, ◌%◌, ◌<◌, ◌≤◌, ◌^◌, List, [], ◌∷◌, length, get_or, set, replicate, ◌⊎◌, ◌↔◌, inl, inr, ⊎_elim, bit_or, w64, true, false, nat_le, nat_lt, IsTrue, refl, arith, sym, ◌∙◌, ap, subst}
 use Rattle.std.specs.Int.{bit_at}
 use Rattle.std.specs.List.{Contains, All}
 use Rattle.std.specs.Prelude.{map}
 use Rattle.std.proofs.lemmas.Bool.{and_parts, cases_eq, cases_lt, false≢true, lt-leb, ltb-true}
-use Rattle.std.proofs.lemmas.List.{get_or-set_same, get_or-set_other, length-map}
-use Rattle.std.proofs.lemmas.List.Elements.{All-map}
+use Rattle.std.proofs.lemmas.List.{get_or_past, get_or-replicate, get_or-set_same, get_or-set_other, length-map}
+use Rattle.std.proofs.lemmas.List.Elements.{All-contains, All-map}
 use Rattle.std.proofs.lemmas.List.FromFn.{length-map-range_with_len}
 use Rattle.std.proofs.lemmas.Nat.Bits.{bit_at-zero, bit_at_set_same, bit_at_set_other}
 use Rattle.tfpg_base.proofs.lemmas.lists.Distinct.{length-le_distinct}
+use Rattle.tfpg_base.proofs.lemmas.lists.Elements.{Contains-cons_cases, Contains-head, Contains-nil, Contains-tail}
 use Rattle.tfpg_base.proofs.lemmas.lists.Images.{AllPairs-map}
 use Rattle.tfpg_base.proofs.lemmas.lists.Ordered.{Rises-differ}
 use Rattle.tfpg_base.specs.Trace.{IsRisingByNode}
 use Rattle.tfpg_base.specs.declared.activation.Activation.{Activation}
+use Rattle.tfpg_base.specs.declared.limits.TheConstants.{MAX_MEMBERS}
 use Rattle.tfpg_evidence.specs.declared.finding.Status.{Status}
 use Rattle.tfpg_evidence.specs.declared.finding.Status.TheVariants.{Ranked, Covered, Rejected, Open}
 use Rattle.tfpg_evidence.specs.RoundOf.{is_ranked}
-use Rattle.tfpg_embed.specs.Ranking.{AreMasks, IsMask, is_short, time_or_never, times_in, times_of_status}
+use Rattle.tfpg_embed.specs.Ranking.{HasNodeBit, IsMask, is_short, time_or_never, times_in, times_of_status}
 use Rattle.tfpg_embed.specs.Rooms.{room_after}
 
 -- A word with one more bit has that bit and those that it had.
-pub set_bit_is : (word index other : ℕ) (is_set : Bool) → index < 64 → is_set ≡ true
-    → (bit_at (bit_or word (1 * 2 ^ index % 2 ^ 64)) other ≡ 1) ↔ ((bit_at word other ≡ 1) ⊎ ((other ≡ index) × IsTrue is_set))
-set_bit_is word index other is_set small on = (
-  λ one. ⊎_elim (λ same. inr (same, on)) (λ unlike. inl (sym (bit_at_set_other w64 word index small other unlike) ∙ one)) (cases_eq other index),
+pub set_bit_is : (word index other : ℕ) → index < 64 → (bit_at (bit_or word (1 * 2 ^ index % 2 ^ 64)) other ≡ 1) ↔ ((bit_at word other ≡ 1) ⊎ (other ≡ index))
+set_bit_is word index other small = (
+  λ one. ⊎_elim (λ same. inr same) (λ unlike. inl (sym (bit_at_set_other w64 word index small other unlike) ∙ one)) (cases_eq other index),
   λ either.
       let here = λ (same : other ≡ index). subst (λ (n : ℕ). bit_at (bit_or word (1 * 2 ^ index % 2 ^ 64)) n ≡ 1) (sym same) (bit_at_set_same w64 word index small) in
-      ⊎_elim (λ old. ⊎_elim here (λ unlike. bit_at_set_other w64 word index small other unlike ∙ old) (cases_eq other index)) (λ both. here both.0) either,
+      ⊎_elim (λ old. ⊎_elim here (λ unlike. bit_at_set_other w64 word index small other unlike ∙ old) (cases_eq other index)) here either,
 )
 
--- A word left as it is has no bit that was not to be set.
-pub unset_bit_is : (word index other : ℕ) (is_set : Bool) → (is_set ≡ true → ⊥) → (bit_at word other ≡ 1) ↔ ((bit_at word other ≡ 1) ⊎ ((other ≡ index) × IsTrue is_set))
-unset_bit_is word index other is_set off = (λ one. inl one, λ either. ⊎_elim (λ old. old) (λ both. absurd (off both.1)) either)
+-- Words with the bit of one more node have that bit and those that they had.
+pub set_node_is : (words : List ℕ) (node word other : ℕ) → node / 64 < length words
+    → ((index : ℕ) → (bit_at word index ≡ 1) ↔ ((bit_at (get_or words (node / 64) 0) index ≡ 1) ⊎ (index ≡ node % 64)))
+    → HasNodeBit (set words (node / 64) word) other ↔ (HasNodeBit words other ⊎ (other ≡ node))
+set_node_is words node word other within new =
+    let later = set words (node / 64) word in
+    let here = get_or-set_same words (node / 64) word 0 within in
+    ⊎_elim
+    (λ same. let read : get_or later (other / 64) 0 ≡ word = ap (λ (n : ℕ). get_or later n 0) same ∙ here in
+    let was : get_or words (node / 64) 0 ≡ get_or words (other / 64) 0 = ap (λ (n : ℕ). get_or words n 0) (sym same) in (
+      λ one. ⊎_elim (λ old. inl (subst (λ (w : ℕ). bit_at w (other % 64) ≡ 1) was old)) (λ low. inr (omega (arith, same, low)))
+          ((new (other % 64)).0 (subst (λ (w : ℕ). bit_at w (other % 64) ≡ 1) read one)),
+      λ either. subst (λ (w : ℕ). bit_at w (other % 64) ≡ 1) (sym read)
+          ((new (other % 64)).1 (⊎_elim (λ old. inl (subst (λ (w : ℕ). bit_at w (other % 64) ≡ 1) (sym was) old)) (λ is. inr (ap (λ (n : ℕ). n % 64) is)) either)),
+    ))
+    (λ unlike. let read : get_or later (other / 64) 0 ≡ get_or words (other / 64) 0 = get_or-set_other words (node / 64) (other / 64) word 0 unlike in (
+      λ one. inl (subst (λ (w : ℕ). bit_at w (other % 64) ≡ 1) read one),
+      λ either. ⊎_elim (λ old. subst (λ (w : ℕ). bit_at w (other % 64) ≡ 1) (sym read) old) (λ is. absurd (unlike (ap (λ (n : ℕ). n / 64) is))) either,
+    ))
+    (cases_eq (other / 64) (node / 64))
 
--- The bits below a count say who is a member, and no other bit is set.
-abbrev pub ShowsBelow : ℕ → (ℕ → Type 0) → ℕ → Type 0
-ShowsBelow count IsMember word = (index : ℕ) → (bit_at word index ≡ 1) ↔ ((index < count) × IsMember index)
+-- words of zeros have none
+abbrev pub zeros : List ℕ
+zeros = replicate 8 0
 
--- none is set in 0
-pub ShowsBelow-none : (IsMember : ℕ → Type 0) → ShowsBelow 0 IsMember 0
-ShowsBelow-none IsMember index = (λ one. absurd (omega (arith, one, bit_at-zero index)), λ both. absurd (omega (arith, both.0)))
+pub no_node_bit : (node : ℕ) → HasNodeBit zeros node → ⊥
+no_node_bit node one =
+    let none : get_or zeros (node / 64) 0 ≡ 0 =
+    ⊎_elim (λ within. get_or-replicate 8 (node / 64) 0 0 within) (λ beyond. get_or_past zeros (node / 64) 0 beyond) (cases_lt (node / 64) 8) in
+    omega (arith, subst (λ (w : ℕ). bit_at w (node % 64) ≡ 1) none one, bit_at-zero (node % 64))
 
--- one bit more
-pub ShowsBelow-more : (IsMember : ℕ → Type 0) (word later count : ℕ) (is_in : Bool) → ShowsBelow count IsMember word → (IsTrue is_in ↔ IsMember count)
-    → ((other : ℕ) → (bit_at later other ≡ 1) ↔ ((bit_at word other ≡ 1) ⊎ ((other ≡ count) × IsTrue is_in))) → ShowsBelow (count + 1) IsMember later
-ShowsBelow-more IsMember word later count is_in before member new index = (
-  λ one. ⊎_elim (λ old. let both = (before index).0 old in (omega (arith, both.0), both.1))
-      (λ here. (omega (arith, here.0), subst IsMember (sym here.0) (member.0 here.1))) ((new index).0 one),
-  λ both. (new index).1 (⊎_elim (λ low. inl ((before index).1 (low, both.1)))
-      (λ high. let same : index ≡ count = omega (arith, high, both.0) in inr (same, member.1 (subst IsMember same both.1))) (cases_lt index count)),
+-- ---- one member after another
+
+-- A member has its bit or is left, and nothing else has one.
+abbrev pub AreTaken : List ℕ → List ℕ → (ℕ → Type 0) → Type 0
+AreTaken members left HasBit = (n : ℕ) → Contains members n ↔ (HasBit n ⊎ Contains left n)
+
+-- before the first one
+pub AreTaken-none : (members : List ℕ) (HasBit : ℕ → Type 0) → ((n : ℕ) → HasBit n → ⊥) → AreTaken members members HasBit
+AreTaken-none members HasBit none n = (λ member. inr member, λ either. ⊎_elim (λ bit. absurd (none n bit)) (λ member. member) either)
+
+-- one more
+pub AreTaken-more : (members left : List ℕ) (first : ℕ) (others : List ℕ) (HasBit HasLater : ℕ → Type 0) → left ≡ first ∷ others → AreTaken members left HasBit
+    → ((n : ℕ) → HasLater n ↔ (HasBit n ⊎ (n ≡ first))) → AreTaken members others HasLater
+AreTaken-more members left first others HasBit HasLater splits before new n = (
+  λ member. ⊎_elim (λ bit. inl ((new n).1 (inl bit)))
+      (λ old. ⊎_elim (λ here. inl ((new n).1 (inr (sym here)))) (λ later. inr later) (Contains-cons_cases first others n (subst (λ (xs : List ℕ). Contains xs n) splits old)))
+      ((before n).0 member),
+  λ either. (before n).1 (⊎_elim (λ bit. ⊎_elim (λ old. inl old)
+      (λ here. inr (subst (λ (xs : List ℕ). Contains xs n) (sym splits) (subst (Contains (first ∷ others)) (sym here) (Contains-head first others)))) ((new n).0 bit))
+      (λ later. inr (subst (λ (xs : List ℕ). Contains xs n) (sym splits) (Contains-tail first others n later))) either),
 )
 
--- all 64 bits
-pub ShowsBelow-all : (IsMember : ℕ → Type 0) (word count : ℕ) → count ≡ 64 → ShowsBelow count IsMember word → IsMask word IsMember
-ShowsBelow-all IsMember word count same shows = subst (λ (n : ℕ). ShowsBelow n IsMember word) same shows
+-- all of them
+pub AreTaken-all : (members left : List ℕ) (HasBit : ℕ → Type 0) → left ≡ [] → AreTaken members left HasBit → (n : ℕ) → HasBit n ↔ Contains members n
+AreTaken-all members left HasBit none taken n = (
+  λ bit. (taken n).1 (inl bit),
+  λ member. ⊎_elim (λ bit. bit) (λ old. absurd (Contains-nil n (subst (λ (xs : List ℕ). Contains xs n) none old))) ((taken n).0 member),
+)
 
--- The words before this number are right.
-abbrev pub AreMasksBelow : ℕ → List ℕ → List ℕ → Type 0
-AreMasksBelow number words nodes = (k : ℕ) → k < number → IsMask (get_or words k 0) (λ index. Contains nodes (64 * k + index))
+-- a word of all members shows them
+pub mask_of_all : (members : List ℕ) (word : ℕ) → All (λ position. position < MAX_MEMBERS) members → ((n : ℕ) → (bit_at word n ≡ 1) ↔ Contains members n) → IsMask word (Contains members)
+mask_of_all members word small shows index = (
+  λ one. let member = (shows index).0 one in (All-contains (λ position. position < MAX_MEMBERS) members index small member, member),
+  λ both. (shows index).1 both.1,
+)
 
--- one word more
-pub AreMasksBelow-more : (words nodes : List ℕ) (number word : ℕ) → number < length words → AreMasksBelow number words nodes → IsMask word (λ index. Contains nodes (64 * number + index))
-    → AreMasksBelow (number + 1) (set words number word) nodes
-AreMasksBelow-more words nodes number word within before here k below =
-    ⊎_elim (λ same. subst (λ (n : ℕ). IsMask (get_or (set words number word) n 0) (λ index. Contains nodes (64 * n + index))) (sym same)
-    (subst (λ (w : ℕ). IsMask w (λ index. Contains nodes (64 * number + index))) (sym (get_or-set_same words number word 0 within)) here))
-    (λ unlike. subst (λ (w : ℕ). IsMask w (λ index. Contains nodes (64 * k + index))) (sym (get_or-set_other words number k word 0 unlike)) (before k (omega (arith, below, unlike)))) (cases_eq k number)
-
--- all eight
-pub AreMasksBelow-all : (words nodes : List ℕ) (number : ℕ) → length words ≡ 8 → 8 ≤ number → AreMasksBelow number words nodes → AreMasks words nodes
-AreMasksBelow-all words nodes number count all before = record {
-  count = count;
-  each = λ node small.
-      let own = before (node / 64) (omega (arith, small, all)) (node % 64) in
-      let split : 64 * (node / 64) + node % 64 ≡ node = omega arith in
-      let low : node % 64 < 64 = omega arith in
-      (λ one. subst (λ (n : ℕ). Contains nodes n) split (own.0 one).1, λ member. own.1 (low, subst (λ (n : ℕ). Contains nodes n) (sym split) member));
-}
+-- What is below one limit is below a greater one.
+pub all_below : (limit bound : ℕ) (xs : List ℕ) → limit ≤ bound → All (λ x. x < limit) xs → All (λ x. x < bound) xs
+all_below limit bound xs within all index d below = let small = all index d below in omega (arith, within, small)
 
 -- A trace has no more activations than there are nodes.
 pub few_active : (trace : List Activation) (nodes : ℕ) → IsRisingByNode trace → All (λ activation. activation.node < nodes) trace → length trace ≤ nodes

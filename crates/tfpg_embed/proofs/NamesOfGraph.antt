@@ -1,10 +1,12 @@
 -- Names and indexes of a graph lead to each other.
 use Rattle.std.proofs.Common.{◌≡◌, ℕ, Bool, true, false, cond, nat_eq, List, [], length, get_or, Option, Some, None, slice_get, ◌<◌, arith, refl, sym, ap, subst, ◌∙◌}
-use Rattle.std.specs.Prelude.{◌==◌, bytes_eq, option_and_then}
-use Rattle.std.proofs.lemmas.Bool.{eq-eqb, eqb-true, ne_eqb}
+use Rattle.std.specs.Prelude.{◌==◌, IsTrue, bytes_eq, option_and_then}
+use Rattle.std.proofs.lemmas.Bool.{eq-eqb, eqb-true, false≢true, ne_eqb}
 use Rattle.std.proofs.lemmas.List.Quantifiers.{position-Some}
 use Rattle.std.proofs.lemmas.Option.{get_or_from_slice_get, same_Some, slice_get-get_or, slice_get_within}
 use Rattle.std.proofs.lemmas.Slice.Eq.{bytes_eq-Decides}
+use Rattle.tfpg_base.specs.Words.{is_name}
+use Rattle.tfpg_base.proofs.lemmas.lists.Elements.{All-at}
 use Rattle.tfpg_base.proofs.lemmas.lists.Numbered.{one_index}
 use Rattle.tfpg_base.proofs.lemmas.lists.Positions.{position-at}
 use Rattle.tfpg_base.proofs.lemmas.lists.SameBytes.{position-bytes}
@@ -87,3 +89,34 @@ module _ (graph : Tfpg) (index : ℕ) (name : List ℕ) where
       by false true is_mode is = failure_found found is
       by false false true is = mode_found graph index name valid is
       by false false false is = cc
+
+-- the index of a name, by what is found of it
+abbrev index_by : Tfpg → ℕ → Option ℕ → Option ℕ → Option ℕ
+index_by graph kind node mode =
+    cond (kind == NODE_NAME) node (cond (kind == FAILURE_NAME) (option_and_then (position_of_failure graph) node) (cond (kind == MODE_NAME) mode None))
+
+-- What is no name is of nothing in a valid graph.
+module _ (graph : Tfpg) (word : List ℕ) where
+  no_mode : IsValid graph → is_name word ≡ false → mode_named graph word ≡ None
+  no_mode valid none = by (mode_named graph word) refl
+    where
+      by : (found : Option ℕ) → mode_named graph word ≡ found → mode_named graph word ≡ None
+      by None is = is
+      by (Some mode) is =
+          let at = mode_has graph mode word is in
+          absurd (false≢true (sym none ∙ All-at (λ m. IsTrue (is_name m)) graph.modes mode word valid.so_far.mode_names at))
+
+  pub named_by_no_one : (kind : ℕ) → IsValid graph → is_name word ≡ false → ((node : ℕ) → node_named graph word ≡ Some node → IsTrue (is_name word)) → index_in graph kind word ≡ None
+  named_by_no_one kind valid none form =
+      let no_node : node_named graph word ≡ None = by (node_named graph word) refl in
+      (λ i. index_by graph kind (no_node i) (no_mode valid none i)) ∙ all_none (kind == NODE_NAME) (kind == FAILURE_NAME) (kind == MODE_NAME)
+    where
+      by : (found : Option ℕ) → node_named graph word ≡ found → node_named graph word ≡ None
+      by None is = is
+      by (Some node) is = absurd (false≢true (sym none ∙ form node is))
+
+      all_none : (is_node is_failure is_mode : Bool) → cond is_node None (cond is_failure (option_and_then (position_of_failure graph) None) (cond is_mode None None)) ≡ None
+      all_none true is_failure is_mode = refl
+      all_none false true is_mode = refl
+      all_none false false true = refl
+      all_none false false false = refl

@@ -1,11 +1,15 @@
 -- That a number says one cause: the cause stands at its number in the list of all.
-use Rattle.std.proofs.Common.{◌≡◌, ℕ, ◌-◌, List, [], ◌∷◌, Some, slice_get, refl, sym, ap, ◌∙◌}
+use Rattle.std.proofs.Common.{◌≡◌, ℕ, ◌-◌, List, [], ◌∷◌, Option, None, Some, slice_get, refl, sym, ap, ◌∙◌}
 use Rattle.std.proofs.lemmas.Option.{same_Some}
 use Rattle.tfpg_graph.specs.declared.cause.GraphCause.{GraphCause}
 use Rattle.tfpg_graph.specs.declared.cause.GraphCause.TheVariants as graph
 use Rattle.tfpg_check.specs.declared.cause.CheckCause.{CheckCause}
 use Rattle.tfpg_check.specs.declared.cause.CheckCause.TheVariants as check
+use Rattle.tfpg_log.specs.declared.refusal.Refusal.TheVariants as refusal
+use Rattle.tfpg_log.specs.declared.refused_line.RefusedLine.{RefusedLine}
+use Rattle.tfpg_log.specs.declared.refused_line.RefusedLine.TheVariants as line
 use Rattle.tfpg_embed.specs.Causes.{check_cause_number, graph_cause_number}
+use Rattle.tfpg_embed.specs.Results.{last_time, why_number}
 
 -- the causes in the order of their numbers
 abbrev graph_causes : List GraphCause
@@ -68,3 +72,25 @@ one_graph_cause cause other same =
 pub one_check_cause : (cause other : CheckCause) → check_cause_number cause ≡ check_cause_number other → cause ≡ other
 one_check_cause cause other same =
     same_Some cause other (sym (check_cause_at cause) ∙ ap (λ (number : ℕ). slice_get check_causes (number - 1)) same ∙ check_cause_at other)
+
+-- what a line may come to, with this time, in the order of the numbers
+abbrev refusals : ℕ → List (Option RefusedLine)
+refusals time =
+    None ∷ Some (line.Offer refusal.BadLine) ∷ Some (line.Offer refusal.BadNumber) ∷ Some (line.Offer refusal.TimeTooLarge) ∷ Some (line.Offer (refusal.TimeBack time)) ∷ Some (line.Offer refusal.UnknownName) ∷ Some (line.Offer refusal.NotMonitored) ∷ Some (line.Offer refusal.NotAMode) ∷ Some (line.Offer refusal.LogFull) ∷ Some (line.Offer refusal.ModesFull) ∷ Some line.TooLong ∷ []
+
+refusal_at : (why : Option RefusedLine) → slice_get (refusals (last_time why)) (why_number why) ≡ Some why
+refusal_at None = refl
+refusal_at (Some line.TooLong) = refl
+refusal_at (Some (line.Offer refusal.BadLine)) = refl
+refusal_at (Some (line.Offer refusal.BadNumber)) = refl
+refusal_at (Some (line.Offer refusal.TimeTooLarge)) = refl
+refusal_at (Some (line.Offer (refusal.TimeBack last))) = refl
+refusal_at (Some (line.Offer refusal.UnknownName)) = refl
+refusal_at (Some (line.Offer refusal.NotMonitored)) = refl
+refusal_at (Some (line.Offer refusal.NotAMode)) = refl
+refusal_at (Some (line.Offer refusal.LogFull)) = refl
+refusal_at (Some (line.Offer refusal.ModesFull)) = refl
+
+pub one_refusal : (why other : Option RefusedLine) → why_number why ≡ why_number other → last_time why ≡ last_time other → why ≡ other
+one_refusal why other same time =
+    same_Some why other (sym (refusal_at why) ∙ (λ i. slice_get (refusals (time i)) (same i)) ∙ refusal_at other)

@@ -1,6 +1,7 @@
 -- The answers of the calls of a session.
 use Rattle.std.proofs.Common.{◌≡◌, ◌⊎◌, ℕ, ◌++◌, ◌∷◌, [], List, length, Option, Some, None, Result, Ok, Err, refl, sym, ap, subst, subst₂, ◌∙◌, inl, inr, ⊎_elim}
-use Rattle.std.specs.Prelude.{◌↔◌, is_ok}
+use Rattle.std.specs.Prelude.{◌↔◌, IsSome, is_ok}
+use Rattle.std.specs.Option.{option_map_or}
 use Rattle.std.proofs.lemmas.Bool.{false≢true}
 use Rattle.tfpg_base.specs.declared.terms.Terms.{Terms}
 use Rattle.tfpg_graph.specs.Graph.{Tfpg}
@@ -11,17 +12,18 @@ use Rattle.tfpg_engine.specs.declared.told.EventFault.TheVariants as event
 use Rattle.tfpg_diagnose.specs.declared.texts.fault.OpenFault.{OpenFault}
 use Rattle.tfpg_diagnose.specs.declared.texts.fault.OpenFault.TheVariants as opening
 use Rattle.tfpg_diagnose.specs.texts.Opening.{CanOpen, IsOpenFault}
-use Rattle.tfpg_diagnose.specs.texts.Sessions.{CountsBlock, SessionRepresents}
+use Rattle.tfpg_diagnose.specs.texts.Sessions.{CountsBlock, SessionRepresents, latest_text}
 use Rattle.tfpg_embed.specs.declared.answer.TfpgAnswer.{TfpgAnswer}
 use Rattle.tfpg_embed.specs.declared.session.open_session.OpenSession.{OpenSession}
 use Rattle.tfpg_embed.specs.declared.status.TheConstants.{DONE, ENDED}
-use Rattle.tfpg_embed.specs.Answers.{answer_of_event_fault, answer_of_open_fault, answer_with, counted}
+use Rattle.tfpg_embed.specs.Answers.{answer_of_event_fault, answer_of_open_fault, answer_of_text, answer_with, counted}
 use Rattle.tfpg_embed.specs.EventLines.{line_of_event}
+use Rattle.tfpg_embed.specs.Rooms.{room_after}
 use Rattle.tfpg_embed.specs.Events.{AnswersEvent, event_line_for}
-use Rattle.tfpg_embed.specs.Sessions.{AnswersLine, AnswersOpen, IsNewlyOpen}
+use Rattle.tfpg_embed.specs.Sessions.{AnswersBlock, AnswersLine, AnswersOpen, IsNewlyOpen, KeepsNoText, open_text}
 
 -- a value is no error
-ok_is_no_error : {T E : Type 0} (value : T) (error : E) → Ok value ≡ Err error → ⊥
+pub ok_is_no_error : {T E : Type 0} (value : T) (error : E) → Ok value ≡ Err error → ⊥
 ok_is_no_error value error same = false≢true (sym (ap is_ok same))
 
 -- the error, if it is one
@@ -43,36 +45,36 @@ err_refuses fault why memory either = ⊎_elim (λ same. inl (ap (error_or fault
 
 module _ (line : List ℕ) (old new : Option OpenSession) (answer : TfpgAnswer) where
   -- a line that has a block
-  pub line_taken : (before after : OpenSession) (count : ℕ) → Some before ≡ old → new ≡ Some after
+  pub line_taken : {T : Type 0} (before after : OpenSession) (value : T) (count : ℕ) → Some before ≡ old → new ≡ Some after
       → ((graph : Tfpg) (terms : Terms) (lines : List (List ℕ)) (bytes : List ℕ) → SessionRepresents graph terms lines bytes before.session
-      → SessionRepresents graph terms (lines ++ line ∷ []) (bytes ++ after.text.items) after.session)
+      → SessionRepresents graph terms (lines ++ line ∷ []) (bytes ++ open_text after) after.session)
       → ((rounds : List Round) → EngineRepresents before.session.engine rounds
-      → CountsBlock before.session.engine rounds line after.text.items before.session.calls after.session.calls)
-      → count ≡ length after.text.items → (◌≡◌ {A = Result ℕ EventFault} (Ok count) (Err event.Ended)) ↔ (before.session.next ≡ None)
+      → CountsBlock before.session.engine rounds line (open_text after) before.session.calls after.session.calls)
+      → count ≡ length (open_text after) → (◌≡◌ {A = Result T EventFault} (Ok value) (Err event.Ended)) ↔ (before.session.next ≡ None)
       → answer ≡ counted DONE count → AnswersLine line old new answer
-  line_taken before after count had has block within counts ended answer_is =
+  line_taken before after value count had has block within counts ended answer_is =
       subst₂ (λ (o n : Option OpenSession). AnswersLine line o n answer) had (sym has) (record {
-        made = Ok after.text.items;
+        made = Ok (open_text after);
         block = block;
         work = λ engine rounds same represents.
-            subst (λ (e : EngineState). CountsBlock e rounds line after.text.items before.session.calls after.session.calls) same
+            subst (λ (e : EngineState). CountsBlock e rounds line (open_text after) before.session.calls after.session.calls) same
             (within rounds (subst (λ (e : EngineState). EngineRepresents e rounds) (sym same) represents));
-        kept = refl;
-        ended = (λ same. absurd (ok_is_no_error after.text.items event.Ended same), λ none. absurd (ok_is_no_error count event.Ended (ended.1 none)));
+        text = refl;
+        ended = (λ same. absurd (ok_is_no_error (open_text after) event.Ended same), λ none. absurd (ok_is_no_error value event.Ended (ended.1 none)));
         closed = tt;
         answer_is = answer_is ∙ ap (counted DONE) counts;
       })
 
   -- a line that has none
-  pub line_refused : (before : OpenSession) (fault : EventFault) → Some before ≡ old → new ≡ None
-      → (◌≡◌ {A = Result ℕ EventFault} (Err fault) (Err event.Ended)) ↔ (before.session.next ≡ None)
+  pub line_refused : {T : Type 0} (before : OpenSession) (fault : EventFault) → Some before ≡ old → new ≡ None
+      → (◌≡◌ {A = Result T EventFault} (Err fault) (Err event.Ended)) ↔ (before.session.next ≡ None)
       → answer ≡ answer_of_event_fault fault → AnswersLine line old new answer
   line_refused before fault had has ended answer_is =
       subst₂ (λ (o n : Option OpenSession). AnswersLine line o n answer) had (sym has) (record {
         made = Err fault;
         block = λ graph terms lines bytes represents. tt;
         work = λ engine rounds same represents. tt;
-        kept = tt;
+        text = tt;
         ended = (λ same. ended.0 (same_error fault event.Ended same), λ none. same_error fault event.Ended (ended.1 none));
         closed = refl;
         answer_is = answer_is;
@@ -85,7 +87,7 @@ module _ (line : List ℕ) (old new : Option OpenSession) (answer : TfpgAnswer) 
         made = Err event.Ended;
         block = λ graph terms lines bytes represents. tt;
         work = λ engine rounds same represents. tt;
-        kept = tt;
+        text = tt;
         ended = (λ same. tt, λ none. refl);
         closed = refl;
         answer_is = answer_is;
@@ -104,19 +106,19 @@ uncounted event.Ended = refl
 
 module _ (graph : List ℕ) (terms : Terms) (new : Option OpenSession) (answer : TfpgAnswer) where
   -- a session that is opened
-  pub opened : (made : OpenSession) (text : List ℕ) → new ≡ Some made → IsNewlyOpen graph terms made → text ≡ made.text.items
+  pub opened : (made : OpenSession) (count : ℕ) → new ≡ Some made → IsNewlyOpen graph terms made → count ≡ length (open_text made)
       → ((why : OpenFault) → (why ≡ opening.NoMemory → ⊥) → IsOpenFault graph terms why → ⊥)
-      → answer ≡ counted DONE (length text) → AnswersOpen graph terms new answer
-  opened made text has is text_is none answer_is =
-      subst₂ (λ (n : Option OpenSession) (t : List ℕ). answer ≡ counted DONE (length t) → AnswersOpen graph terms n answer) (sym has) (sym text_is) (λ answered. record {
-        made = Ok made.text.items;
+      → answer ≡ counted DONE count → AnswersOpen graph terms new answer
+  opened made count has is counts none answer_is =
+      subst (λ (n : Option OpenSession). AnswersOpen graph terms n answer) (sym has) (record {
+        made = Ok (open_text made);
         opened = (refl, is);
         fault = tt;
         closed = tt;
         completes = λ can. tt;
         refuses = λ why real stands. absurd (none why real stands);
-        answer_is = answered;
-      }) answer_is
+        answer_is = answer_is ∙ ap (counted DONE) counts;
+      })
 
   -- one that is not
   pub not_opened : (fault : OpenFault) → new ≡ None → IsOpenFault graph terms fault → (CanOpen graph terms → fault ≡ opening.NoMemory)
@@ -131,3 +133,43 @@ module _ (graph : List ℕ) (terms : Terms) (new : Option OpenSession) (answer :
     refuses = λ why real stands. ⊎_elim (λ same. inl (ap Err same)) (λ none. inr (ap Err none)) (refuses why real stands);
     answer_is = answer_is;
   }
+
+module _ (one : OpenSession) (old new : List ℕ) (answer : TfpgAnswer) where
+  -- the text was put into the room
+  pub text_put : (text : List ℕ) → open_text one ≡ text → (KeepsNoText one × (one.session.next ≡ None) → ⊥) → answer ≡ answer_of_text text (length old) → new ≡ room_after text old
+      → AnswersBlock (Some one) old new answer
+  text_put text is has answer_is room_is = record {
+    made = Ok text;
+    text = is;
+    kept = λ keeps. refl;
+    ended = (λ same. absurd (ok_is_no_error text event.Ended same), λ none. absurd (has none));
+    answer_is = answer_is;
+    room_is = room_is;
+  }
+
+  -- it was not made
+  pub text_not_made : {T : Type 0} (fault : EventFault) → KeepsNoText one → (◌≡◌ {A = Result T EventFault} (Err fault) (Err event.Ended)) ↔ (one.session.next ≡ None)
+      → answer ≡ answer_of_event_fault fault → new ≡ old → AnswersBlock (Some one) old new answer
+  text_not_made fault none ended answer_is room_is = record {
+    made = Err fault;
+    text = tt;
+    kept = λ keeps. absurd (false≢true (subst IsSome none keeps));
+    ended = (λ same. (none, ended.0 (same_error fault event.Ended same)), λ has. same_error fault event.Ended (ended.1 has.1));
+    answer_is = answer_is;
+    room_is = room_is;
+  }
+
+-- the text of a closed handle
+pub closed_block : (room : List ℕ) (answer : TfpgAnswer) → answer ≡ answer_with ENDED → AnswersBlock None room room answer
+closed_block room answer answer_is = record {
+  made = Err event.Ended;
+  text = tt;
+  kept = λ keeps. absurd keeps;
+  ended = (λ same. tt, λ none. refl);
+  answer_is = answer_is;
+  room_is = refl;
+}
+
+-- where none is kept the text is that of what came last
+pub unkept_text : (one : OpenSession) → KeepsNoText one → open_text one ≡ latest_text one.session
+unkept_text one none = λ i. option_map_or (λ kept. kept.items) (none i) (latest_text one.session)

@@ -21,10 +21,14 @@ use Rattle.tfpg_embed.specs.Rooms.{room_after}
 abbrev pub IsMask : ℕ → (ℕ → Type 0) → Type 0
 IsMask bits IsMember = (index : ℕ) → (bit_at bits index ≡ 1) ↔ ((index < MAX_MEMBERS) × IsMember index)
 
--- In eight numbers bit `node % 64` of the one at `node / 64` is set exactly if the node is a member, for each node that a graph can have.
+-- Bit `node % 64` of the number at `node / 64` is set.
+abbrev pub HasNodeBit : List ℕ → ℕ → Type 0
+HasNodeBit words node = bit_at (slice_index words (node / 64)) (node % 64) ≡ 1
+
+-- In eight numbers the bit of a node is set exactly if the node is a member, for each node that a graph can have.
 pub record AreMasks (words nodes : List ℕ) : Type 0 where
   pub count : length words ≡ 8
-  pub each : (node : ℕ) → node < MAX_NODE_NUMBERS → (bit_at (slice_index words (node / 64)) (node % 64) ≡ 1) ↔ Contains nodes node
+  pub each : (node : ℕ) → node < MAX_NODE_NUMBERS → HasNodeBit words node ↔ Contains nodes node
 
 -- These are the numbers of a finding that ranks: the failure modes and the monitors of its hypothesis as bits, what its status says, its
 -- number, and how many nodes are active in its trace.

@@ -1,13 +1,14 @@
 //! The diagnoser for C: a static library, whose header is `include/tfpg.h`.
 //!
 //! [`tfpg_report`] writes the report of a whole log into a room, and [`tfpg_check`] judges one. A [`TfpgSession`] takes one line after
-//! the other: [`tfpg_open`] opens it, [`tfpg_line`] takes a line and [`tfpg_event`] an event without a text, [`tfpg_block`] writes the block
-//! of the line into a room, and [`tfpg_close`] closes it. What the block says is had as numbers too: [`tfpg_result_of`] has those of the last
-//! line and the last round, [`tfpg_ranked_at`] those of a hypothesis that this ranks, and [`tfpg_index`] and [`tfpg_name`] lead from names to
-//! indexes and back. Each call but `tfpg_close` answers by a [`TfpgAnswer`], whose status is [`DONE`] or another of the constants.
+//! the other: [`tfpg_open`] opens it, [`tfpg_line`] takes a line and [`tfpg_event`] an event without a text, [`tfpg_block`] writes the
+//! block of the last one into a room, and [`tfpg_close`] closes it. What the block says is had as numbers too: [`tfpg_result_of`] has those
+//! of the last line and the last round, [`tfpg_ranked_at`] those of a hypothesis that this ranks, and [`tfpg_index`] and [`tfpg_name`] lead
+//! from names to indexes and back. Events and numbers make no text. Each call but `tfpg_close` answers by a [`TfpgAnswer`], whose status is
+//! [`DONE`] or another of the constants.
 //! What opens, takes a line, reports or judges calls `tfpg_diagnose`, and its clause says what came of that.
 //!
-//! [`laws`] says that the statuses are the numbers that the header has.
+//! [`laws`] says that the statuses and the kinds are the numbers that the header has, and that each number says one thing.
 //!
 //! # Proved, and by which clause
 //!

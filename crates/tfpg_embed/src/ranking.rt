@@ -1,10 +1,10 @@
 //! A ranked hypothesis as numbers.
 
-ghost use Rattle.std.specs.Prelude.{◌≡◌, ◌≢◌, ◌<◌, ◌+◌, ◌↔◌, ◌⊎◌, ℕ, Contains, IsTrue, IfSome, IsSomeAnd, length};
+ghost use Rattle.std.specs.Prelude.{◌≡◌, ◌≢◌, ◌<◌, ◌↔◌, ◌⊎◌, ℕ, All, Contains, IsTrue, IfSome, IsSomeAnd, length};
 ghost use Rattle.std.specs.Int.{bit_at};
 ghost use Rattle.std.specs.Option.{option_copied};
 ghost use Rattle.tfpg_base.specs.declared.activation.Activation.{Activation};
-ghost use Rattle.tfpg_base.specs.declared.limits.TheConstants.{MAX_NODE_NUMBERS};
+ghost use Rattle.tfpg_base.specs.declared.limits.TheConstants.{MAX_MEMBERS, MAX_NODE_NUMBERS};
 ghost use Rattle.tfpg_evidence.specs.RoundOf.{IsFindingOf, is_ranked};
 ghost use Rattle.tfpg_graph.specs.Graph.{sizes_of};
 ghost use Rattle.tfpg_diagnose.specs.texts.Latest.{ranked_at};
@@ -118,44 +118,39 @@ fn numbers_of(graph: &Graph, finding: &Finding) -> TfpgRanked
 
 /// The failure modes of a set as bits.
 fn failures_word(set: Set) -> u64
+    requires { All (λ position. position < MAX_MEMBERS) set }
     ensures { IsMask result (Contains set) }
 {
     let mut word = 0;
-    for position in 0..64 {
-        word = with_bit(word, position, set.has(position));
+    let mut left = set;
+    while let Some(parts) = left.split_first() {
+        word = with_bit(word, parts.0);
+        left = parts.1;
     }
     word
 }
 
 /// The monitors of eight times 64 nodes as bits.
 fn doubts_words(doubts: Doubts) -> [u64; 8]
+    requires { All (λ node. node < MAX_NODE_NUMBERS) doubts }
     ensures { AreMasks result doubts }
 {
     let mut words = [0; 8];
-    for number in 0..8 {
-        words[number] = doubts_word(doubts, 64 * number as u32);
+    let mut left = doubts;
+    while let Some(parts) = left.split_first() {
+        let number = (parts.0 / 64) as usize;
+        words[number] = with_bit(words[number], parts.0 % 64);
+        left = parts.1;
     }
     words
 }
 
-/// The monitors of the 64 nodes from this one on as bits.
-fn doubts_word(doubts: Doubts, first: u32) -> u64
-    requires { first < MAX_NODE_NUMBERS }
-    ensures { IsMask result (λ index. Contains doubts (first + index)) }
-{
-    let mut word = 0;
-    for index in 0..64 {
-        word = with_bit(word, index, doubts.has(first + index));
-    }
-    word
-}
-
-/// The word, with this bit if it is to be set.
-fn with_bit(word: u64, index: u32, is_set: bool) -> u64
+/// The word, with this bit too.
+fn with_bit(word: u64, index: u32) -> u64
     requires { index < 64 }
-    ensures { (other : ℕ) → (bit_at result other ≡ 1) ↔ ((bit_at word other ≡ 1) ⊎ ((other ≡ index) × IsTrue is_set)) }
+    ensures { (other : ℕ) → (bit_at result other ≡ 1) ↔ ((bit_at word other ≡ 1) ⊎ (other ≡ index)) }
 {
-    if is_set { word | 1 << index } else { word }
+    word | 1 << index
 }
 
 /// Writes when each of so many nodes became active in the trace of a status that ranks, if there is room for all of them.

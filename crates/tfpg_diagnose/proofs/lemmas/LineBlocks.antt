@@ -21,15 +21,17 @@ use Rattle.tfpg_engine.specs.EngineState.{EngineState, GivesRound, Brings, Count
 use Rattle.tfpg_engine.specs.Work.{IsRoundLimit, IsRoundWithin}
 use Rattle.tfpg_engine.specs.declared.told.Told.{Told}
 use Rattle.tfpg_engine.specs.declared.told.Told.TheVariants as told
-use Rattle.tfpg_log.specs.declared.refused_line.RefusedLine.{RefusedLine}
 use Rattle.tfpg_log.specs.declared.refused_line.RefusedLine.TheVariants.{TooLong, Offer}
-use Rattle.tfpg_report.specs.Blocks.{RefusedBlock, RoundBlock, refused_text, round_text}
+use Rattle.tfpg_report.specs.Blocks.{RefusedBlock, RoundBlock, block_text, refused_text, round_text}
 use Rattle.tfpg_report.proofs.lemmas.WrittenLines.{written_alone, written_refusal}
 use Rattle.tfpg_check.specs.Report.{Progress, IsBlockOf, event_of_line, event_of_reply}
 use Rattle.tfpg_check.proofs.lemmas.Progressing.{progress_with}
 use Rattle.tfpg_diagnose.specs.RightReport.{RoundSays}
 use Rattle.tfpg_diagnose.specs.EngineReports.{EngineReports}
-use Rattle.tfpg_diagnose.specs.inside.LineBlocks.{BringsBlock, HasBlock, NumberedLine, numbered}
+use Rattle.tfpg_diagnose.specs.declared.line_blocks.Brought.{Brought}
+use Rattle.tfpg_diagnose.specs.declared.line_blocks.Brought.TheVariants as brought
+use Rattle.tfpg_diagnose.specs.inside.LineBlocks.{BringsBlock, EngineTurn, HasBlock, IsBrought, block_brought, engine_turn, numbered}
+use Rattle.tfpg_diagnose.specs.texts.Latest.{round_in}
 
 -- what a line gives that is not too long
 pub short_line : (graph : Tfpg) (log : Logbook) (line : List ℕ) (reply : Offered) → length line ≤ LONGEST_LINE → reply_to graph log line ≡ reply → event_of_line graph log line ≡ event_of_reply reply
@@ -161,15 +163,15 @@ module _ (graph : Tfpg) (terms : Terms) (before : Progress) (number : ℕ) (line
         }
 
     -- the same, with the calls that they took
-    pub refused_within : (refusal : Refusal) (refuses : reply_to old.graph old.log line ≡ Refused refusal) (same : new ≡ old) (text : bytes ≡ refused_text number (Offer refusal)) (start end : ℕ) → end ≡ start
-        → BringsBlock graph terms before (numbered number line) bytes None (Some (Offer refusal)) old new start end
-    refused_within refusal refuses same text start end none =
-        (block_of_refusal refusal refuses same text, (refl, refl, ap (λ (engine : EngineState). engine.log) same), (0, refl, omega (arith, none)), refl)
+    pub refused_within : (refusal : Refusal) (refuses : reply_to old.graph old.log line ≡ Refused refusal) (same : new ≡ old) (text : bytes ≡ refused_text number (Offer refusal)) (start finish : ℕ) → finish ≡ start
+        → BringsBlock graph terms before (numbered number line) bytes None (engine_turn old new start finish)
+    refused_within refusal refuses same text start finish none =
+        (block_of_refusal refusal refuses same text, (refl, refl, ap (λ (engine : EngineState). engine.log) same), (0, refl, omega (arith, none)))
 
     pub round_within : (round : Round) (gives : GivesRound number line before.rounds round old new) (says : RoundSays old.graph old.terms before.rounds new.log round)
-        (same_graph : new.graph ≡ old.graph) (same_terms : new.terms ≡ old.terms) (text : bytes ≡ round_text new.graph round) (start end : ℕ) → IsRoundWithin new.graph new.log before.rounds round start end
-        → BringsBlock graph terms before (numbered number line) bytes (Some round) None old new start end
-    round_within round gives says same_graph same_terms text start end within =
+        (same_graph : new.graph ≡ old.graph) (same_terms : new.terms ≡ old.terms) (text : bytes ≡ round_text new.graph round) (start finish : ℕ) → IsRoundWithin new.graph new.log before.rounds round start finish
+        → BringsBlock graph terms before (numbered number line) bytes (Some round) (engine_turn old new start finish)
+    round_within round gives says same_graph same_terms text start finish within =
         let event = gives.event in
         let accepted : reply_to graph before.log line ≡ Accepted event =
         subst₂ (λ (g : Tfpg) (l : Logbook). reply_to g l line ≡ Accepted event) reports.graph_is reports.log_is gives.accepted in
@@ -182,14 +184,45 @@ module _ (graph : Tfpg) (terms : Terms) (before : Progress) (number : ℕ) (line
             gives.round_is.number,
           ),
           (within.0, subst₂ (λ (g : Tfpg) (l : Logbook). IsRoundLimit g l before.rounds round within.0) (same_graph ∙ reports.graph_is) (log_is ∙ sym after_is) within.1, within.2),
-          refl,
         )
 
--- the same for a round that is none, and a cause that is this one
-pub refused_for : (graph : Tfpg) (terms : Terms) (before : Progress) (line : NumberedLine) (bytes : List ℕ) (old new : EngineState) (start end : ℕ) (round : Option Round) (refusal cause : Option RefusedLine)
-    → round ≡ None → refusal ≡ cause → BringsBlock graph terms before line bytes None cause old new start end → BringsBlock graph terms before line bytes round refusal old new start end
-refused_for graph terms before line bytes old new start end round refusal cause none same is =
-    subst₂ (λ (r : Option Round) (why : Option RefusedLine). BringsBlock graph terms before line bytes r why old new start end) (sym none) (sym same) is
+-- ---- what a line brought
+
+module _ (graph : Tfpg) (terms : Terms) (before : Progress) (number : ℕ) (line : List ℕ) where
+  -- a line that is too long
+  pub long_brought : (engine : EngineState) → LONGEST_LINE < length line → EngineReports graph terms engine before → (count : ℕ)
+      → IsBrought graph terms before (numbered number line) (brought.Refused TooLong) (engine_turn engine engine count count)
+  long_brought engine long reports count = record {
+    brings = (block_of_long_line graph terms before number line _ engine long reports (written_refusal graph number TooLong), (refl, refl, refl), (0, refl, omega arith));
+    block_is = refl;
+  }
+
+  module _ (old new : EngineState) (short : length line ≤ LONGEST_LINE) (reports : EngineReports graph terms old before) (start finish : ℕ) where
+    -- one that the log refused
+    pub refusal_brought : (refusal : Refusal) → reply_to old.graph old.log line ≡ Refused refusal → new ≡ old → finish ≡ start
+        → IsBrought graph terms before (numbered number line) (brought.Refused (Offer refusal)) (engine_turn old new start finish)
+    unfolding refused_within
+    refusal_brought refusal refuses same none = record {
+      brings = refused_within graph terms before number line _ old new short reports refusal refuses same (written_refusal graph number (Offer refusal)) start finish none;
+      block_is = refl;
+    }
+
+    -- one with a round
+    pub round_brought : (round : Round) → GivesRound number line before.rounds round old new → RoundSays old.graph old.terms before.rounds new.log round
+        → new.graph ≡ old.graph → new.terms ≡ old.terms → IsRoundWithin new.graph new.log before.rounds round start finish
+        → IsBrought graph terms before (numbered number line) (brought.Round round) (engine_turn old new start finish)
+    unfolding round_within
+    round_brought round gives says same_graph same_terms within = record {
+      brings = round_within graph terms before number line _ old new short reports round gives says same_graph same_terms
+          (written_alone graph round ∙ ap (λ (g : Tfpg). round_text g round) (sym (same_graph ∙ reports.graph_is))) start finish within;
+      block_is = refl;
+    }
+
+  -- its block, once it is made
+  pub block_made : (what : Brought) (turn : EngineTurn) (bytes : List ℕ) (round : Option Round) → IsBrought graph terms before (numbered number line) what turn
+      → bytes ≡ block_text graph (block_brought number what) → round ≡ round_in (block_brought number what) → BringsBlock graph terms before (numbered number line) bytes round turn
+  block_made what turn bytes round is text same =
+      subst₂ (λ (b : List ℕ) (r : Option Round). BringsBlock graph terms before (numbered number line) b r turn) (sym text) (sym same) is.brings
 
 -- ---- the calls of an event
 

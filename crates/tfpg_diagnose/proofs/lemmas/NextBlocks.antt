@@ -396,16 +396,15 @@ module _ (graph : Tfpg) (terms : Terms) (before now : Watched) (lines : LinesSta
 
   -- the block of a text, with the calls that it took
   pub text_within : (number : ℕ) (text bytes : List ℕ) (later : EngineState) (start finish : ℕ) → l ≡ line.Text → text ≡ reader.text
-      → (round : Option Round) → ((before : Progress) → EngineReports graph terms engine before → length text ≤ LONGEST_LINE
+      → (round : Option Round) → ((before : Progress) → EngineReports graph terms engine before
       → (has : HasBlock graph terms before (numbered number text) bytes later) × IsUntold round has.block engine later × IsBlockWithin graph before text has.block start finish)
       → (gave : GaveLine under.reading now.input input reader) × (has : HasBlock graph terms (progress_of graph under.reading.given under.blocks) (numbered number gave.first) bytes later)
       × IsUntold round has.block engine later × IsBlockWithin graph (progress_of graph under.reading.given under.blocks) gave.first has.block start finish
   text_within number text bytes later start finish e t round gives =
       let met = met_text e in
       let text_is : text ≡ met.0.first = t ∙ met.2 in
-      let short : length text ≤ LONGEST_LINE = subst (λ (x : List ℕ). length x ≤ LONGEST_LINE) (sym text_is) met.1 in
       let at = progress_of graph under.reading.given under.blocks in
-      let own = subst (λ (x : List ℕ). (has : HasBlock graph terms at (numbered number x) bytes later) × IsUntold round has.block engine later × IsBlockWithin graph at x has.block start finish) text_is (gives at under.reports short) in
+      let own = subst (λ (x : List ℕ). (has : HasBlock graph terms at (numbered number x) bytes later) × IsUntold round has.block engine later × IsBlockWithin graph at x has.block start finish) text_is (gives at under.reports) in
       (met.0, own.0, own.1, own.2)
 
   -- the block of a line that is too long

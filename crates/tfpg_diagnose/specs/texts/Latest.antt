@@ -1,10 +1,13 @@
 -- What came last: the last round, and what became of the last line.
 use Rattle.std.specs.Prelude.{ℕ, List, [], fold, bytes_eq, Bool, false, not, Option, Some, None, slice_get, option_and_then}
+use Rattle.std.specs.Option.{option_map_or}
+use Rattle.tfpg_base.specs.declared.terms.Terms.{Terms}
+use Rattle.tfpg_graph.specs.Graph.{Tfpg}
 use Rattle.tfpg_log.specs.declared.refused_line.RefusedLine.{RefusedLine}
 use Rattle.tfpg_evidence.specs.RoundOf.{finding_numbered}
 use Rattle.tfpg_evidence.specs.declared.finding.Finding.{Finding}
 use Rattle.tfpg_evidence.specs.declared.round.Round.{Round}
-use Rattle.tfpg_report.specs.Blocks.{Block, RefusedBlock, RoundBlock}
+use Rattle.tfpg_report.specs.Blocks.{Block, RefusedBlock, RoundBlock, block_text, head_text}
 use Rattle.tfpg_diagnose.specs.declared.texts.latest.Latest.{Latest}
 
 -- the round of a block, if it has one
@@ -45,3 +48,15 @@ latest_with_block before block = latest_with before (round_in block) (refusal_in
 -- what came last, after these blocks
 abbrev pub latest_after : List Block → Latest
 latest_after blocks = fold latest_with_block nothing_yet blocks
+
+-- The block of what came last, where this is the number of the last line: that of this line, if it was refused, and else that of the last
+-- round, at which no panel is lost. There is none before the first line.
+abbrev pub latest_block : ℕ → Option RefusedLine → Option Round → Option Block
+latest_block number (Some cause) round = Some (RefusedBlock number cause)
+latest_block number None (Some round) = Some (RoundBlock round [])
+latest_block number None None = None
+
+-- the text of what came last: that of its block, and before the first line the first line of a report on these terms
+abbrev pub text_of_latest : Tfpg → Terms → ℕ → Latest → List ℕ
+text_of_latest graph terms number latest =
+    option_map_or (block_text graph) (latest_block number latest.refusal latest.round) (head_text terms)

@@ -9,7 +9,7 @@ use Rattle.tfpg_report.specs.Blocks.{Block, block_text, head_text}
 use Rattle.tfpg_check.specs.Report.{rounds_of}
 use Rattle.tfpg_diagnose.specs.Work.{IsBlockLimit}
 use Rattle.tfpg_diagnose.specs.declared.texts.latest.Latest.{Latest}
-use Rattle.tfpg_diagnose.specs.texts.Latest.{latest_after}
+use Rattle.tfpg_diagnose.specs.texts.Latest.{latest_after, text_of_latest}
 use Rattle.tfpg_diagnose.specs.texts.Opening.{GivesGraphOf}
 use Rattle.tfpg_diagnose.specs.texts.Reports.{IsPlainReport}
 
@@ -26,8 +26,12 @@ abbrev pub lines_before : Option ℕ → ℕ
 lines_before None = 0
 lines_before (Some next) = next - 1
 
--- The session represents these lines and bytes: its engine is of this graph and on these terms and took these lines, and the bytes that it
--- returned, the first line and then the blocks, one after the other, are a report of these lines. It keeps what came last in these blocks.
+-- the text of what came last in a session: the block of its last line, and before any line the first line of its report
+abbrev pub latest_text : SessionState → List ℕ
+latest_text session = text_of_latest session.engine.graph session.engine.terms (lines_before session.next) session.latest
+
+-- The session represents these lines and bytes: its engine is of this graph and on these terms and took these lines, and the bytes, the first
+-- line and then the block of each line, one after the other, are a report of these lines. It keeps what came last in these blocks.
 pub record SessionRepresents (graph : Tfpg) (terms : Terms) (lines : List (List ℕ)) (bytes : List ℕ) (session : SessionState) : Type 0 where
   pub report : IsPlainReport graph terms lines bytes
   pub next_is : session.next ≡ Some (length lines + 1)
@@ -37,11 +41,12 @@ pub record SessionRepresents (graph : Tfpg) (terms : Terms) (lines : List (List 
   pub represents : EngineRepresents session.engine (flat_map rounds_of report.blocks)
   pub latest_is : session.latest ≡ latest_after report.blocks
 
--- The session is of the graph that the text spells, took no line, made no counted call, and returned the first line of a report.
+-- The session is of the graph that the text spells, took no line, made no counted call, and its text is the first line of a report.
 pub record IsNewSession (graph_text : List ℕ) (terms : Terms) (session : SessionState) : Type 0 where
   pub graph : Tfpg
   pub gives : GivesGraphOf graph_text graph
   pub represents : SessionRepresents graph terms [] (head_text terms) session
+  pub text_is : latest_text session ≡ head_text terms
   pub no_calls : session.calls ≡ 0
 
 -- The bytes are the block of a line that came to an engine after these rounds. For it the count of calls went from one number to the other,

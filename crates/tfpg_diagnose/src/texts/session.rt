@@ -8,20 +8,21 @@ ghost use Rattle.tfpg_engine.specs.EngineState.{EngineRepresents};
 ghost use Rattle.tfpg_base.specs.declared.limits.TheConstants.{MAX_LINE_NUMBER};
 ghost use Rattle.tfpg_base.specs.declared.terms.Terms.{Terms};
 ghost use Rattle.tfpg_graph.specs.Graph.{Tfpg, sizes_of};
-ghost use Rattle.tfpg_report.specs.Blocks.{head_text};
+ghost use Rattle.tfpg_report.specs.Blocks.{block_text, head_text};
 ghost use Rattle.tfpg_check.specs.Report.{Progress};
 ghost use Rattle.tfpg_diagnose.specs.EngineReports.{EngineReports};
-ghost use Rattle.tfpg_diagnose.specs.inside.LineBlocks.{IsEngineReady, numbered};
+ghost use Rattle.tfpg_diagnose.specs.inside.LineBlocks.{IsEngineReady, block_brought, numbered};
 ghost use Rattle.tfpg_diagnose.specs.inside.texts.SessionKeeps.{HasPlainBlock};
-ghost use Rattle.tfpg_diagnose.specs.texts.Latest.{order_of, ranked_at};
+ghost use Rattle.tfpg_diagnose.specs.texts.Latest.{order_of, ranked_at, round_in};
 ghost use Rattle.tfpg_diagnose.specs.texts.Opening.{IsOpenFault};
-ghost use Rattle.tfpg_diagnose.specs.texts.Sessions.{CountsBlock, IsNewSession, SessionRepresents, lines_before};
+ghost use Rattle.tfpg_diagnose.specs.texts.Sessions.{CountsBlock, IsNewSession, SessionRepresents, latest_text, lines_before};
 
 use super::call_count::CallCount;
 use super::fault::OpenFault;
 use super::latest::Latest;
 use super::opening::open_engine;
-use crate::line_blocks::{LineBlock, line_block, refused_block};
+use crate::line_blocks::{Brought, take_line};
+use crate::report::first_line;
 use std::alloc::Global;
 use std::marker::{Brand, Model};
 use std::sync::ledger::{Blank, Ledger};
@@ -29,13 +30,12 @@ use tfpg_base::{MAX_LINE_NUMBER, NoMemory, Steps, Terms};
 use tfpg_engine::{Engine, EventFault};
 use tfpg_evidence::{Finding, Round, finding_numbered};
 use tfpg_graph::Graph;
-use tfpg_log::{RefusedLine, is_too_long};
-use tfpg_report::head;
 
 /// An engine, the number of its next line, and what came last.
 ///
-/// The first line of a report, which [`Session::head`] returns, and the blocks that [`Session::line`] returns, one after the other, are a
-/// report of the lines that it took. No panel is told. It keeps the last round. Contracts see how many counted calls it made for them.
+/// [`Session::take`] takes a line, and makes no text. [`Session::block`] makes the block of the last line when it is asked, and
+/// [`Session::line`] does both. The first line of a report, which [`Session::head`] returns, and the blocks, one after the other, are a report
+/// of the lines that it took. No panel is told. It keeps the last round. Contracts see how many counted calls it made for them.
 #[derive(Drop)]
 pub struct Session {
     engine: Engine,
@@ -82,10 +82,7 @@ impl Session {
     pub fn head(&self, alloc: Global) -> Result<Vec<u8>, NoMemory>
         ensures { IfOk result (λ line. line.items ≡ head_text self.now.engine.terms) }
     {
-        let terms = self.engine.terms();
-        let mut line = Vec::new(alloc);
-        head(terms.k, terms.doubt, terms.budget, &mut line)?;
-        Ok(line)
+        first_line(alloc, self.engine.terms())
     }
 
     /// The graph.
@@ -131,31 +128,76 @@ impl Session {
         ranked_in(self.engine.graph(), round, rank)
     }
 
-    /// Takes the next line of the log, without its line end, and returns its block.
+    /// Takes the next line of the log, without its line end. Its block is then what [`Session::block`] returns, and is not made before that.
     ///
     /// Where memory runs out the session has ended, and each later call says so. It has 2^63 - 2 lines at most: where there is no number
     /// for one line more, memory runs out.
+    pub fn take(&mut self, text: &[u8]) -> Result<(), EventFault>
+        ensures represents { (graph : Tfpg) (terms : Terms) (lines : List (List ℕ)) (bytes : List ℕ) →
+            SessionRepresents graph terms lines bytes self.old →
+            OnOk result (SessionRepresents graph terms (lines ++ text.now ∷ []) (bytes ++ latest_text self.new) self.new) }
+        // A round keeps within the limit of its counted calls, and a refused line costs none.
+        ensures work { (rounds : List Round) → EngineRepresents self.old.engine rounds →
+            OnOk result (CountsBlock self.old.engine rounds text.now (latest_text self.new) self.old.calls self.new.calls) }
+        ensures ended { (result ≡ Err EventFault.Ended) ↔ (self.old.next ≡ None) }
+        ensures ends { OnErr result (self.new.next ≡ None) }
+        ensures goes_on { OnOk result (IsSome self.new.next) }
+    {
+        let number = self.next.take().ok_or(EventFault::Ended)?;
+        let next = number_after(number)?;
+        let brought = brought_by_line(&mut self.engine, &mut self.calls, number, text)?;
+        self.latest.note(brought);
+        self.next = Some(next);
+        Ok(())
+    }
+
+    /// The text of what came last: the block of the last line, and before any line the first line of the report. It is made anew each time,
+    /// and where memory runs out nothing else is lost.
+    pub fn block(&self, alloc: Global) -> Result<Vec<u8>, EventFault>
+        ensures text { IfOk result (λ text. text.items ≡ latest_text self.now) }
+        ensures ended { (result ≡ Err EventFault.Ended) ↔ (self.now.next ≡ None) }
+    {
+        if self.has_ended() {
+            return Err(EventFault::Ended);
+        }
+        Ok(self.text(alloc)?)
+    }
+
+    /// Takes the next line of the log as [`Session::take`] does, and returns its block. The session has ended also where there is no memory
+    /// for the block.
     pub fn line(&mut self, alloc: Global, text: &[u8]) -> Result<Vec<u8>, EventFault>
         ensures block { (graph : Tfpg) (terms : Terms) (lines : List (List ℕ)) (bytes : List ℕ) →
             SessionRepresents graph terms lines bytes self.old →
             IfOk result (λ block. SessionRepresents graph terms (lines ++ text.now ∷ []) (bytes ++ block.items) self.new) }
-        // A round keeps within the limit of its counted calls, and a refused line costs none.
         ensures work { (rounds : List Round) → EngineRepresents self.old.engine rounds →
             IfOk result (λ block. CountsBlock self.old.engine rounds text.now block.items self.old.calls self.new.calls) }
+        ensures text { IfOk result (λ block. block.items ≡ latest_text self.new) }
         ensures ended { (result ≡ Err EventFault.Ended) ↔ (self.old.next ≡ None) }
         ensures ends { OnErr result (self.new.next ≡ None) }
+        ensures goes_on { OnOk result (IsSome self.new.next) }
     {
-        let number = self.next.take().ok_or(EventFault::Ended)?;
-        let next = number_after(number)?;
-        let block = block_of_line(alloc, &mut self.engine, &mut self.calls, number, text)?;
-        let LineBlock {
-            text: bytes,
-            round,
-            refusal,
-        } = block;
-        self.latest.note(round, refusal);
-        self.next = Some(next);
-        Ok(bytes)
+        self.take(text)?;
+        match self.text(alloc) {
+            Ok(block) => Ok(block),
+            Err(NoMemory) => {
+                self.end();
+                Err(EventFault::NoMemory)
+            }
+        }
+    }
+
+    /// The text of what came last.
+    fn text(&self, alloc: Global) -> Result<Vec<u8>, NoMemory>
+        ensures { IfOk result (λ text. text.items ≡ latest_text self.now) }
+    {
+        self.latest.text(alloc, &self.engine, self.line_count())
+    }
+
+    /// Takes no further line.
+    fn end(&mut self)
+        ensures { self.new.next ≡ None }
+    {
+        self.next = None;
     }
 }
 
@@ -183,73 +225,48 @@ fn number_after(number: u64) -> Result<u64, NoMemory>
     }
 }
 
-/// The block of a line of this number and text.
-fn block_of_line(
-    alloc: Global,
+/// What a line of this number and text brings.
+fn brought_by_line(
     engine: &mut Engine,
     calls: &mut CallCount,
     number: u64,
     text: &[u8],
-) -> Result<LineBlock, NoMemory>
+) -> Result<Brought, NoMemory>
     requires { IsEngineReady engine.old }
     ensures ready { OnOk result (IsEngineReady engine.new) }
     ensures graph { engine.new.graph ≡ engine.old.graph }
-    ensures of_graph { IfOk result (λ block. IfSome block.round (IsRoundOf (sizes_of engine.new.graph))) }
+    ensures of_graph { IfOk result (λ brought. IfSome (round_in (block_brought number brought)) (IsRoundOf (sizes_of engine.new.graph))) }
     ensures block { (graph : Tfpg) (terms : Terms) (before : Progress) → EngineReports graph terms engine.old before →
-        IfOk result (λ block. HasPlainBlock graph terms before (numbered number text.now) block engine.new) }
-    ensures work { (rounds : List Round) → EngineRepresents engine.old rounds →
-        IfOk result (λ block. CountsBlock engine.old rounds text.now block.text.items calls.old.count calls.new.count) }
+        IfOk result (λ brought. HasPlainBlock graph terms before (numbered number text.now) brought engine.new) }
+    ensures work { (rounds : List Round) → EngineRepresents engine.old rounds → IfOk result (λ brought. CountsBlock engine.old rounds text.now
+        (block_text engine.old.graph (block_brought number brought)) calls.old.count calls.new.count) }
 {
-    block_counted::<Brand>(alloc, engine, calls, number, text, Blank::new(1))
+    brought_counted::<Brand>(engine, calls, number, text, Blank::new(1))
 }
 
 /// The same with a new counter of steps, which costs nothing.
-fn block_counted<L: Ledger>(
-    alloc: Global,
+fn brought_counted<L: Ledger>(
     engine: &mut Engine,
     calls: &mut CallCount,
     number: u64,
     text: &[u8],
     blank: Blank,
-) -> Result<LineBlock, NoMemory>
+) -> Result<Brought, NoMemory>
     requires name { blank.name ≡ L.name }
     requires parts { blank.parts ≡ L.parts }
     requires some { 0 < blank.parts }
     requires ready { IsEngineReady engine.old }
     ensures ready { OnOk result (IsEngineReady engine.new) }
     ensures graph { engine.new.graph ≡ engine.old.graph }
-    ensures of_graph { IfOk result (λ block. IfSome block.round (IsRoundOf (sizes_of engine.new.graph))) }
+    ensures of_graph { IfOk result (λ brought. IfSome (round_in (block_brought number brought)) (IsRoundOf (sizes_of engine.new.graph))) }
     ensures block { (graph : Tfpg) (terms : Terms) (before : Progress) → EngineReports graph terms engine.old before →
-        IfOk result (λ block. HasPlainBlock graph terms before (numbered number text.now) block engine.new) }
-    ensures work { (rounds : List Round) → EngineRepresents engine.old rounds →
-        IfOk result (λ block. CountsBlock engine.old rounds text.now block.text.items calls.old.count calls.new.count) }
+        IfOk result (λ brought. HasPlainBlock graph terms before (numbered number text.now) brought engine.new) }
+    ensures work { (rounds : List Round) → EngineRepresents engine.old rounds → IfOk result (λ brought. CountsBlock engine.old rounds text.now
+        (block_text engine.old.graph (block_brought number brought)) calls.old.count calls.new.count) }
 {
     let mut work = Steps::<L>::new(blank);
-    let block = next_block(alloc, engine, number, text, &mut work)?;
+    let brought = take_line(engine, number, text, &mut work)?;
     let sum = calls.with(&work);
     *calls = sum;
-    Ok(block)
-}
-
-/// The block of a line of this number and text, also of one that is too long.
-fn next_block<L: Ledger>(
-    alloc: Global,
-    engine: &mut Engine,
-    number: u64,
-    text: &[u8],
-    work: &mut Steps<L>,
-) -> Result<LineBlock, NoMemory>
-    requires { IsEngineReady engine.old }
-    ensures ready { OnOk result (IsEngineReady engine.new) }
-    ensures graph { engine.new.graph ≡ engine.old.graph }
-    ensures of_graph { IfOk result (λ block. IfSome block.round (IsRoundOf (sizes_of engine.new.graph))) }
-    ensures block { (graph : Tfpg) (terms : Terms) (before : Progress) → EngineReports graph terms engine.old before →
-        IfOk result (λ block. HasPlainBlock graph terms before (numbered number text.now) block engine.new) }
-    ensures work { (rounds : List Round) → EngineRepresents engine.old rounds →
-        IfOk result (λ block. CountsBlock engine.old rounds text.now block.text.items work.old work.new) }
-{
-    if is_too_long(text) {
-        return refused_block(alloc, number, RefusedLine::TooLong);
-    }
-    line_block(alloc, engine, number, text, work)
+    Ok(brought)
 }

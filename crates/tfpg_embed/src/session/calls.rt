@@ -1,15 +1,14 @@
 //! The calls of a session.
 
-ghost use Rattle.std.specs.Prelude.{◌≡◌, ◌≢◌, ◌⊎◌, Err, IfErr, IfOk, IsOkUnless, None, length};
+ghost use Rattle.std.specs.Prelude.{◌≡◌, ◌≢◌, ◌⊎◌, Err, IfErr, IfOk, IfSome, IsOkUnless, None};
 ghost use Rattle.tfpg_diagnose.specs.declared.texts.fault.OpenFault.{OpenFault as WhyNotOpen};
 ghost use Rattle.tfpg_diagnose.specs.texts.Opening.{CanOpen, IsOpenFault};
-ghost use Rattle.tfpg_embed.specs.Sessions.{AnswersLine, AnswersOpen, IsNewlyOpen, answer_of_held, room_after_held};
+ghost use Rattle.tfpg_embed.specs.Sessions.{AnswersBlock, AnswersLine, AnswersOpen, IsNewlyOpen, KeepsText};
 ghost use Rattle.tfpg_embed.specs.TextCalls.{terms_of};
 
 use super::handle::TfpgSession;
 use super::open_session::OpenSession;
 use crate::answer::{TfpgAnswer, of_event_fault, of_open_fault, plain, with_count};
-use crate::room::put_text;
 use crate::status::{DONE, ENDED};
 use std::alloc::Global;
 use tfpg_base::Terms;
@@ -34,19 +33,20 @@ pub extern "C" fn tfpg_open(
     let terms = Terms { k, doubt, budget };
     match boxed_session(alloc, graph, terms) {
         Ok(opened) => {
-            let count = opened.text().len();
+            let count = opened.kept_count();
             session.put(opened);
-            with_count(DONE, count as u64)
+            with_count(DONE, count)
         }
         Err(fault) => of_open_fault(fault),
     }
 }
 
 /// Takes the next line of the log, without its line end. The text of the session is then the block of the line, and the answer has the
-/// number of its bytes. Where memory runs out the handle is closed.
+/// number of its bytes. Where memory runs out the handle is closed. The text is kept until the next line or event.
 #[unsafe(no_mangle)]
 pub extern "C" fn tfpg_line(session: &mut TfpgSession, alloc: Global, line: &[u8]) -> TfpgAnswer
-    ensures { AnswersLine line.now session.old.held.session session.new.held.session result }
+    ensures answers { AnswersLine line.now session.old.held.session session.new.held.session result }
+    ensures kept { IfSome session.new.held.session KeepsText }
 {
     let Some(mut open) = session.take(alloc) else {
         return plain(ENDED);
@@ -61,7 +61,8 @@ pub extern "C" fn tfpg_line(session: &mut TfpgSession, alloc: Global, line: &[u8
 }
 
 /// Writes the text of the session to the front of the room, if it fits. The answer has the number of its bytes, also if the room is too
-/// small, and then nothing is written.
+/// small, and then nothing is written. A text that is not kept is made for this call. Where there is no memory for that, nothing is written,
+/// and the session is as before.
 #[unsafe(no_mangle)]
 pub extern "C" fn tfpg_block(
     session: &mut TfpgSession,
@@ -69,12 +70,11 @@ pub extern "C" fn tfpg_block(
     room: &mut [u8],
 ) -> TfpgAnswer
     ensures same { session.new.held.session ≡ session.old.held.session }
-    ensures answer { result ≡ answer_of_held session.old.held.session (length room.old) }
-    ensures room { room.new ≡ room_after_held session.old.held.session room.old }
+    ensures block { AnswersBlock session.old.held.session room.old room.new result }
 {
     match session.take(alloc) {
         Some(open) => {
-            let answer = put_text(open.text(), room);
+            let answer = open.put_text(alloc, room);
             session.put(open);
             answer
         }

@@ -1,13 +1,24 @@
-use Rattle.std.proofs.Common.{arith}
-use Rattle.std.specs.List.{Contains}
-use Rattle.tfpg_embed.proofs.Masks.{ShowsBelow-all, ShowsBelow-more, ShowsBelow-none}
+use Rattle.std.proofs.Common.{◌≡◌, ◌<◌, All, arith, subst}
+use Rattle.std.specs.Int.{bit_at}
+use Rattle.std.proofs.lemmas.List.Elements.{All-head, All-tail}
+use Rattle.std.proofs.lemmas.Nat.Bits.{bit_at-zero}
+use Rattle.tfpg_base.specs.declared.limits.TheConstants.{MAX_MEMBERS}
+use Rattle.tfpg_embed.proofs.Masks.{AreTaken-all, AreTaken-more, AreTaken-none, mask_of_all}
 use Rattle.tfpg_embed.proofs.ranking.failures_word.Goals as goal
 
-pub loop-position-init : goal.loop-position-init
-loop-position-init c = ShowsBelow-none (Contains c.args.set)
+pub loop-parts-init : goal.loop-parts-init
+loop-parts-init c = record { taken = AreTaken-none c.args.set (λ n. bit_at 0 n ≡ 1) (λ n one. omega (arith, one, bit_at-zero n)); small = c.requires }
 
-pub loop-position-preserved : goal.loop-position-preserved
-loop-position-preserved c = ShowsBelow-more (Contains c.args.set) c.loop-position.word c.with_bit-word.result c.loop-position.position c.has.result c.loop-position.invariant c.has.ensures.member c.with_bit-word.ensures
+pub with_bit-word-requires : goal.with_bit-word-requires
+with_bit-word-requires c =
+    All-head (λ position. position < MAX_MEMBERS) c.in-Some.parts.0 c.in-Some.parts.1 (subst (All (λ position. position < MAX_MEMBERS)) c.in-Some.ensures c.loop-parts.invariant.small)
+
+pub loop-parts-preserved : goal.loop-parts-preserved
+loop-parts-preserved c = record {
+  taken = AreTaken-more c.args.set c.loop-parts.left c.in-Some.parts.0 c.in-Some.parts.1 (λ n. bit_at c.loop-parts.word n ≡ 1) (λ n. bit_at c.with_bit-word.result n ≡ 1)
+      c.in-Some.ensures c.loop-parts.invariant.taken c.with_bit-word.ensures;
+  small = All-tail (λ position. position < MAX_MEMBERS) c.in-Some.parts.0 c.in-Some.parts.1 (subst (All (λ position. position < MAX_MEMBERS)) c.in-Some.ensures c.loop-parts.invariant.small);
+}
 
 pub returns : goal.returns
-returns c = ShowsBelow-all (Contains c.args.set) c.loop-position.word c.loop-position.position (omega arith) c.loop-position.invariant
+returns c = mask_of_all c.args.set c.loop-parts.word c.requires (AreTaken-all c.args.set c.loop-parts.left (λ n. bit_at c.loop-parts.word n ≡ 1) c.in_default.ensures c.loop-parts.invariant.taken)

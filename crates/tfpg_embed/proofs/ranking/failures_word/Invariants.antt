@@ -1,7 +1,15 @@
-use Rattle.std.specs.List.{Contains}
-use Rattle.tfpg_embed.proofs.Masks.{ShowsBelow}
+use Rattle.std.proofs.Common.{◌≡◌, ◌<◌, All, length}
+use Rattle.std.specs.Int.{bit_at}
+use Rattle.tfpg_base.specs.declared.limits.TheConstants.{MAX_MEMBERS}
+use Rattle.tfpg_embed.proofs.Masks.{AreTaken}
 use Rattle.tfpg_embed.proofs.ranking.failures_word.Given as goal
 
--- the positions so far are shown
-abbrev pub invariant-loop-position : goal.invariant-loop-position
-invariant-loop-position l = ShowsBelow l.position (Contains l.set) l.word
+-- each position has its bit or is left
+abbrev pub invariant-loop-parts : goal.invariant-loop-parts
+invariant-loop-parts l = record {
+  taken : AreTaken l.fn.set l.left (λ n. bit_at l.word n ≡ 1);
+  small : All (λ position. position < MAX_MEMBERS) l.left;
+}
+
+abbrev pub decreases-loop-parts : goal.decreases-loop-parts
+decreases-loop-parts l = length l.left
