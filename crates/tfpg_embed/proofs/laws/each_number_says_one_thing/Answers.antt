@@ -1,5 +1,5 @@
 use Rattle.std.proofs.Common.{refl}
-use Rattle.tfpg_embed.proofs.OneCause.{one_check_cause, one_graph_cause, one_refusal}
+use Rattle.tfpg_embed.proofs.lemmas.OneCause.{one_check_cause, one_graph_cause, one_refusal}
 use Rattle.tfpg_embed.proofs.laws.each_number_says_one_thing.Goals as goal
 
 pub returns : goal.returns

@@ -1,4 +1,4 @@
-use Rattle.tfpg_embed.proofs.NamesOfGraph.{found_has, has_found}
+use Rattle.tfpg_embed.proofs.lemmas.NamesOfGraph.{found_has, has_found}
 use Rattle.tfpg_embed.proofs.laws.names_and_indexes_lead_to_each_other.Goals as goal
 
 pub returns : goal.returns

@@ -1,6 +1,6 @@
 use Rattle.std.proofs.Common.{refl}
 use Rattle.tfpg_embed.specs.EventLines.{no_name}
-use Rattle.tfpg_embed.proofs.NamesOfGraph.{named_by_no_one}
+use Rattle.tfpg_embed.proofs.lemmas.NamesOfGraph.{named_by_no_one}
 use Rattle.tfpg_embed.proofs.laws.nothing_has_the_word_for_no_name.Goals as goal
 
 pub returns : goal.returns

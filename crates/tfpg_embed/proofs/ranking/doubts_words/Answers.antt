@@ -3,7 +3,7 @@ use Rattle.std.proofs.lemmas.List.{length-set}
 use Rattle.std.proofs.lemmas.List.Elements.{All-head, All-tail}
 use Rattle.tfpg_base.specs.declared.limits.TheConstants.{MAX_NODE_NUMBERS}
 use Rattle.tfpg_embed.specs.Ranking.{HasNodeBit}
-use Rattle.tfpg_embed.proofs.Masks.{AreTaken-all, AreTaken-more, AreTaken-none, no_node_bit, set_node_is, zeros}
+use Rattle.tfpg_embed.proofs.lemmas.Masks.{AreTaken-all, AreTaken-more, AreTaken-none, no_node_bit, set_node_is, zeros}
 use Rattle.tfpg_embed.proofs.ranking.doubts_words.Goals as goal
 
 pub loop-parts-init : goal.loop-parts-init

@@ -1,7 +1,7 @@
 use Rattle.std.proofs.Common.{◌≡◌, ◌<◌, All, length}
 use Rattle.tfpg_base.specs.declared.limits.TheConstants.{MAX_NODE_NUMBERS}
 use Rattle.tfpg_embed.specs.Ranking.{HasNodeBit}
-use Rattle.tfpg_embed.proofs.Masks.{AreTaken}
+use Rattle.tfpg_embed.proofs.lemmas.Masks.{AreTaken}
 use Rattle.tfpg_embed.proofs.ranking.doubts_words.Given as goal
 
 -- there are eight words, and each node has its bit or is left

@@ -3,7 +3,7 @@ use Rattle.std.specs.Int.{bit_at}
 use Rattle.std.proofs.lemmas.List.Elements.{All-head, All-tail}
 use Rattle.std.proofs.lemmas.Nat.Bits.{bit_at-zero}
 use Rattle.tfpg_base.specs.declared.limits.TheConstants.{MAX_MEMBERS}
-use Rattle.tfpg_embed.proofs.Masks.{AreTaken-all, AreTaken-more, AreTaken-none, mask_of_all}
+use Rattle.tfpg_embed.proofs.lemmas.Masks.{AreTaken-all, AreTaken-more, AreTaken-none, mask_of_all}
 use Rattle.tfpg_embed.proofs.ranking.failures_word.Goals as goal
 
 pub loop-parts-init : goal.loop-parts-init

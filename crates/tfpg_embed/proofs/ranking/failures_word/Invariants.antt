@@ -1,7 +1,7 @@
 use Rattle.std.proofs.Common.{◌≡◌, ◌<◌, All, length}
 use Rattle.std.specs.Int.{bit_at}
 use Rattle.tfpg_base.specs.declared.limits.TheConstants.{MAX_MEMBERS}
-use Rattle.tfpg_embed.proofs.Masks.{AreTaken}
+use Rattle.tfpg_embed.proofs.lemmas.Masks.{AreTaken}
 use Rattle.tfpg_embed.proofs.ranking.failures_word.Given as goal
 
 -- each position has its bit or is left

@@ -5,7 +5,7 @@ use Rattle.tfpg_base.specs.declared.activation.Activation.{Activation}
 use Rattle.tfpg_base.specs.declared.limits.TheConstants.{MAX_MEMBERS, MAX_NODE_NUMBERS}
 use Rattle.tfpg_graph.specs.Graph.{failures, sizes_of}
 use Rattle.tfpg_evidence.specs.RoundOf.{IsStatusOf}
-use Rattle.tfpg_embed.proofs.Masks.{all_below, few_active}
+use Rattle.tfpg_embed.proofs.lemmas.Masks.{all_below, few_active}
 use Rattle.tfpg_embed.proofs.ranking.numbers_of.Goals as goal
 
 pub overflow_cast-result : goal.overflow_cast-result

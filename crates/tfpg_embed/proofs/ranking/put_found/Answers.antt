@@ -4,7 +4,7 @@ use Rattle.std.specs.Option.{option_copied}
 use Rattle.tfpg_evidence.specs.declared.finding.Finding.{Finding}
 use Rattle.tfpg_evidence.specs.RoundOf.{is_ranked}
 use Rattle.tfpg_embed.specs.Ranking.{times_of_found}
-use Rattle.tfpg_embed.proofs.Masks.{short_room}
+use Rattle.tfpg_embed.proofs.lemmas.Masks.{short_room}
 use Rattle.tfpg_embed.proofs.ranking.put_found.Goals as goal
 
 pub returns-then-is_short-clause-times : goal.returns-then-is_short-clause-times

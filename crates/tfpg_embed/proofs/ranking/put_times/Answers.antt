@@ -2,7 +2,7 @@ use Rattle.std.proofs.Common.{◌≡◌, subst, sym}
 use Rattle.tfpg_evidence.specs.declared.finding.Status.{Status}
 use Rattle.tfpg_embed.specs.Ranking.{times_of_status}
 use Rattle.tfpg_embed.specs.Rooms.{room_after}
-use Rattle.tfpg_embed.proofs.Masks.{no_times}
+use Rattle.tfpg_embed.proofs.lemmas.Masks.{no_times}
 use Rattle.tfpg_embed.proofs.ranking.put_times.Goals as goal
 
 pub returns-else-count-times : goal.returns-else-count-times

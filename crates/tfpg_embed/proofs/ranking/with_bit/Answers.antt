@@ -1,4 +1,4 @@
-use Rattle.tfpg_embed.proofs.Masks.{set_bit_is}
+use Rattle.tfpg_embed.proofs.lemmas.Masks.{set_bit_is}
 use Rattle.tfpg_embed.proofs.ranking.with_bit.Goals as goal
 
 pub returns : goal.returns

@@ -2,7 +2,7 @@ use Rattle.std.proofs.Common.{◌∙◌, List, ℕ, Ok, Err, ap, length, refl, i
 use Rattle.tfpg_diagnose.specs.declared.texts.fault.ReportFault.TheVariants.{NoMemory}
 use Rattle.tfpg_embed.specs.Answers.{answer_of_text}
 use Rattle.tfpg_embed.specs.Rooms.{room_after}
-use Rattle.tfpg_embed.proofs.SessionCalls.{err_refuses, ok_refuses}
+use Rattle.tfpg_embed.proofs.lemmas.SessionCalls.{err_refuses, ok_refuses}
 use Rattle.tfpg_embed.proofs.text_calls.tfpg_report.Goals as goal
 
 pub returns-in-Ok : goal.returns-in-Ok

@@ -1,4 +1,4 @@
-use Rattle.tfpg_evidence_tests.proofs.GoingOn.{represents_still, may_go_on}
+use Rattle.tfpg_evidence_tests.proofs.lemmas.GoingOn.{represents_still, may_go_on}
 use Rattle.tfpg_evidence_tests.proofs.search.ask_after.Goals as goal
 
 pub returns-clause-represents : goal.returns-clause-represents

@@ -1,4 +1,4 @@
-use Rattle.tfpg_evidence_tests.proofs.GoingOn.{new_represents, not_closed}
+use Rattle.tfpg_evidence_tests.proofs.lemmas.GoingOn.{new_represents, not_closed}
 use Rattle.tfpg_evidence_tests.proofs.search.asked.Goals as goal
 
 pub loop-line-2-init : goal.loop-line-2-init

@@ -5,7 +5,7 @@ use Rattle.tfpg_words.specs.Plans.{meaning_of}
 use Rattle.tfpg_run.specs.fleet.FleetEnds.{fleet_words}
 use Rattle.tfpg_run.proofs.lemmas.fleet.NewFleets.{fleet_done, fleet_stopped}
 use Rattle.tfpg_run.specs.World.{world}
-use Rattle.tfpg_run.proofs.Stops.{OnOk-with, check_stopped, explain_stopped, simulate_stopped, convert_stopped, ask_stopped}
+use Rattle.tfpg_run.proofs.lemmas.Stops.{OnOk-with, check_stopped, explain_stopped, simulate_stopped, convert_stopped, ask_stopped}
 use Rattle.tfpg_run.proofs.lemmas.predict.Endings.{predict_done, predict_stopped}
 use Rattle.tfpg_panel.specs.Desk.{seen_by}
 use Rattle.tfpg_run.proofs.commands.perform.Goals as goal

@@ -2,9 +2,9 @@ use Rattle.std.proofs.Common.{sym, ◌∙◌}
 use Rattle.std.specs.Prelude.{map, string_bytes}
 use Rattle.tfpg_words.specs.Meaning.{meaning}
 use Rattle.tfpg_words.specs.Plans.{meaning_of}
-use Rattle.tfpg_run.proofs.PlannedNumbers.{within_limits}
-use Rattle.tfpg_run.proofs.Stops.{runs_within}
-use Rattle.tfpg_run.proofs.Completing.{by_work, run_completes, run_refuses}
+use Rattle.tfpg_run.proofs.lemmas.PlannedNumbers.{within_limits}
+use Rattle.tfpg_run.proofs.lemmas.Stops.{runs_within}
+use Rattle.tfpg_run.proofs.lemmas.Completing.{by_work, run_completes, run_refuses}
 use Rattle.tfpg_run.proofs.lemmas.check.AcceptedDiagnoses.{can_check_after}
 use Rattle.tfpg_run.proofs.commands.run.Goals as goal
 

@@ -4,7 +4,7 @@ use Rattle.tfpg_base.proofs.lemmas.lists.Choices.{IfErr-from}
 use Rattle.tfpg_run.specs.Fetch.{HasFile, IsFetchFaultBy}
 use Rattle.tfpg_run.specs.convert.Converting.{IsFaultFrom}
 use Rattle.tfpg_run.specs.inside.Faults.{fetch_fault_of_shelf}
-use Rattle.tfpg_run.proofs.Refused.{IsFetchFault-first, IsFetchFault-refused}
+use Rattle.tfpg_run.proofs.lemmas.Refused.{IsFetchFault-first, IsFetchFault-refused}
 use Rattle.tfpg_run.proofs.convert.fetch_graph_from.Goals as goal
 
 pub returns-in_err-text-clause-fault : goal.returns-in_err-text-clause-fault

@@ -1,7 +1,7 @@
 use Rattle.std.proofs.Common.{refl, Ok, Err}
 use Rattle.tfpg_run.specs.World.{world, streams_of, watched_of}
 use Rattle.tfpg_diagnose.proofs.lemmas.CountedHypotheses.{has_reports, not_too_many}
-use Rattle.tfpg_run.proofs.Stops.{stops_without_graph, stops_without_engine, stops_diagnosis, stops_when_done, diagnosed_for, not_done, fetch_not_done, table_not_done, stream_not_done, within_for}
+use Rattle.tfpg_run.proofs.lemmas.Stops.{stops_without_graph, stops_without_engine, stops_diagnosis, stops_when_done, diagnosed_for, not_done, fetch_not_done, table_not_done, stream_not_done, within_for}
 use Rattle.tfpg_run.specs.EndsOf.{end_of_fetch_fault, end_of_stream_fault}
 use Rattle.tfpg_run.specs.inside.Faults.{end_of_table_fault}
 use Rattle.tfpg_panel.specs.Desk.{seen_by}

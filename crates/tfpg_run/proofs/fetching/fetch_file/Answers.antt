@@ -1,4 +1,4 @@
-use Rattle.tfpg_run.proofs.Refused.{fetched_one}
+use Rattle.tfpg_run.proofs.lemmas.Refused.{fetched_one}
 use Rattle.tfpg_run.proofs.fetching.fetch_file.Goals as goal
 
 pub returns-clause-fetched : goal.returns-clause-fetched

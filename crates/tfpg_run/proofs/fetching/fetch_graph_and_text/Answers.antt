@@ -4,7 +4,7 @@ use Rattle.tfpg_base.proofs.lemmas.lists.Choices.{IfErr-from}
 use Rattle.tfpg_graph.specs.Faults.{IsFirstFault}
 use Rattle.tfpg_run.specs.Fetch.{HasFile}
 use Rattle.tfpg_run.specs.inside.Faults.{IsFetchFault, fetch_fault_of_shelf}
-use Rattle.tfpg_run.proofs.Refused.{IsFetchFault-first, IsFetchFault-second, IsFetchFault-refused, fetched_two}
+use Rattle.tfpg_run.proofs.lemmas.Refused.{IsFetchFault-first, IsFetchFault-second, IsFetchFault-refused, fetched_two}
 use Rattle.tfpg_run.proofs.fetching.fetch_graph_and_text.Goals as goal
 
 pub returns-in_err-graph_text-clause-fault : goal.returns-in_err-graph_text-clause-fault

@@ -2,7 +2,7 @@ use Rattle.std.proofs.Common.{rules, tests, ◌==◌, ◌∙◌, ap}
 use Rattle.std.proofs.lemmas.Iterator.Splits.{YieldsList-from_slice_split}
 use Rattle.std.proofs.lemmas.Iterator.Consumers.{YieldsList-end}
 use Rattle.tfpg_log.specs.LogOfLines.{log_of_lines}
-use Rattle.tfpg_run.proofs.LogTexts.{log_of_parts}
+use Rattle.tfpg_run.proofs.lemmas.LogTexts.{log_of_parts}
 use Rattle.tfpg_run.proofs.fetching.log_of_text.Goals as goal
 
 pub returns-clause-log : goal.returns-clause-log

@@ -1,4 +1,4 @@
-use Rattle.tfpg_run.proofs.ConvertedBack.{converted_back}
+use Rattle.tfpg_run.proofs.lemmas.ConvertedBack.{converted_back}
 use Rattle.tfpg_run.proofs.laws.a_converted_graph_is_converted_back.Goals as goal
 
 pub returns : goal.returns

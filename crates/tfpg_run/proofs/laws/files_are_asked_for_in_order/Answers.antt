@@ -1,4 +1,4 @@
-use Rattle.tfpg_run.proofs.AskedInOrder.{asked_in_order}
+use Rattle.tfpg_run.proofs.lemmas.AskedInOrder.{asked_in_order}
 use Rattle.tfpg_run.proofs.laws.files_are_asked_for_in_order.Goals as goal
 
 pub returns : goal.returns

@@ -1,6 +1,6 @@
 use Rattle.std.proofs.Common.{Ok, refl}
 use Rattle.tfpg_words.specs.Meaning.{Check}
-use Rattle.tfpg_run.proofs.Completing.{run_completes}
+use Rattle.tfpg_run.proofs.lemmas.Completing.{run_completes}
 use Rattle.tfpg_run.proofs.lemmas.check.AcceptedDiagnoses.{can_check}
 use Rattle.tfpg_run.proofs.laws.what_diagnose_wrote_is_accepted.Goals as goal
 

@@ -23,8 +23,8 @@ use Rattle.tfpg_run.specs.diagnose.Diagnosing.{DiagnosisEnds}
 use Rattle.tfpg_diagnose.specs.RightReport.{IsRightReport}
 use Rattle.tfpg_diagnose.specs.TellsPanels.{desks}
 use Rattle.tfpg_streams.proofs.lemmas.InputLines.{all_taken}
-use Rattle.tfpg_run.proofs.Completing.{gives_is}
-use Rattle.tfpg_run.proofs.Stops.{fetch_not_done, stream_not_done}
+use Rattle.tfpg_run.proofs.lemmas.Completing.{gives_is}
+use Rattle.tfpg_run.proofs.lemmas.Stops.{fetch_not_done, stream_not_done}
 
 -- ---- what a diagnosis has done
 

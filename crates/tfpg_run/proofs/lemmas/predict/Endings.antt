@@ -27,7 +27,7 @@ use Rattle.tfpg_run.specs.predict.Forecasts.{Prediction, HasForecasts, predictio
 use Rattle.tfpg_run.specs.predict.Predicting.{PredictEnds, PredictionEnds}
 use Rattle.tfpg_run.specs.predict.Probing.{probed_node}
 use Rattle.tfpg_diagnose.proofs.lemmas.CountedHypotheses.{CountsHypotheses, without_memory}
-use Rattle.tfpg_run.proofs.Stops.{IfErr-with, OnOk-with}
+use Rattle.tfpg_run.proofs.lemmas.Stops.{IfErr-with, OnOk-with}
 
 module _ (asked : Prediction) (graph_name log_name : List ℕ) (before now : World) (graph : Tfpg) (log_text : List ℕ) (gives : GivesGraphAndText before.shelf graph_name log_name graph log_text)
     (fetched : Fetched (graph_name ∷ log_name ∷ []) before.shelf now.shelf) where

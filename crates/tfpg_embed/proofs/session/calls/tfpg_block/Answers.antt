@@ -1,7 +1,7 @@
 use Rattle.std.proofs.Common.{Option, Some, ap, subst, ◌∙◌}
 use Rattle.tfpg_embed.specs.declared.session.open_session.OpenSession.{OpenSession}
 use Rattle.tfpg_embed.specs.Sessions.{AnswersBlock}
-use Rattle.tfpg_embed.proofs.SessionCalls.{closed_block}
+use Rattle.tfpg_embed.proofs.lemmas.SessionCalls.{closed_block}
 use Rattle.tfpg_embed.proofs.session.calls.tfpg_block.Goals as goal
 
 pub returns-in-Some-clause-block : goal.returns-in-Some-clause-block

@@ -1,5 +1,5 @@
 use Rattle.std.proofs.Common.{Some, ap, ◌∙◌}
-use Rattle.tfpg_embed.proofs.SessionCalls.{line_refused, line_taken, line_too_late}
+use Rattle.tfpg_embed.proofs.lemmas.SessionCalls.{line_refused, line_taken, line_too_late}
 use Rattle.tfpg_embed.proofs.session.calls.tfpg_line.Goals as goal
 
 pub returns-in-Ok-clause-answers : goal.returns-in-Ok-clause-answers

@@ -2,7 +2,7 @@ use Rattle.std.proofs.Common.{◌≡◌, length, subst, sym}
 use Rattle.tfpg_diagnose.specs.declared.texts.fault.OpenFault.TheVariants.{NoMemory}
 use Rattle.tfpg_embed.specs.declared.session.open_session.OpenSession.{OpenSession}
 use Rattle.tfpg_embed.specs.Sessions.{KeepsText, open_text}
-use Rattle.tfpg_embed.proofs.SessionCalls.{err_refuses, not_opened, ok_refuses, opened}
+use Rattle.tfpg_embed.proofs.lemmas.SessionCalls.{err_refuses, not_opened, ok_refuses, opened}
 use Rattle.tfpg_embed.proofs.session.calls.tfpg_open.Goals as goal
 
 pub returns-in-Ok : goal.returns-in-Ok

@@ -2,7 +2,7 @@ use Rattle.std.proofs.Common.{Some, ap, length, refl, ◌∙◌}
 use Rattle.tfpg_embed.specs.declared.status.TheConstants.{DONE, ENDED}
 use Rattle.tfpg_embed.specs.Answers.{answer_of_event_fault, answer_with, counted}
 use Rattle.tfpg_embed.specs.Sessions.{open_text}
-use Rattle.tfpg_embed.proofs.SessionCalls.{event_answered, line_refused, line_taken, line_too_late, uncounted}
+use Rattle.tfpg_embed.proofs.lemmas.SessionCalls.{event_answered, line_refused, line_taken, line_too_late, uncounted}
 use Rattle.tfpg_embed.proofs.session.events.tfpg_event.Goals as goal
 
 pub returns-in-Ok-clause-answers : goal.returns-in-Ok-clause-answers

@@ -31,7 +31,7 @@ use types.Kit.{feq_l, fpick}
 use Rattle.std.specs.Prelude.{None}
 use Rattle.core.proofs.alloc.Calls.{handle_tells}
 use Rattle.std_heap.specs.contracts.Global as Heap
-use Rattle.tfpg_embed.proofs.BoxedSession.{E, FromHeld as From, pair_of, pair_typed}
+use Rattle.tfpg_embed.proofs.lemmas.BoxedSession.{E, FromHeld as From, pair_of, pair_typed}
 use Rattle.tfpg_embed.specs.contracts.session.held.Held.into_alloc as F
 use Rattle.tfpg_embed.specs.contracts.session.held.Held.into_alloc.Key.{name as #self}
 use Rattle.tfpg_embed.proofs.session.held.Held.into_alloc.Statement as stated

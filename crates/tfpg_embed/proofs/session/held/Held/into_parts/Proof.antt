@@ -30,7 +30,7 @@ use denote.Steps.{heard}
 use types.Kit.{rewrite}
 use Rattle.tfpg_embed.specs.contracts.session.held.Held as Held
 use Rattle.tfpg_embed.specs.contracts.session.open_session.OpenSession as Opened
-use Rattle.tfpg_embed.proofs.BoxedSession.{E, FromHeld as From, some_value}
+use Rattle.tfpg_embed.proofs.lemmas.BoxedSession.{E, FromHeld as From, some_value}
 use Rattle.tfpg_embed.specs.contracts.session.held.Held.into_parts as F
 use Rattle.tfpg_embed.specs.contracts.session.held.Held.into_parts.Key.{name as #self}
 use Rattle.tfpg_embed.proofs.session.held.Held.into_parts.Statement as stated

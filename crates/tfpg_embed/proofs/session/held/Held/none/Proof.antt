@@ -34,7 +34,7 @@ use Rattle.core.proofs.alloc.Calls.{handle_tells, α}
 use Rattle.std_alloc.proofs.ResultValues.{and_tt}
 use Rattle.std_heap.specs.contracts.Global as Heap
 use Rattle.tfpg_embed.specs.contracts.session.held.Held as Held
-use Rattle.tfpg_embed.proofs.BoxedSession.{E, FromGlobal as From}
+use Rattle.tfpg_embed.proofs.lemmas.BoxedSession.{E, FromGlobal as From}
 use Rattle.tfpg_embed.specs.contracts.session.held.Held.none as F
 use Rattle.tfpg_embed.specs.contracts.session.held.Held.none.Key.{name as #self}
 use Rattle.tfpg_embed.proofs.session.held.Held.none.Statement as stated

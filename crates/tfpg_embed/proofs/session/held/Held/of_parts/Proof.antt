@@ -25,7 +25,7 @@ use denote.Triple.Walked.{says, Stays, stay_dropped, walk_of, ends_at, Goes-drop
 use Rattle.std_alloc.proofs.BoxSteps.Form.{D, B, word, box_typed}
 use Rattle.std_alloc.proofs.BoxSteps.Steps.{box_out, box_in}
 use Rattle.std.specs.Prelude.{Some}
-use Rattle.tfpg_embed.proofs.BoxedSession.{E, FromParts as From}
+use Rattle.tfpg_embed.proofs.lemmas.BoxedSession.{E, FromParts as From}
 use Rattle.tfpg_embed.specs.contracts.session.held.Held.of_parts as F
 use Rattle.tfpg_embed.specs.contracts.session.held.Held.of_parts.Key.{name as #self}
 use Rattle.tfpg_embed.proofs.session.held.Held.of_parts.Statement as stated

@@ -2,7 +2,7 @@ use Rattle.std.proofs.Common.{List, ℕ, ap, length, sym, refl, ◌∙◌}
 use Rattle.tfpg_engine.specs.declared.told.EventFault.TheVariants.{Ended}
 use Rattle.tfpg_embed.specs.Answers.{answer_of_text}
 use Rattle.tfpg_embed.specs.Rooms.{room_after}
-use Rattle.tfpg_embed.proofs.SessionCalls.{ok_is_no_error, text_not_made, text_put, unkept_text}
+use Rattle.tfpg_embed.proofs.lemmas.SessionCalls.{ok_is_no_error, text_not_made, text_put, unkept_text}
 use Rattle.tfpg_embed.proofs.session.open_session.OpenSession.put_made.Goals as goal
 
 pub returns-in-Ok : goal.returns-in-Ok

@@ -5,7 +5,7 @@ use Rattle.std.proofs.lemmas.Bool.{false≢true}
 use Rattle.tfpg_diagnose.specs.texts.Sessions.{latest_text}
 use Rattle.tfpg_embed.specs.Answers.{answer_of_text}
 use Rattle.tfpg_embed.specs.Rooms.{room_after}
-use Rattle.tfpg_embed.proofs.SessionCalls.{text_put}
+use Rattle.tfpg_embed.proofs.lemmas.SessionCalls.{text_put}
 use Rattle.tfpg_embed.proofs.session.open_session.OpenSession.put_text.Goals as goal
 
 pub returns-in-Some : goal.returns-in-Some

@@ -16,8 +16,8 @@ use Rattle.tfpg_run.specs.Fetch.{GivesGraph}
 use Rattle.tfpg_streams.specs.Outputs.{TextEnds, WritesText}
 use Rattle.tfpg_run.specs.World.{World}
 use Rattle.tfpg_run.specs.convert.Converting.{ConvertEnds, ConvertsFile, converted_text}
-use Rattle.tfpg_run.proofs.Completing.{gives_is}
-use Rattle.tfpg_run.proofs.Stops.{fetch_not_done}
+use Rattle.tfpg_run.proofs.lemmas.Completing.{gives_is}
+use Rattle.tfpg_run.proofs.lemmas.Stops.{fetch_not_done}
 
 -- a graph text spells at most one valid graph
 one_graph : (text : List ℕ) (graph other : Tfpg) → Spells text graph → IsValid graph → Spells text other → IsValid other → graph ≡ other

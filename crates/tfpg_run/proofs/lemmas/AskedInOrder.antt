@@ -17,7 +17,7 @@ use Rattle.tfpg_run.specs.Fetch.{EndsByFiles, Fetched, FetchedUpTo, IsFetchFault
 use Rattle.tfpg_run.specs.FilesAsked.{AsksInOrder, named_files}
 use Rattle.tfpg_run.specs.Run.{CommandEnds, RunEnds}
 use Rattle.tfpg_run.specs.World.{World}
-use Rattle.tfpg_run.proofs.Refused.{IsThere, fetched_none}
+use Rattle.tfpg_run.proofs.lemmas.Refused.{IsThere, fetched_none}
 
 module _ (names : List (List ℕ)) (before now : ShelfState) where
   -- the first few were fetched

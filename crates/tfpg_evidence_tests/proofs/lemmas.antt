@@ -1,0 +1,2 @@
+-- A search from one event to the next.
+pub mod GoingOn
