@@ -51,8 +51,8 @@ pub record ServesGraphAndText (shelf : ShelfState) (graph_name text_name : List 
   pub hold : Hold graph text
 
 -- The graph takes a probe of the node of this name.
-abbrev pub TakesProbe : Tfpg → List ℕ → Type 0
-TakesProbe graph node = (fault : ProbeFault) → probed_node graph node ≡ Err fault → ⊥
+abbrev pub CanBeProbed : Tfpg → List ℕ → Type 0
+CanBeProbed graph node = (fault : ProbeFault) → probed_node graph node ≡ Err fault → ⊥
 
 -- The files serve what the words mean, and so does the input where it is read.
 abbrev pub CanBeDone : Meaning → World → Type 0
@@ -70,7 +70,7 @@ CanBeDone (Ask terms file log) before = ServesGraphAndText before.shelf file log
 CanBeDone (Fleet terms file names) before =
     ServesGraph Spells before.shelf file (HasFewForFleet (fleet_words terms file names)) × IsShort before.input
 CanBeDone (Predict terms ahead file log node) before =
-    ServesGraphAndText before.shelf file log (λ graph text. TakesProbe graph node × HasFewHypotheses terms graph)
+    ServesGraphAndText before.shelf file log (λ graph text. CanBeProbed graph node × HasFewHypotheses terms graph)
 
 -- A report can be judged, and the lines of the input are not accepted, for this cause at this line.
 abbrev pub CanRefuse : ShelfState → SourceState → List ℕ → List ℕ → ℕ → CheckCause → Type 0

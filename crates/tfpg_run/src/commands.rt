@@ -16,12 +16,12 @@ ghost use Rattle.tfpg_run.specs.diagnose.Work.{RunsWithin};
 use crate::ask::ask_by_files;
 use crate::check::check_by_files;
 use crate::convert::convert_file;
-use crate::diagnose::{Subject, diagnose_file};
+use crate::diagnose::{DiagnosisSubject, diagnose_file};
 use crate::end::End;
 use crate::explain::explain_by_files;
 use crate::fleet::{FleetSubject, fleet_file};
 use crate::generate::generate_summary;
-use crate::predict::{Asked, predict_by_files};
+use crate::predict::{ForecastRequest, predict_by_files};
 use crate::simulate::simulate_files;
 use std::alloc::Global;
 use std::sync::ledger::Ledger;
@@ -147,7 +147,7 @@ fn perform<F: Shelf, S: Source, K: Sink, P: Panel, L: Ledger>(
                 doubt: *doubt,
                 budget: *budget,
             };
-            let subject = Subject {
+            let subject = DiagnosisSubject {
                 name: graph.as_str(),
                 terms,
             };
@@ -217,7 +217,7 @@ fn perform<F: Shelf, S: Source, K: Sink, P: Panel, L: Ledger>(
             log,
             node,
         } => {
-            let asked = Asked {
+            let asked = ForecastRequest {
                 graph: graph.as_str(),
                 log: log.as_str(),
                 node: node.as_str(),

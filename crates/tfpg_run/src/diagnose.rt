@@ -20,7 +20,7 @@ use tfpg_panel::{Desk, Panel};
 
 /// What is to be diagnosed: the graph of the file of this name, on these terms.
 #[derive(Clone, Copy)]
-pub(crate) struct Subject<'a> {
+pub(crate) struct DiagnosisSubject<'a> {
     pub(crate) name: &'a str,
     pub(crate) terms: Terms,
 }
@@ -28,7 +28,7 @@ pub(crate) struct Subject<'a> {
 /// Fetches the graph, diagnoses the lines of the input, writes the report, and tells the desk each round whose text is written.
 pub(crate) fn diagnose_file<F: Shelf, S: Source, K: Sink, P: Panel, L: Ledger>(
     alloc: Global,
-    subject: &Subject<'_>,
+    subject: &DiagnosisSubject<'_>,
     shelf: &mut F,
     input: &mut S,
     out: &mut K,

@@ -32,7 +32,7 @@ use tfpg_streams::{OutputFault, write_all};
 /// What is asked: the graph and the log of the files of these names, the name of the node, on which terms, and how many
 /// milliseconds past the last event.
 #[derive(Clone, Copy)]
-pub(crate) struct Asked<'a> {
+pub(crate) struct ForecastRequest<'a> {
     pub(crate) graph: &'a str,
     pub(crate) log: &'a str,
     pub(crate) node: &'a str,
@@ -43,7 +43,7 @@ pub(crate) struct Asked<'a> {
 /// Fetches the graph and the log, diagnoses the log, and writes the forecasts of the node.
 pub(crate) fn predict_by_files<F: Shelf, K: Sink, L: Ledger>(
     alloc: Global,
-    asked: &Asked<'_>,
+    asked: &ForecastRequest<'_>,
     shelf: &mut F,
     out: &mut K,
     work: &mut Steps<L>,

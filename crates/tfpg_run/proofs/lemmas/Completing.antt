@@ -42,7 +42,7 @@ use Rattle.tfpg_streams.specs.declared.fault.OutputFault.{OutputFault}
 use Rattle.tfpg_streams.specs.declared.fault.OutputFault.TheVariants as output
 use Rattle.tfpg_run.specs.declared.fault.QuestionsFault.{QuestionsFault}
 use Rattle.tfpg_run.specs.declared.fault.QuestionsFault.TheVariants as questions
-use Rattle.tfpg_run.specs.Completeness.{CanBeDone, CanRefuse, HasLines, IsCompleted, IsRefusedFor, IsShort, NothingFails, ServesGraph, ServesGraphAndText, TakesProbe}
+use Rattle.tfpg_run.specs.Completeness.{CanBeDone, CanRefuse, HasLines, IsCompleted, IsRefusedFor, IsShort, NothingFails, ServesGraph, ServesGraphAndText, CanBeProbed}
 use Rattle.tfpg_run.specs.EndsOf.{end_of_fetch_fault, end_of_stream_fault, end_of_check_fault, end_of_explain_fault, end_of_simulate_fault, end_of_output_fault, end_of_questions_fault, end_of_result}
 use Rattle.tfpg_run.specs.Fetch.{HasFile, IsTooLong, GivesGraph, GivesGraphBy, GivesGraphAndText, HasFaultyGraphBy, IsFetchFaultBy, LacksFiles}
 use Rattle.tfpg_run.specs.generate.Generating.{HasSummary}
@@ -368,12 +368,12 @@ module _ (graphs : GraphLaws) (laws : CheckLaws) (before now : World) (calm : No
 
   -- a prediction
   predicted : (end : End) (asked : Prediction) (graph_name log_name : List ℕ)
-      → ServesGraphAndText before.shelf graph_name log_name (λ graph text. TakesProbe graph asked.node × HasFewHypotheses asked.terms graph)
+      → ServesGraphAndText before.shelf graph_name log_name (λ graph text. CanBeProbed graph asked.node × HasFewHypotheses asked.terms graph)
       → PredictEnds asked graph_name log_name before now end → IsCompleted end
   predicted end asked graph_name log_name can (inl lacks) = inr (not_fetched end graph_name log_name can lacks)
   predicted end asked graph_name log_name can (inr predicts) = go predicts.works
     where
-      holds : TakesProbe predicts.graph asked.node × HasFewHypotheses asked.terms predicts.graph
+      holds : CanBeProbed predicts.graph asked.node × HasFewHypotheses asked.terms predicts.graph
       holds = holds_of_given end graph_name log_name can predicts.graph predicts.text predicts.gives
 
       go : PredictionEnds asked before now predicts.graph predicts.text end → IsCompleted end
