@@ -3,14 +3,14 @@
 
     bench/equal_answers.py [--cases N] [--seed N] [--splits N] [--only SEED] [--no-examples] [--keep FOLDER] BEFORE AFTER
 
-BEFORE and AFTER are programs, as `crates/tfpg/out/tfpg` of two checkouts; one of them may be a trial. First come the logs of the examples,
-each with several terms. Then N graphs and logs are drawn (2,000 if nothing is said), of 3 to 14 nodes of all kinds, with lags, AND nodes,
-modes, delays without an end, random or simulated logs, and refused lines. `k` is 0 to 3, up to two monitors are doubted, and the
-budget is 1 to 1,000.
+BEFORE and AFTER are programs, as `crates/tfpg/out/tfpg` of two checkouts; one of them may be a trial. First come the logs of the examples
+and six hard graphs, each with several terms. Then N graphs and logs are drawn (2,000 if nothing is said), of 3 to 14 nodes of all kinds,
+with lags, AND nodes, modes, delays without an end, random or simulated logs, and refused lines. `k` is 0 to 3, up to two monitors are
+doubted, and the budget is 1 to 1,000. Few of these take many splits; `--splits 30` draws only such.
 
-For each line both must refuse it for the same cause, or have a round with the same numbers. In each round each hypothesis must have the same
-status, and if it is ranked the same cost, robustness and place among those that both rank. Traces and steps may differ. Two differences are
-counted by themselves, since a budget is no promise:
+For each line both must refuse it for the same cause, or have a round with the same numbers. In each round each hypothesis must have the
+same status, and if it is ranked the same cost, robustness and place among those that both rank. Traces and steps may differ. Two
+differences are counted by themselves, since a budget is no promise:
 
 - one of the two leaves a hypothesis open;
 - one ranks what the other covers, and each part by which it is covered is open in the first.
@@ -30,14 +30,15 @@ from math import comb
 from pathlib import Path
 
 from banded import draw_graph, draw_log, graph_text
-from compare import hard_graph, hard_script, with_silences
+from compare import HARD, hard_graph, hard_row, hard_script, with_silences
 from forge import TOP, Program, drawn_graph, random_log, random_script, small_graph
 from slow_judge import Graph
 
 MOST_HYPOTHESES = 250
 MOST_BYTES, LONGER = 20_000, 80_000  # of a report; one case of five may have a longer one
 BUDGETS = [1, 2, 3, 5, 10, 30, 50, 100, 300, 1000, 1000]
-NEVER_ACCEPTED = [b"x", b"", b" 1 tick", b"07 tick", b"-1 tick", b"1e3 tick", b"0 mode NoMode", b"0 alarm NoNode", b"9999999999999 tick", b"0 tick\r"]
+NEVER_ACCEPTED = [b"x", b"", b" 1 tick", b"07 tick", b"-1 tick", b"1e3 tick", b"0 mode NoMode", b"0 alarm NoNode"]
+NEVER_ACCEPTED += [b"9999999999999 tick", b"0 tick\r"]
 
 
 # ---- cases
@@ -61,6 +62,16 @@ def example_cases():
             for k, doubt, budget in [(0, 0, 1000), (1, 0, 1), (1, 1, 1000), (2, 0, 10), (2, 0, 1000), (2, 1, 1000), (3, 0, 1000)]:
                 terms = ["--k", str(k), "--doubt", str(doubt), "--budget", str(budget)]
                 yield Case(f"{log.stem} {' '.join(terms)}", graph.read_bytes(), log.read_bytes(), terms)
+
+
+def hard_cases(program):
+    """The hard graphs of `bench/compare.py`, where a hypothesis takes more splits than these budgets allow."""
+    for draw in HARD:
+        row = hard_row(program.program, program.folder, draw)
+        graph = Path(row.words[-1]).read_bytes()
+        for k, doubt, budget in [(1, 0, 40), (1, 0, 100), (1, 0, 300), (1, 1, 60), (2, 0, 35), (2, 1, 33)]:
+            terms = ["--k", str(k), "--doubt", str(doubt), "--budget", str(budget)]
+            yield Case(f"hard {draw} {' '.join(terms)}", graph, row.log.read_bytes(), terms)
 
 
 def simulated(draws, program, script):
@@ -294,7 +305,7 @@ def read_words():
     reader = argparse.ArgumentParser(description=__doc__, formatter_class=argparse.RawDescriptionHelpFormatter)
     reader.add_argument("--cases", type=int, default=2000)
     reader.add_argument("--seed", type=int, default=1, help="the seed of the first drawn case")
-    reader.add_argument("--splits", type=int, default=0, help="draw only cases in which AFTER makes so many splits for a hypothesis in a round")
+    reader.add_argument("--splits", type=int, default=0, help="draw cases in which AFTER makes so many for a hypothesis in a round")
     reader.add_argument("--only", type=int, metavar="SEED", help="only the drawn case of this seed")
     reader.add_argument("--no-examples", action="store_true", help="leave the logs of the examples out")
     reader.add_argument("--keep", type=Path, default=Path(tempfile.gettempdir()) / "unequal", help="where cases that differ are kept")
@@ -310,14 +321,14 @@ def main():
     with tempfile.TemporaryDirectory() as folder:
         before, after = (Program(program.resolve(), Path(folder)) for program in (words.before, words.after))
         seeds = range(words.seed, words.seed + words.cases) if words.only is None else [words.only]
-        cases = [] if words.no_examples or words.only is not None else list(example_cases())
+        cases = [] if words.no_examples or words.only is not None else [*example_cases(), *hard_cases(after)]
         try:
             for case in (*cases, *seeds):
                 case = case if isinstance(case, Case) else drawn_case(case, after, words.splits)
                 tried, wrong = tried + 1, wrong + (not try_case(comparison, before, after, case, words.keep))
         except KeyboardInterrupt:
             print(f"stopped in the case after these {tried}")
-    print(f"{tried} cases, of which {min(tried, len(cases))} of the examples: {wrong} are wrong")
+    print(f"{tried} cases, of which {min(tried, len(cases))} were not drawn: {wrong} are wrong")
     for what, times in sorted(comparison.counts.items()):
         print(f"{times:9} {what}")
     return int(wrong > 0)
