@@ -10,7 +10,7 @@
 //! # Proved, and by which clause
 //!
 //! - The arguments after the first are the words, there is a file panel for each that names one, its line is the one of
-//!   its kind, byte for byte, and the code is that of the end: `words_after_name`, `panels_of`, `FilePanel::line_of`, `panel_line`.
+//!   its kind, and the code is that of the end: `words_after_name`, `panels_of`, `FilePanel::line_of`.
 //! - `End::code` of `tfpg_run`.
 //!
 //! # Not proved
@@ -20,7 +20,6 @@
 
 ghost use Rattle.std.specs.Prelude.{◌≡◌, ◌<◌, map, IfOk};
 
-mod panel_lines;
 mod real;
 #[cfg(test)]
 mod tests;

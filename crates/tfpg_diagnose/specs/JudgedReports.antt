@@ -16,9 +16,9 @@ use Rattle.tfpg_check.specs.declared.cause.CheckCause.TheVariants.{EndsEarly}
 use Rattle.tfpg_check.specs.Report.{rounds_of}
 use Rattle.tfpg_check.specs.Causes.{DiagnosisProblem, AreRead, AreRight, AreReportLines, IsCause}
 use Rattle.tfpg_diagnose.specs.declared.fault.CheckFault.{CheckFault}
-use Rattle.tfpg_diagnose.specs.declared.fault.CheckFault.TheVariants.{NotAccepted, TooMany, Stream}
+use Rattle.tfpg_diagnose.specs.declared.fault.CheckFault.TheVariants.{NotAccepted, TooMany, Lines, NoMemory}
 use Rattle.tfpg_streams.specs.Streams.{HasLeft}
-use Rattle.tfpg_streams.specs.declared.fault.StreamFault.TheVariants.{ReadFault, WriteFault, TooMuchInput, NoMemory}
+use Rattle.tfpg_base.specs.declared.line.LineFault.TheVariants.{ReadFault, TooMuchInput}
 
 -- what a report is judged by: the graph, and the lines of the log's text
 abbrev pub problem_of : Tfpg → List ℕ → DiagnosisProblem
@@ -65,12 +65,11 @@ pub record AcceptsReport (problem : DiagnosisProblem) (before now : SourceState)
 abbrev pub ShowsCheckFault : DiagnosisProblem → SourceState → SourceState → List ℕ → CheckFault → Type 0
 ShowsCheckFault problem before now taken (NotAccepted at why) = IsRefused problem now taken at why × (now.faults ≡ before.faults)
 ShowsCheckFault problem before now taken (TooMany count) = HasTooManyInHead problem now taken count × (now.faults ≡ before.faults)
-ShowsCheckFault problem before now taken (Stream ReadFault) =
+ShowsCheckFault problem before now taken (Lines ReadFault) =
     Rose before.faults now.faults × IsRightSoFar problem (whole_lines taken)
-ShowsCheckFault problem before now taken (Stream WriteFault) = ⊥
-ShowsCheckFault problem before now taken (Stream TooMuchInput) =
+ShowsCheckFault problem before now taken (Lines TooMuchInput) =
     (length taken ≡ MAX_BYTES + 1) × IsRightSoFar problem (whole_lines (take MAX_BYTES taken)) × (now.faults ≡ before.faults)
-ShowsCheckFault problem before now taken (Stream NoMemory) = now.faults ≡ before.faults
+ShowsCheckFault problem before now taken NoMemory = now.faults ≡ before.faults
 
 -- The report of the input is not accepted, with this cause.
 pub record LacksReport (problem : DiagnosisProblem) (before now : SourceState) (fault : CheckFault) : Type 0 where

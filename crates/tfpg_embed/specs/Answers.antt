@@ -1,7 +1,6 @@
 -- What calls answer, as C sees it.
 use Rattle.std.specs.Prelude.{ℕ, ◌%◌, ◌/◌, ◌^◌, List, length, nat_le, if◌then◌else◌, Result, Ok, Err}
 use Rattle.tfpg_graph.specs.declared.cause.GraphFault.{GraphFault}
-use Rattle.tfpg_check.specs.declared.cause.CheckCause.{CheckCause}
 use Rattle.tfpg_engine.specs.declared.told.EventFault.{EventFault}
 use Rattle.tfpg_engine.specs.declared.told.EventFault.TheVariants as event
 use Rattle.tfpg_diagnose.specs.declared.texts.fault.OpenFault.{OpenFault}

@@ -1,5 +1,5 @@
 -- What a call comes to that asks what a handle holds, and leaves it as it was.
-use Rattle.std.specs.Prelude.{ℕ, List, Option, Some, None}
+use Rattle.std.specs.Prelude.{Option, Some, None}
 use Rattle.tfpg_diagnose.specs.texts.Sessions.{SessionState}
 use Rattle.tfpg_embed.specs.declared.answer.TfpgAnswer.{TfpgAnswer}
 use Rattle.tfpg_embed.specs.declared.session.open_session.OpenSession.{OpenSession}

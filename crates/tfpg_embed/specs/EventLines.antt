@@ -1,5 +1,5 @@
 -- The line of an event that is given by numbers.
-use Rattle.std.specs.Prelude.{ℕ, List, [], ◌∷◌, ◌==◌, if◌then◌else◌, Option, None, Some, unwrap_or, codes, decimal, slice_get}
+use Rattle.std.specs.Prelude.{ℕ, List, [], ◌∷◌, ◌==◌, if◌then◌else◌, unwrap_or, codes, decimal, slice_get}
 use Rattle.tfpg_base.specs.Words.{line_of}
 use Rattle.tfpg_graph.specs.Graph.{Tfpg, name_at}
 use Rattle.tfpg_embed.specs.declared.kinds.TheConstants.{ALARM, SILENT, SWEEP, TICK, MODE}

@@ -1,5 +1,5 @@
 -- The names of a graph and their indexes, as C asks for them.
-use Rattle.std.specs.Prelude.{ℕ, List, ◌==◌, if◌then◌else◌, Option, None, Some, slice_get, option_and_then, length, unwrap_or}
+use Rattle.std.specs.Prelude.{ℕ, List, ◌==◌, if◌then◌else◌, Option, None, slice_get, option_and_then}
 use Rattle.std.specs.Option.{option_map_or}
 use Rattle.tfpg_graph.specs.Graph.{Tfpg, name_at, failure_at, node_named, mode_named, position_of_failure}
 use Rattle.tfpg_embed.specs.declared.answer.TfpgAnswer.{TfpgAnswer}

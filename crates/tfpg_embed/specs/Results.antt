@@ -1,5 +1,5 @@
 -- The numbers of what came last in a session.
-use Rattle.std.specs.Prelude.{ℕ, List, [], Bool, if◌then◌else◌, Option, Some, None}
+use Rattle.std.specs.Prelude.{ℕ, if◌then◌else◌, Option, Some, None}
 use Rattle.tfpg_log.specs.declared.refusal.Refusal.{Refusal}
 use Rattle.tfpg_log.specs.declared.refusal.Refusal.TheVariants as refusal
 use Rattle.tfpg_log.specs.declared.refused_line.RefusedLine.{RefusedLine}

@@ -1,16 +1,15 @@
 -- The lemmas of each command, in folders named like those of the source.
 pub mod diagnose
-pub mod explain
 pub mod check
 pub mod simulate
 pub mod generate
-pub mod ask
 pub mod fleet
 pub mod predict
+pub mod panel_lines
 -- Lemmas that several commands need.
 pub mod Refused
 pub mod AskedInOrder
-pub mod LogTexts
+pub mod Written
 pub mod Stops
 pub mod PlannedNumbers
 pub mod Completing

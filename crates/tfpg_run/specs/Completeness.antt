@@ -19,8 +19,8 @@ use Rattle.tfpg_run.specs.convert.Converting.{SpellsFrom}
 use Rattle.tfpg_map.specs.Spelling.{HasMap}
 use Rattle.tfpg_run.specs.fleet.FleetEnds.{HasFewForFleet, fleet_words}
 use Rattle.tfpg_run.specs.TooMany.{HasFewHypotheses}
-use Rattle.tfpg_run.specs.declared.fault.ProbeFault.{ProbeFault}
-use Rattle.tfpg_run.specs.predict.Probing.{probed_node}
+use Rattle.tfpg_answers.specs.declared.predict.probing.ProbeFault.{ProbeFault}
+use Rattle.tfpg_answers.specs.Probing.{probed_node}
 use Rattle.tfpg_run.specs.World.{World}
 
 -- The input is known, and has at most 2^32 bytes left.

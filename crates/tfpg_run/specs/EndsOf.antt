@@ -4,21 +4,19 @@ use Rattle.tfpg_run.specs.declared.fault.FetchFault.{FetchFault}
 use Rattle.tfpg_run.specs.declared.fault.FetchFault.TheVariants as fetch
 use Rattle.tfpg_streams.specs.declared.fault.StreamFault.{StreamFault}
 use Rattle.tfpg_streams.specs.declared.fault.StreamFault.TheVariants as streams
-use Rattle.tfpg_run.specs.declared.fault.ExplainFault.{ExplainFault}
-use Rattle.tfpg_run.specs.declared.fault.ExplainFault.TheVariants as explain
+use Rattle.tfpg_base.specs.declared.line.LineFault.{LineFault}
+use Rattle.tfpg_base.specs.declared.line.LineFault.TheVariants as lines
+use Rattle.tfpg_map.specs.declared.map.NoMap.{NoMap}
+use Rattle.tfpg_map.specs.declared.map.NoMap.TheVariants as maps
 use Rattle.tfpg_diagnose.specs.declared.fault.CheckFault.{CheckFault}
 use Rattle.tfpg_diagnose.specs.declared.fault.CheckFault.TheVariants as check
-use Rattle.tfpg_run.specs.declared.fault.SimulateFault.{SimulateFault}
-use Rattle.tfpg_run.specs.declared.fault.SimulateFault.TheVariants as simulate
 use Rattle.tfpg_streams.specs.declared.fault.OutputFault.{OutputFault}
 use Rattle.tfpg_streams.specs.declared.fault.OutputFault.TheVariants as output
-use Rattle.tfpg_run.specs.declared.fault.QuestionsFault.{QuestionsFault}
-use Rattle.tfpg_run.specs.declared.fault.QuestionsFault.TheVariants as questions
-use Rattle.tfpg_run.specs.declared.fault.ProbeFault.{ProbeFault}
-use Rattle.tfpg_run.specs.declared.fault.ProbeFault.TheVariants as probe
+use Rattle.tfpg_answers.specs.declared.predict.probing.ProbeFault.{ProbeFault}
+use Rattle.tfpg_answers.specs.declared.predict.probing.ProbeFault.TheVariants as probe
 use Rattle.tfpg_graph.specs.declared.cause.GraphCause.TheVariants as graph
 use Rattle.tfpg_words.specs.declared.usage_cause.UsageCause.TheVariants.{UnknownNode}
-use Rattle.tfpg_check.specs.declared.cause.CheckCause.TheVariants.{BadMap, BadScript}
+use Rattle.tfpg_check.specs.declared.cause.CheckCause.TheVariants.{BadMap}
 use Rattle.tfpg_run.specs.declared.end.End.{End}
 use Rattle.tfpg_run.specs.declared.end.End.TheVariants as ends
 
@@ -36,33 +34,28 @@ end_of_stream_fault streams.WriteFault = ends.WriteFault
 end_of_stream_fault streams.TooMuchInput = ends.TooMuchInput
 end_of_stream_fault streams.NoMemory = ends.NoMemory
 
--- the end of a run whose map was not judged
-abbrev pub end_of_explain_fault : ExplainFault → End
-end_of_explain_fault (explain.BadMap line) = ends.NotAccepted line BadMap
-end_of_explain_fault (explain.Stream fault) = end_of_stream_fault fault
+-- the end of a run whose input was not read to its end
+abbrev pub end_of_line_fault : LineFault → End
+end_of_line_fault lines.ReadFault = ends.ReadFault
+end_of_line_fault lines.TooMuchInput = ends.TooMuchInput
+
+-- the end of a run whose input gives no map
+abbrev pub end_of_no_map : NoMap → End
+end_of_no_map (maps.Refused line) = ends.NotAccepted line BadMap
+end_of_no_map (maps.Lines fault) = end_of_line_fault fault
+end_of_no_map maps.NoMemory = ends.NoMemory
 
 -- the end of a run whose report was not accepted
 abbrev pub end_of_check_fault : CheckFault → End
 end_of_check_fault (check.NotAccepted line cause) = ends.NotAccepted line cause
 end_of_check_fault (check.TooMany count) = ends.TooManyHypotheses count
-end_of_check_fault (check.Stream fault) = end_of_stream_fault fault
-
--- the end of a run whose script was not simulated
-abbrev pub end_of_simulate_fault : SimulateFault → End
-end_of_simulate_fault (simulate.BadScript line) = ends.NotAccepted line BadScript
-end_of_simulate_fault simulate.WriteFault = ends.WriteFault
-end_of_simulate_fault simulate.NoMemory = ends.NoMemory
+end_of_check_fault (check.Lines fault) = end_of_line_fault fault
+end_of_check_fault check.NoMemory = ends.NoMemory
 
 -- the end of a run whose text was not written
 abbrev pub end_of_output_fault : OutputFault → End
 end_of_output_fault output.WriteFault = ends.WriteFault
 end_of_output_fault output.NoMemory = ends.NoMemory
-
--- the end of a run whose questions were not written
-abbrev pub end_of_questions_fault : QuestionsFault → End
-end_of_questions_fault (questions.TooMany count) = ends.TooManyHypotheses count
-end_of_questions_fault questions.WriteFault = ends.WriteFault
-end_of_questions_fault questions.NoMemory = ends.NoMemory
 
 -- the end of a run whose node takes no probe
 abbrev pub end_of_probe_fault : ProbeFault → End

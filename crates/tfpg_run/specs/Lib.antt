@@ -17,5 +17,7 @@ pub mod convert
 pub mod ask
 pub mod fleet
 pub mod predict
+-- The lines of file panels.
+pub mod PanelLines
 -- What the code and its proofs need besides. No public clause reaches it.
 pub mod inside

@@ -13,7 +13,7 @@ use Rattle.tfpg_run.specs.generate.Generating.{GenerateEnds}
 use Rattle.tfpg_run.specs.convert.Converting.{ConvertEnds}
 use Rattle.tfpg_run.specs.ask.Asking.{AskEnds}
 use Rattle.tfpg_run.specs.fleet.FleetEnds.{FleetEnds, fleet_words}
-use Rattle.tfpg_run.specs.predict.Forecasts.{prediction}
+use Rattle.tfpg_answers.specs.Forecasts.{prediction}
 use Rattle.tfpg_run.specs.predict.Predicting.{PredictEnds}
 
 -- No command touches the desk but the one that diagnoses, and words that are refused do not either.

@@ -1,11 +1,13 @@
--- Whether a graph has too many hypotheses, and how a command ends where it has.
-use Rattle.std.specs.Prelude.{◌≡◌, ℕ, ◌<◌, ◌≤◌}
+-- Whether a graph has too many hypotheses, and how a command ends that needs them all.
+use Rattle.std.specs.Prelude.{◌≡◌, ◌⊎◌, ℕ, ◌<◌, ◌≤◌, List}
 use Rattle.tfpg_base.specs.declared.terms.Terms.{Terms}
 use Rattle.tfpg_graph.specs.Graph.{Tfpg}
 use Rattle.tfpg_hyp.specs.Hypotheses.{HasHypotheses}
 use Rattle.tfpg_hyp.specs.declared.limits.TheConstants.{MAX_HYPOTHESES}
 use Rattle.tfpg_run.specs.declared.end.End.{End}
 use Rattle.tfpg_run.specs.declared.end.End.TheVariants as ends
+use Rattle.tfpg_run.specs.EndsOf.{EndsBy, end_of_output_fault}
+use Rattle.tfpg_streams.specs.Outputs.{TextEnds}
 use Rattle.tfpg_run.specs.World.{World, watched_of}
 
 -- The graph has at most 4,096 hypotheses on these terms.
@@ -19,3 +21,13 @@ pub record EndsWithTooMany (graph : Tfpg) (terms : Terms) (before now : World) (
   pub too_many : MAX_HYPOTHESES < count
   pub end_is : end ≡ ends.TooManyHypotheses count
   pub untouched : watched_of now ≡ watched_of before
+
+-- How work with the hypotheses of a graph on these terms ends: they are too many; or they are not, and the work ended so.
+abbrev pub EndsUnlessTooMany : Tfpg → Terms → World → World → (End → Type 0) → End → Type 0
+EndsUnlessTooMany graph terms before now Works end =
+    EndsWithTooMany graph terms before now end ⊎ (HasFewHypotheses terms graph × Works end)
+
+-- So it ends where one text is written, which is to be right.
+abbrev pub TextEndsUnlessTooMany : (List ℕ → Type 0) → Tfpg → Terms → World → World → End → Type 0
+TextEndsUnlessTooMany IsRight graph terms before now =
+    EndsUnlessTooMany graph terms before now (EndsBy (TextEnds IsRight before.output now.output) end_of_output_fault)

@@ -1,3 +1,2 @@
--- Which observation would tell most, and how `ask` ends.
-pub mod Questions
+-- How `ask` ends.
 pub mod Asking

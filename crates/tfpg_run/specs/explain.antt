@@ -1,3 +1,2 @@
--- How `explain` ends, and the text of a verdict.
-pub mod Verdicts
+-- How `explain` ends.
 pub mod Explaining

@@ -1,4 +1,2 @@
--- What `predict` is asked, what it writes, and how it ends.
-pub mod Probing
-pub mod Forecasts
+-- How `predict` ends.
 pub mod Predicting

@@ -8,17 +8,21 @@ ghost use Rattle.tfpg_check.specs.CauseNames.{check_cause_name};
 ghost use Rattle.tfpg_graph.specs.CauseNames.{graph_cause_name};
 ghost use Rattle.tfpg_run.specs.Ends.{line_of_end, status_of};
 ghost use Rattle.tfpg_words.specs.CauseNames.{usage_name};
-ghost use Rattle.tfpg_run.specs.EndsOf.{end_of_check_fault, end_of_explain_fault, end_of_fetch_fault, end_of_output_fault, end_of_questions_fault, end_of_simulate_fault, end_of_stream_fault, end_of_probe_fault};
-ghost use Rattle.tfpg_run.specs.inside.Faults.{end_of_plan_fault, end_of_table_fault};
+ghost use Rattle.tfpg_run.specs.EndsOf.{end_of_check_fault, end_of_fetch_fault, end_of_line_fault, end_of_no_map, end_of_output_fault, end_of_stream_fault, end_of_probe_fault};
+ghost use Rattle.tfpg_run.specs.declared.end.End.TheVariants as ends;
+ghost use Rattle.tfpg_run.specs.inside.Faults.{end_of_plan_fault, end_of_sim_fault, end_of_table_fault};
 
-use crate::fault::{ExplainFault, FetchFault, ProbeFault, QuestionsFault, SimulateFault};
+use crate::fault::FetchFault;
 use itoa::Buffer;
 use std::process::ExitCode;
-use tfpg_base::{NoMemory, append_words};
+use tfpg_answers::ProbeFault;
+use tfpg_base::{Failed, LineFault, NoMemory, append_words};
 use tfpg_check::{CheckCause, check_cause_word};
 use tfpg_diagnose::CheckFault;
 use tfpg_graph::{GraphCause, graph_cause_word};
 use tfpg_hyp::TableFault;
+use tfpg_map::NoMap;
+use tfpg_sim::SimFault;
 use tfpg_streams::{OutputFault, StreamFault};
 use tfpg_words::{PlanFault, UsageCause, usage_cause_word};
 
@@ -142,16 +146,28 @@ impl From<StreamFault> for End {
     }
 }
 
-impl From<ExplainFault> for End {
-    ghost from_gives = { λ fault e. e ≡ end_of_explain_fault fault };
+impl From<LineFault> for End {
+    ghost from_gives = { λ fault e. e ≡ end_of_line_fault fault };
 
-    fn from(fault: ExplainFault) -> End {
+    fn from(fault: LineFault) -> End {
         match fault {
-            ExplainFault::BadMap { line } => End::NotAccepted {
+            LineFault::ReadFault => End::ReadFault,
+            LineFault::TooMuchInput => End::TooMuchInput,
+        }
+    }
+}
+
+impl From<NoMap> for End {
+    ghost from_gives = { λ fault e. e ≡ end_of_no_map fault };
+
+    fn from(fault: NoMap) -> End {
+        match fault {
+            NoMap::Refused { line } => End::NotAccepted {
                 line,
                 cause: CheckCause::BadMap,
             },
-            ExplainFault::Stream(fault) => End::from(fault),
+            NoMap::Lines(fault) => End::from(fault),
+            NoMap::NoMemory => End::NoMemory,
         }
     }
 }
@@ -163,23 +179,31 @@ impl From<CheckFault> for End {
         match fault {
             CheckFault::NotAccepted { line, cause } => End::NotAccepted { line, cause },
             CheckFault::TooMany { count } => End::TooManyHypotheses { count },
-            CheckFault::Stream(fault) => End::from(fault),
+            CheckFault::Lines(fault) => End::from(fault),
+            CheckFault::NoMemory => End::NoMemory,
         }
     }
 }
 
-impl From<SimulateFault> for End {
-    ghost from_gives = { λ fault e. e ≡ end_of_simulate_fault fault };
+impl From<SimFault> for End {
+    ghost from_gives = { λ fault e. e ≡ end_of_sim_fault fault };
 
-    fn from(fault: SimulateFault) -> End {
+    fn from(fault: SimFault) -> End {
         match fault {
-            SimulateFault::BadScript { line } => End::NotAccepted {
+            SimFault::BadScript { line } => End::NotAccepted {
                 line,
                 cause: CheckCause::BadScript,
             },
-            SimulateFault::WriteFault => End::WriteFault,
-            SimulateFault::NoMemory => End::NoMemory,
+            SimFault::NoMemory => End::NoMemory,
         }
+    }
+}
+
+impl From<Failed> for End {
+    ghost from_gives = { λ _ e. e ≡ ends.WriteFault };
+
+    fn from(_e: Failed) -> End {
+        End::WriteFault
     }
 }
 
@@ -190,18 +214,6 @@ impl From<OutputFault> for End {
         match fault {
             OutputFault::WriteFault => End::WriteFault,
             OutputFault::NoMemory => End::NoMemory,
-        }
-    }
-}
-
-impl From<QuestionsFault> for End {
-    ghost from_gives = { λ fault e. e ≡ end_of_questions_fault fault };
-
-    fn from(fault: QuestionsFault) -> End {
-        match fault {
-            QuestionsFault::TooMany { count } => End::TooManyHypotheses { count },
-            QuestionsFault::WriteFault => End::WriteFault,
-            QuestionsFault::NoMemory => End::NoMemory,
         }
     }
 }

@@ -1,25 +1,23 @@
 //! The command `explain`: from the names of a graph file and a log file to the verdict on the map of the input.
 
-ghost use Rattle.std.specs.Prelude.{IfErr, OnOk, Ok, Err};
-ghost use Rattle.tfpg_log.specs.Log.{IsLogOf};
-ghost use Rattle.tfpg_streams.specs.Streams.{streams};
+ghost use Rattle.std.specs.Prelude.{◌<◌, All, IfErr, IsTrue, OnOk, Ok, Err, length};
+ghost use Rattle.tfpg_base.specs.Lines.{lines_of};
+ghost use Rattle.tfpg_graph.specs.Graph.{is_monitored};
+ghost use Rattle.tfpg_log.specs.LogOfLines.{log_of_lines};
 ghost use Rattle.tfpg_panel.specs.Desk.{DeskState};
+ghost use Rattle.tfpg_streams.specs.Outputs.{TextEnds};
+ghost use Rattle.tfpg_answers.specs.Verdicts.{HasVerdict};
 ghost use Rattle.tfpg_run.specs.World.{world};
-ghost use Rattle.tfpg_run.specs.explain.Explaining.{ExplainEnds, ExplainsMap};
-
-mod verdicts;
+ghost use Rattle.tfpg_run.specs.explain.Explaining.{ExplainEnds};
 
 use crate::end::End;
-use crate::fault::ExplainFault;
-use crate::fetching::fetch_graph_and_log;
+use crate::fetching::fetch_graph_and_text;
 use std::alloc::Global;
+use tfpg_answers::verdict_on_map;
 use tfpg_base::{Shelf, Sink, Source};
 use tfpg_graph::Graph;
-use tfpg_log::Log;
-use tfpg_map::read_map;
-use tfpg_streams::write_all;
-use tfpg_trace::explains;
-use verdicts::verdict_line;
+use tfpg_map::{Map, read_map};
+use tfpg_streams::{OutputFault, write_all};
 
 /// Judges the map of the input by the graph and the log of the files of these names.
 pub(crate) fn explain_by_files<F: Shelf, S: Source, K: Sink>(
@@ -37,31 +35,27 @@ pub(crate) fn explain_by_files<F: Shelf, S: Source, K: Sink>(
         (world (F.state shelf.old) (S.state input.old) (K.state out.old) desk)
         (world (F.state shelf.new) (S.state input.new) (K.state out.new) desk)) }
 {
-    let (graph, mut log) = fetch_graph_and_log(alloc, shelf, graph_name, log_name)?;
-    Ok(explain_map(alloc, &graph, &mut log, input, out)?)
+    let (graph, log_text) = fetch_graph_and_text(alloc, shelf, graph_name, log_name)?;
+    let map = read_map(alloc, &graph, input)?;
+    Ok(write_verdict(alloc, &graph, &log_text, &map, out)?)
 }
 
-/// Reads the map of the input, judges it by the graph and the log, and writes the verdict. From then on the log ignores the
-/// monitors that the map ignores.
-fn explain_map<S: Source, K: Sink>(
+/// Judges the map by the graph and the lines of the log, and writes the verdict.
+fn write_verdict<K: Sink>(
     alloc: Global,
     graph: &Graph,
-    log: &mut Log,
-    input: &mut S,
+    log_text: &[u8],
+    map: &Map,
     out: &mut K,
-) -> Result<(), ExplainFault>
-    requires { IsLogOf graph.now log.old }
-    ensures done { OnOk result (ExplainsMap graph.now log.old
-        (streams (S.state input.old) (K.state out.old))
-        (streams (S.state input.new) (K.state out.new)) (Ok tt)) }
-    ensures stopped { IfErr result (λ fault. ExplainsMap graph.now log.old
-        (streams (S.state input.old) (K.state out.old))
-        (streams (S.state input.new) (K.state out.new)) (Err fault)) }
+) -> Result<(), OutputFault>
+    requires nodes { All (λ activation. activation.node < length graph.now.nodes) map.now.trace }
+    requires monitors { All (λ node. IsTrue (is_monitored graph.now node)) map.now.hypothesis.doubts }
+    ensures done { OnOk result (TextEnds (HasVerdict graph.now (log_of_lines graph.now (lines_of log_text.now)) map.now)
+        (K.state out.old) (K.state out.new) (Ok tt)) }
+    ensures stopped { IfErr result (λ fault. TextEnds (HasVerdict graph.now (log_of_lines graph.now (lines_of log_text.now)) map.now)
+        (K.state out.old) (K.state out.new) (Err fault)) }
 {
-    let map = read_map(alloc, graph, input)?;
-    log.ignore(map.doubts());
-    let verdict = explains(graph, log, map.set(), &map.trace);
-    let line = verdict_line(alloc, graph, verdict)?;
-    write_all(out, &line)?;
+    let text = verdict_on_map(alloc, graph, log_text, map)?;
+    write_all(out, &text)?;
     Ok(())
 }

@@ -3,6 +3,7 @@
 //! [`run`] is the call that the program makes. It says how it ended by an [`End`], which has an exit code and a line. [`laws`] says that a
 //! simulated set is rejected in no round, that files are asked for in their order, that `diagnose` writes each block before it takes the
 //! next line, that what it wrote is accepted by `check`, and that a graph that is converted to JSON and back is the same graph.
+//! [`panel_lines`] has the lines that panels over files write.
 //!
 //! ```
 //! // The words `diagnose pump.tfpg`, over a shelf that has the graph, and an input that has a log of it.
@@ -12,6 +13,7 @@
 //! # Proved, and by which clause
 //!
 //! - The rows of the program in `docs/promises.md`: `run`, `ends`, `completes`, `refuses`, `rechecks`, `work`, `desk`.
+//! - The line of each kind of panel, byte for byte: `panel_lines::panel_line`.
 //!
 //! # Not proved
 //!
@@ -31,6 +33,7 @@ mod fleet;
 mod generate;
 pub mod laws;
 mod limits;
+pub mod panel_lines;
 mod predict;
 mod simulate;
 

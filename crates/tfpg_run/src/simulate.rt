@@ -1,15 +1,14 @@
 //! The command `simulate`: from the names of a graph file and a script file to the log or the map that the script makes.
 
-ghost use Rattle.std.specs.Prelude.{◌≡◌, ◌<◌, All, IfOk, IfErr, OnOk, Ok, Err, length};
+ghost use Rattle.std.specs.Prelude.{◌≡◌, ◌<◌, All, IfOk, IfErr, OnOk, length};
 ghost use Rattle.tfpg_base.specs.Outside.{SourceState};
 ghost use Rattle.tfpg_graph.specs.Graph.{AreFailures};
 ghost use Rattle.tfpg_sim.specs.ScriptFaults.{IsSimFault};
-ghost use Rattle.tfpg_run.specs.simulate.Simulating.{HasSimulation, SimulateEnds, SimulationEnds, simulated_text};
+ghost use Rattle.tfpg_run.specs.simulate.Simulating.{HasSimulation, SimulateEnds, simulated_text};
 ghost use Rattle.tfpg_panel.specs.Desk.{DeskState};
 ghost use Rattle.tfpg_run.specs.World.{world};
 
 use crate::end::End;
-use crate::fault::SimulateFault;
 use crate::fetching::fetch_graph_and_text;
 use std::alloc::Global;
 use tfpg_base::{NoMemory, Shelf, Sink};
@@ -40,24 +39,7 @@ pub(crate) fn simulate_files<F: Shelf, K: Sink>(
         (world (F.state shelf.new) input (K.state out.new) desk)) }
 {
     let (graph, script) = fetch_graph_and_text(alloc, shelf, graph_name, script_name)?;
-    Ok(write_simulation(alloc, &graph, &script, draw, trace, out)?)
-}
-
-/// Simulates the script on the graph, and writes its text.
-fn write_simulation<K: Sink>(
-    alloc: Global,
-    graph: &Graph,
-    script: &[u8],
-    draw: u64,
-    trace: bool,
-    out: &mut K,
-) -> Result<(), SimulateFault>
-    ensures done { OnOk result (SimulationEnds (HasSimulation draw trace) graph.now script.now
-        (K.state out.old) (K.state out.new) (Ok tt)) }
-    ensures stopped { IfErr result (λ fault. SimulationEnds (HasSimulation draw trace) graph.now script.now
-        (K.state out.old) (K.state out.new) (Err fault)) }
-{
-    let text = simulation_text(alloc, graph, script, draw, trace)?;
+    let text = simulation_text(alloc, &graph, &script, draw, trace)?;
     write_all(out, &text)?;
     Ok(())
 }

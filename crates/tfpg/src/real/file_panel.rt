@@ -3,9 +3,8 @@
 ghost use Rattle.std.specs.Prelude.{◌≡◌, [], IfOk};
 ghost use Rattle.tfpg_evidence.specs.RoundOf.{IsRoundOf};
 ghost use Rattle.tfpg_graph.specs.Graph.{sizes_of};
-ghost use Rattle.tfpg.specs.PanelLines.{panel_line};
+ghost use Rattle.tfpg_run.specs.PanelLines.{panel_line};
 
-use crate::panel_lines::panel_line;
 use std::alloc::Global;
 use std::io::Write;
 use std::rt::Files;
@@ -14,6 +13,7 @@ use tfpg_base::{FaultCount, NoMemory, Text};
 use tfpg_evidence::Round;
 use tfpg_graph::Graph;
 use tfpg_panel::{Panel, PanelFault, ToldRounds};
+use tfpg_run::panel_lines::panel_line;
 use tfpg_words::PanelWord;
 
 /// A panel that writes a line for each round to a file. The file is made anew at the first round.

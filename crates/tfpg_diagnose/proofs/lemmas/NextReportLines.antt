@@ -27,9 +27,8 @@ use Rattle.tfpg_check.specs.JudgeState.{GoesOnTo, JudgeState}
 use Rattle.tfpg_check.specs.RightReports.{WholeLinesAreThoseOfReports}
 use Rattle.tfpg_diagnose.specs.declared.fault.CheckFault.{CheckFault}
 use Rattle.tfpg_diagnose.specs.declared.fault.CheckFault.TheVariants as check
-use Rattle.tfpg_streams.specs.declared.fault.StreamFault.TheVariants as streams
 use Rattle.tfpg_diagnose.specs.JudgedReports.{IsRightSoFar, AcceptsReport, LacksReport}
-use Rattle.tfpg_diagnose.specs.inside.Faults.{check_fault_of_judge, check_fault_of_lines}
+use Rattle.tfpg_diagnose.specs.inside.Faults.{check_fault_of_judge}
 use Rattle.tfpg_diagnose.specs.inside.JudgingUnderWay.{HasJudgedAll, IsChecking, IsJudging, IsNewJudge, IsReadingLines, IsReadingOn, checking_at}
 use Rattle.tfpg_streams.proofs.lemmas.InputLines.{rest_of, rest_is_left, rest_at_end, front_of_input, came_to_end}
 use Rattle.tfpg_streams.proofs.lemmas.FewLines.{few_lines}
@@ -167,7 +166,7 @@ module _ (problem : DiagnosisProblem) (before now input : SourceState) (lines li
       }
 
   -- memory ran out
-  without_memory : LacksReport problem before input (check.Stream streams.NoMemory)
+  without_memory : LacksReport problem before input check.NoMemory
   without_memory = record {
     taken = checking.under.reading.taken ++ gave.more;
     takes = Takes-append before now input checking.under.reading.taken gave.more checking.under.takes gave.takes;
@@ -210,7 +209,7 @@ module _ (problem : DiagnosisProblem) (before now input : SourceState) (lines li
   right_so_far = (checking.reads, checking.are_read, checking.right)
 
   -- the reader of lines reports a fault
-  pub lacks_by_fault : (f : LineFault) → Continues checking.under.reading checking.under.reading.ended now input (Err f) lines' → LacksReport problem before input (check_fault_of_lines f)
+  pub lacks_by_fault : (f : LineFault) → Continues checking.under.reading checking.under.reading.ended now input (Err f) lines' → LacksReport problem before input (check.Lines f)
   lacks_by_fault fault.ReadFault continues =
       let reading = checking.under.reading in
       let turn = Continues-turn reading now input (Err fault.ReadFault) lines' checking.under.goes_on (λ e. cc) continues in

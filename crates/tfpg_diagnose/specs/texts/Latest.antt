@@ -1,5 +1,5 @@
 -- What came last: the last round, and what became of the last line.
-use Rattle.std.specs.Prelude.{ℕ, List, [], fold, bytes_eq, Bool, false, not, Option, Some, None, slice_get, option_and_then}
+use Rattle.std.specs.Prelude.{ℕ, List, [], fold, bytes_eq, false, not, Option, Some, None, slice_get, option_and_then}
 use Rattle.std.specs.Option.{option_map_or}
 use Rattle.tfpg_base.specs.declared.terms.Terms.{Terms}
 use Rattle.tfpg_graph.specs.Graph.{Tfpg}

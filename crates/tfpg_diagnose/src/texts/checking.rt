@@ -14,13 +14,12 @@ use super::fault::CheckTextsFault;
 use crate::fault::CheckFault;
 use crate::report_lines::judge_report;
 use std::alloc::Global;
-use tfpg_base::{LONGEST_FILE, SteadySource};
+use tfpg_base::{LONGEST_FILE, LineFault, SteadySource};
 use tfpg_check::laws::lines_have_at_most_one_cause;
 use tfpg_graph::laws::a_text_has_at_most_one_first_fault;
 use tfpg_graph::{Graph, read};
 use tfpg_hyp::laws::the_table_is_one;
 use tfpg_report::laws::a_report_line_says_one_thing;
-use tfpg_streams::StreamFault;
 
 /// Judges the report by the graph that the text spells and the lines of the log, and returns how many rounds it has.
 ///
@@ -88,17 +87,16 @@ fn rounds_in(
     }
 }
 
-/// Why a report is not accepted whose input never fails, and where nothing is written.
+/// Why a report is not accepted whose input never fails.
 fn fault_in_memory(fault: CheckFault) -> CheckTextsFault
-    requires read { fault ≢ CheckFault.Stream StreamFault.ReadFault }
-    requires written { fault ≢ CheckFault.Stream StreamFault.WriteFault }
+    requires { fault ≢ CheckFault.Lines LineFault.ReadFault }
     ensures { result ≡ check_texts_fault_of_check fault }
 {
     match fault {
         CheckFault::NotAccepted { line, cause } => CheckTextsFault::NotAccepted { line, cause },
         CheckFault::TooMany { count } => CheckTextsFault::TooManyHypotheses { count },
-        CheckFault::Stream(StreamFault::TooMuchInput) => CheckTextsFault::TooMuchInput,
-        CheckFault::Stream(StreamFault::NoMemory) => CheckTextsFault::NoMemory,
-        CheckFault::Stream(StreamFault::ReadFault | StreamFault::WriteFault) => unreachable!(),
+        CheckFault::Lines(LineFault::TooMuchInput) => CheckTextsFault::TooMuchInput,
+        CheckFault::Lines(LineFault::ReadFault) => unreachable!(),
+        CheckFault::NoMemory => CheckTextsFault::NoMemory,
     }
 }

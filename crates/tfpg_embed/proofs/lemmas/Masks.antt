@@ -1,5 +1,5 @@
 -- Bits that say who is a member, word by word.
-use Rattle.std.proofs.Common.{◌≡◌, ◌≢◌, ℕ, ◌*◌, ◌/◌, ◌%◌, ◌<◌, ◌≤◌, ◌^◌, List, [], ◌∷◌, length, get_or, set, replicate, ◌⊎◌, ◌↔◌, inl, inr, ⊎_elim, bit_or, w64, true, false, nat_le, nat_lt, IsTrue, refl, arith, sym, ◌∙◌, ap, subst}
+use Rattle.std.proofs.Common.{◌≡◌, ℕ, ◌*◌, ◌/◌, ◌%◌, ◌<◌, ◌≤◌, ◌^◌, List, [], ◌∷◌, length, get_or, set, replicate, ◌⊎◌, ◌↔◌, inl, inr, ⊎_elim, bit_or, w64, true, false, nat_le, nat_lt, IsTrue, refl, arith, sym, ◌∙◌, ap, subst}
 use Rattle.std.specs.Int.{bit_at}
 use Rattle.std.specs.List.{Contains, All}
 use Rattle.std.specs.Prelude.{map}

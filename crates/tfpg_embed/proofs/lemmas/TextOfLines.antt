@@ -1,7 +1,7 @@
 -- What a session returned for lines is a report of their text.
-use Rattle.std.proofs.Common.{◌≡◌, ℕ, List, sym, subst}
+use Rattle.std.proofs.Common.{ℕ, List, sym, subst}
 use Rattle.std.specs.Prelude.{All, flat_map}
-use Rattle.tfpg_base.specs.Lines.{HasNoLineEnd, lines_of, with_line_end}
+use Rattle.tfpg_base.specs.Lines.{HasNoLineEnd, with_line_end}
 use Rattle.tfpg_base.specs.declared.terms.Terms.{Terms}
 use Rattle.tfpg_base.proofs.lemmas.LinesOf.{lines_again}
 use Rattle.tfpg_graph.specs.Graph.{Tfpg}

@@ -17,7 +17,6 @@ use Rattle.tfpg_graph.specs.Valid.{IsValid}
 use Rattle.tfpg_graph.specs.Faults.{IsFirstFault}
 use Rattle.tfpg_graph.proofs.lemmas.reading.faults.NoFault.{Spells-clean}
 use Rattle.tfpg_json.specs.GraphText.{IsJsonFault, SpellsAsJson}
-use Rattle.tfpg_log.specs.Log.{Logbook}
 use Rattle.tfpg_log.specs.LogOfLines.{log_of_lines}
 use Rattle.tfpg_report.specs.Blocks.{Block}
 use Rattle.tfpg_check.specs.declared.cause.CheckCause.{CheckCause}
@@ -32,24 +31,24 @@ use Rattle.tfpg_run.specs.declared.fault.FetchFault.{FetchFault}
 use Rattle.tfpg_run.specs.declared.fault.FetchFault.TheVariants.{Failed, TooLong, Graph, NoMemory}
 use Rattle.tfpg_streams.specs.declared.fault.StreamFault.{StreamFault}
 use Rattle.tfpg_streams.specs.declared.fault.StreamFault.TheVariants as streams
-use Rattle.tfpg_run.specs.declared.fault.ExplainFault.{ExplainFault}
-use Rattle.tfpg_run.specs.declared.fault.ExplainFault.TheVariants as explain
+use Rattle.tfpg_base.specs.declared.line.LineFault.TheVariants as lines
+use Rattle.tfpg_map.specs.declared.map.NoMap.{NoMap}
+use Rattle.tfpg_map.specs.declared.map.NoMap.TheVariants as maps
+use Rattle.tfpg_map.specs.InputMap.{LacksMap}
 use Rattle.tfpg_diagnose.specs.declared.fault.CheckFault.{CheckFault}
 use Rattle.tfpg_diagnose.specs.declared.fault.CheckFault.TheVariants as check
-use Rattle.tfpg_run.specs.declared.fault.SimulateFault.{SimulateFault}
-use Rattle.tfpg_run.specs.declared.fault.SimulateFault.TheVariants as simulate
 use Rattle.tfpg_streams.specs.declared.fault.OutputFault.{OutputFault}
 use Rattle.tfpg_streams.specs.declared.fault.OutputFault.TheVariants as output
-use Rattle.tfpg_run.specs.declared.fault.QuestionsFault.{QuestionsFault}
-use Rattle.tfpg_run.specs.declared.fault.QuestionsFault.TheVariants as questions
 use Rattle.tfpg_run.specs.Completeness.{CanBeDone, CanRefuse, HasLines, IsCompleted, IsRefusedFor, IsShort, NothingFails, ServesGraph, ServesGraphAndText, CanBeProbed}
-use Rattle.tfpg_run.specs.EndsOf.{end_of_fetch_fault, end_of_stream_fault, end_of_check_fault, end_of_explain_fault, end_of_simulate_fault, end_of_output_fault, end_of_questions_fault, end_of_result}
+use Rattle.tfpg_run.specs.EndsOf.{EndsBy, end_of_fetch_fault, end_of_stream_fault, end_of_check_fault, end_of_no_map, end_of_output_fault, end_of_result}
 use Rattle.tfpg_run.specs.Fetch.{HasFile, IsTooLong, GivesGraph, GivesGraphBy, GivesGraphAndText, HasFaultyGraphBy, IsFetchFaultBy, LacksFiles}
 use Rattle.tfpg_run.specs.generate.Generating.{HasSummary}
-use Rattle.tfpg_run.specs.ask.Asking.{AskEnds, QuestionsEnd}
+use Rattle.tfpg_run.specs.ask.Asking.{AskEnds}
+use Rattle.tfpg_answers.specs.Questions.{HasQuestions}
 use Rattle.tfpg_run.specs.convert.Converting.{ConvertEnds, IsFaultFrom, SpellsFrom, converted_text}
-use Rattle.tfpg_run.specs.check.Checking.{CheckEnds, CheckingEnds, IsAcceptedReport}
-use Rattle.tfpg_diagnose.specs.JudgedReports.{HasTooManyInHead, problem_of}
+use Rattle.tfpg_run.specs.check.Checking.{CheckEnds, CheckingEnds, accepted_text}
+use Rattle.tfpg_diagnose.specs.JudgedReports.{HasTooManyInHead, LacksReport, problem_of}
+use Rattle.tfpg_answers.specs.Verdicts.{HasVerdict}
 use Rattle.tfpg_run.specs.explain.Explaining.{ExplainEnds, ExplainingEnds}
 use Rattle.tfpg_map.specs.Spelling.{HasMap, BeginsMap, IsMapFault}
 use Rattle.tfpg_streams.specs.Outputs.{IsStreamFault, TextEnds}
@@ -59,8 +58,8 @@ use Rattle.tfpg_run.specs.fleet.FleetOutput.{fleet_problem}
 use Rattle.tfpg_diagnose.specs.Diagnosing.{Diagnoses}
 use Rattle.tfpg_run.specs.diagnose.Diagnosing.{DiagnoseEnds, DiagnosisEnds}
 use Rattle.tfpg_run.specs.simulate.Simulating.{HasSimulation, SimulateEnds, SimulationEnds}
-use Rattle.tfpg_run.specs.TooMany.{HasFewHypotheses}
-use Rattle.tfpg_run.specs.predict.Forecasts.{HasForecasts, Prediction, prediction}
+use Rattle.tfpg_run.specs.TooMany.{EndsUnlessTooMany, HasFewHypotheses, TextEndsUnlessTooMany}
+use Rattle.tfpg_answers.specs.Forecasts.{HasForecasts, Prediction, prediction}
 use Rattle.tfpg_run.specs.predict.Predicting.{PredictEnds, PredictionEnds}
 use Rattle.tfpg_streams.specs.Streams.{HasLeft}
 use Rattle.tfpg_run.specs.World.{World, streams_of, watched_of}
@@ -186,6 +185,25 @@ module _ (graphs : GraphLaws) (laws : CheckLaws) (before now : World) (calm : No
       absurd (omega (arith, few_taken before.input now.input taken short takes, more))
   no_stream_fault short taken takes streams.NoMemory is = refl
 
+  -- one text that is written
+  text_written : (IsRight : List ℕ → Type 0) (result : Result (Unit {0}) OutputFault) → TextEnds IsRight before.output now.output result
+      → IsCompleted (end_of_result end_of_output_fault result)
+  text_written IsRight (Ok done) is = inl refl
+  text_written IsRight (Err output.WriteFault) is = absurd (calm.output is.rose)
+  text_written IsRight (Err output.NoMemory) is = inr refl
+
+  -- work with the hypotheses of a graph that has few
+  unless_too_many : (graph : Tfpg) (terms : Terms) (Works : End → Type 0) (end : End) → HasFewHypotheses terms graph → (Works end → IsCompleted end)
+      → EndsUnlessTooMany graph terms before now Works end → IsCompleted end
+  unless_too_many graph terms Works end few go (inl many) = absurd (omega (arith, many.too_many, few many.count many.counted))
+  unless_too_many graph terms Works end few go (inr works) = go works.1
+
+  -- a text that is written of them
+  text_unless_too_many : (IsRight : List ℕ → Type 0) (graph : Tfpg) (terms : Terms) (end : End) → HasFewHypotheses terms graph → TextEndsUnlessTooMany IsRight graph terms before now end → IsCompleted end
+  text_unless_too_many IsRight graph terms end few =
+      unless_too_many graph terms (EndsBy (TextEnds IsRight before.output now.output) end_of_output_fault) end few
+      (λ by. subst IsCompleted (sym by.end_is) (text_written IsRight by.result by.works))
+
   -- a diagnosis
   diagnosed : IsShort before.input → (end : End) (terms : Terms) (name : List ℕ) → ServesGraph Spells before.shelf name (HasFewHypotheses terms) → DiagnoseEnds terms name before now end
       → IsCompleted end
@@ -198,10 +216,10 @@ module _ (graphs : GraphLaws) (laws : CheckLaws) (before now : World) (calm : No
       go (Err fault) works e = inr (e ∙ ap end_of_stream_fault (no_stream_fault short works.taken works.takes fault works.ends.0))
 
       of_works : DiagnosisEnds terms before now file.graph end → IsCompleted end
-      of_works (inl many) =
-          let few : HasFewHypotheses terms file.graph = subst (HasFewHypotheses terms) (only_graph before.shelf can.files can.known name can.graph file.graph can.gives file.gives) can.holds in
-          absurd (omega (arith, many.too_many, few many.count many.counted))
-      of_works (inr few) = go few.1.result few.1.works few.1.end_is
+      of_works =
+          unless_too_many file.graph terms (EndsBy (Diagnoses file.graph terms (watched_of before) (watched_of now)) end_of_stream_fault) end
+          (subst (HasFewHypotheses terms) (only_graph before.shelf can.files can.known name can.graph file.graph can.gives file.gives) can.holds)
+          (λ by. go by.result by.works by.end_is)
 
   -- a diagnosis of many vehicles
   fleet_diagnosed : IsShort before.input → (end : End) (said : FleetWords) → ServesGraph Spells before.shelf said.file (HasFewForFleet said) → FleetEnds said before now end → IsCompleted end
@@ -232,74 +250,81 @@ module _ (graphs : GraphLaws) (laws : CheckLaws) (before now : World) (calm : No
         subst₂ Hold (only_graph before.shelf can.files can.known graph_name can.graph graph can.gives.of_graph gives.of_graph)
         (only_text before.shelf can.files can.known text_name can.text text can.gives.file.gives gives.file.gives) can.hold
 
-  -- a map whose verdict is written
-  explained_map : (short : IsShort before.input) (graph : Tfpg) (log : Logbook) (taken : List ℕ) → HasMap graph (lines_of short.known) → Takes before.input now.input taken → (result : Result (Unit {0}) ExplainFault)
-      → ExplainingEnds graph log (streams_of before) (streams_of now) taken result → IsCompleted (end_of_result end_of_explain_fault result)
-  explained_map short graph log taken map takes (Ok done) is = inl refl
-  explained_map short graph log taken map takes (Err (explain.BadMap line)) is =
-      let all : short.known ≡ taken ++ is.0.rest = all_of_input before.input now.input short.known taken is.0.rest short.left takes is.0.left in
-      absurd (no_map_fault graph (lines_of (taken ++ is.0.rest)) line (subst (λ (bytes : List ℕ). HasMap graph (lines_of bytes)) all map) is.0.fault)
-  explained_map short graph log taken map takes (Err (explain.Stream streams.ReadFault)) is = absurd (calm.input is.0)
-  explained_map short graph log taken map takes (Err (explain.Stream streams.WriteFault)) is = absurd (calm.output is.0.rose)
-  explained_map short graph log taken map takes (Err (explain.Stream streams.TooMuchInput)) is =
-      let more : length taken ≡ MAX_BYTES + 1 = is.0 in
-      absurd (omega (arith, few_taken before.input now.input taken short takes, more))
-  explained_map short graph log taken map takes (Err (explain.Stream streams.NoMemory)) is = inr refl
+  -- the lines of the input are read to their end
+  lines_read : {T : Type 0} (short : IsShort before.input) (taken : List ℕ) → Takes before.input now.input taken → length taken ≡ MAX_BYTES + 1 → T
+  lines_read short taken takes more = absurd (omega (arith, few_taken before.input now.input taken short takes, more))
 
+  -- a map is not missing
+  no_map : (short : IsShort before.input) (graph : Tfpg) → HasMap graph (lines_of short.known) → (fault : NoMap) → LacksMap graph before.input now.input fault → IsCompleted (end_of_no_map fault)
+  no_map short graph map (maps.Refused line) lacks =
+      let all : short.known ≡ lacks.taken ++ lacks.shown.rest = all_of_input before.input now.input short.known lacks.taken lacks.shown.rest short.left lacks.takes lacks.shown.left in
+      absurd (no_map_fault graph (lines_of (lacks.taken ++ lacks.shown.rest)) line (subst (λ (bytes : List ℕ). HasMap graph (lines_of bytes)) all map) lacks.shown.fault)
+  no_map short graph map (maps.Lines lines.ReadFault) lacks = absurd (calm.input lacks.shown.0)
+  no_map short graph map (maps.Lines lines.TooMuchInput) lacks = lines_read short lacks.taken lacks.takes lacks.shown.0
+  no_map short graph map maps.NoMemory lacks = inr refl
+
+  -- a map whose verdict is written
   explained : (end : End) (graph_name log_name : List ℕ) → ServesGraphAndText before.shelf graph_name log_name (λ graph text. HasLines before.input (HasMap graph))
       → ExplainEnds graph_name log_name before now end → IsCompleted end
   explained end graph_name log_name can (inl lacks) = inr (not_fetched end graph_name log_name can lacks)
-  explained end graph_name log_name can (inr explains) =
-      let holds : HasLines before.input (HasMap explains.graph) = holds_of_given end graph_name log_name can explains.graph explains.text explains.gives in
-      subst IsCompleted (sym explains.works.end_is)
-      (explained_map holds.0 explains.graph (log_of_lines explains.graph (lines_of explains.text)) explains.works.works.taken holds.1 explains.works.works.takes explains.works.result explains.works.works.ends)
+  explained end graph_name log_name can (inr explains) = go explains.works
+    where
+      holds : HasLines before.input (HasMap explains.graph)
+      holds = holds_of_given end graph_name log_name can explains.graph explains.text explains.gives
 
-  -- a report that is judged
-  judged_report : (short : IsShort before.input) (problem : DiagnosisProblem) (taken : List ℕ) → IsValid problem.graph → (terms : Terms) (blocks : List Block) → AreReportLines problem terms blocks (lines_of short.known)
-      → Takes before.input now.input taken → (result : Result (Unit {0}) CheckFault)
-      → CheckingEnds problem (streams_of before) (streams_of now) taken result → IsCompleted (end_of_result end_of_check_fault result)
-  judged_report short problem taken valid terms blocks report takes (Ok done) is = inl refl
-  judged_report short problem taken valid terms blocks report takes (Err (check.NotAccepted line cause)) is =
-      let all : short.known ≡ taken ++ is.0.rest = all_of_input before.input now.input short.known taken is.0.rest short.left takes is.0.left in
-      absurd (laws.no_cause problem terms blocks short.known line cause valid report short.few
-      (subst (λ (bytes : List ℕ). IsCause problem (lines_of bytes) line cause) (sym all) is.0.is_cause))
-  judged_report short problem taken valid terms blocks report takes (Err (check.TooMany count)) is =
-      let many : HasTooManyInHead problem now.input taken count = is.0 in
-      let all : short.known ≡ taken ++ many.rest = all_of_input before.input now.input short.known taken many.rest short.left takes many.left in
-      let few = few_hypotheses laws.one_line problem valid terms blocks (lines_of (taken ++ many.rest))
-      (subst (λ (bytes : List ℕ). AreReportLines problem terms blocks (lines_of bytes)) all report) many.first many.at many.head many.says many.terms many.is_head count many.counted in
-      let too_many = many.too_many in
-      absurd (omega (arith, few, too_many))
-  judged_report short problem taken valid terms blocks report takes (Err (check.Stream streams.ReadFault)) is = absurd (calm.input is.0)
-  judged_report short problem taken valid terms blocks report takes (Err (check.Stream streams.WriteFault)) is = absurd (calm.output is.0.rose)
-  judged_report short problem taken valid terms blocks report takes (Err (check.Stream streams.TooMuchInput)) is =
-      let more : length taken ≡ MAX_BYTES + 1 = is.0 in
-      absurd (omega (arith, few_taken before.input now.input taken short takes, more))
-  judged_report short problem taken valid terms blocks report takes (Err (check.Stream streams.NoMemory)) is = inr refl
+      go : ExplainingEnds explains.graph (log_of_lines explains.graph (lines_of explains.text)) (streams_of before) (streams_of now) end → IsCompleted end
+      go (inl none) = subst IsCompleted (sym none.end_is) (no_map holds.0 explains.graph holds.1 none.fault none.lacks)
+      go (inr judges) =
+          subst IsCompleted (sym judges.ends.end_is)
+          (text_written (HasVerdict explains.graph (log_of_lines explains.graph (lines_of explains.text)) judges.map) judges.ends.result judges.ends.works)
+
+  -- a report that is one
+  accepted : (short : IsShort before.input) (problem : DiagnosisProblem) → IsValid problem.graph → (terms : Terms) (blocks : List Block) → AreReportLines problem terms blocks (lines_of short.known)
+      → (end : End) → CheckingEnds problem (streams_of before) (streams_of now) end → IsCompleted end
+  accepted short problem valid terms blocks report end (inr accepts) =
+      subst IsCompleted (sym accepts.ends.end_is) (text_written (λ text. text ≡ accepted_text accepts.rounds) accepts.ends.result accepts.ends.works)
+  accepted short problem valid terms blocks report end (inl lacks) = subst IsCompleted (sym lacks.end_is) (go lacks.fault lacks.lacks)
+    where
+      go : (fault : CheckFault) → LacksReport problem before.input now.input fault → IsCompleted (end_of_check_fault fault)
+      go (check.NotAccepted line cause) why =
+          let is = why.shown.0 in
+          let all : short.known ≡ why.taken ++ is.rest = all_of_input before.input now.input short.known why.taken is.rest short.left why.takes is.left in
+          absurd (laws.no_cause problem terms blocks short.known line cause valid report short.few
+          (subst (λ (bytes : List ℕ). IsCause problem (lines_of bytes) line cause) (sym all) is.is_cause))
+      go (check.TooMany count) why =
+          let many : HasTooManyInHead problem now.input why.taken count = why.shown.0 in
+          let all : short.known ≡ why.taken ++ many.rest = all_of_input before.input now.input short.known why.taken many.rest short.left why.takes many.left in
+          let few = few_hypotheses laws.one_line problem valid terms blocks (lines_of (why.taken ++ many.rest))
+          (subst (λ (bytes : List ℕ). AreReportLines problem terms blocks (lines_of bytes)) all report) many.first many.at many.head many.says many.terms many.is_head count many.counted in
+          let too_many = many.too_many in
+          absurd (omega (arith, few, too_many))
+      go (check.Lines lines.ReadFault) why = absurd (calm.input why.shown.0)
+      go (check.Lines lines.TooMuchInput) why = lines_read short why.taken why.takes why.shown.0
+      go check.NoMemory why = inr refl
 
   -- lines that have a cause
-  refused_report : (short : IsShort before.input) (problem : DiagnosisProblem) (taken : List ℕ) → IsValid problem.graph → (line : ℕ) (cause : CheckCause) → IsCause problem (lines_of short.known) line cause
-      → Takes before.input now.input taken → (result : Result (Unit {0}) CheckFault)
-      → CheckingEnds problem (streams_of before) (streams_of now) taken result → IsRefusedFor line cause (end_of_result end_of_check_fault result)
-  refused_report short problem taken valid line cause has takes (Ok done) is =
-      let accepted : IsAcceptedReport problem now.input taken is.0.text = is.0.right in
-      let all : short.known ≡ taken = all_taken before.input now.input short.known taken short.left takes accepted.at_end in
-      absurd (laws.no_cause problem accepted.terms accepted.blocks taken line cause valid accepted.report accepted.few (subst (λ (bytes : List ℕ). IsCause problem (lines_of bytes) line cause) all has))
-  refused_report short problem taken valid line cause has takes (Err (check.NotAccepted at why)) is =
-      let all : short.known ≡ taken ++ is.0.rest = all_of_input before.input now.input short.known taken is.0.rest short.left takes is.0.left in
-      let one = laws.one_cause problem (lines_of (taken ++ is.0.rest)) at line why cause valid is.0.is_cause (subst (λ (bytes : List ℕ). IsCause problem (lines_of bytes) line cause) all has) in
-      inl (λ i. ends.NotAccepted (one.0 i) (one.1 i))
-  refused_report short problem taken valid line cause has takes (Err (check.TooMany count)) is =
-      let many : HasTooManyInHead problem now.input taken count = is.0 in
-      let all : short.known ≡ taken ++ many.rest = all_of_input before.input now.input short.known taken many.rest short.left takes many.left in
-      absurd (laws.too_many problem (lines_of (taken ++ many.rest)) many.first many.head many.terms count line cause valid many.at many.says many.is_head many.counted many.too_many
+  not_accepted : (short : IsShort before.input) (problem : DiagnosisProblem) → IsValid problem.graph → (line : ℕ) (cause : CheckCause) → IsCause problem (lines_of short.known) line cause
+      → (end : End) → CheckingEnds problem (streams_of before) (streams_of now) end → IsRefusedFor line cause end
+  not_accepted short problem valid line cause has end (inr accepts) =
+      let all : short.known ≡ accepts.accepts.taken = all_taken before.input now.input short.known accepts.accepts.taken short.left accepts.accepts.takes accepts.accepts.at_end in
+      absurd (laws.no_cause problem accepts.accepts.terms accepts.accepts.blocks accepts.accepts.taken line cause valid accepts.accepts.report accepts.accepts.few
       (subst (λ (bytes : List ℕ). IsCause problem (lines_of bytes) line cause) all has))
-  refused_report short problem taken valid line cause has takes (Err (check.Stream streams.ReadFault)) is = absurd (calm.input is.0)
-  refused_report short problem taken valid line cause has takes (Err (check.Stream streams.WriteFault)) is = absurd (calm.output is.0.rose)
-  refused_report short problem taken valid line cause has takes (Err (check.Stream streams.TooMuchInput)) is =
-      let more : length taken ≡ MAX_BYTES + 1 = is.0 in
-      absurd (omega (arith, few_taken before.input now.input taken short takes, more))
-  refused_report short problem taken valid line cause has takes (Err (check.Stream streams.NoMemory)) is = inr refl
+  not_accepted short problem valid line cause has end (inl lacks) = subst (IsRefusedFor line cause) (sym lacks.end_is) (go lacks.fault lacks.lacks)
+    where
+      go : (fault : CheckFault) → LacksReport problem before.input now.input fault → IsRefusedFor line cause (end_of_check_fault fault)
+      go (check.NotAccepted at other) why =
+          let is = why.shown.0 in
+          let all : short.known ≡ why.taken ++ is.rest = all_of_input before.input now.input short.known why.taken is.rest short.left why.takes is.left in
+          let one = laws.one_cause problem (lines_of (why.taken ++ is.rest)) at line other cause valid is.is_cause (subst (λ (bytes : List ℕ). IsCause problem (lines_of bytes) line cause) all has) in
+          inl (λ i. ends.NotAccepted (one.0 i) (one.1 i))
+      go (check.TooMany count) why =
+          let many : HasTooManyInHead problem now.input why.taken count = why.shown.0 in
+          let all : short.known ≡ why.taken ++ many.rest = all_of_input before.input now.input short.known why.taken many.rest short.left why.takes many.left in
+          absurd (laws.too_many problem (lines_of (why.taken ++ many.rest)) many.first many.head many.terms count line cause valid many.at many.says many.is_head many.counted many.too_many
+          (subst (λ (bytes : List ℕ). IsCause problem (lines_of bytes) line cause) all has))
+      go (check.Lines lines.ReadFault) why = absurd (calm.input why.shown.0)
+      go (check.Lines lines.TooMuchInput) why = lines_read short why.taken why.takes why.shown.0
+      go check.NoMemory why = inr refl
 
   checked : (end : End) (graph_name log_name : List ℕ) → CanBeDone (Check graph_name log_name) before → CheckEnds graph_name log_name before now end → IsCompleted end
   checked end graph_name log_name can (inl lacks) = inr (not_fetched end graph_name log_name can lacks)
@@ -307,8 +332,7 @@ module _ (graphs : GraphLaws) (laws : CheckLaws) (before now : World) (calm : No
       let problem = problem_of checks.graph checks.text in
       let holds : HasLines before.input (λ (lines : List (List ℕ)). (terms : Terms) × (blocks : List Block) × AreReportLines problem terms blocks lines) =
       holds_of_given end graph_name log_name can checks.graph checks.text checks.gives in
-      subst IsCompleted (sym checks.works.end_is)
-      (judged_report holds.0 problem checks.works.works.taken checks.gives.of_graph.valid holds.1.0 holds.1.1 holds.1.2 checks.works.works.takes checks.works.result checks.works.works.ends)
+      accepted holds.0 problem checks.gives.of_graph.valid holds.1.0 holds.1.1 holds.1.2 end checks.works
 
   refused : (end : End) (graph_name log_name : List ℕ) (line : ℕ) (cause : CheckCause) → CanRefuse before.shelf before.input graph_name log_name line cause → CheckEnds graph_name log_name before now end
       → IsRefusedFor line cause end
@@ -316,31 +340,20 @@ module _ (graphs : GraphLaws) (laws : CheckLaws) (before now : World) (calm : No
   refused end graph_name log_name line cause can (inr checks) =
       let problem = problem_of checks.graph checks.text in
       let holds : HasLines before.input (λ (lines : List (List ℕ)). IsCause problem lines line cause) = holds_of_given end graph_name log_name can checks.graph checks.text checks.gives in
-      subst (IsRefusedFor line cause) (sym checks.works.end_is)
-      (refused_report holds.0 problem checks.works.works.taken checks.gives.of_graph.valid line cause holds.1 checks.works.works.takes checks.works.result checks.works.works.ends)
+      not_accepted holds.0 problem checks.gives.of_graph.valid line cause holds.1 end checks.works
 
   -- a script that is simulated
-  simulated : (IsRight : Tfpg → List ℕ → List ℕ → Type 0) (graph : Tfpg) (script : List ℕ) → ((line : ℕ) → IsScriptFault graph (lines_of script) line → ⊥) → (result : Result (Unit {0}) SimulateFault)
-      → SimulationEnds IsRight graph script before.output now.output result → IsCompleted (end_of_result end_of_simulate_fault result)
-  simulated IsRight graph script right (Ok done) is = inl refl
-  simulated IsRight graph script right (Err (simulate.BadScript line)) is = absurd (right line is.0)
-  simulated IsRight graph script right (Err simulate.WriteFault) is = absurd (calm.output is.rose)
-  simulated IsRight graph script right (Err simulate.NoMemory) is = inr refl
+  simulated : (IsRight : Tfpg → List ℕ → List ℕ → Type 0) (end : End) (graph : Tfpg) (script : List ℕ) → ((line : ℕ) → IsScriptFault graph (lines_of script) line → ⊥)
+      → SimulationEnds IsRight before now graph script end → IsCompleted end
+  simulated IsRight end graph script right (inl bad) = absurd (right bad.line bad.is_fault)
+  simulated IsRight end graph script right (inr by) = subst IsCompleted (sym by.end_is) (text_written (IsRight graph script) by.result by.works)
 
   simulated_files : (end : End) (IsRight : Tfpg → List ℕ → List ℕ → Type 0) (graph_name script_name : List ℕ)
       → ServesGraphAndText before.shelf graph_name script_name (λ graph script. (line : ℕ) → IsScriptFault graph (lines_of script) line → ⊥)
       → SimulateEnds IsRight graph_name script_name before now end → IsCompleted end
   simulated_files end IsRight graph_name script_name can (inl lacks) = inr (not_fetched end graph_name script_name can lacks)
   simulated_files end IsRight graph_name script_name can (inr simulates) =
-      subst IsCompleted (sym simulates.works.end_is)
-      (simulated IsRight simulates.graph simulates.text (holds_of_given end graph_name script_name can simulates.graph simulates.text simulates.gives) simulates.works.result simulates.works.works)
-
-  -- one text that is written
-  text_written : (IsRight : List ℕ → Type 0) (result : Result (Unit {0}) OutputFault) → TextEnds IsRight before.output now.output result
-      → IsCompleted (end_of_result end_of_output_fault result)
-  text_written IsRight (Ok done) is = inl refl
-  text_written IsRight (Err output.WriteFault) is = absurd (calm.output is.rose)
-  text_written IsRight (Err output.NoMemory) is = inr refl
+      simulated IsRight end simulates.graph simulates.text (holds_of_given end graph_name script_name can simulates.graph simulates.text simulates.gives) simulates.works
 
   -- a graph that is converted
   converted : (json : Bool) (end : End) (name : List ℕ) → ServesGraph (SpellsFrom json) before.shelf name (λ graph. Unit {0}) → ConvertEnds json name before now end → IsCompleted end
@@ -352,19 +365,11 @@ module _ (graphs : GraphLaws) (laws : CheckLaws) (before now : World) (calm : No
       subst IsCompleted (sym converts.works.end_is) (text_written (λ text. text ≡ converted_text json converts.graph) converts.works.result converts.works.works)
 
   -- questions that are written
-  questions_written : (terms : Terms) (graph : Tfpg) (log_text : List ℕ) → HasFewHypotheses terms graph → (result : Result (Unit {0}) QuestionsFault)
-      → QuestionsEnd terms graph log_text before.output now.output result → IsCompleted (end_of_result end_of_questions_fault result)
-  questions_written terms graph log_text few (Ok done) is = inl refl
-  questions_written terms graph log_text few (Err (questions.TooMany count)) is = absurd (omega (arith, is.0, few count is.1))
-  questions_written terms graph log_text few (Err questions.WriteFault) is = absurd (calm.output is.rose)
-  questions_written terms graph log_text few (Err questions.NoMemory) is = inr refl
-
   asked : (terms : Terms) (end : End) (graph_name log_name : List ℕ) → ServesGraphAndText before.shelf graph_name log_name (λ graph text. HasFewHypotheses terms graph)
       → AskEnds terms graph_name log_name before now end → IsCompleted end
   asked terms end graph_name log_name can (inl lacks) = inr (not_fetched end graph_name log_name can lacks)
   asked terms end graph_name log_name can (inr asks) =
-      subst IsCompleted (sym asks.works.end_is)
-      (questions_written terms asks.graph asks.text (holds_of_given end graph_name log_name can asks.graph asks.text asks.gives) asks.works.result asks.works.works)
+      text_unless_too_many (HasQuestions terms asks.graph asks.text) asks.graph terms end (holds_of_given end graph_name log_name can asks.graph asks.text asks.gives) asks.works
 
   -- a prediction
   predicted : (end : End) (asked : Prediction) (graph_name log_name : List ℕ)
@@ -378,10 +383,7 @@ module _ (graphs : GraphLaws) (laws : CheckLaws) (before now : World) (calm : No
 
       go : PredictionEnds asked before now predicts.graph predicts.text end → IsCompleted end
       go (inl none) = absurd (holds.0 none.fault none.is_fault)
-      go (inr (inl many)) = absurd (omega (arith, many.2.too_many, holds.1 many.2.count many.2.counted))
-      go (inr (inr writes)) =
-          subst IsCompleted (sym writes.ends.end_is)
-          (text_written (HasForecasts predicts.graph asked writes.node (lines_of predicts.text)) writes.ends.result writes.ends.works)
+      go (inr takes) = text_unless_too_many (HasForecasts predicts.graph asked takes.0 (lines_of predicts.text)) predicts.graph asked.terms end holds.1 takes.2
 
   completed : (meant : Meaning) (end : End) → CanBeDone meant before → CommandEnds (Ok meant) before now end → IsCompleted end
   completed (Diagnose terms graph) end can is = diagnosed can.1 end terms graph can.0 is

@@ -18,13 +18,16 @@ use Rattle.tfpg_streams.specs.declared.fault.StreamFault.TheVariants as faults
 use Rattle.tfpg_run.specs.inside.Faults.{IsFetchFault, end_of_table_fault}
 use Rattle.tfpg_base.proofs.lemmas.lists.Choices.{IfErr-from}
 use Rattle.tfpg_diagnose.proofs.lemmas.NextBlocks.{begins_without_memory}
-use Rattle.tfpg_run.specs.EndsOf.{end_of_fetch_fault, end_of_stream_fault, end_of_result}
+use Rattle.tfpg_run.specs.EndsOf.{EndsBy, end_of_fetch_fault, end_of_output_fault, end_of_stream_fault, end_of_result}
 use Rattle.tfpg_run.specs.declared.fault.FetchFault.TheVariants as fetch
-use Rattle.tfpg_streams.specs.Outputs.{WorksToEnd}
+use Rattle.tfpg_streams.specs.Outputs.{TextEnds, WorksToEnd}
+use Rattle.tfpg_streams.specs.declared.fault.OutputFault.{OutputFault}
+use Rattle.tfpg_streams.specs.declared.fault.OutputFault.TheVariants as output
+use Rattle.tfpg_run.specs.TooMany.{EndsUnlessTooMany, HasFewHypotheses, TextEndsUnlessTooMany}
 use Rattle.tfpg_diagnose.specs.Work.{IsReportWithin}
 use Rattle.tfpg_run.specs.diagnose.Work.{RunsWithin}
 use Rattle.tfpg_words.specs.declared.usage_cause.UsageCause.{UsageCause}
-use Rattle.tfpg_run.specs.Fetch.{Fetched, GivesGraph}
+use Rattle.tfpg_run.specs.Fetch.{EndsByFiles, Fetched, GivesGraph, GivesGraphAndText}
 use Rattle.tfpg_run.specs.Run.{CommandEnds}
 use Rattle.tfpg_diagnose.specs.Diagnosing.{Diagnoses}
 use Rattle.tfpg_run.specs.diagnose.Diagnosing.{DiagnoseEnds}
@@ -37,7 +40,7 @@ use Rattle.tfpg_streams.specs.Streams.{Streams}
 use Rattle.tfpg_run.specs.World.{World, watched_of}
 use Rattle.tfpg_diagnose.specs.Watched.{Watched}
 use Rattle.tfpg_panel.specs.ToldRounds.{HasTold}
-use Rattle.tfpg_diagnose.proofs.lemmas.CountedHypotheses.{CountsHypotheses, without_memory}
+use Rattle.tfpg_diagnose.proofs.lemmas.CountedHypotheses.{CountsHypotheses, not_too_many, without_memory}
 
 -- what holds besides, where there is a value
 pub OnOk-with : {T E : Type 0} (result : Result T E) (P Q : Type 0) → OnOk result P → Q → OnOk result (P × Q)
@@ -48,6 +51,43 @@ OnOk-with (Err fault) P Q is also = tt
 pub IfErr-with : {T E : Type 0} (result : Result T E) (P : E → Type 0) (Q : Type 0) → IfErr result P → Q → IfErr result (λ fault. P fault × Q)
 IfErr-with (Ok value) P Q is also = tt
 IfErr-with (Err fault) P Q is also = (is, also)
+
+-- ---- work by two files that were fetched
+
+module _ (graph_name text_name : List ℕ) (Works : Tfpg → List ℕ → End → Type 0) (before now : World) (graph : Tfpg) (text : List ℕ)
+    (gives : GivesGraphAndText before.shelf graph_name text_name graph text) (fetched : Fetched (graph_name ∷ text_name ∷ []) before.shelf now.shelf) where
+  -- the run ends as the work did
+  pub ends_by_files : (end : End) → Works graph text end → EndsByFiles graph_name text_name Works before now end
+  ends_by_files end works = inr (record { graph = graph; text = text; gives = gives; fetched = fetched; works = works })
+
+  -- so it does at the exit of a `?`
+  pub stops_by_files : {T : Type 0} (result : Result T End) (end : End) → IsErrAnd result (λ e. e ≡ end) → Works graph text end
+      → IfErr result (EndsByFiles graph_name text_name Works before now)
+  stops_by_files result end err works = IfErr-from (EndsByFiles graph_name text_name Works before now) result end err (ends_by_files end works)
+
+-- ---- work with the hypotheses of a graph
+
+module _ {X : Type 0} (graph : Tfpg) (terms : Terms) (before now : World) where
+  -- there is no table of them
+  pub without_table : (Works : End → Type 0) (fault : TableFault) → CountsHypotheses {X = X} graph terms (Err fault) → watched_of now ≡ watched_of before
+      → (HasFewHypotheses terms graph → Works ends.NoMemory) → EndsUnlessTooMany graph terms before now Works (end_of_table_fault fault)
+  without_table Works (TooMany count) exact untouched works =
+      let many = (exact count).0 refl in
+      inl (record { count = count; counted = many.1; too_many = many.0; end_is = refl; untouched = untouched })
+  without_table Works NoMemory exact untouched works = let few = without_memory graph terms exact in inr (few, works few)
+
+  -- then no text is written
+  pub text_without_table : (IsRight : List ℕ → Type 0) (fault : TableFault) → CountsHypotheses {X = X} graph terms (Err fault) → watched_of now ≡ watched_of before → now.output ≡ before.output
+      → TextEndsUnlessTooMany IsRight graph terms before now (end_of_table_fault fault)
+  text_without_table IsRight fault exact untouched same =
+      without_table (EndsBy (TextEnds IsRight before.output now.output) end_of_output_fault) fault exact untouched (λ few. record { result = Err output.NoMemory; works = same; end_is = refl })
+
+  -- there is one, and writing the text had this result
+  pub text_with_table : (IsRight : List ℕ → Type 0) (made : X) → CountsHypotheses graph terms (Ok made) → (result : Result (Unit {0}) OutputFault) → TextEnds IsRight before.output now.output result
+      → TextEndsUnlessTooMany IsRight graph terms before now (end_of_result end_of_output_fault result)
+  text_with_table IsRight made exact result works = inr (not_too_many graph terms made exact, record { result = result; works = works; end_is = refl })
+
+-- ---- a diagnosis
 
 module _ {T : Type 0} (terms : Terms) (name : List ℕ) (before now : World) (result : Result T End) where
   -- the end at the exit of a `?`
@@ -64,29 +104,18 @@ module _ {T : Type 0} (terms : Terms) (name : List ℕ) (before now : World) (re
     -- there is no engine
     pub stops_without_engine : {X : Type 0} (fault : TableFault) → AreReportTerms terms → HasTold [] [] before.desk before.desk → CountsHypotheses {X = X} graph terms (Err fault)
         → watched_of now ≡ watched_of before → IsErrAnd result (λ end. end ≡ end_of_table_fault fault) → IfErr result (DiagnoseEnds terms name before now)
-    stops_without_engine (TooMany count) within told exact untouched err =
-        let many = (exact count).0 refl in
-        ends_by (ends.TooManyHypotheses count) err (inr (record {
-          graph = graph;
-          gives = gives;
-          fetched = fetched;
-          works = inl (record { count = count; counted = many.1; too_many = many.0; end_is = refl; untouched = untouched });
-        }))
-    stops_without_engine NoMemory within told exact untouched err =
-        ends_by ends.NoMemory err (inr (record {
-          graph = graph;
-          gives = gives;
-          fetched = fetched;
-          works = inr (
-            without_memory graph terms exact,
-            record {
-              result = Err faults.NoMemory;
-              works = subst (λ (s : Watched). Diagnoses graph terms (watched_of before) s (Err faults.NoMemory)) (sym untouched)
-                  (begins_without_memory graph terms (watched_of before) (record { within = within; few_hypotheses = without_memory graph terms exact }) told);
-              end_is = refl;
-            },
-          );
-        }))
+    stops_without_engine fault within told exact untouched err = ends_by (end_of_table_fault fault) err (inr (record {
+      graph = graph;
+      gives = gives;
+      fetched = fetched;
+      works = without_table graph terms before now (EndsBy (Diagnoses graph terms (watched_of before) (watched_of now)) end_of_stream_fault) fault exact untouched
+          (λ few. record {
+            result = Err faults.NoMemory;
+            works = subst (λ (s : Watched). Diagnoses graph terms (watched_of before) s (Err faults.NoMemory)) (sym untouched)
+                (begins_without_memory graph terms (watched_of before) (record { within = within; few_hypotheses = few }) told);
+            end_is = refl;
+          });
+    }))
 
     -- the diagnosis was stopped
     pub stops_diagnosis : ((count : ℕ) → HasHypotheses graph terms count → count ≤ MAX_HYPOTHESES) → (fault : StreamFault) → Diagnoses graph terms (watched_of before) (watched_of now) (Err fault)

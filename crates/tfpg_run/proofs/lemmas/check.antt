@@ -1,3 +1,2 @@
 -- How judging the report of the input ends, and that what a diagnosis wrote is accepted.
-pub mod CheckedReports
 pub mod AcceptedDiagnoses

@@ -1,5 +1,2 @@
--- Forecasts: what outlooks name, and how forecasts are appended one after another.
-pub mod NamedOutlooks
-pub mod Appended
-pub mod Predictions
+-- How a prediction ends.
 pub mod Endings

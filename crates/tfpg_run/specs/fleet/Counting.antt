@@ -26,11 +26,11 @@ vehicles_that passes zero = 0
 vehicles_that passes (suc number) = vehicles_that passes number + (if passes number then 1 else 0)
 
 -- the line of the failure mode at this position, with how many vehicles have it
-abbrev pub mode_text : Tfpg → ℕ → ℕ → List ℕ
-mode_text graph position count =
+abbrev pub mode_count_text : Tfpg → ℕ → ℕ → List ℕ
+mode_count_text graph position count =
     text_line (codes "mode" ∷ failure_word graph position ∷ codes "vehicles" ∷ decimal count ∷ [])
 
 -- the lines of the first failure modes, by how many vehicles have each
 abbrev pub modes_text : Tfpg → (ℕ → ℕ) → ℕ → List ℕ
 modes_text graph counts zero = []
-modes_text graph counts (suc position) = modes_text graph counts position ++ mode_text graph position (counts position)
+modes_text graph counts (suc position) = modes_text graph counts position ++ mode_count_text graph position (counts position)

@@ -12,19 +12,12 @@ use Rattle.tfpg_hyp.specs.declared.table.TableFault.{TableFault}
 use Rattle.tfpg_hyp.specs.declared.table.TableFault.TheVariants as table
 use Rattle.tfpg_run.specs.declared.fault.FetchFault.{FetchFault}
 use Rattle.tfpg_run.specs.declared.fault.FetchFault.TheVariants as fetch
-use Rattle.tfpg_streams.specs.declared.fault.StreamFault.TheVariants as streams
 use Rattle.tfpg_run.specs.Fetch.{IsFetchFaultBy, IsTooLong}
 use Rattle.tfpg_sim.specs.declared.fault.SimFault.{SimFault}
 use Rattle.tfpg_sim.specs.declared.fault.SimFault.TheVariants as sim
-use Rattle.tfpg_run.specs.declared.fault.ExplainFault.{ExplainFault}
-use Rattle.tfpg_run.specs.declared.fault.ExplainFault.TheVariants as explain
-use Rattle.tfpg_run.specs.declared.fault.SimulateFault.{SimulateFault}
-use Rattle.tfpg_run.specs.declared.fault.SimulateFault.TheVariants as simulate
+use Rattle.tfpg_check.specs.declared.cause.CheckCause.TheVariants.{BadScript}
 use Rattle.tfpg_run.specs.declared.end.End.{End}
 use Rattle.tfpg_run.specs.declared.end.End.TheVariants as ends
-use Rattle.tfpg_map.specs.declared.map.NoMap.{NoMap}
-use Rattle.tfpg_map.specs.declared.map.NoMap.TheVariants as maps
-use Rattle.tfpg_streams.specs.Faults.{stream_fault_of_lines}
 
 -- the fault of fetching that a fault of the shelf is
 abbrev pub fetch_fault_of_shelf : ShelfFault → FetchFault
@@ -37,12 +30,6 @@ abbrev pub fetch_fault_of_refusal : GraphRefusal → FetchFault
 fetch_fault_of_refusal (refusal.Fault fault) = fetch.Graph fault
 fetch_fault_of_refusal refusal.NoMemory = fetch.NoMemory
 
--- why a map is not judged whose input gives none
-abbrev pub explain_fault_of_no_map : NoMap → ExplainFault
-explain_fault_of_no_map (maps.Refused line) = explain.BadMap line
-explain_fault_of_no_map (maps.Lines fault) = explain.Stream (stream_fault_of_lines fault)
-explain_fault_of_no_map maps.NoMemory = explain.Stream streams.NoMemory
-
 -- the end of a run that has no table of hypotheses
 abbrev pub end_of_table_fault : TableFault → End
 end_of_table_fault (table.TooMany count) = ends.TooManyHypotheses count
@@ -53,10 +40,10 @@ abbrev pub end_of_plan_fault : PlanFault → End
 end_of_plan_fault (plan.Usage cause) = ends.Usage cause
 end_of_plan_fault plan.NoMemory = ends.NoMemory
 
--- why a script is not simulated
-abbrev pub simulate_fault_of_sim : SimFault → SimulateFault
-simulate_fault_of_sim (sim.BadScript line) = simulate.BadScript line
-simulate_fault_of_sim sim.NoMemory = simulate.NoMemory
+-- the end of a run whose script was not simulated
+abbrev pub end_of_sim_fault : SimFault → End
+end_of_sim_fault (sim.BadScript line) = ends.NotAccepted line BadScript
+end_of_sim_fault sim.NoMemory = ends.NoMemory
 
 -- Why the file of this name was not fetched: the shelf was asked for it, and failed; or it was asked and did not fail, and the file has
 -- more than 2^24 bytes; or memory ran out, and it was not asked.

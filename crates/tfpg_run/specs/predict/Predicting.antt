@@ -3,14 +3,13 @@ use Rattle.std.specs.Prelude.{◌≡◌, ◌⊎◌, ℕ, List, Ok, Err}
 use Rattle.tfpg_base.specs.Lines.{lines_of}
 use Rattle.tfpg_graph.specs.Graph.{Tfpg}
 use Rattle.tfpg_run.specs.declared.end.End.{End}
-use Rattle.tfpg_run.specs.declared.fault.ProbeFault.{ProbeFault}
-use Rattle.tfpg_run.specs.EndsOf.{EndsBy, end_of_output_fault, end_of_probe_fault}
+use Rattle.tfpg_answers.specs.declared.predict.probing.ProbeFault.{ProbeFault}
+use Rattle.tfpg_run.specs.EndsOf.{end_of_probe_fault}
 use Rattle.tfpg_run.specs.Fetch.{EndsByFiles}
-use Rattle.tfpg_streams.specs.Outputs.{TextEnds}
 use Rattle.tfpg_run.specs.World.{World, watched_of}
-use Rattle.tfpg_run.specs.TooMany.{EndsWithTooMany, HasFewHypotheses}
-use Rattle.tfpg_run.specs.predict.Forecasts.{Prediction, HasForecasts}
-use Rattle.tfpg_run.specs.predict.Probing.{probed_node}
+use Rattle.tfpg_run.specs.TooMany.{TextEndsUnlessTooMany}
+use Rattle.tfpg_answers.specs.Forecasts.{Prediction, HasForecasts}
+use Rattle.tfpg_answers.specs.Probing.{probed_node}
 
 -- The node takes no probe, for this cause, and all but the shelf is untouched.
 pub record TakesNoProbe (graph : Tfpg) (name : List ℕ) (before now : World) (end : End) : Type 0 where
@@ -19,20 +18,13 @@ pub record TakesNoProbe (graph : Tfpg) (name : List ℕ) (before now : World) (e
   pub end_is : end ≡ end_of_probe_fault fault
   pub untouched : watched_of now ≡ watched_of before
 
--- The graph has at most 4,096 hypotheses, and the forecasts of the node by the lines of the log were written.
-pub record WritesForecasts (graph : Tfpg) (asked : Prediction) (log_text : List ℕ) (before now : World) (end : End) : Type 0 where
-  pub not_too_many : HasFewHypotheses asked.terms graph
-  pub node : ℕ
-  pub node_is : probed_node graph asked.node ≡ Ok node
-  pub ends : EndsBy (TextEnds (HasForecasts graph asked node (lines_of log_text)) before.output now.output) end_of_output_fault end
-
--- How a prediction by a graph and the text of a log ends: the node takes no probe; or there are too many hypotheses, and it takes one;
--- or the forecasts were written.
+-- How a prediction by a graph and the text of a log ends: the node takes no probe; or it takes one, and there are too many hypotheses,
+-- or its forecasts were written.
 abbrev pub PredictionEnds : Prediction → World → World → Tfpg → List ℕ → End → Type 0
 PredictionEnds asked before now graph log_text end =
     TakesNoProbe graph asked.node before now end
-    ⊎ (((node : ℕ) × (probed_node graph asked.node ≡ Ok node) × EndsWithTooMany graph asked.terms before now end)
-    ⊎ WritesForecasts graph asked log_text before now end)
+    ⊎ ((node : ℕ) × (probed_node graph asked.node ≡ Ok node)
+    × TextEndsUnlessTooMany (HasForecasts graph asked node (lines_of log_text)) graph asked.terms before now end)
 
 -- There is no graph or no log of the files of those names; or a prediction was made by them.
 abbrev pub PredictEnds : Prediction → List ℕ → List ℕ → World → World → End → Type 0

@@ -4,7 +4,7 @@ ghost use Rattle.std.specs.Prelude.{◌≡◌, ◌<◌, [], IfErr, IfOk, OnOk, E
 ghost use Rattle.tfpg_base.specs.Append.{Appends};
 ghost use Rattle.tfpg_graph.specs.Graph.{failures, failure_word};
 ghost use Rattle.tfpg_streams.specs.Outputs.{TextEnds};
-ghost use Rattle.tfpg_run.specs.fleet.Counting.{is_in, mode_text, vehicles_that};
+ghost use Rattle.tfpg_run.specs.fleet.Counting.{is_in, mode_count_text, vehicles_that};
 ghost use Rattle.tfpg_run.specs.inside.fleet.UnderWay.{kept_text};
 
 use super::watch::is_in;
@@ -50,7 +50,7 @@ fn append_mode(
     into: &mut Vec<u8>,
 ) -> Result<(), NoMemory>
     requires { position < length (failures graph.now) }
-    ensures { Appends result into.old.items into.new.items (mode_text graph.now position count) }
+    ensures { Appends result into.old.items into.new.items (mode_count_text graph.now position count) }
 {
     let mut digits = Buffer::new();
     append_line(

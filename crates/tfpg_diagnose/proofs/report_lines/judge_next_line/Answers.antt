@@ -1,13 +1,14 @@
 use Rattle.std.proofs.Common.{◌<◌, sym, subst}
 use Rattle.tfpg_base.proofs.lemmas.lists.Choices.{IfErr-from}
-use Rattle.tfpg_diagnose.specs.inside.Faults.{check_fault_of_judge, check_fault_of_lines}
+use Rattle.tfpg_diagnose.specs.declared.fault.CheckFault.TheVariants.{Lines}
+use Rattle.tfpg_diagnose.specs.inside.Faults.{check_fault_of_judge}
 use Rattle.tfpg_diagnose.specs.JudgedReports.{LacksReport}
 use Rattle.tfpg_diagnose.proofs.lemmas.NextReportLines.{few_numbers, lacks_by_fault, met_end, met_fault, met_long, met_right, one_on}
 use Rattle.tfpg_diagnose.proofs.report_lines.judge_next_line.Goals as goal
 
 pub returns-in_err-next-clause-stopped : goal.returns-in_err-next-clause-stopped
 returns-in_err-next-clause-stopped g c problem before checking =
-    IfErr-from (LacksReport problem before (g.S.Source.state c.next.new.source)) c.from_residual.result (check_fault_of_lines c.in_err-next.field-0.0) c.from_residual.ensures.1
+    IfErr-from (LacksReport problem before (g.S.Source.state c.next.new.source)) c.from_residual.result (Lines c.in_err-next.field-0.0) c.from_residual.ensures.1
     (lacks_by_fault problem before (g.S.Source.state c.args.input.now) (g.S.Source.state c.next.new.source) c.args.lines.now c.next.new.self c.args.judge.now checking
     c.in_err-next.field-0.0 (c.in_err-next.ensures checking.under.reading checking.under.represents))
 

@@ -1,6 +1,7 @@
 -- How the faults of the layers below become those of calls over texts.
 use Rattle.std.specs.Prelude.{◌≡◌, ◌⊎◌, ◌<◌, List, ℕ, length}
 use Rattle.tfpg_base.specs.declared.limits.TheConstants.{MAX_BYTES}
+use Rattle.tfpg_base.specs.declared.line.LineFault.TheVariants as lines
 use Rattle.tfpg_graph.specs.declared.cause.GraphRefusal.{GraphRefusal}
 use Rattle.tfpg_graph.specs.declared.cause.GraphRefusal.TheVariants as refusal
 use Rattle.tfpg_hyp.specs.declared.table.TableFault.{TableFault}
@@ -45,14 +46,13 @@ abbrev pub check_texts_fault_of_refusal : GraphRefusal → CheckTextsFault
 check_texts_fault_of_refusal (refusal.Fault fault) = check.Graph fault
 check_texts_fault_of_refusal refusal.NoMemory = check.NoMemory
 
--- why a report is not accepted that was judged in memory, which no read and no write fails
+-- why a report is not accepted that was judged in memory, which no read fails
 abbrev pub check_texts_fault_of_check : CheckFault → CheckTextsFault
 check_texts_fault_of_check (checking.NotAccepted line cause) = check.NotAccepted line cause
 check_texts_fault_of_check (checking.TooMany count) = check.TooManyHypotheses count
-check_texts_fault_of_check (checking.Stream streams.TooMuchInput) = check.TooMuchInput
-check_texts_fault_of_check (checking.Stream streams.ReadFault) = check.NoMemory
-check_texts_fault_of_check (checking.Stream streams.WriteFault) = check.NoMemory
-check_texts_fault_of_check (checking.Stream streams.NoMemory) = check.NoMemory
+check_texts_fault_of_check (checking.Lines lines.TooMuchInput) = check.TooMuchInput
+check_texts_fault_of_check (checking.Lines lines.ReadFault) = check.NoMemory
+check_texts_fault_of_check checking.NoMemory = check.NoMemory
 
 -- Why a report was not written where there was an engine: memory ran out, or the log is too long.
 abbrev pub IsWritingFault : List ℕ → ReportFault → Type 0

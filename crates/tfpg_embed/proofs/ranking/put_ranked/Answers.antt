@@ -1,4 +1,4 @@
-use Rattle.std.proofs.Common.{List, length, Option, IfSome, subst, sym, ◌∙◌}
+use Rattle.std.proofs.Common.{length, Option, IfSome, subst, sym, ◌∙◌}
 use Rattle.std.specs.Prelude.{IsSomeAnd}
 use Rattle.tfpg_graph.specs.Graph.{Tfpg, sizes_of}
 use Rattle.tfpg_evidence.specs.declared.finding.Finding.{Finding}

@@ -25,7 +25,7 @@ use Rattle.tfpg_streams.specs.Faults.{stream_fault_of_lines, stream_fault_of_out
 use Rattle.tfpg_streams.specs.Outputs.{HasOutputOfFirstLines, TextEnds}
 use Rattle.tfpg_streams.specs.Streams.{Streams, streams}
 use Rattle.tfpg_run.specs.fleet.Answers.{Answer, answer_text, answers_text, blocks_for, opening_text, vehicle_of}
-use Rattle.tfpg_run.specs.fleet.FleetOutput.{AreAnswers, BeginsFleetOutput, FleetProblem, IsFleetOutputSoFar, answered_text, counts_text}
+use Rattle.tfpg_run.specs.fleet.FleetOutput.{AreAnswers, BeginsFleetOutput, FleetProblem, IsFleetOutputSoFar, answered_text, mode_counts_text}
 use Rattle.tfpg_run.specs.fleet.FleetEnds.{AnswersStream}
 use Rattle.tfpg_run.specs.inside.fleet.UnderWay.{Answers, AreOwnBlocks, ComesTo, HasAnswered, HasAnsweredAll, IsAnswering, WritesAnswer, answering_at, kept_text}
 use Rattle.tfpg_streams.proofs.lemmas.InputLines.{came_to_end, front_of_input, rest_at_end, rest_is_left, rest_of}
@@ -335,7 +335,7 @@ module _ (fleet : FleetProblem) where
         ∙ ap (λ (bytes : List ℕ). take (length (lines_of all.taken)) (lines_of bytes)) (append-nil all.taken)
         ∙ take_all (length (lines_of all.taken)) (lines_of all.taken) (omega arith)
 
-    counts_are : kept_text fleet.graph watch.ranked.items ≡ counts_text fleet all.answers
+    counts_are : kept_text fleet.graph watch.ranked.items ≡ mode_counts_text fleet all.answers
     counts_are = kept_counts fleet (lines_of all.taken) all.answers watch all.answered
 
     -- they are written

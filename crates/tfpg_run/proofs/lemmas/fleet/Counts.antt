@@ -8,8 +8,8 @@ use Rattle.tfpg_evidence.specs.declared.round.Round.{Round}
 use Rattle.tfpg_graph.specs.Graph.{Tfpg, failures}
 use Rattle.tfpg_run.specs.declared.fleet.watch.Watch.{Watch}
 use Rattle.tfpg_run.specs.fleet.Answers.{Answer}
-use Rattle.tfpg_run.specs.fleet.Counting.{is_in, last_ranks, mode_text, modes_text, ranks, vehicles_that}
-use Rattle.tfpg_run.specs.fleet.FleetOutput.{FleetProblem, counts_text, rounds_for}
+use Rattle.tfpg_run.specs.fleet.Counting.{is_in, last_ranks, mode_count_text, modes_text, ranks, vehicles_that}
+use Rattle.tfpg_run.specs.fleet.FleetOutput.{FleetProblem, mode_counts_text, rounds_for}
 use Rattle.tfpg_run.specs.inside.fleet.UnderWay.{HasAnswered, kept_text}
 
 -- a member is in the set
@@ -91,11 +91,11 @@ vehicles_same one other (suc count) same =
 modes_same : (graph : Tfpg) (one other : ℕ → ℕ) (count : ℕ) → ((position : ℕ) → position < count → one position ≡ other position) → modes_text graph one count ≡ modes_text graph other count
 modes_same graph one other zero same = refl
 modes_same graph one other (suc count) same =
-    ap₂ (λ (text : List ℕ) (n : ℕ). text ++ mode_text graph count n) (modes_same graph one other count (λ position less. same position (omega (arith, less)))) (same count (omega arith))
+    ap₂ (λ (text : List ℕ) (n : ℕ). text ++ mode_count_text graph count n) (modes_same graph one other count (λ position less. same position (omega (arith, less)))) (same count (omega arith))
 
 -- The lines by what is kept are those of the answers.
 pub kept_counts : (fleet : FleetProblem) (lines : List (List ℕ)) (answers : List Answer) (watch : Watch) → HasAnswered fleet lines answers watch
-    → kept_text fleet.graph watch.ranked.items ≡ counts_text fleet answers
+    → kept_text fleet.graph watch.ranked.items ≡ mode_counts_text fleet answers
 kept_counts fleet lines answers watch answered =
     let ranked = watch.ranked.items in
     modes_same fleet.graph (λ position. vehicles_that (λ number. is_in position (get_or ranked number [])) (length ranked))

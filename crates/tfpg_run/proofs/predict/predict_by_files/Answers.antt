@@ -1,38 +1,70 @@
-use Rattle.std.proofs.Common.{Ok, Err, refl, sym}
-use Rattle.tfpg_diagnose.proofs.lemmas.CountedHypotheses.{not_too_many}
+use Rattle.std.proofs.Common.{Ok, Err, refl, sym, inr, ap, ◌∙◌}
+use Rattle.tfpg_base.specs.Lines.{lines_of}
+use Rattle.tfpg_streams.specs.declared.fault.OutputFault.TheVariants.{WriteFault}
+use Rattle.tfpg_answers.specs.Forecasts.{HasForecasts, prediction}
+use Rattle.tfpg_answers.specs.Probing.{probed_node}
 use Rattle.tfpg_run.specs.World.{world}
-use Rattle.tfpg_run.specs.predict.Forecasts.{prediction}
-use Rattle.tfpg_run.proofs.lemmas.predict.Endings.{ends_unwritten, ends_without_diagnosis, ends_written, text_ends_for}
+use Rattle.tfpg_run.specs.inside.Faults.{end_of_table_fault}
+use Rattle.tfpg_run.specs.predict.Predicting.{PredictionEnds}
+use Rattle.tfpg_run.specs.declared.end.End.TheVariants as ends
+use Rattle.tfpg_run.proofs.lemmas.Stops.{ends_by_files, stops_by_files, text_with_table, text_without_table}
+use Rattle.tfpg_run.proofs.lemmas.Written.{cut_text, whole_text}
 use Rattle.tfpg_run.proofs.predict.predict_by_files.Goals as goal
 
-pub returns-in_err-diagnosis-clause-stopped : goal.returns-in_err-diagnosis-clause-stopped
-returns-in_err-diagnosis-clause-stopped g c = λ input desk.
+pub returns-in_err-text-clause-stopped : goal.returns-in_err-text-clause-stopped
+returns-in_err-text-clause-stopped g c = λ input desk.
     let asked = c.args.asked.now in
+    let said = prediction asked.terms asked.ahead asked.node.now in
+    let graph = c.in_ok-graph.graph in
+    let log = c.in_ok-graph.log_text.items in
+    let node = c.in_ok-node.node in
     let before = world (g.F.Shelf.state c.args.shelf.now) input (g.K.Sink.state c.args.out.now) desk in
     let now = world (g.F.Shelf.state c.fetch_graph_and_text.new.shelf) input (g.K.Sink.state c.args.out.now) desk in
-    ends_without_diagnosis (prediction asked.terms asked.ahead asked.node.now) asked.graph.now asked.log.now before now c.in_ok-graph.graph c.in_ok-graph.log_text.items
-    c.in_ok-graph.ensures.given c.in_ok-graph.ensures.fetched c.from_residual-in_err-diagnosis.result c.in_ok-node.node (sym c.in_ok-node.ensures)
-    c.in_err-diagnosis.field-0.0 c.in_err-diagnosis.ensures.too_many refl refl c.from_residual-in_err-diagnosis.ensures.1
+    stops_by_files asked.graph.now asked.log.now (PredictionEnds said before now) before now graph log c.in_ok-graph.ensures.given c.in_ok-graph.ensures.fetched
+    c.from_residual-in_err-text.result (end_of_table_fault c.in_err-text.field-0.0) c.from_residual-in_err-text.ensures.1
+    (inr (
+      node,
+      sym (rw c.as_bytes-name.ensures.value at c.in_ok-node.ensures),
+      text_without_table graph asked.terms before now (HasForecasts graph said node (lines_of log)) c.in_err-text.field-0.0 c.in_err-text.ensures.too_many refl refl,
+    ))
 
-pub returns-in_err-write_forecasts-clause-stopped : goal.returns-in_err-write_forecasts-clause-stopped
-returns-in_err-write_forecasts-clause-stopped g c = λ input desk.
+pub returns-in_err-write_all-clause-stopped : goal.returns-in_err-write_all-clause-stopped
+returns-in_err-write_all-clause-stopped g c = λ input desk.
     let asked = c.args.asked.now in
+    let said = prediction asked.terms asked.ahead asked.node.now in
+    let graph = c.in_ok-graph.graph in
+    let log = c.in_ok-graph.log_text.items in
+    let node = c.in_ok-node.node in
+    let text = c.in_ok-text.text in
+    let right = HasForecasts graph said node (lines_of log) in
     let before = world (g.F.Shelf.state c.args.shelf.now) input (g.K.Sink.state c.args.out.now) desk in
-    let now = world (g.F.Shelf.state c.fetch_graph_and_text.new.shelf) input (g.K.Sink.state c.write_forecasts.new.out) desk in
-    ends_unwritten (prediction asked.terms asked.ahead asked.node.now) asked.graph.now asked.log.now before now c.in_ok-graph.graph c.in_ok-graph.log_text.items
-    c.in_ok-graph.ensures.given c.in_ok-graph.ensures.fetched c.from_residual-in_err-write_forecasts.result c.in_ok-node.node (sym c.in_ok-node.ensures)
-    (not_too_many c.in_ok-graph.graph asked.terms c.in_ok-diagnosis.diagnosis c.in_ok-diagnosis.ensures.too_many) c.in_err-write_forecasts.field-0.0
-    (text_ends_for _ c.in_ok-graph.graph _ asked.terms asked.ahead asked.node.now c.in_ok-node.node _ c.in_ok-graph.log_text.items before.output now.output (Err c.in_err-write_forecasts.field-0.0)
-    c.in_ok-diagnosis.ensures.new.reports.graph_is c.in_ok-diagnosis.ensures.new.reports.terms_is c.deref.ensures.value c.in_err-write_forecasts.ensures.stopped)
-    c.from_residual-in_err-write_forecasts.ensures.1
+    let now = world (g.F.Shelf.state c.fetch_graph_and_text.new.shelf) input (g.K.Sink.state c.write_all.new.out) desk in
+    stops_by_files asked.graph.now asked.log.now (PredictionEnds said before now) before now graph log c.in_ok-graph.ensures.given c.in_ok-graph.ensures.fetched
+    c.from_residual-in_err-write_all.result ends.WriteFault c.from_residual-in_err-write_all.ensures.1
+    (inr (
+      node,
+      sym (rw c.as_bytes-name.ensures.value at c.in_ok-node.ensures),
+      text_with_table graph asked.terms before now right text c.in_ok-text.ensures.too_many (Err WriteFault)
+          (cut_text right before.output now.output text.items c.deref-2.result.now (rw (c.deref.ensures.value, c.as_bytes-name.ensures.value) at c.in_ok-text.ensures.forecasts) c.deref-2.ensures.value
+          c.in_err-write_all.ensures.writes),
+    ))
 
 pub returns-clause-done : goal.returns-clause-done
 returns-clause-done g c = λ input desk.
     let asked = c.args.asked.now in
+    let said = prediction asked.terms asked.ahead asked.node.now in
+    let graph = c.in_ok-graph.graph in
+    let log = c.in_ok-graph.log_text.items in
+    let node = c.in_ok-node.node in
+    let text = c.in_ok-text.text in
+    let right = HasForecasts graph said node (lines_of log) in
     let before = world (g.F.Shelf.state c.args.shelf.now) input (g.K.Sink.state c.args.out.now) desk in
-    let now = world (g.F.Shelf.state c.fetch_graph_and_text.new.shelf) input (g.K.Sink.state c.write_forecasts.new.out) desk in
-    ends_written (prediction asked.terms asked.ahead asked.node.now) asked.graph.now asked.log.now before now c.in_ok-graph.graph c.in_ok-graph.log_text.items
-    c.in_ok-graph.ensures.given c.in_ok-graph.ensures.fetched c.in_ok-node.node (sym c.in_ok-node.ensures)
-    (not_too_many c.in_ok-graph.graph asked.terms c.in_ok-diagnosis.diagnosis c.in_ok-diagnosis.ensures.too_many)
-    (text_ends_for _ c.in_ok-graph.graph _ asked.terms asked.ahead asked.node.now c.in_ok-node.node _ c.in_ok-graph.log_text.items before.output now.output (Ok tt)
-    c.in_ok-diagnosis.ensures.new.reports.graph_is c.in_ok-diagnosis.ensures.new.reports.terms_is c.deref.ensures.value c.in_ok-write_forecasts.ensures.done)
+    let now = world (g.F.Shelf.state c.fetch_graph_and_text.new.shelf) input (g.K.Sink.state c.write_all.new.out) desk in
+    ends_by_files asked.graph.now asked.log.now (PredictionEnds said before now) before now graph log c.in_ok-graph.ensures.given c.in_ok-graph.ensures.fetched ends.Done
+    (inr (
+      node,
+      sym (rw c.as_bytes-name.ensures.value at c.in_ok-node.ensures),
+      text_with_table graph asked.terms before now right text c.in_ok-text.ensures.too_many (Ok (tt {0}))
+          (whole_text right before.output now.output text.items c.deref-2.result.now (rw (c.deref.ensures.value, c.as_bytes-name.ensures.value) at c.in_ok-text.ensures.forecasts) c.deref-2.ensures.value
+          c.in_ok-write_all.ensures.writes),
+    ))

@@ -1,0 +1,2 @@
+-- Lemmas on each answer.
+pub mod lemmas

@@ -1,0 +1,26 @@
+use Rattle.tfpg_diagnose.proofs.lemmas.CountedHypotheses.{counted_when_made, not_too_many}
+use Rattle.tfpg_answers.proofs.lemmas.Counted.{counted_without_diagnosis, counted_without_memory}
+use Rattle.tfpg_answers.proofs.lemmas.ask.Asked.{new_diagnosis, questions_for}
+use Rattle.tfpg_answers.proofs.ask.questions_text.Goals as goal
+
+pub questions_after-requires : goal.questions_after-requires
+questions_after-requires g c =
+    new_diagnosis c.args.graph c.args.terms c.in_ok-diagnosis.diagnosis c.in_ok-diagnosis.ensures.new c.requires
+    (not_too_many c.args.graph c.args.terms c.in_ok-diagnosis.diagnosis c.in_ok-diagnosis.ensures.too_many)
+
+pub returns-clause-questions : goal.returns-clause-questions
+returns-clause-questions g c =
+    questions_for _ c.args.graph _ c.args.terms c.args.log.now _
+    c.in_ok-diagnosis.ensures.new.reports.graph_is c.in_ok-diagnosis.ensures.new.reports.terms_is c.in_ok-questions_after.ensures
+
+pub returns-in_err-diagnosis-clause-too_many : goal.returns-in_err-diagnosis-clause-too_many
+returns-in_err-diagnosis-clause-too_many g c =
+    counted_without_diagnosis c.args.graph c.args.terms c.from_residual.result c.in_err-diagnosis.field-0.0 c.from_residual.ensures.1 c.in_err-diagnosis.ensures.too_many
+
+pub returns-in_err-questions_after-clause-too_many : goal.returns-in_err-questions_after-clause-too_many
+returns-in_err-questions_after-clause-too_many g c =
+    counted_without_memory c.args.graph c.args.terms c.from_residual-in_err-questions_after.result c.in_ok-diagnosis.diagnosis c.in_ok-diagnosis.ensures.too_many
+    c.from_residual-in_err-questions_after.ensures.1
+
+pub returns-clause-too_many : goal.returns-clause-too_many
+returns-clause-too_many g c = counted_when_made c.args.graph c.args.terms c.in_ok-diagnosis.diagnosis _ c.in_ok-diagnosis.ensures.too_many

@@ -1,0 +1,3 @@
+-- Questions: which hypotheses a round leaves, and what is asked of them.
+pub mod Left
+pub mod Asked

@@ -1,4 +1,0 @@
--- How explaining ends.
-pub mod ExplainedMaps
-pub mod ExplainedFiles
-pub mod NamedNodes

@@ -1,0 +1,2 @@
+-- The finding that the line of a panel names.
+pub mod BestFinding

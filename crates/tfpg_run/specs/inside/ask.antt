@@ -1,2 +1,0 @@
--- What is asked of a diagnosis.
-pub mod Asked

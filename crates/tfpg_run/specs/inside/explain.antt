@@ -1,2 +1,0 @@
--- What is known of a verdict.
-pub mod Verdicts
