@@ -2,7 +2,7 @@
 # with the top of the repository in `top`.
 
 program=$top/crates/tfpg/out/tfpg
-build_time='some 28 minutes on four processors'
+build_time='half an hour to an hour on four processors'
 
 # Says this on standard error, which is all that the scripts themselves write to. Where that fails nothing more can be said.
 say() {
