@@ -70,20 +70,6 @@ IsWrittenBefore IsRight Begins input taken written WriteFault = HasOutputOfFirst
 IsWrittenBefore IsRight Begins input taken written NoMemory =
     ((written ≡ []) × HasOutputOfFirstLines Begins input taken written) ⊎ HasOutputOfFirstLines IsRight input taken written
 
--- How judging what the input spells stops at a fault of the streams, where these bytes were taken. Before all is judged, nothing is written.
--- Where the input fails or is too long, this holds of the lines that came whole. Where the input fails, the output does not, and where the
--- output fails, the input does not; where it stops otherwise, neither does.
-abbrev pub StopsJudging : (List (List ℕ) → Type 0) → (List ℕ → Type 0) → Streams → Streams → List ℕ → StreamFault → Type 0
-StopsJudging AreRightSoFar IsRight before now taken ReadFault =
-    Rose before.input.faults now.input.faults × AreRightSoFar (whole_lines taken) × (now.output ≡ before.output)
-StopsJudging AreRightSoFar IsRight before now taken WriteFault =
-    BeginsText IsRight before.output now.output × (now.input.faults ≡ before.input.faults)
-StopsJudging AreRightSoFar IsRight before now taken TooMuchInput =
-    (length taken ≡ MAX_BYTES + 1) × AreRightSoFar (whole_lines (take MAX_BYTES taken)) × (now.output ≡ before.output)
-    × (now.input.faults ≡ before.input.faults)
-StopsJudging AreRightSoFar IsRight before now taken NoMemory =
-    (now.output ≡ before.output) × (now.input.faults ≡ before.input.faults)
-
 -- Bytes were taken from the input and others written, and so it ended, by what both are.
 pub record TakesAndWrites (Ends : List ℕ → List ℕ → Type 0) (before now : Streams) : Type 0 where
   pub taken : List ℕ
