@@ -1,5 +1,5 @@
 # A test bench in Python, in cells as a notebook reads them. `testbench.txt` is what it prints. It runs with `python` in PYTHONPATH, and
-# needs the library and the program, as python/README.md says.
+# needs the library, as python/README.md says.
 
 # %% The pump, and a test: its filter is clogged, and what the monitors then say has times of the world, in Unix milliseconds.
 from pathlib import Path

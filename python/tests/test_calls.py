@@ -92,7 +92,9 @@ class Whole(unittest.TestCase):
 
     def test_the_errors_of_a_diagnosis(self):
         graph = tfpg.Graph.load(PUMP)
-        for call in (tfpg.Session, lambda graph, **terms: tfpg.report(graph, "5 tick\n", **terms)):
+        for call in (tfpg.Session, lambda graph, **terms: tfpg.report(graph, "5 tick\n", **terms),
+                     lambda graph, **terms: tfpg.ask(graph, "5 tick\n", **terms),
+                     lambda graph, **terms: tfpg.predict(graph, "5 tick\n", "D", **terms)):
             for terms, said in (({"k": 65}, "k is from 0 to 64, and 65 is not"), ({"k": -1}, "k is from 0 to 64, and -1 is not"),
                                 ({"k": 2**32 + 2}, "k is from 0 to 64"), ({"doubt": 5}, "doubt is from 0 to 4, and 5 is not"),
                                 ({"budget": 0}, "budget is from 1 to 1000000000000"), ({"budget": 2**64 + 1}, "budget is from")):
@@ -106,14 +108,17 @@ class Whole(unittest.TestCase):
             fault = raised.exception
             self.assertEqual((fault.line, fault.cause, fault.text), (7, "BadLine", "or Wet watch 5000 7"))
             self.assertEqual(fault.sentence, "In version 1 `watch` has one number, the greatest lag, and here are two.")
+            self.assertRaises(TypeError, call, graph, k=1.5)
 
     def test_errors_have_kinds(self):
         self.assertTrue(issubclass(tfpg.NoMemory, MemoryError) and issubclass(tfpg.OutOfRange, ValueError))
         self.assertTrue(all(issubclass(one, tfpg.Error) for one in (tfpg.NoProgram, tfpg.NoLibrary, tfpg.LineRefused, tfpg.NotAccepted)))
 
     def test_a_log_that_is_too_long(self):
-        with self.assertRaises(tfpg.TooMuchInput):
-            tfpg.check(tfpg.Graph.load(PUMP), b"\n" * (2**24 + 1), b"")
+        graph, log = tfpg.Graph.load(PUMP), b"\n" * (2**24 + 1)
+        for call in (lambda: tfpg.check(graph, log, b""), lambda: tfpg.ask(graph, log), lambda: tfpg.predict(graph, log, "LowFlow"),
+                     lambda: tfpg.explain(graph, log, b"set -\n")):
+            self.assertRaises(tfpg.TooMuchInput, call)
 
     def test_the_name_of_a_file_is_no_text(self):
         graph = tfpg.Graph.load(PUMP)

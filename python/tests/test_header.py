@@ -67,6 +67,10 @@ class Header(unittest.TestCase):
         never = found(r"#define TFPG_NEVER UINT64_C\((\d+)\)")
         self.assertEqual(int(never[1]), layouts.NEVER)
 
+    def test_all_of_them_are_there(self):
+        self.assertEqual(set(re.findall(r"^\} (tfpg_\w+);", HEADER, re.M)), set(layouts.LAYOUTS))
+        self.assertEqual(set(re.findall(r"^(?:tfpg_answer|void) (tfpg_\w+)\(", HEADER, re.M)), set(CALLS))
+
     def test_calls(self):
         for name, (answer, words) in CALLS.items():
             with self.subTest(name=name):

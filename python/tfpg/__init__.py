@@ -5,20 +5,20 @@ This package is no part of the proved program. It calls the library, or runs the
 """
 
 from .calls.answers import Ranked, Refused, Round
+from .calls.asking import Question, Questions, ask
+from .calls.explaining import Verdict, explain
 from .calls.graph import Graph
+from .calls.predicting import Forecast, Prediction, predict
 from .calls.session import Session
 from .calls.whole_logs import check, report
-from .faults import (BadGraph, Error, LineRefused, LogFull, NoLibrary, NoMemory, NoProgram, NotAccepted, OutOfRange, SessionClosed,
-                     TooManyHypotheses, TooMuchInput, UnknownNode)
+from .faults import (BadGraph, Error, FullGraph, LineRefused, LogFull, NoLibrary, NoMemory, NoProgram, NotAccepted, OutOfRange,
+                     SessionClosed, TooManyHypotheses, TooMuchInput, UnknownNode)
 from .reading.graphs import Edge, Node
-from .runs.asking import Question, Questions, ask
-from .runs.explaining import Verdict, explain
-from .runs.predicting import Forecast, Prediction, predict
 
 __version__ = "0.1.0"
 
 __all__ = [
-    "BadGraph", "Edge", "Error", "Forecast", "Graph", "LineRefused", "LogFull", "NoLibrary", "NoMemory", "NoProgram", "Node", "NotAccepted",
-    "OutOfRange", "Prediction", "Question", "Questions", "Ranked", "Refused", "Round", "Session", "SessionClosed", "TooManyHypotheses",
-    "TooMuchInput", "UnknownNode", "Verdict", "ask", "check", "explain", "predict", "report",
+    "BadGraph", "Edge", "Error", "Forecast", "FullGraph", "Graph", "LineRefused", "LogFull", "NoLibrary", "NoMemory", "NoProgram", "Node",
+    "NotAccepted", "OutOfRange", "Prediction", "Question", "Questions", "Ranked", "Refused", "Round", "Session", "SessionClosed",
+    "TooManyHypotheses", "TooMuchInput", "UnknownNode", "Verdict", "ask", "check", "explain", "predict", "report",
 ]

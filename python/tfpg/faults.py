@@ -33,6 +33,10 @@ class BadGraph(Error, ValueError):
         self.line, self.cause, self.text, self.sentence = line, cause, text, sentence
 
 
+class FullGraph(BadGraph):
+    """A graph has 512 nodes or 2,048 edges, and `predict` needs room for one more of each. The line is 0."""
+
+
 class TooManyHypotheses(Error):
     """There are more than 4,096 hypotheses; `count` says how many."""
 

@@ -1,1 +1,1 @@
-"""The calls of the library for C: sessions, reports and checks, by the numbers that they answer."""
+"""The calls of the library for C: sessions, reports, checks, questions, predictions and verdicts."""

@@ -24,6 +24,8 @@ class Status(IntEnum):
     ROOM_TOO_SMALL = 9
     ENDED = 10
     NO_SUCH = 11
+    BAD_MAP = 12
+    FULL_GRAPH = 13
 
 
 # The names of causes in docs/formats.md, by their numbers from 1.
@@ -62,6 +64,12 @@ class Answer(ctypes.Structure):
     _fields_ = [("status", c_uint32), ("cause", c_uint32), ("line", c_uint64), ("count", c_uint64), ("count_high", c_uint64)]
 
 
+class PredictionNumbers(ctypes.Structure):
+    """`tfpg_prediction_terms`: the terms of a prediction."""
+
+    _fields_ = [("k", c_uint32), ("doubt", c_uint32), ("budget", c_uint64), ("ahead", c_uint64)]
+
+
 class Handle(ctypes.Structure):
     """`tfpg_session`: a session, which only the library reads and writes."""
 
@@ -84,7 +92,8 @@ class RankedNumbers(ctypes.Structure):
 
 CODES = {c_uint32: "I", c_uint64: "Q", c_uint64 * 8: "8Q"}
 LAYOUTS: Dict[str, Type[ctypes.Structure]] = {
-    "tfpg_answer": Answer, "tfpg_session": Handle, "tfpg_result": ResultNumbers, "tfpg_ranked": RankedNumbers}
+    "tfpg_answer": Answer, "tfpg_prediction_terms": PredictionNumbers, "tfpg_session": Handle, "tfpg_result": ResultNumbers,
+    "tfpg_ranked": RankedNumbers}
 
 
 def numbers_in(layout: Type[ctypes.Structure]) -> Struct:

@@ -25,6 +25,9 @@ TERMS: List[Any] = [c_uint32, c_uint32, c_uint64]
 CALLS: Dict[str, Tuple[Any, List[Any]]] = {
     "tfpg_report": (Answer, TEXT + TEXT + TERMS + ROOM),
     "tfpg_check": (Answer, TEXT + TEXT + TEXT),
+    "tfpg_ask": (Answer, TEXT + TEXT + TERMS + ROOM),
+    "tfpg_predict": (Answer, TEXT + TEXT + TEXT + [PLACE] + ROOM),
+    "tfpg_explain": (Answer, TEXT + TEXT + TEXT + ROOM),
     "tfpg_open": (Answer, [PLACE] + TEXT + TERMS),
     "tfpg_line": (Answer, [PLACE] + TEXT),
     "tfpg_block": (Answer, [PLACE] + ROOM),
@@ -43,7 +46,7 @@ class Library:
     """The calls of a library.
 
     `line`, `event`, `result_of` and `ranked_at` take C values of the right types alone, which are made once: to make them of numbers takes
-    longer than the call. The others take numbers, bytes and rooms. Other threads run during the calls that may take long, and wait for
+    longer than the call. The others take numbers, bytes and places. Other threads run during the calls that may take long, and wait for
     those that only read what is there."""
 
     def __init__(self, path: str) -> None:
@@ -53,6 +56,7 @@ class Library:
             raise NoLibrary(f"{path} is not loaded: {fault}") from None
         self.path = path
         self.report, self.check, self.open = bind(calls, "tfpg_report"), bind(calls, "tfpg_check"), bind(calls, "tfpg_open")
+        self.ask, self.predict, self.explain = bind(calls, "tfpg_ask"), bind(calls, "tfpg_predict"), bind(calls, "tfpg_explain")
         self.line, self.block, self.close = bind(calls, "tfpg_line", False), bind(reads, "tfpg_block"), bind(calls, "tfpg_close")
         self.event, self.result_of = bind(calls, "tfpg_event", False), bind(reads, "tfpg_result_of", False)
         self.ranked_at = bind(reads, "tfpg_ranked_at", False)
@@ -64,7 +68,7 @@ def bind(calls: ctypes.CDLL, name: str, converts: bool = True) -> Call:
     try:
         call = calls[name]
     except AttributeError:
-        raise NoLibrary(f"{calls._name} has no {name}, so it is no library of tfpg") from None
+        raise NoLibrary(f"{calls._name} has no {name}, so it is no library of this version of tfpg") from None
     call.restype, words = CALLS[name]
     if converts:
         call.argtypes = words

@@ -14,15 +14,16 @@ from typing import Dict, Iterator, Optional, Tuple, Type, Union
 from ..faults import LineRefused
 from ..reading.texts import LONGEST_LINE, NUMBER
 from .answers import Answered, Refused, Round
-from .endings import Terms, fault_of
+from .endings import About, Terms, fault_of
 from .graph import Graph
 from .layouts import Answer, EventKind, Handle, NameKind, Status
 from .library import Library, library
 from .numbers import Numbers
-from .texts import Line, Log, line_bytes, line_text, log_lines
+from .rooms import text_written
+from .texts import Line, Log, counted, line_bytes, line_text, log_lines
 
 MOST_OF_C = 2**64 - 1
-FIRST_ROOM = 4096
+ROOM_OF_BLOCK = 4096  # of the first try
 TIMED = re.compile(rb"(%s)( .*)" % NUMBER.pattern.encode(), re.S)
 KINDS = {"alarm": (EventKind.ALARM, NameKind.NODE_NAME), "silent": (EventKind.SILENT, NameKind.NODE_NAME),
          "mode": (EventKind.MODE, NameKind.MODE_NAME)}
@@ -41,8 +42,8 @@ class Session:
         self._session, self._time, self._count = ctypes.byref(self._handle), ctypes.c_uint64(), ctypes.c_size_t()
         self._end = weakref.finalize(self, close, self._calls, self._handle, os.getpid())
         self._end.atexit = False
-        self._terms = Terms(k, doubt, budget)
-        self._done(self._calls.open(self._session, graph.text, len(graph.text), *self._terms.numbers()))
+        self._about = About(graph, Terms(k, doubt, budget))
+        self._done(self._calls.open(self._session, *counted(graph.text), *self._about.terms.numbers()))
         self._head, self._numbers = self._text(), Numbers(self._calls, self._handle, self.origin)
         self._events: Dict[Tuple[str, str], Tuple[c_uint32, c_uint32]] = {
             ("sweep", ""): (c_uint32(EventKind.SWEEP), c_uint32()), ("tick", ""): (c_uint32(EventKind.TICK), c_uint32())}
@@ -61,13 +62,13 @@ class Session:
     @property
     def head(self) -> str:
         """The first line of the session's report, with its line end."""
-        return self._head.decode("ascii")
+        return self._head
 
     @property
     def block(self) -> str:
         """What the report says of the last line, and before any line its first line. Times in it are less the origin."""
         with self._lock:
-            return self._text().decode("ascii")
+            return self._text()
 
     def line(self, line: Line) -> Answered:
         """Takes the next line of the log. Its line end, if it has one, is left out."""
@@ -96,7 +97,7 @@ class Session:
 
     def _done(self, answer: Answer) -> None:
         if answer.status != Status.DONE:
-            raise fault_of(answer, self.graph, self._terms)
+            raise fault_of(answer, self._about)
 
     def _brought(self, answer: Answer, said: Union[bytes, Tuple[int, str, str]]) -> Answered:
         """The answer of a line, or of an event, that was taken."""
@@ -123,15 +124,9 @@ class Session:
         self._events[kind, name] = c_uint32(event), c_uint32(found)
         return self._events[kind, name]
 
-    def _text(self) -> bytes:
+    def _text(self) -> str:
         """The text of the session."""
-        size, answer = FIRST_ROOM, Answer(Status.ROOM_TOO_SMALL)
-        while answer.status == Status.ROOM_TOO_SMALL:
-            room = ctypes.create_string_buffer(size)
-            answer = self._calls.block(self._session, room, size)
-            size = answer.count
-        self._done(answer)
-        return ctypes.string_at(room, answer.count)
+        return text_written(self._calls.block, (self._session,), self._about, ROOM_OF_BLOCK)
 
 
 def close(calls: Library, handle: Handle, process: int) -> None:

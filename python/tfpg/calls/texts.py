@@ -5,7 +5,7 @@ from __future__ import annotations
 import io
 import os
 from pathlib import Path
-from typing import Iterable, Iterator, Union
+from typing import Iterable, Iterator, Tuple, Union
 
 Line = Union[str, bytes]
 Text = Union[str, bytes, "os.PathLike[str]"]  # a text, or the path of its file
@@ -32,6 +32,11 @@ def text_bytes(given: Text) -> bytes:
     if given and " " not in given and "\n" not in given:
         raise ValueError(f"{given!r} is no text: a file is given as pathlib.Path({given!r})")
     return given.encode("utf-8", "surrogateescape")
+
+
+def counted(text: bytes) -> Tuple[bytes, int]:
+    """A text as C takes it, with the number of its bytes."""
+    return text, len(text)
 
 
 def log_bytes(log: Log) -> bytes:

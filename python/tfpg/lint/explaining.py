@@ -10,6 +10,8 @@ from .graph_wholes import CAUSES, explain_whole
 from .log_lines import explain_log_line
 from .refusals import Explanation
 
+NO_ROOM = "There is no room for one node and one edge more, which predict needs."
+
 
 def explained(explain: Callable[[], Explanation]) -> Explanation:
     """An explanation; or only that there is none, of a cause that is not known here or a file that has changed meanwhile."""
@@ -22,7 +24,7 @@ def explained(explain: Callable[[], Explanation]) -> Explanation:
 def graph_explanation(lines: Sequence[str], number: int, cause: str) -> Explanation:
     """Why a graph of these lines is refused in the line of this number, which is 0 if it is in none."""
     if number == 0:
-        return Explanation("There is no room for one node and one edge more, which predict needs.")
+        return Explanation(NO_ROOM)
     explain = explain_whole if cause in CAUSES else explain_graph_line
     return explained(lambda: explain(lines, number, cause))
 

@@ -5,11 +5,13 @@ from __future__ import annotations
 from dataclasses import dataclass
 from typing import Tuple
 
-from ..calls.endings import Terms
-from ..calls.graph import Graph
-from ..calls.texts import Log
 from ..faults import LogFull
-from .files import fault_of_end, lines_written, options_of, run_on
+from ..reading.texts import lines_of
+from .endings import About, Terms
+from .graph import Graph
+from .library import library
+from .rooms import text_written
+from .texts import Log, counted, log_bytes
 
 
 @dataclass(frozen=True)
@@ -34,13 +36,11 @@ class Questions:
 
 
 def ask(graph: Graph, log: Log, k: int = 2, doubt: int = 0, budget: int = 1000) -> Questions:
-    """Which observation would tell most after a log, as the program's `ask` says it. It runs the program."""
-    terms = Terms(k, doubt, budget)
-    ended = run_on("ask", options_of(terms), graph, log)
-    if ended.status != 0:
-        raise fault_of_end(ended, graph, terms.fault())
-    head, *lines = [line.split(" ") for line in lines_written(ended)]
-    if lines and lines[0][0] == "refused":
+    """Which observation would tell most after a log, as the program's `ask` says it."""
+    lines, terms = log_bytes(log), Terms(k, doubt, budget)
+    text = text_written(library().ask, (*counted(graph.text), *counted(lines), *terms.numbers()), About(graph, terms))
+    head, *asked = [line.split(" ") for line in lines_of(text)]
+    if asked and asked[0][0] == "refused":
         raise LogFull("the log has as many events as a log can have")
-    questions = tuple(Question(words[1], int(words[3]), int(words[5]), int(words[7])) for words in lines)
+    questions = tuple(Question(words[1], int(words[3]), int(words[5]), int(words[7])) for words in asked)
     return Questions(int(head[2]), int(head[4]), int(head[6]), questions)

@@ -2,16 +2,18 @@
 
 from __future__ import annotations
 
+import ctypes
 from dataclasses import dataclass
 from typing import Dict, List, Optional, Tuple
 
-from ..calls.endings import Terms
-from ..calls.graph import Graph
-from ..calls.texts import Log
-from ..faults import OutOfRange, UnknownNode
-from ..lint.command_words import OPTIONS
-from ..reading.texts import is_name
-from .files import fault_of_end, lines_written, options_of, run_on
+from ..faults import UnknownNode
+from ..reading.texts import is_name, lines_of
+from .endings import About, PredictionTerms
+from .graph import Graph
+from .layouts import PredictionNumbers
+from .library import library
+from .rooms import text_written
+from .texts import Log, counted, log_bytes
 
 
 @dataclass(frozen=True)
@@ -38,17 +40,21 @@ class Prediction:
 
 
 def predict(graph: Graph, log: Log, node: str, ahead: int = 1000, k: int = 2, doubt: int = 0, budget: int = 1000) -> Prediction:
-    """When a node becomes active at the earliest, as the program's `predict` says it. It runs the program."""
+    """When a node becomes active at the earliest, as the program's `predict` says it."""
     if not is_name(node):
         raise UnknownNode(node)
-    terms = Terms(k, doubt, budget)
-    ended = run_on("predict", [*options_of(terms), f"--ahead={ahead}"], graph, log, [node])
-    if ended.status != 0:
-        raise fault_of_end(ended, graph, out_of_range(terms, ahead), node)
-    head, *lines = lines_written(ended)
+    text = forecasts_text(graph, log_bytes(log), node, PredictionTerms(k, doubt, budget, ahead))
+    head, *lines = lines_of(text)
     begins = [place for place, line in enumerate(lines) if line.startswith("forecast ")] + [len(lines)]
     words = head.split(" ")
     return Prediction(node, int(words[3]), int(words[5]), tuple(map(forecast, (lines[a:b] for a, b in zip(begins, begins[1:])))))
+
+
+def forecasts_text(graph: Graph, lines: bytes, node: str, terms: PredictionTerms) -> str:
+    """The forecasts of a node as a text."""
+    numbers = PredictionNumbers(*terms.numbers())
+    words = *counted(graph.text), *counted(lines), *counted(node.encode("ascii")), ctypes.byref(numbers)
+    return text_written(library().predict, words, About(graph, terms, node=node))
 
 
 def forecast(lines: List[str]) -> Forecast:
@@ -58,11 +64,3 @@ def forecast(lines: List[str]) -> Forecast:
     steps = tuple(line for line in lines[1:] if not line.startswith("at "))
     time = int(words[5]) if len(words) > 5 else None
     return Forecast(int(words[1]), words[3], words[4], time, {name: int(when) for _, name, when in trace}, steps)
-
-
-def out_of_range(terms: Terms, ahead: int) -> OutOfRange:
-    """Which numbers of a prediction are outside their limits."""
-    limits = OPTIONS["--ahead"]
-    if limits.least <= ahead <= limits.greatest:
-        return terms.fault()
-    return OutOfRange(f"ahead is from {limits.least} to {limits.greatest}, and {ahead!r} is not")

@@ -1,35 +1,64 @@
 """`ask`, `predict` and `explain`, beside what the program writes."""
 
 import unittest
+from unittest import mock
 
 import tfpg
 from support import EXAMPLES, files, library_words, text, tiny
+from tfpg.calls.rooms import FIRST_ROOM
 from tfpg.program import run_program
 from tfpg.reading.texts import lines_of, text_of
 
 SYSTEMS = [("pump", "pump"), ("pump", "pump-gauge"), ("satellite", "satellite-array"), ("satellite", "satellite-relay")]
 PUMP, LOG = EXAMPLES / "pump.tfpg", EXAMPLES / "pump.log"
 
+CHAIN = [f"N{number:031}" for number in range(300)]
+LONG = text(["tfpg 1", "mode M", *(f"failure F{number} 1" for number in range(8)), *(f"or {node} hidden" for node in CHAIN[:-1]),
+             f"or {CHAIN[-1]} watch 0", *(f"edge F{number} {CHAIN[0]} 0 10 *" for number in range(8)),
+             *(f"edge {source} {target} 0 10 *" for source, target in zip(CHAIN, CHAIN[1:])), "end"])
+FULL = {
+    "TooManyNodes": text(["tfpg 1", "mode M", "failure F 1", *(f"or D{number} hidden" for number in range(511)),
+                          *(f"edge F D{number} 0 1 *" for number in range(511)), "end"]),
+    "TooManyEdges": text(["tfpg 1", "mode M", *(f"failure F{number} 1" for number in range(32)),
+                          *(f"or D{number} watch 0" for number in range(64)),
+                          *(f"edge F{source} D{target} 0 1 *" for source in range(32) for target in range(64)), "end"]),
+}
+
 
 def written(*words):
     return lines_of(text_of(run_program([str(word) for word in words]).output))
 
 
+def lines_asked(said):
+    """The lines of questions."""
+    lines = [f"ask {one.node} silent {one.silent} alarm {one.alarm} unknown {one.unknown}" for one in said.questions]
+    return [f"questions now {said.now} ranked {said.ranked} open {said.open}", *lines]
+
+
+def lines_predicted(said):
+    """The lines of a prediction."""
+    lines = [f"predict {said.node} now {said.now} to {said.until}"]
+    for one in said.forecasts:
+        lines.append(f"forecast {one.hypothesis} set {one.set} {one.outcome}" + ("" if one.time is None else f" {one.time}"))
+        lines += [f"at {place} {when}" for place, when in one.trace.items()] + list(one.steps)
+    return lines
+
+
+@unittest.skipIf(library_words(), library_words())
 class Asked(unittest.TestCase):
     def test_questions(self):
         for system, name in SYSTEMS:
             with self.subTest(name=name):
                 graph, log = EXAMPLES / f"{system}.tfpg", EXAMPLES / f"{name}.log"
                 said = tfpg.ask(tfpg.Graph.load(graph), log, k=1)
-                lines = [f"questions now {said.now} ranked {said.ranked} open {said.open}"]
-                lines += [f"ask {one.node} silent {one.silent} alarm {one.alarm} unknown {one.unknown}" for one in said.questions]
-                self.assertEqual(lines, written("ask", "--k", 1, graph, log))
+                self.assertEqual(lines_asked(said), written("ask", "--k", 1, graph, log))
 
     def test_no_events(self):
         said = tfpg.ask(tfpg.Graph.load(PUMP), b"")
         self.assertEqual((said.now, said.ranked, {one.silent for one in said.questions}), (0, 0, {0}))
 
 
+@unittest.skipIf(library_words(), library_words())
 class Predicted(unittest.TestCase):
     def test_forecasts(self):
         for system, name in SYSTEMS:
@@ -38,16 +67,28 @@ class Predicted(unittest.TestCase):
             for node in loaded.monitored[-2:]:
                 with self.subTest(name=name, node=node):
                     said = tfpg.predict(loaded, log, node, ahead=3600000, budget=50)
-                    lines = [f"predict {said.node} now {said.now} to {said.until}"]
-                    for one in said.forecasts:
-                        time = "" if one.time is None else f" {one.time}"
-                        lines.append(f"forecast {one.hypothesis} set {one.set} {one.outcome}{time}")
-                        lines += [f"at {place} {when}" for place, when in one.trace.items()] + list(one.steps)
-                    self.assertEqual(lines, written("predict", "--ahead", 3600000, "--budget", 50, graph, log, node))
+                    self.assertEqual(lines_predicted(said), written("predict", "--ahead", 3600000, "--budget", 50, graph, log, node))
 
     def test_outcomes(self):
         said = tfpg.predict(tfpg.Graph(tiny()), "0 mode Stop\n1 tick\n", "Wet", k=1)
         self.assertEqual([(one.set, one.outcome) for one in said.forecasts], [("-", "never")])
+
+    def test_a_text_that_is_longer_than_the_first_room(self):
+        log = f"5000 alarm {CHAIN[-1]}\n"
+        with files(graph=LONG, log=log):
+            lines = written("predict", "--k", 1, "graph", "log", CHAIN[-1])
+        self.assertGreater(len(text(lines)), FIRST_ROOM)
+        self.assertEqual(lines_predicted(tfpg.predict(tfpg.Graph(LONG), log, CHAIN[-1], k=1)), lines)
+
+    def test_full_graphs(self):
+        for cause, graph in FULL.items():
+            with self.subTest(cause=cause), files(graph=graph, log="5 tick\n"):
+                self.assertEqual(run_program(["predict", "--k", "1", "graph", "log", "D0"]).line, f"graph 0 {cause}")
+                for node in ("D0", "Nobody"):
+                    with self.assertRaisesRegex(tfpg.FullGraph, "There is no room for one node and one edge more") as raised:
+                        tfpg.predict(tfpg.Graph(graph), "5 tick\n", node, k=1)
+                    self.assertEqual((raised.exception.line, raised.exception.cause), (0, cause))
+                self.assertEqual(lines_asked(tfpg.ask(tfpg.Graph(graph), "5 tick\n", k=1)), written("ask", "--k", 1, "graph", "log"))
 
     def test_errors(self):
         graph = tfpg.Graph.load(PUMP)
@@ -56,7 +97,8 @@ class Predicted(unittest.TestCase):
                 tfpg.predict(graph, LOG, node)
             self.assertEqual(raised.exception.name, node)
         for terms, said in (({"ahead": -1}, "ahead is from 0 to 1000000000000, and -1 is not"),
-                            ({"k": 65}, "k is from 0 to 64, and 65 is not")):
+                            ({"ahead": 2**64}, "ahead is from 0 to 1000000000000, and 18446744073709551616 is not"),
+                            ({"k": 65, "ahead": 10**12 + 1}, "k is from 0 to 64, and 65 is not; ahead is from 0 to ")):
             with self.assertRaisesRegex(tfpg.OutOfRange, said):
                 tfpg.predict(graph, LOG, "LowFlow", **terms)
         with self.assertRaises(tfpg.BadGraph) as raised:
@@ -64,8 +106,8 @@ class Predicted(unittest.TestCase):
         self.assertEqual((raised.exception.line, raised.exception.cause), (4, "BadNumber"))
 
 
+@unittest.skipIf(library_words(), library_words())
 class Explained(unittest.TestCase):
-    @unittest.skipIf(library_words(), library_words())
     def test_what_is_ranked_explains_the_log(self):
         for system, name in SYSTEMS:
             graph, log = tfpg.Graph.load(EXAMPLES / f"{system}.tfpg"), EXAMPLES / f"{name}.log"
@@ -96,6 +138,18 @@ class Explained(unittest.TestCase):
         with self.assertRaises(tfpg.NotAccepted) as raised:
             tfpg.explain(tfpg.Graph.load(PUMP), LOG, "set FilterClogged\nat Nobody 5\n")
         self.assertEqual((raised.exception.line, raised.exception.cause, raised.exception.text), (2, "BadMap", "at Nobody 5"))
+        with self.assertRaisesRegex(tfpg.NotAccepted, "line 1: BadMap$"):
+            tfpg.explain(tfpg.Graph.load(PUMP), LOG, "")
+
+
+@unittest.skipIf(library_words(), library_words())
+class Alone(unittest.TestCase):
+    def test_no_program_is_run(self):
+        with mock.patch("subprocess.run", side_effect=AssertionError("the program is run")):
+            graph = tfpg.Graph.load(PUMP)
+            self.assertEqual(tfpg.ask(graph, LOG, k=1).now, 5400000)
+            self.assertEqual(tfpg.predict(graph, LOG, "LowFlow", k=1).now, 5400000)
+            self.assertTrue(tfpg.explain(graph, LOG, EXAMPLES / "pump-filter.map").explains)
 
 
 if __name__ == "__main__":

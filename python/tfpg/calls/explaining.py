@@ -5,10 +5,12 @@ from __future__ import annotations
 from dataclasses import dataclass
 from typing import Optional
 
-from ..calls.graph import Graph
-from ..calls.texts import Log, Text, text_bytes
-from ..faults import OutOfRange
-from .files import fault_of_end, lines_written, run_on
+from ..reading.texts import lines_of
+from .endings import About
+from .graph import Graph
+from .library import library
+from .rooms import text_written
+from .texts import Log, Text, counted, log_bytes, text_bytes
 
 SENTENCES = {
     "late": "It gives {node} the time {time}, which is after the last event.",
@@ -38,10 +40,8 @@ class Verdict:
 
 
 def explain(graph: Graph, log: Log, history: Text) -> Verdict:
-    """Judges a history, which is a map as docs/formats.md has it, as the program's `explain` does. It runs the program."""
-    given = text_bytes(history)
-    ended = run_on("explain", [], graph, log, given=given)
-    if ended.status != 0:
-        raise fault_of_end(ended, graph, OutOfRange(ended.line), given=given)
-    words = lines_written(ended)[0].split(" ")
+    """Judges a history, which is a map as docs/formats.md has it, as the program's `explain` does."""
+    lines, given = log_bytes(log), text_bytes(history)
+    text = text_written(library().explain, (*counted(graph.text), *counted(lines), *counted(given)), About(graph, judged=given))
+    words = lines_of(text)[0].split(" ")
     return Verdict(True) if words == ["yes"] else Verdict(False, words[1], words[2], int(words[3]))
