@@ -27,6 +27,8 @@ typedef char result_is_as_in_the_library[sizeof(tfpg_result) == 56 && offsetof(t
     && offsetof(tfpg_result, now) == 32 && offsetof(tfpg_result, ranked) == 40 && offsetof(tfpg_result, open) == 52 ? 1 : -1];
 typedef char ranked_is_as_in_the_library[sizeof(tfpg_ranked) == 96 && offsetof(tfpg_ranked, doubts) == 8 && offsetof(tfpg_ranked, cost) == 72
     && offsetof(tfpg_ranked, hypothesis) == 80 && offsetof(tfpg_ranked, active) == 92 ? 1 : -1];
+typedef char prediction_terms_are_as_in_the_library[sizeof(tfpg_prediction_terms) == 24 && offsetof(tfpg_prediction_terms, budget) == 8
+    && offsetof(tfpg_prediction_terms, ahead) == 16 ? 1 : -1];
 extern tfpg_session kept;
 tfpg_session kept = TFPG_SESSION;
 END

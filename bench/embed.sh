@@ -3,6 +3,8 @@
 #
 # - Runs them on each example log, and compares what they write with what the program writes, byte for byte.
 # - Does so once more with `examples/pool.c` in place of `malloc`, and with pools that are too small.
+# - Compares what `examples/answers.c` writes with what the program writes for `ask`, `predict` and `explain`: for each example log, each
+#   node of its graph, and each example map.
 # - Compares the numbers of sessions, which took lines or events, with the lines of reports, for each example log and for 20,000 random lines.
 #   Compares what `examples/monitor.c` says of each example log with its report, and all names of the graphs with those of the graphs' texts.
 # - Fills sessions, and compares what `examples/renew.c` says in the end with what is said of the same log without that. Compares what looser
@@ -54,6 +56,7 @@ link_with examples/report.c report -g -fsanitize=address,undefined
 link_with examples/embed.c embed -g -fsanitize=address,undefined
 link_with examples/renew.c renew -g -fsanitize=address,undefined
 link_with examples/monitor.c monitor -g -fsanitize=address,undefined
+link_with examples/answers.c answers -g -fsanitize=address,undefined
 link_with bench/numbers.c numbers -g -fsanitize=address,undefined
 link_with_pool examples/report.c report_pool 24
 link_with_pool examples/embed.c embed_pool 24
@@ -141,6 +144,19 @@ try_monitor() {
         diff <(monitored "$made/written" "$failure") - || differs "$name, the monitor"
 }
 
+# Compares an answer with what the program writes, where they end well, and their statuses.
+try_answer() {
+    local name=$1 ended=0 wanted=0
+    "$made/answers" "${@:2:4}" > "$made/text" || ended=$?
+    case $2 in
+        ask) "$top/tfpg" ask "$3" "$4" > "$made/written" || wanted=$? ;;
+        predict) "$top/tfpg" predict --ahead 3600000 "$3" "$4" "$5" > "$made/written" || wanted=$? ;;
+        explain) "$top/tfpg" explain "$3" "$4" < "$5" > "$made/written" || wanted=$? ;;
+    esac
+    [ "$ended" = "$wanted" ] || differs "$name: status $ended"
+    cmp -s "$made/text" "$made/written" || differs "$name"
+}
+
 # The graph of this log.
 graph_of() {
     local name
@@ -157,6 +173,12 @@ for log in "$top"/examples/*.log; do
     for doubt in 0 1; do try_numbers "$graph" "$log" "$name, doubt $doubt" "$doubt"; done
     try_monitor "$graph" "$log" "$name"
     cmp -s "$made/judged" <(echo "accepted $(grep -c '^counts ' "$made/wanted")") || differs "$name, judged"
+    if [ ! "$alone" ]; then
+        try_answer "$name, asked" ask "$graph" "$log"
+        for node in $(awk '$1 == "or" || $1 == "and" || $1 == "failure" { print $2 }' "$graph"); do
+            try_answer "$name, predicted for $node" predict "$graph" "$log" "$node"
+        done
+    fi
     "$made/report_pool" "$graph" "$log" 2> "$made/judged" | cmp -s - "$made/wanted" || differs "$name, by a pool"
     "$made/embed_pool" "$graph" < "$log" | cmp -s - "$made/wanted" || differs "$name, line by line and by a pool"
     for events in 1 3 5; do
@@ -169,6 +191,12 @@ for log in "$top"/examples/*.log; do
     grep -v ' mode ' "$log" | "$made/embed" "$made/loose.tfpg" > "$made/text" || differs "$name, by a looser graph: the status"
     if LC_ALL=C comm -23 <(rejected "$made/text") <(rejected "$made/wanted") | grep .; then differs "$name, by a looser graph"; fi
 done
+
+if [ ! "$alone" ]; then
+    for map in "$top"/examples/*.map; do
+        try_answer "$(basename "$map" .map), explained" explain "$top/examples/pump.tfpg" "$top/examples/pump.log" "$map"
+    done
+fi
 
 "$made/statuses" || differs statuses
 "$made/statuses_pool" || differs 'statuses, by a pool'

@@ -50,6 +50,44 @@ static void try_texts(void) {
     expect("a bad graph, judged", tfpg_check(TEXT(bad), TEXT(""), TEXT(head)), TFPG_BAD_GRAPH, TFPG_GRAPH_DUPLICATE_NAME, 3, 0);
 }
 
+/* A graph of so many nodes. */
+static size_t many_nodes(int nodes, char *into, size_t size) {
+    size_t end = (size_t)snprintf(into, size, "tfpg 1\nmode N\nfailure F 1\n");
+    for (int node = 1; node < nodes; node++)
+        end += (size_t)snprintf(into + end, size - end, "or D%d watch 0\nedge F D%d 1 3 *\n", node, node);
+    return end + (size_t)snprintf(into + end, size - end, "end\n");
+}
+
+/* Calls over whole texts that ask, predict and explain. */
+static void try_answers(void) {
+    static const tfpg_prediction_terms second = {1, 0, 1000, 1000}, no_budget = {1, 0, 0, 1000}, far = {1, 0, 1000, UINT64_C(1000000000001)};
+    static const char asked[] = "questions now 0 ranked 0 open 0\nask A silent 0 alarm 0 unknown 0\n";
+    static const char predicted[] = "predict A now 0 to 1000\n", map[] = "set F\nat F 1\nat A 3\n";
+    static char large[65536];
+    size_t count = many_nodes(512, large, sizeof large);
+    expect("questions", tfpg_ask(TEXT(graph), TEXT(""), 1, 0, 1000, room, sizeof room), TFPG_DONE, 0, 0, sizeof asked - 1);
+    if (memcmp(room, asked, sizeof asked - 1)) wrong++, puts("the questions are others");
+    expect("no room for questions", tfpg_ask(TEXT(graph), TEXT(""), 1, 0, 1000, room, 3), TFPG_ROOM_TOO_SMALL, 0, 0, sizeof asked - 1);
+    expect("questions with k of 65", tfpg_ask(TEXT(bad), TEXT(""), 65, 0, 1000, room, sizeof room), TFPG_OUT_OF_RANGE, 0, 0, 0);
+    expect("questions of a bad graph", tfpg_ask(TEXT(bad), TEXT(""), 1, 0, 1000, room, sizeof room), TFPG_BAD_GRAPH,
+           TFPG_GRAPH_DUPLICATE_NAME, 3, 0);
+    expect("forecasts", tfpg_predict(TEXT(graph), TEXT(""), TEXT("A"), &second, room, sizeof room), TFPG_DONE, 0, 0, sizeof predicted - 1);
+    if (memcmp(room, predicted, sizeof predicted - 1)) wrong++, puts("the forecasts are others");
+    expect("forecasts without budget", tfpg_predict(TEXT(graph), TEXT(""), TEXT("A"), &no_budget, room, sizeof room), TFPG_OUT_OF_RANGE, 0,
+           0, 0);
+    expect("forecasts too far ahead", tfpg_predict(TEXT(bad), TEXT(""), TEXT("A"), &far, room, sizeof room), TFPG_OUT_OF_RANGE, 0, 0, 0);
+    expect("forecasts of no node", tfpg_predict(TEXT(graph), TEXT(""), TEXT("B"), &second, room, sizeof room), TFPG_NO_SUCH, 0, 0, 0);
+    expect("forecasts in a full graph", tfpg_predict((uint8_t *)large, count, TEXT(""), TEXT("D1"), &second, room, sizeof room),
+           TFPG_FULL_GRAPH, TFPG_GRAPH_TOO_MANY_NODES, 0, 0);
+    expect("a verdict", tfpg_explain(TEXT(graph), TEXT("3 alarm A\n"), TEXT(map), room, sizeof room), TFPG_DONE, 0, 0, 4);
+    if (memcmp(room, "yes\n", 4)) wrong++, puts("the verdict is another");
+    expect("no room for a verdict", tfpg_explain(TEXT(graph), TEXT("3 alarm A\n"), TEXT(map), room, 3), TFPG_ROOM_TOO_SMALL, 0, 0, 4);
+    expect("a verdict on no map", tfpg_explain(TEXT(graph), TEXT(""), TEXT(""), room, sizeof room), TFPG_BAD_MAP, 0, 1, 0);
+    expect("a verdict on a bad map", tfpg_explain(TEXT(graph), TEXT(""), TEXT("set F\nat B 1\n"), room, sizeof room), TFPG_BAD_MAP, 0, 2, 0);
+    expect("a verdict by a bad graph", tfpg_explain(TEXT(bad), TEXT(""), TEXT(map), room, sizeof room), TFPG_BAD_GRAPH,
+           TFPG_GRAPH_DUPLICATE_NAME, 3, 0);
+}
+
 /* Calls of an open session that has taken no line, by numbers. */
 static void try_numbers(tfpg_session *session) {
     static const tfpg_result nothing;
@@ -186,6 +224,7 @@ static void try_session(void) {
 int main(void) {
     memset(ones, 1, sizeof ones);
     try_texts();
+    try_answers();
     try_session();
     return wrong;
 }

@@ -8,8 +8,9 @@
  * Each of these overlaps nothing else of the same call, and nothing else reads or writes them while the call runs. A call took at most
  * 22 KB of stack; 100 KB are ample.
  *
- * The library takes memory of its own, and says so if there is none. `tfpg_report` and `tfpg_check` give all of it back before they return.
- * An open session has memory until it is closed. What is in this memory is the library's: a program reads, writes and calls nothing of it.
+ * The library takes memory of its own, and says so if there is none. The calls over whole texts, `tfpg_report`, `tfpg_check`, `tfpg_ask`,
+ * `tfpg_predict` and `tfpg_explain`, give all of it back before they return. An open session has memory until it is closed. What is in this
+ * memory is the library's: a program reads, writes and calls nothing of it.
  * The library asks for it by three functions, `rattle_alloc`, `rattle_realloc` and `rattle_dealloc`. The program links one of these:
  *
  * - The toolchain's archive `liblibc_c.a`, which defines them over `malloc`, `realloc` and `free`. These have to be of one allocator, and a
@@ -38,26 +39,28 @@ extern "C" {
 #endif
 
 /* The version of this header. It rises with each change of a declaration or a number in it. The library does not say which one it has. */
-#define TFPG_HEADER_VERSION 2
+#define TFPG_HEADER_VERSION 3
 
 /* How a call ended. Where more than one cause holds, the first one is said, in the order of the program: a number out of its range, a fault
  * of the graph, too many hypotheses, a log that is too long. `tfpg_check` says first that a log is too long, then a fault of the graph, and
- * then what is wrong with the report. Memory may run out before any of these is found. The numbers up to 8 are those with which the program
- * ends; 5 and 6, a failed read and a failed write, are not of a call. */
+ * then what is wrong with the report. `tfpg_ask`, `tfpg_predict` and `tfpg_explain` say the first of these: a number out of its range, a
+ * text that is too long, a fault of the graph, no room for a probe, no such node, too many hypotheses, a faulty map. Memory may run out
+ * before any of these is found. The numbers up to 8 are those with which the program ends; 5 and 6, a failed read and a failed write, are
+ * not of a call. */
 enum tfpg_status {
     /* It is done. */
     TFPG_DONE = 0,
     /* The report is not accepted: `line` and `cause` are those of the first test that it fails. A block is tested once all its lines are
      * there, so a line before that one may be wrong too. */
     TFPG_NOT_ACCEPTED = 1,
-    /* `k` is more than 64, `doubt` more than 4, or the budget 0 or more than 10^12. */
+    /* `k` is more than 64, `doubt` more than 4, the budget 0 or more than 10^12, or `ahead` more than 10^12. */
     TFPG_OUT_OF_RANGE = 2,
     /* The graph's text spells no valid graph: `line` and `cause` are those of its first fault. */
     TFPG_BAD_GRAPH = 3,
     /* There are more than 4,096 hypotheses: `count_high` * 2^64 + `count`. */
     TFPG_TOO_MANY_HYPOTHESES = 4,
-    /* A text is too long. `tfpg_report` takes a log of at most 2^32 bytes, `tfpg_check` one of at most 2^24, and a report of 2^32. Of a
-     * longer report it may find another cause first. */
+    /* A text is too long. `tfpg_report` takes a log of at most 2^32 bytes, and each other call one of at most 2^24. `tfpg_explain` takes a
+     * map of at most 2^32 bytes, and `tfpg_check` a report of as many. Of a longer report it may find another cause first. */
     TFPG_TOO_MUCH_INPUT = 7,
     /* Memory ran out. */
     TFPG_NO_MEMORY = 8,
@@ -66,7 +69,12 @@ enum tfpg_status {
     /* The session is closed. */
     TFPG_ENDED = 10,
     /* There is no such kind, name, index or rank. Nothing was written. */
-    TFPG_NO_SUCH = 11
+    TFPG_NO_SUCH = 11,
+    /* A line of the map is faulty: `line` is that of the first one. A map without a line is faulty at line 1. */
+    TFPG_BAD_MAP = 12,
+    /* The graph has 512 nodes or 2,048 edges, and no room for the probe of `tfpg_predict`. `cause` is that of a graph with one more:
+     * TFPG_GRAPH_TOO_MANY_NODES or TFPG_GRAPH_TOO_MANY_EDGES. */
+    TFPG_FULL_GRAPH = 13
 };
 
 /* What is wrong with a graph, in the words of `docs/formats.md`. */
@@ -142,7 +150,7 @@ enum tfpg_event_kind { TFPG_ALARM = 1, TFPG_SILENT = 2, TFPG_SWEEP = 3, TFPG_TIC
 /* What a call answers. What a status says nothing of is 0. */
 typedef struct {
     uint32_t status;     /* a `tfpg_status` */
-    uint32_t cause;      /* why a graph or a report is refused: a `tfpg_graph_cause` or a `tfpg_report_cause` */
+    uint32_t cause;      /* why a graph or a report is refused, or a graph is full: a `tfpg_graph_cause` or a `tfpg_report_cause` */
     uint64_t line;       /* at which line, counted from 1 */
     uint64_t count;      /* how many bytes a text has, how many rounds or nodes there are, or the last 64 bits of a number of hypotheses */
     uint64_t count_high; /* the first 64 bits of that number */
@@ -164,6 +172,41 @@ tfpg_answer tfpg_report(const uint8_t *graph, size_t graph_count, const uint8_t 
  * TFPG_DONE, TFPG_NOT_ACCEPTED, TFPG_BAD_GRAPH, TFPG_TOO_MANY_HYPOTHESES, TFPG_TOO_MUCH_INPUT, TFPG_NO_MEMORY */
 tfpg_answer tfpg_check(const uint8_t *graph, size_t graph_count, const uint8_t *log, size_t log_count,
                        const uint8_t *report, size_t report_count);
+
+/* Says which observation would tell most after the log, and writes the questions to the front of the room: the text that the program writes
+ * for `ask`, which `docs/formats.md` has under "Questions after a log". The log is diagnosed on terms as `tfpg_report` has them, and the
+ * budget is also that of each answer. Lines that the log refuses are passed over. `count` and a room that is too small are as with
+ * `tfpg_report`.
+ *
+ * TFPG_DONE, TFPG_ROOM_TOO_SMALL, TFPG_OUT_OF_RANGE, TFPG_TOO_MUCH_INPUT, TFPG_BAD_GRAPH, TFPG_TOO_MANY_HYPOTHESES, TFPG_NO_MEMORY */
+tfpg_answer tfpg_ask(const uint8_t *graph, size_t graph_count, const uint8_t *log, size_t log_count, uint32_t k, uint32_t doubt,
+                     uint64_t budget, uint8_t *room, size_t room_count);
+
+/* The terms of a prediction. */
+typedef struct {
+    uint32_t k;      /* the terms of the diagnosis, */
+    uint32_t doubt;  /* as `tfpg_report` has them; */
+    uint64_t budget; /* that of the rounds, and of each search for a forecast */
+    uint64_t ahead;  /* so many milliseconds after the last event are looked at, but none after 10^12 */
+} tfpg_prediction_terms;
+
+/* Says when the node of this name becomes active at the earliest after the log, by each ranked hypothesis, and writes the forecasts with
+ * their evidence to the front of the room: the text that the program writes for `predict`, which `docs/formats.md` has under "Prediction".
+ * Lines that the log refuses are passed over. `count` and a room that is too small are as with `tfpg_report`.
+ *
+ * TFPG_DONE, TFPG_ROOM_TOO_SMALL, TFPG_OUT_OF_RANGE, TFPG_TOO_MUCH_INPUT, TFPG_BAD_GRAPH, TFPG_FULL_GRAPH, TFPG_NO_SUCH,
+ * TFPG_TOO_MANY_HYPOTHESES, TFPG_NO_MEMORY */
+tfpg_answer tfpg_predict(const uint8_t *graph, size_t graph_count, const uint8_t *log, size_t log_count, const uint8_t *node,
+                         size_t node_count, const tfpg_prediction_terms *terms, uint8_t *room, size_t room_count);
+
+/* Says whether a map, a set of failure modes with a trace, explains the log, and else what is wrong with it first, and writes the verdict
+ * to the front of the room: the line that the program writes for `explain`, which `docs/formats.md` has under "Verdict". Monitors that the
+ * map ignores are ignored in the log. Lines that the log refuses are passed over. `count` and a room that is too small are as with
+ * `tfpg_report`.
+ *
+ * TFPG_DONE, TFPG_ROOM_TOO_SMALL, TFPG_TOO_MUCH_INPUT, TFPG_BAD_GRAPH, TFPG_BAD_MAP, TFPG_NO_MEMORY */
+tfpg_answer tfpg_explain(const uint8_t *graph, size_t graph_count, const uint8_t *log, size_t log_count, const uint8_t *map,
+                         size_t map_count, uint8_t *room, size_t room_count);
 
 /* A diagnosis that takes one line of a log after the other.
  *
@@ -286,12 +329,13 @@ void tfpg_close(tfpg_session *session);
  * and the next one are C. */
 static inline const char *tfpg_status_name(uint32_t status) {
     static const char *const names[] = {"DONE", "NOT_ACCEPTED", "OUT_OF_RANGE", "BAD_GRAPH", "TOO_MANY_HYPOTHESES", "?", "?",
-                                        "TOO_MUCH_INPUT", "NO_MEMORY", "ROOM_TOO_SMALL", "ENDED", "NO_SUCH"};
+                                        "TOO_MUCH_INPUT", "NO_MEMORY", "ROOM_TOO_SMALL", "ENDED", "NO_SUCH", "BAD_MAP",
+                                        "FULL_GRAPH"};
     return status < sizeof names / sizeof *names ? names[status] : "?";
 }
 
-/* The name of a cause in `docs/formats.md`: of a graph with TFPG_BAD_GRAPH, of a report with TFPG_NOT_ACCEPTED, and with TFPG_DONE why a
- * line is refused. "-" for 0, and "?" for what is none. */
+/* The name of a cause in `docs/formats.md`: of a graph with TFPG_BAD_GRAPH or TFPG_FULL_GRAPH, of a report with TFPG_NOT_ACCEPTED, and with
+ * TFPG_DONE why a line is refused. "-" for 0, and "?" for what is none. */
 static inline const char *tfpg_cause_name(uint32_t status, uint32_t cause) {
     static const char *const graph[] = {
         "-", "BadHeader", "BadLine", "BadName", "DuplicateName", "UnknownName", "BadNumber", "NumberTooLarge", "MinOverMax",
@@ -304,7 +348,7 @@ static inline const char *tfpg_cause_name(uint32_t status, uint32_t cause) {
     static const char *const refusal[] = {
         "-", "BadLine", "BadNumber", "TimeTooLarge", "TimeBack", "UnknownName", "NotMonitored", "NotAMode", "LogFull", "ModesFull",
         "TooLong"};
-    if (status == TFPG_BAD_GRAPH) return cause < sizeof graph / sizeof *graph ? graph[cause] : "?";
+    if (status == TFPG_BAD_GRAPH || status == TFPG_FULL_GRAPH) return cause < sizeof graph / sizeof *graph ? graph[cause] : "?";
     if (status == TFPG_NOT_ACCEPTED) return cause < sizeof report / sizeof *report ? report[cause] : "?";
     if (status == TFPG_DONE) return cause < sizeof refusal / sizeof *refusal ? refusal[cause] : "?";
     return cause == 0 ? "-" : "?";

@@ -2,4 +2,5 @@
 pub mod ask
 pub mod explain
 pub mod predict
+pub mod texts
 pub mod Counted

@@ -21,6 +21,7 @@ use Rattle.tfpg_predict.specs.LeastTime.{Lookahead, lookahead_of}
 use Rattle.tfpg_predict.specs.Outlooks.{IsOutlook}
 use Rattle.tfpg_predict.specs.Probed.{IsProbeNumber, probe_lag, probe_word}
 use Rattle.tfpg_diagnose.specs.Rounds.{IsLastRound}
+use Rattle.tfpg_answers.specs.declared.predict.probing.ForecastRequest.{ForecastRequest}
 
 -- What is asked of a graph and a log: on which terms, how many milliseconds past the last event, and about the node of which name.
 pub record Prediction : Type 0 where
@@ -31,6 +32,10 @@ pub record Prediction : Type 0 where
 -- the prediction on these terms, so far ahead, for this node
 abbrev pub prediction : Terms → ℕ → List ℕ → Prediction
 prediction terms ahead node = record { terms = terms; ahead = ahead; node = node }
+
+-- the prediction that a call is asked for
+abbrev pub prediction_of : ForecastRequest → Prediction
+prediction_of asked = prediction asked.terms asked.ahead asked.node.now
 
 -- the time up to which is looked: so many milliseconds after now, but not past the greatest time
 abbrev pub time_ahead : ℕ → ℕ → ℕ

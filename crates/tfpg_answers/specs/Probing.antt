@@ -1,9 +1,8 @@
--- The node that is probed, by its name, and what may be aimed at.
+-- The node that is probed, by its name, and what may be asked of it.
 use Rattle.std.specs.Prelude.{ℕ, ◌<◌, ◌≤◌, List, nat_lt, if◌then◌else◌, length, Option, Some, None, Result, Ok, Err}
 use Rattle.tfpg_base.specs.declared.limits.TheConstants.{MAX_TIME}
 use Rattle.tfpg_graph.specs.Graph.{Tfpg, node_named}
 use Rattle.tfpg_graph.specs.declared.limits.TheConstants.{MAX_NODES, MAX_EDGES}
-use Rattle.tfpg_answers.specs.declared.predict.probing.Aim.{Aim}
 use Rattle.tfpg_answers.specs.declared.predict.probing.ProbeFault.{ProbeFault}
 use Rattle.tfpg_answers.specs.declared.predict.probing.ProbeFault.TheVariants.{TooManyNodes, TooManyEdges, UnknownNode}
 
@@ -21,8 +20,8 @@ probed_node graph name =
     else Err TooManyNodes
 
 -- The node is one of the graph, which has room for a probe, and it is not looked too far ahead.
-pub record IsAimAt (graph : Tfpg) (aim : Aim) : Type 0 where
-  pub node : aim.node < length graph.nodes
+pub record CanForecast (graph : Tfpg) (node ahead : ℕ) : Type 0 where
+  pub in_graph : node < length graph.nodes
   pub few_nodes : length graph.nodes < MAX_NODES
   pub few_edges : length graph.edges < MAX_EDGES
-  pub not_far : aim.ahead ≤ MAX_TIME
+  pub not_far : ahead ≤ MAX_TIME

@@ -1,4 +1,5 @@
--- What is asked of a diagnosis, the forecasts that were appended, and what is known of a verdict.
+-- What is asked of a diagnosis, the forecasts that were appended, what is known of a verdict, and the faults of calls over texts.
 pub mod Asked
 pub mod Forecasting
 pub mod Verdicts
+pub mod texts

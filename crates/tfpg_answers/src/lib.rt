@@ -4,10 +4,11 @@
 //! the earliest, by each ranked hypothesis. [`verdict_on_map`] says whether a map explains the log. All three take a graph and the text of
 //! a log, whose lines that are refused leave no trace.
 //!
+//! For programs that have no files and no streams there are calls over texts alone: [`ask_texts`], [`predict_texts`] and
+//! [`explain_texts`].
+//!
 //! ```
-//! let node = probed_node(&graph, b"PressureLow")?;
-//! let aim = Aim { name: b"PressureLow", node, ahead: 1000 };
-//! let text = forecasts_text(alloc, graph, log_text, &aim, terms, &mut work)?;
+//! let text = predict_texts(alloc, graph_text, log_text, b"PressureLow", terms, 1000)?;
 //! ```
 //!
 //! # Proved, and by which clause
@@ -16,6 +17,7 @@
 //! - The forecasts of a node, and their text: `forecasts_text`, `forecasts`; which node takes a probe: `probed_node`.
 //! - That a text is missing for too many hypotheses alone, or for memory: `questions_text` and `forecasts_text`, `too_many`.
 //! - The verdict on a map, by the log that ignores the monitors of the map: `verdict_on_map`.
+//! - What comes of texts, and which cause is said where there is no answer: `ask_texts`, `predict_texts`, `explain_texts`.
 //!
 //! # Not proved
 //!
@@ -25,7 +27,11 @@
 mod ask;
 mod explain;
 mod predict;
+mod texts;
 
 pub use ask::questions_text;
 pub use explain::verdict_on_map;
-pub use predict::{Aim, ProbeFault, forecasts_text, probed_node};
+pub use predict::{ForecastRequest, ProbeFault, forecasts_text, probed_node};
+pub use texts::{
+    AskTextsFault, ExplainTextsFault, PredictTextsFault, ask_texts, explain_texts, predict_texts,
+};

@@ -6,4 +6,4 @@ mod probing;
 mod query;
 
 pub use forecasts::forecasts_text;
-pub use probing::{Aim, ProbeFault, probed_node};
+pub use probing::{ForecastRequest, ProbeFault, probed_node};

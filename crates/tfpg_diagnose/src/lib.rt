@@ -41,5 +41,6 @@ pub use fault::CheckFault;
 pub use report::write_report;
 pub use report_lines::judge_report;
 pub use texts::{
-    CheckTextsFault, Latest, OpenFault, ReportFault, Session, check_texts, diagnose_texts,
+    CheckTextsFault, Latest, OpenFault, ReportFault, Session, are_report_terms, check_texts,
+    diagnose_texts,
 };

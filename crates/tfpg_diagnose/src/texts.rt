@@ -14,5 +14,6 @@ mod session;
 pub use checking::check_texts;
 pub use fault::{CheckTextsFault, OpenFault, ReportFault};
 pub use latest::Latest;
+pub use opening::are_report_terms;
 pub use reporting::diagnose_texts;
 pub use session::Session;

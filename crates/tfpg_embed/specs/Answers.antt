@@ -9,8 +9,17 @@ use Rattle.tfpg_diagnose.specs.declared.texts.fault.ReportFault.{ReportFault}
 use Rattle.tfpg_diagnose.specs.declared.texts.fault.ReportFault.TheVariants as reporting
 use Rattle.tfpg_diagnose.specs.declared.texts.fault.CheckTextsFault.{CheckTextsFault}
 use Rattle.tfpg_diagnose.specs.declared.texts.fault.CheckTextsFault.TheVariants as checking
+use Rattle.tfpg_graph.specs.declared.cause.GraphCause.TheVariants as graph
+use Rattle.tfpg_answers.specs.declared.predict.probing.ProbeFault.{ProbeFault}
+use Rattle.tfpg_answers.specs.declared.predict.probing.ProbeFault.TheVariants as probing
+use Rattle.tfpg_answers.specs.declared.texts.fault.AskTextsFault.{AskTextsFault}
+use Rattle.tfpg_answers.specs.declared.texts.fault.AskTextsFault.TheVariants as asking
+use Rattle.tfpg_answers.specs.declared.texts.fault.PredictTextsFault.{PredictTextsFault}
+use Rattle.tfpg_answers.specs.declared.texts.fault.PredictTextsFault.TheVariants as predicting
+use Rattle.tfpg_answers.specs.declared.texts.fault.ExplainTextsFault.{ExplainTextsFault}
+use Rattle.tfpg_answers.specs.declared.texts.fault.ExplainTextsFault.TheVariants as explaining
 use Rattle.tfpg_embed.specs.declared.answer.TfpgAnswer.{TfpgAnswer}
-use Rattle.tfpg_embed.specs.declared.status.TheConstants.{DONE, NOT_ACCEPTED, OUT_OF_RANGE, BAD_GRAPH, TOO_MANY_HYPOTHESES, TOO_MUCH_INPUT, NO_MEMORY, ROOM_TOO_SMALL, ENDED}
+use Rattle.tfpg_embed.specs.declared.status.TheConstants.{DONE, NOT_ACCEPTED, OUT_OF_RANGE, BAD_GRAPH, TOO_MANY_HYPOTHESES, TOO_MUCH_INPUT, NO_MEMORY, ROOM_TOO_SMALL, ENDED, NO_SUCH, BAD_MAP, FULL_GRAPH}
 use Rattle.tfpg_embed.specs.Causes.{check_cause_number, graph_cause_number}
 
 -- the answer with this status and count
@@ -61,6 +70,36 @@ answer_of_check_fault (checking.NotAccepted line cause) = refused NOT_ACCEPTED (
 answer_of_check_fault (checking.TooManyHypotheses count) = too_many count
 answer_of_check_fault checking.TooMuchInput = answer_with TOO_MUCH_INPUT
 answer_of_check_fault checking.NoMemory = answer_with NO_MEMORY
+
+-- there are no questions
+abbrev pub answer_of_ask_fault : AskTextsFault → TfpgAnswer
+answer_of_ask_fault asking.OutOfRange = answer_with OUT_OF_RANGE
+answer_of_ask_fault asking.TooMuchInput = answer_with TOO_MUCH_INPUT
+answer_of_ask_fault (asking.Graph fault) = graph_refused fault
+answer_of_ask_fault (asking.TooManyHypotheses count) = too_many count
+answer_of_ask_fault asking.NoMemory = answer_with NO_MEMORY
+
+-- a node takes no probe: with one the graph would have one node or one edge too many, or it has no such node
+abbrev pub answer_of_probe_fault : ProbeFault → TfpgAnswer
+answer_of_probe_fault probing.TooManyNodes = refused FULL_GRAPH (graph_cause_number graph.TooManyNodes) 0
+answer_of_probe_fault probing.TooManyEdges = refused FULL_GRAPH (graph_cause_number graph.TooManyEdges) 0
+answer_of_probe_fault probing.UnknownNode = answer_with NO_SUCH
+
+-- there are no forecasts
+abbrev pub answer_of_predict_fault : PredictTextsFault → TfpgAnswer
+answer_of_predict_fault predicting.OutOfRange = answer_with OUT_OF_RANGE
+answer_of_predict_fault predicting.TooMuchInput = answer_with TOO_MUCH_INPUT
+answer_of_predict_fault (predicting.Graph fault) = graph_refused fault
+answer_of_predict_fault (predicting.Probe fault) = answer_of_probe_fault fault
+answer_of_predict_fault (predicting.TooManyHypotheses count) = too_many count
+answer_of_predict_fault predicting.NoMemory = answer_with NO_MEMORY
+
+-- there is no verdict
+abbrev pub answer_of_explain_fault : ExplainTextsFault → TfpgAnswer
+answer_of_explain_fault explaining.TooMuchInput = answer_with TOO_MUCH_INPUT
+answer_of_explain_fault (explaining.Graph fault) = graph_refused fault
+answer_of_explain_fault (explaining.BadMap line) = refused BAD_MAP 0 line
+answer_of_explain_fault explaining.NoMemory = answer_with NO_MEMORY
 
 -- a line has no block
 abbrev pub answer_of_event_fault : EventFault → TfpgAnswer

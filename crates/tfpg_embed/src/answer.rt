@@ -1,12 +1,15 @@
 //! What a call answers, as C sees it.
 
 ghost use Rattle.std.specs.Prelude.{◌≡◌, ◌%◌, ◌/◌, ◌^◌};
-ghost use Rattle.tfpg_embed.specs.Answers.{answer_of_check_fault, answer_of_event_fault, answer_of_open_fault, answer_of_report_fault, answer_with, counted, graph_refused, refused, too_many};
+ghost use Rattle.tfpg_embed.specs.Answers.{answer_of_ask_fault, answer_of_check_fault, answer_of_event_fault, answer_of_explain_fault, answer_of_open_fault, answer_of_predict_fault, answer_of_probe_fault, answer_of_report_fault, answer_with, counted, graph_refused, refused, too_many};
 ghost use Rattle.tfpg_embed.specs.Causes.{check_cause_number, graph_cause_number};
+ghost use Rattle.tfpg_embed.specs.declared.status.TheConstants.{FULL_GRAPH};
 
 use crate::status::{
-    BAD_GRAPH, ENDED, NO_MEMORY, NOT_ACCEPTED, OUT_OF_RANGE, TOO_MANY_HYPOTHESES, TOO_MUCH_INPUT,
+    BAD_GRAPH, BAD_MAP, ENDED, FULL_GRAPH, NO_MEMORY, NO_SUCH, NOT_ACCEPTED, OUT_OF_RANGE,
+    TOO_MANY_HYPOTHESES, TOO_MUCH_INPUT,
 };
+use tfpg_answers::{AskTextsFault, ExplainTextsFault, PredictTextsFault, ProbeFault};
 use tfpg_check::CheckCause;
 use tfpg_diagnose::{CheckTextsFault, OpenFault, ReportFault};
 use tfpg_engine::EventFault;
@@ -18,7 +21,8 @@ use tfpg_graph::{GraphCause, GraphFault};
 pub struct TfpgAnswer {
     /// One of the constants of this crate.
     pub status: u32,
-    /// Why a graph or a report is refused, as a number from 1 in the order of [`GraphCause`] or [`CheckCause`].
+    /// Why a graph or a report is refused, as a number from 1 in the order of [`GraphCause`] or [`CheckCause`]. So it is where a graph has
+    /// no room for a probe.
     pub cause: u32,
     /// At which line.
     pub line: u64,
@@ -126,6 +130,63 @@ pub(crate) fn of_check_fault(fault: CheckTextsFault) -> TfpgAnswer
         CheckTextsFault::TooManyHypotheses { count } => of_hypotheses(count),
         CheckTextsFault::TooMuchInput => plain(TOO_MUCH_INPUT),
         CheckTextsFault::NoMemory => plain(NO_MEMORY),
+    }
+}
+
+/// The answer where there are no questions.
+pub(crate) fn of_ask_fault(fault: AskTextsFault) -> TfpgAnswer
+    ensures { result ≡ answer_of_ask_fault fault }
+{
+    match fault {
+        AskTextsFault::OutOfRange => plain(OUT_OF_RANGE),
+        AskTextsFault::TooMuchInput => plain(TOO_MUCH_INPUT),
+        AskTextsFault::Graph(fault) => of_graph_fault(fault),
+        AskTextsFault::TooManyHypotheses { count } => of_hypotheses(count),
+        AskTextsFault::NoMemory => plain(NO_MEMORY),
+    }
+}
+
+/// The answer where there are no forecasts.
+pub(crate) fn of_predict_fault(fault: PredictTextsFault) -> TfpgAnswer
+    ensures { result ≡ answer_of_predict_fault fault }
+{
+    match fault {
+        PredictTextsFault::OutOfRange => plain(OUT_OF_RANGE),
+        PredictTextsFault::TooMuchInput => plain(TOO_MUCH_INPUT),
+        PredictTextsFault::Graph(fault) => of_graph_fault(fault),
+        PredictTextsFault::Probe(fault) => of_probe_fault(fault),
+        PredictTextsFault::TooManyHypotheses { count } => of_hypotheses(count),
+        PredictTextsFault::NoMemory => plain(NO_MEMORY),
+    }
+}
+
+/// The answer for a node that takes no probe.
+fn of_probe_fault(fault: ProbeFault) -> TfpgAnswer
+    ensures { result ≡ answer_of_probe_fault fault }
+{
+    match fault {
+        ProbeFault::TooManyNodes => no_room_for(GraphCause::TooManyNodes),
+        ProbeFault::TooManyEdges => no_room_for(GraphCause::TooManyEdges),
+        ProbeFault::UnknownNode => plain(NO_SUCH),
+    }
+}
+
+/// The answer for a graph that has no room for a probe, since this would be wrong with it.
+fn no_room_for(cause: GraphCause) -> TfpgAnswer
+    ensures { result ≡ refused FULL_GRAPH (graph_cause_number cause) 0 }
+{
+    with_cause(FULL_GRAPH, number_of_graph_cause(cause), 0)
+}
+
+/// The answer where there is no verdict.
+pub(crate) fn of_explain_fault(fault: ExplainTextsFault) -> TfpgAnswer
+    ensures { result ≡ answer_of_explain_fault fault }
+{
+    match fault {
+        ExplainTextsFault::TooMuchInput => plain(TOO_MUCH_INPUT),
+        ExplainTextsFault::Graph(fault) => of_graph_fault(fault),
+        ExplainTextsFault::BadMap { line } => with_cause(BAD_MAP, 0, line),
+        ExplainTextsFault::NoMemory => plain(NO_MEMORY),
     }
 }
 

@@ -16,7 +16,7 @@ ghost use Rattle.tfpg_embed.specs.EventLines.{no_name};
 ghost use Rattle.tfpg_embed.specs.Names.{index_in, name_in};
 ghost use Rattle.tfpg_embed.specs.Results.{last_time, why_number};
 ghost use Rattle.tfpg_embed.specs.declared.kinds.TheConstants.{NODE_NAME, FAILURE_NAME, MODE_NAME, ALARM, SILENT, SWEEP, TICK, MODE};
-ghost use Rattle.tfpg_embed.specs.declared.status.TheConstants.{DONE, NOT_ACCEPTED, OUT_OF_RANGE, BAD_GRAPH, TOO_MANY_HYPOTHESES, TOO_MUCH_INPUT, NO_MEMORY, ROOM_TOO_SMALL, ENDED, NO_SUCH};
+ghost use Rattle.tfpg_embed.specs.declared.status.TheConstants.{DONE, NOT_ACCEPTED, OUT_OF_RANGE, BAD_GRAPH, TOO_MANY_HYPOTHESES, TOO_MUCH_INPUT, NO_MEMORY, ROOM_TOO_SMALL, ENDED, NO_SUCH, BAD_MAP, FULL_GRAPH};
 
 use tfpg_graph::laws::a_node_is_found_by_its_name;
 
@@ -25,7 +25,7 @@ use tfpg_graph::laws::a_node_is_found_by_its_name;
 /// `check_cause_number` and `why_number`. `include/tfpg.h` has all of them once more, and `bench/embed.sh` compares them.
 pub fn each_number_says_one_thing()
     ensures statuses { DONE ∷ NOT_ACCEPTED ∷ OUT_OF_RANGE ∷ BAD_GRAPH ∷ TOO_MANY_HYPOTHESES ∷ TOO_MUCH_INPUT ∷ NO_MEMORY ∷ ROOM_TOO_SMALL ∷ ENDED
-        ∷ NO_SUCH ∷ [] ≡ 0 ∷ 1 ∷ 2 ∷ 3 ∷ 4 ∷ 7 ∷ 8 ∷ 9 ∷ 10 ∷ 11 ∷ [] }
+        ∷ NO_SUCH ∷ BAD_MAP ∷ FULL_GRAPH ∷ [] ≡ 0 ∷ 1 ∷ 2 ∷ 3 ∷ 4 ∷ 7 ∷ 8 ∷ 9 ∷ 10 ∷ 11 ∷ 12 ∷ 13 ∷ [] }
     ensures name_kinds { NODE_NAME ∷ FAILURE_NAME ∷ MODE_NAME ∷ [] ≡ 1 ∷ 2 ∷ 3 ∷ [] }
     ensures event_kinds { ALARM ∷ SILENT ∷ SWEEP ∷ TICK ∷ MODE ∷ [] ≡ 1 ∷ 2 ∷ 3 ∷ 4 ∷ 5 ∷ [] }
     ensures graph_causes { (cause other : GraphCause) → graph_cause_number cause ≡ graph_cause_number other → cause ≡ other }

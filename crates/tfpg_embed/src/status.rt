@@ -29,3 +29,9 @@ pub const ENDED: u32 = 10;
 
 /// There is no such kind, name, index or rank. Nothing is written.
 pub const NO_SUCH: u32 = 11;
+
+/// A line of the map is faulty. The answer has the number of the first one.
+pub const BAD_MAP: u32 = 12;
+
+/// The graph has no room for a probe. The answer has the cause.
+pub const FULL_GRAPH: u32 = 13;

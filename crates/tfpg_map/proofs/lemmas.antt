@@ -3,4 +3,5 @@ pub mod LineWords
 pub mod Lines
 pub mod NextLines
 pub mod OneMap
+pub mod MapFaults
 pub mod WrittenMaps

@@ -6,6 +6,7 @@
 #![tactic(auto)]
 
 mod answer;
+mod answers;
 mod bytes;
 mod made;
 mod panels;

@@ -1,5 +1,6 @@
 //! The lines that describe the rows, one after the other, and the answer to them.
 
+use crate::answers::{append_asked, append_explained, append_predicted};
 use crate::bytes::{append_spelled, number_of, numbers_of, text_of, texts_of, words_of};
 use crate::panels::PanelFaults;
 use crate::row::{Change, InTurn, NamedFile, Row};
@@ -98,6 +99,15 @@ impl RowReader {
         } else if keyword == b"check-texts".as_slice() {
             self.append_line(line)?;
             append_checked(self.alloc, others, &self.files, &self.row, &mut self.answer)
+        } else if keyword == b"ask-texts".as_slice() {
+            self.append_line(line)?;
+            append_asked(self.alloc, others, &self.files, &self.row, &mut self.answer)
+        } else if keyword == b"predict-texts".as_slice() {
+            self.append_line(line)?;
+            append_predicted(self.alloc, others, &self.files, &self.row, &mut self.answer)
+        } else if keyword == b"explain-texts".as_slice() {
+            self.append_line(line)?;
+            append_explained(self.alloc, others, &self.files, &self.row, &mut self.answer)
         } else {
             self.set(line, keyword, others)
         }

@@ -24,11 +24,7 @@ pub(crate) fn append_diagnosed(
     let [k, doubt, budget, graph] = words else {
         return Ok(());
     };
-    let terms = Terms {
-        k: small_number_of(k),
-        doubt: small_number_of(doubt),
-        budget: number_of(budget),
-    };
+    let terms = terms_of(k, doubt, budget);
     let log = row.changed_input(alloc)?;
     append_reports(alloc, text_named(files, graph), &log, terms, row, into)
 }
@@ -55,8 +51,17 @@ pub(crate) fn append_checked(
     )
 }
 
+/// The terms that these words say.
+pub(crate) fn terms_of(k: &[u8], doubt: &[u8], budget: &[u8]) -> Terms {
+    Terms {
+        k: small_number_of(k),
+        doubt: small_number_of(doubt),
+        budget: number_of(budget),
+    }
+}
+
 /// The text of the file of this name: empty where there is none.
-fn text_named<'a>(files: &'a [NamedFile], name: &[u8]) -> &'a [u8] {
+pub(crate) fn text_named<'a>(files: &'a [NamedFile], name: &[u8]) -> &'a [u8] {
     match files
         .iter()
         .find(|file| file.name.as_str().as_bytes() == name)
@@ -158,7 +163,7 @@ fn append_judged(
 }
 
 /// What came of a call that asks for no file and tells no panel.
-fn over_texts(alloc: Global, end: End, written: Vec<u8>) -> Made {
+pub(crate) fn over_texts(alloc: Global, end: End, written: Vec<u8>) -> Made {
     Made {
         end,
         written,
@@ -192,7 +197,7 @@ fn end_of_check_fault(fault: CheckTextsFault) -> End {
 }
 
 /// How a command ends with this fault of its graph.
-fn end_of_graph_fault(fault: GraphFault) -> End {
+pub(crate) fn end_of_graph_fault(fault: GraphFault) -> End {
     End::Graph {
         line: fault.line,
         cause: fault.cause,

@@ -21,10 +21,11 @@ use crate::end::End;
 use crate::explain::explain_by_files;
 use crate::fleet::{FleetSubject, fleet_file};
 use crate::generate::generate_summary;
-use crate::predict::{ForecastRequest, predict_by_files};
+use crate::predict::predict_by_files;
 use crate::simulate::simulate_files;
 use std::alloc::Global;
 use std::sync::ledger::Ledger;
+use tfpg_answers::ForecastRequest;
 use tfpg_base::{Shelf, Sink, Source, Steps, Terms};
 use tfpg_check::laws::lines_have_at_most_one_cause;
 use tfpg_graph::laws::a_text_has_at_most_one_first_fault;
@@ -218,17 +219,23 @@ fn perform<F: Shelf, S: Source, K: Sink, P: Panel, L: Ledger>(
             node,
         } => {
             let asked = ForecastRequest {
-                graph: graph.as_str(),
-                log: log.as_str(),
-                node: node.as_str(),
                 terms: Terms {
                     k: *k,
                     doubt: *doubt,
                     budget: *budget,
                 },
                 ahead: *ahead,
+                node: node.as_str().as_bytes(),
             };
-            predict_by_files(alloc, &asked, shelf, out, work)
+            predict_by_files(
+                alloc,
+                &asked,
+                graph.as_str(),
+                log.as_str(),
+                shelf,
+                out,
+                work,
+            )
         }
     }
 }

@@ -11,17 +11,17 @@ ghost use Rattle.tfpg_hyp.specs.declared.limits.TheConstants.{MAX_HYPOTHESES};
 ghost use Rattle.tfpg_predict.specs.LeastTime.{lookahead_of};
 ghost use Rattle.tfpg_predict.specs.Probed.{IsProbeable};
 ghost use Rattle.tfpg_diagnose.specs.Diagnosed.{HasDiagnosed, IsDiagnosed};
-ghost use Rattle.tfpg_answers.specs.Forecasts.{HasForecasts, predict_line, prediction, time_ahead};
-ghost use Rattle.tfpg_answers.specs.Probing.{IsAimAt};
+ghost use Rattle.tfpg_answers.specs.Forecasts.{HasForecasts, predict_line, prediction, prediction_of, time_ahead};
+ghost use Rattle.tfpg_answers.specs.Probing.{CanForecast};
 ghost use Rattle.tfpg_answers.specs.inside.Forecasting.{AddsForecasts, ForecastsFollow, IsAskable, IsQuery};
 
 use super::forecast_lines::append_outlook;
-use super::probing::Aim;
+use super::probing::ForecastRequest;
 use super::query::Query;
 use itoa::Buffer;
 use std::alloc::Global;
 use std::sync::ledger::Ledger;
-use tfpg_base::{MAX_TIME, NoMemory, Steps, Terms, append_line};
+use tfpg_base::{MAX_TIME, NoMemory, Steps, append_line};
 use tfpg_diagnose::Diagnosis;
 use tfpg_evidence::{Finding, Round, finding_numbered};
 use tfpg_graph::Graph;
@@ -34,19 +34,18 @@ pub fn forecasts_text<L: Ledger>(
     alloc: Global,
     graph: Graph,
     log_text: &[u8],
-    aim: &Aim<'_>,
-    terms: Terms,
+    asked: &ForecastRequest<'_>,
+    node: u32,
     work: &mut Steps<L>,
 ) -> Result<Vec<u8>, TableFault>
-    requires terms { AreReportTerms terms }
-    requires aim { IsAimAt graph aim.now }
-    ensures forecasts { IfOk result (λ text. HasForecasts graph
-        (prediction terms aim.now.ahead aim.now.name.now) aim.now.node (lines_of log_text.now) text.items) }
+    requires terms { AreReportTerms asked.now.terms }
+    requires probe { CanForecast graph node asked.now.ahead }
+    ensures forecasts { IfOk result (λ text. HasForecasts graph (prediction_of asked.now) node (lines_of log_text.now) text.items) }
     ensures too_many { (count : ℕ) → (result ≡ Err (TableFault.TooMany count)) ↔
-        ((MAX_HYPOTHESES < count) × HasHypotheses graph terms count) }
+        ((MAX_HYPOTHESES < count) × HasHypotheses graph asked.now.terms count) }
 {
-    let mut diagnosis = Diagnosis::new(alloc, graph, terms)?;
-    Ok(forecasts_after(alloc, &mut diagnosis, log_text, aim, work)?)
+    let mut diagnosis = Diagnosis::new(alloc, graph, asked.terms)?;
+    Ok(forecasts_after(alloc, &mut diagnosis, log_text, asked, node, work)?)
 }
 
 /// Diagnoses the lines of the log, and returns the prediction for the node.
@@ -54,43 +53,45 @@ fn forecasts_after<L: Ledger>(
     alloc: Global,
     diagnosis: &mut Diagnosis,
     log_text: &[u8],
-    aim: &Aim<'_>,
+    asked: &ForecastRequest<'_>,
+    node: u32,
     work: &mut Steps<L>,
 ) -> Result<Vec<u8>, NoMemory>
     requires new { HasDiagnosed diagnosis.old.engine.graph diagnosis.old.engine.terms [] diagnosis.old }
     requires budget { 1 ≤ diagnosis.old.engine.terms.budget }
-    requires aim { IsAimAt diagnosis.old.engine.graph aim.now }
+    requires probe { CanForecast diagnosis.old.engine.graph node asked.now.ahead }
     ensures { IfOk result (λ text. HasForecasts diagnosis.old.engine.graph
-        (prediction diagnosis.old.engine.terms aim.now.ahead aim.now.name.now) aim.now.node (lines_of log_text.now) text.items) }
+        (prediction diagnosis.old.engine.terms asked.now.ahead asked.now.node.now) node (lines_of log_text.now) text.items) }
 {
     diagnosis.take_text(alloc, log_text, work)?;
-    predicted_text(alloc, diagnosis, aim, work)
+    predicted_text(alloc, diagnosis, asked, node, work)
 }
 
 /// The prediction for the node by a diagnosis.
 fn predicted_text<L: Ledger>(
     alloc: Global,
     diagnosis: &Diagnosis,
-    aim: &Aim<'_>,
+    asked: &ForecastRequest<'_>,
+    node: u32,
     work: &mut Steps<L>,
 ) -> Result<Vec<u8>, NoMemory>
     requires diagnosed { IsDiagnosed diagnosis.now }
     requires budget { 1 ≤ diagnosis.now.engine.terms.budget }
-    requires aim { IsAimAt diagnosis.now.engine.graph aim.now }
+    requires probe { CanForecast diagnosis.now.engine.graph node asked.now.ahead }
     ensures { (lines : List (List ℕ)) → HasDiagnosed diagnosis.now.engine.graph diagnosis.now.engine.terms lines diagnosis.entry.now →
         IfOk result (λ text. HasForecasts diagnosis.now.engine.graph
-        (prediction diagnosis.now.engine.terms aim.now.ahead aim.now.name.now) aim.now.node lines text.items) }
+        (prediction diagnosis.now.engine.terms asked.now.ahead asked.now.node.now) node lines text.items) }
 {
     a_round_is_of_its_graph();
     let log = diagnosis.engine.log();
     log.is_always_ordered();
     let now = log.now();
-    let to = time_ahead(now, aim.ahead);
+    let to = time_ahead(now, asked.ahead);
     let mut text = Vec::new(alloc);
-    append_predict_line(aim.name, now, to, &mut text)?;
+    append_predict_line(asked.node, now, to, &mut text)?;
     match &diagnosis.last {
         Some(last) => {
-            append_forecasts(alloc, diagnosis, last, aim.node, to, &mut text, work)?;
+            append_forecasts(alloc, diagnosis, last, node, to, &mut text, work)?;
             Ok(text)
         }
         None => Ok(text),

@@ -1,16 +1,20 @@
-//! The node that is probed, and why there is none.
+//! What is asked of a node, and why it takes no probe.
 
 ghost use Rattle.std.specs.Prelude.{◌≡◌};
 ghost use Rattle.tfpg_answers.specs.Probing.{probed_node};
 
+use tfpg_base::Terms;
 use tfpg_graph::{Graph, MAX_EDGES, MAX_NODES};
 
-/// What is aimed at: the node by its name and its number, and how many milliseconds past the last event.
+/// What is asked of a graph and a log: when a node becomes active at the earliest.
 #[derive(Clone, Copy)]
-pub struct Aim<'a> {
-    pub name: &'a [u8],
-    pub node: u32,
+pub struct ForecastRequest<'a> {
+    /// On which terms the log is diagnosed.
+    pub terms: Terms,
+    /// How many milliseconds past the last event it is looked.
     pub ahead: u64,
+    /// The name of the node.
+    pub node: &'a [u8],
 }
 
 /// Why a node takes no probe.

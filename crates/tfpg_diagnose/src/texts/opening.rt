@@ -20,7 +20,7 @@ pub(super) fn open_engine(
     ensures opened { IfOk result (IsNewEngineOf graph_text.now terms) }
     ensures fault { IfErr result (IsOpenFault graph_text.now terms) }
 {
-    if !are_within(terms) {
+    if !are_report_terms(terms) {
         return Err(OpenFault::OutOfRange);
     }
     let graph = read(alloc, graph_text)?;
@@ -28,7 +28,7 @@ pub(super) fn open_engine(
 }
 
 /// Whether each number of the terms is in its range.
-fn are_within(terms: Terms) -> bool
+pub fn are_report_terms(terms: Terms) -> bool
     ensures { IsTrue result ↔ AreReportTerms terms }
 {
     u64::from(terms.k) <= MAX_K

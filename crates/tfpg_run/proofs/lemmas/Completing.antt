@@ -1,9 +1,9 @@
 -- A run ends well where nothing stands in its way.
-use Rattle.std.proofs.Common.{◌≡◌, ℕ, ◌+◌, ◌<◌, ◌≤◌, Bool, true, false, List, [], ◌∷◌, ◌++◌, length, take, drop, Option, Some, IfSome, Result, Ok, Err, refl, sym, ap, subst, subst₂, ◌∙◌, inl, inr, arith}
+use Rattle.std.proofs.Common.{◌≡◌, ℕ, ◌+◌, ◌<◌, ◌≤◌, Bool, true, false, List, [], ◌∷◌, ◌++◌, length, Option, Some, IfSome, Result, Ok, Err, refl, sym, ap, subst, subst₂, ◌∙◌, inl, inr, arith}
 use Rattle.std.specs.Prelude.{All, OnOk, IfErr}
 use Rattle.std.proofs.lemmas.List.Elements.{All-cons, All-nil}
 use Rattle.tfpg_base.proofs.lemmas.lists.Elements.{All-at}
-use Rattle.std.proofs.lemmas.List.{length-append, take-append-drop}
+use Rattle.std.proofs.lemmas.List.{length-append}
 use Rattle.std.proofs.lemmas.Option.{same_Some}
 use Rattle.tfpg_base.specs.declared.terms.Terms.{Terms}
 use Rattle.tfpg_base.specs.declared.limits.TheConstants.{MAX_BYTES, LONGEST_FILE}
@@ -50,7 +50,8 @@ use Rattle.tfpg_run.specs.check.Checking.{CheckEnds, CheckingEnds, accepted_text
 use Rattle.tfpg_diagnose.specs.JudgedReports.{HasTooManyInHead, LacksReport, problem_of}
 use Rattle.tfpg_answers.specs.Verdicts.{HasVerdict}
 use Rattle.tfpg_run.specs.explain.Explaining.{ExplainEnds, ExplainingEnds}
-use Rattle.tfpg_map.specs.Spelling.{HasMap, BeginsMap, IsMapFault}
+use Rattle.tfpg_map.specs.Spelling.{HasMap}
+use Rattle.tfpg_map.proofs.lemmas.MapFaults.{no_map_fault}
 use Rattle.tfpg_streams.specs.Outputs.{IsStreamFault, TextEnds}
 use Rattle.tfpg_run.specs.Run.{CommandEnds, RunEnds}
 use Rattle.tfpg_run.specs.fleet.FleetEnds.{AnswersStream, FleetDiagnosisEnds, FleetEnds, FleetWords, HasFewForFleet, fleet_words}
@@ -155,18 +156,6 @@ all_of_input before now known taken rest left takes has =
     let there = subst (λ (l : Option (List ℕ)). IfSome l (λ had. (more : List ℕ) × (now.left ≡ Some more) × (had ≡ taken ++ more))) left takes in
     let same : rest ≡ there.0 = subst (λ (l : Option (List ℕ)). IfSome l (λ more. rest ≡ more)) there.1 has in
     there.2 ∙ ap (λ (more : List ℕ). taken ++ more) (sym same)
-
--- ---- lines that spell a map
-
--- each front of them begins one
-front_of_map : (graph : Tfpg) (lines : List (List ℕ)) (count : ℕ) → HasMap graph lines → BeginsMap graph (take count lines)
-front_of_map graph lines count map =
-    (drop count lines, subst (HasMap graph) (sym (take-append-drop count lines)) map)
-
--- none of them is faulty
-no_map_fault : (graph : Tfpg) (lines : List (List ℕ)) (number : ℕ) → HasMap graph lines → IsMapFault graph lines number → ⊥
-no_map_fault graph lines number map (inl faulty) = faulty.with_it (front_of_map graph lines (faulty.index + 1) map)
-no_map_fault graph lines number map (inr none) = let some = sym none.0 ∙ map.2.spelled in cc
 
 -- ---- memory
 

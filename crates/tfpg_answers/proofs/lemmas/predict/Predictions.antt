@@ -1,5 +1,5 @@
 -- What is written of a diagnosis is the prediction for a node.
-use Rattle.std.proofs.Common.{◌≡◌, ℕ, ◌+◌, ◌<◌, ◌≤◌, cond, true, false, Bool, List, [], ◌++◌, length, get_or, All, IsTrue, Option, Some, None, Ok, Err, refl, sym, ap, subst, subst₂, ◌∙◌, arith}
+use Rattle.std.proofs.Common.{◌≡◌, ℕ, ◌<◌, ◌≤◌, cond, true, false, Bool, List, [], ◌++◌, length, get_or, All, IsTrue, Option, Some, None, Ok, Err, refl, sym, ap, subst, subst₂, ◌∙◌, arith}
 use Rattle.std.specs.Prelude.{nat_lt}
 use Rattle.std.proofs.lemmas.Bool.{ltb-true}
 use Rattle.std.proofs.lemmas.List.{append-nil}
@@ -24,11 +24,11 @@ use Rattle.tfpg_predict.specs.LeastTime.{lookahead_of}
 use Rattle.tfpg_predict.specs.Probed.{IsProbeable}
 use Rattle.tfpg_diagnose.specs.declared.diagnosis.Diagnosis.{Diagnosis}
 use Rattle.tfpg_answers.specs.declared.predict.probing.ProbeFault.TheVariants.{TooManyNodes, TooManyEdges}
-use Rattle.tfpg_answers.specs.declared.predict.probing.Aim.{Aim}
+use Rattle.tfpg_answers.specs.declared.predict.probing.ForecastRequest.{ForecastRequest}
 use Rattle.tfpg_diagnose.specs.Diagnosed.{HasDiagnosed, HasLastOf}
 use Rattle.tfpg_answers.specs.inside.Forecasting.{ForecastsFollow, IsAskable}
 use Rattle.tfpg_answers.specs.Forecasts.{AreForecastsAfter, AreForecastsOf, HasForecasts, predict_line, prediction, lookahead_after, time_ahead}
-use Rattle.tfpg_answers.specs.Probing.{IsAimAt, known_node, probed_node}
+use Rattle.tfpg_answers.specs.Probing.{CanForecast, known_node, probed_node}
 use Rattle.tfpg_diagnose.proofs.lemmas.LineBlocks.{NamesOfRounds}
 use Rattle.tfpg_diagnose.proofs.lemmas.Diagnosed.{last_diagnosed}
 
@@ -66,13 +66,13 @@ pub now_upto : (log : Logbook) → IsOrdered log → now_of log ≤ MAX_TIME
 now_upto log ordered = last_upto log.events 0 MAX_TIME (omega arith) ordered.in_range
 
 -- The node may be asked about.
-pub probeable_aim : (graph : Tfpg) (log : Logbook) (aim : Aim) (to : ℕ) → IsAimAt graph aim → IsLogOf graph log → IsOrdered log → to ≡ time_ahead (now_of log) aim.ahead
-    → IsProbeable (lookahead_of graph log aim.node to)
-probeable_aim graph log aim to is of ordered to_is =
+pub probeable_at : (graph : Tfpg) (log : Logbook) (node ahead to : ℕ) → CanForecast graph node ahead → IsLogOf graph log → IsOrdered log → to ≡ time_ahead (now_of log) ahead
+    → IsProbeable (lookahead_of graph log node to)
+probeable_at graph log node ahead to is of ordered to_is =
     let now = now_upto log ordered in
     record {
       of = of;
-      node = is.node;
+      node = is.in_graph;
       few_nodes = is.few_nodes;
       few_edges = is.few_edges;
       not_back = omega (arith, to_is, now);
@@ -100,31 +100,31 @@ module _ (graph : Tfpg) (name : List ℕ) (node : ℕ) where
 -- ---- the text
 
 -- With the forecasts after its line, or with its line alone, it is the prediction.
-module _ (graph : Tfpg) (terms : Terms) (lines : List (List ℕ)) (d : Diagnosis) (has : HasDiagnosed graph terms lines d) (aim : Aim) (log : Logbook) (log_is : log ≡ log_of_lines graph lines) where
-  predicted : (forecasts text : List ℕ) → AreForecastsAfter (lookahead_after graph lines aim.node aim.ahead) terms.budget d.last forecasts
-      → text ≡ predict_line aim.name.now (now_of log) (time_ahead (now_of log) aim.ahead) ++ forecasts → HasForecasts graph (prediction terms aim.ahead aim.name.now) aim.node lines text
+module _ (graph : Tfpg) (terms : Terms) (lines : List (List ℕ)) (d : Diagnosis) (has : HasDiagnosed graph terms lines d) (asked : ForecastRequest) (node : ℕ) (log : Logbook) (log_is : log ≡ log_of_lines graph lines) where
+  predicted : (forecasts text : List ℕ) → AreForecastsAfter (lookahead_after graph lines node asked.ahead) terms.budget d.last forecasts
+      → text ≡ predict_line asked.node.now (now_of log) (time_ahead (now_of log) asked.ahead) ++ forecasts → HasForecasts graph (prediction terms asked.ahead asked.node.now) node lines text
   predicted forecasts text are text_is = record {
     last = d.last;
     is_last = last_diagnosed graph terms lines d has;
     forecasts = forecasts;
     are = are;
-    text_is = subst (λ (l : Logbook). text ≡ predict_line aim.name.now (now_of l) (time_ahead (now_of l) aim.ahead) ++ forecasts) log_is text_is;
+    text_is = subst (λ (l : Logbook). text ≡ predict_line asked.node.now (now_of l) (time_ahead (now_of l) asked.ahead) ++ forecasts) log_is text_is;
   }
 
   -- there was no round
-  pub predicted_none : (text : List ℕ) → d.last ≡ None → text ≡ predict_line aim.name.now (now_of log) (time_ahead (now_of log) aim.ahead)
-      → HasForecasts graph (prediction terms aim.ahead aim.name.now) aim.node lines text
+  pub predicted_none : (text : List ℕ) → d.last ≡ None → text ≡ predict_line asked.node.now (now_of log) (time_ahead (now_of log) asked.ahead)
+      → HasForecasts graph (prediction terms asked.ahead asked.node.now) node lines text
   predicted_none text none text_is =
-      predicted [] text (subst (λ (last : Option Round). AreForecastsAfter (lookahead_after graph lines aim.node aim.ahead) terms.budget last []) (sym none) refl)
+      predicted [] text (subst (λ (last : Option Round). AreForecastsAfter (lookahead_after graph lines node asked.ahead) terms.budget last []) (sym none) refl)
       (text_is ∙ sym (append-nil _))
 
   -- there was one
-  pub predicted_last : (round : Round) (old text : List ℕ) (other : Logbook) (to : ℕ) → d.last ≡ Some round → old ≡ predict_line aim.name.now (now_of log) (time_ahead (now_of log) aim.ahead)
-      → log ≡ other → to ≡ time_ahead (now_of log) aim.ahead → ForecastsFollow (lookahead_of graph other aim.node to) terms.budget (ranked_in_order round) old text
-      → HasForecasts graph (prediction terms aim.ahead aim.name.now) aim.node lines text
+  pub predicted_last : (round : Round) (old text : List ℕ) (other : Logbook) (to : ℕ) → d.last ≡ Some round → old ≡ predict_line asked.node.now (now_of log) (time_ahead (now_of log) asked.ahead)
+      → log ≡ other → to ≡ time_ahead (now_of log) asked.ahead → ForecastsFollow (lookahead_of graph other node to) terms.budget (ranked_in_order round) old text
+      → HasForecasts graph (prediction terms asked.ahead asked.node.now) node lines text
   predicted_last round old text other to is old_is same to_is follow =
-      let here = subst₂ (λ (l : Logbook) (t : ℕ). ForecastsFollow (lookahead_of graph l aim.node t) terms.budget (ranked_in_order round) old text) (sym same) to_is follow in
+      let here = subst₂ (λ (l : Logbook) (t : ℕ). ForecastsFollow (lookahead_of graph l node t) terms.budget (ranked_in_order round) old text) (sym same) to_is follow in
       predicted here.text text
-      (subst (λ (last : Option Round). AreForecastsAfter (lookahead_after graph lines aim.node aim.ahead) terms.budget last here.text) (sym is)
-      (subst (λ (l : Logbook). AreForecastsOf (lookahead_of graph l aim.node (time_ahead (now_of l) aim.ahead)) terms.budget (ranked_in_order round) here.text) log_is here.are))
+      (subst (λ (last : Option Round). AreForecastsAfter (lookahead_after graph lines node asked.ahead) terms.budget last here.text) (sym is)
+      (subst (λ (l : Logbook). AreForecastsOf (lookahead_of graph l node (time_ahead (now_of l) asked.ahead)) terms.budget (ranked_in_order round) here.text) log_is here.are))
       (here.appended ∙ ap (λ (t : List ℕ). t ++ here.text) old_is)

@@ -1,5 +1,5 @@
 use Rattle.tfpg_base.specs.declared.terms.Terms.{Terms}
-use Rattle.std.proofs.Common.{◌≡◌, ap, rules, refl}
+use Rattle.std.proofs.Common.{◌≡◌, ◌∙◌, ap, rules, refl}
 use Rattle.tfpg_base.specs.Words.{comma_parts}
 use Rattle.tfpg_words.specs.Plans.{meaning_of}
 use Rattle.tfpg_run.specs.fleet.FleetEnds.{fleet_words}
@@ -108,8 +108,8 @@ returns-in-Predict-clause-done g c =
     let input = g.S.Source.state c.args.input.now in
     let before = world (g.F.Shelf.state c.args.shelf.now) input (g.K.Sink.state c.args.out.now) (seen_by g.P.Panel.state c.args.desk.now) in
     let now = world (g.F.Shelf.state c.predict_by_files.new.shelf) input (g.K.Sink.state c.predict_by_files.new.out) (seen_by g.P.Panel.state c.args.desk.now) in
-    predict_done c.predict_by_files.result (meaning_of c.args.command.now) _ c.in-Predict.ahead c.as_str-in-Predict.result.now c.as_str-in-Predict-2.result.now c.as_str-in-Predict-3.result.now
-    c.in-Predict.graph c.in-Predict.log c.in-Predict.node before now (ap meaning_of c.in-Predict.is) c.as_str-in-Predict.ensures c.as_str-in-Predict-2.ensures c.as_str-in-Predict-3.ensures refl
+    predict_done c.predict_by_files.result (meaning_of c.args.command.now) _ c.in-Predict.ahead c.as_str-in-Predict-2.result.now c.as_str-in-Predict-3.result.now c.as_bytes.result.now
+    c.in-Predict.graph c.in-Predict.log c.in-Predict.node before now (ap meaning_of c.in-Predict.is) c.as_str-in-Predict-2.ensures c.as_str-in-Predict-3.ensures (c.as_bytes.ensures.value ∙ c.as_str-in-Predict.ensures) refl
     (c.predict_by_files.ensures.done input (seen_by g.P.Panel.state c.args.desk.now))
 
 -- or they were not
@@ -118,6 +118,6 @@ returns-in-Predict-clause-stopped g c =
     let input = g.S.Source.state c.args.input.now in
     let before = world (g.F.Shelf.state c.args.shelf.now) input (g.K.Sink.state c.args.out.now) (seen_by g.P.Panel.state c.args.desk.now) in
     let now = world (g.F.Shelf.state c.predict_by_files.new.shelf) input (g.K.Sink.state c.predict_by_files.new.out) (seen_by g.P.Panel.state c.args.desk.now) in
-    predict_stopped c.predict_by_files.result (meaning_of c.args.command.now) _ c.in-Predict.ahead c.as_str-in-Predict.result.now c.as_str-in-Predict-2.result.now c.as_str-in-Predict-3.result.now
-    c.in-Predict.graph c.in-Predict.log c.in-Predict.node before now (ap meaning_of c.in-Predict.is) c.as_str-in-Predict.ensures c.as_str-in-Predict-2.ensures c.as_str-in-Predict-3.ensures refl
+    predict_stopped c.predict_by_files.result (meaning_of c.args.command.now) _ c.in-Predict.ahead c.as_str-in-Predict-2.result.now c.as_str-in-Predict-3.result.now c.as_bytes.result.now
+    c.in-Predict.graph c.in-Predict.log c.in-Predict.node before now (ap meaning_of c.in-Predict.is) c.as_str-in-Predict-2.ensures c.as_str-in-Predict-3.ensures (c.as_bytes.ensures.value ∙ c.as_str-in-Predict.ensures) refl
     (c.predict_by_files.ensures.stopped input (seen_by g.P.Panel.state c.args.desk.now))

@@ -1,8 +1,7 @@
-use Rattle.std.proofs.Common.{Ok, Err, refl, sym, inr, ap, ◌∙◌}
+use Rattle.std.proofs.Common.{Ok, Err, refl, sym, inr}
 use Rattle.tfpg_base.specs.Lines.{lines_of}
 use Rattle.tfpg_streams.specs.declared.fault.OutputFault.TheVariants.{WriteFault}
-use Rattle.tfpg_answers.specs.Forecasts.{HasForecasts, prediction}
-use Rattle.tfpg_answers.specs.Probing.{probed_node}
+use Rattle.tfpg_answers.specs.Forecasts.{HasForecasts, prediction_of}
 use Rattle.tfpg_run.specs.World.{world}
 use Rattle.tfpg_run.specs.inside.Faults.{end_of_table_fault}
 use Rattle.tfpg_run.specs.predict.Predicting.{PredictionEnds}
@@ -14,24 +13,24 @@ use Rattle.tfpg_run.proofs.predict.predict_by_files.Goals as goal
 pub returns-in_err-text-clause-stopped : goal.returns-in_err-text-clause-stopped
 returns-in_err-text-clause-stopped g c = λ input desk.
     let asked = c.args.asked.now in
-    let said = prediction asked.terms asked.ahead asked.node.now in
+    let said = prediction_of asked in
     let graph = c.in_ok-graph.graph in
     let log = c.in_ok-graph.log_text.items in
     let node = c.in_ok-node.node in
     let before = world (g.F.Shelf.state c.args.shelf.now) input (g.K.Sink.state c.args.out.now) desk in
     let now = world (g.F.Shelf.state c.fetch_graph_and_text.new.shelf) input (g.K.Sink.state c.args.out.now) desk in
-    stops_by_files asked.graph.now asked.log.now (PredictionEnds said before now) before now graph log c.in_ok-graph.ensures.given c.in_ok-graph.ensures.fetched
+    stops_by_files c.args.graph_name.now c.args.log_name.now (PredictionEnds said before now) before now graph log c.in_ok-graph.ensures.given c.in_ok-graph.ensures.fetched
     c.from_residual-in_err-text.result (end_of_table_fault c.in_err-text.field-0.0) c.from_residual-in_err-text.ensures.1
     (inr (
       node,
-      sym (rw c.as_bytes-name.ensures.value at c.in_ok-node.ensures),
+      sym c.in_ok-node.ensures,
       text_without_table graph asked.terms before now (HasForecasts graph said node (lines_of log)) c.in_err-text.field-0.0 c.in_err-text.ensures.too_many refl refl,
     ))
 
 pub returns-in_err-write_all-clause-stopped : goal.returns-in_err-write_all-clause-stopped
 returns-in_err-write_all-clause-stopped g c = λ input desk.
     let asked = c.args.asked.now in
-    let said = prediction asked.terms asked.ahead asked.node.now in
+    let said = prediction_of asked in
     let graph = c.in_ok-graph.graph in
     let log = c.in_ok-graph.log_text.items in
     let node = c.in_ok-node.node in
@@ -39,20 +38,20 @@ returns-in_err-write_all-clause-stopped g c = λ input desk.
     let right = HasForecasts graph said node (lines_of log) in
     let before = world (g.F.Shelf.state c.args.shelf.now) input (g.K.Sink.state c.args.out.now) desk in
     let now = world (g.F.Shelf.state c.fetch_graph_and_text.new.shelf) input (g.K.Sink.state c.write_all.new.out) desk in
-    stops_by_files asked.graph.now asked.log.now (PredictionEnds said before now) before now graph log c.in_ok-graph.ensures.given c.in_ok-graph.ensures.fetched
+    stops_by_files c.args.graph_name.now c.args.log_name.now (PredictionEnds said before now) before now graph log c.in_ok-graph.ensures.given c.in_ok-graph.ensures.fetched
     c.from_residual-in_err-write_all.result ends.WriteFault c.from_residual-in_err-write_all.ensures.1
     (inr (
       node,
-      sym (rw c.as_bytes-name.ensures.value at c.in_ok-node.ensures),
+      sym c.in_ok-node.ensures,
       text_with_table graph asked.terms before now right text c.in_ok-text.ensures.too_many (Err WriteFault)
-          (cut_text right before.output now.output text.items c.deref-2.result.now (rw (c.deref.ensures.value, c.as_bytes-name.ensures.value) at c.in_ok-text.ensures.forecasts) c.deref-2.ensures.value
+          (cut_text right before.output now.output text.items c.deref-2.result.now (rw c.deref.ensures.value at c.in_ok-text.ensures.forecasts) c.deref-2.ensures.value
           c.in_err-write_all.ensures.writes),
     ))
 
 pub returns-clause-done : goal.returns-clause-done
 returns-clause-done g c = λ input desk.
     let asked = c.args.asked.now in
-    let said = prediction asked.terms asked.ahead asked.node.now in
+    let said = prediction_of asked in
     let graph = c.in_ok-graph.graph in
     let log = c.in_ok-graph.log_text.items in
     let node = c.in_ok-node.node in
@@ -60,11 +59,11 @@ returns-clause-done g c = λ input desk.
     let right = HasForecasts graph said node (lines_of log) in
     let before = world (g.F.Shelf.state c.args.shelf.now) input (g.K.Sink.state c.args.out.now) desk in
     let now = world (g.F.Shelf.state c.fetch_graph_and_text.new.shelf) input (g.K.Sink.state c.write_all.new.out) desk in
-    ends_by_files asked.graph.now asked.log.now (PredictionEnds said before now) before now graph log c.in_ok-graph.ensures.given c.in_ok-graph.ensures.fetched ends.Done
+    ends_by_files c.args.graph_name.now c.args.log_name.now (PredictionEnds said before now) before now graph log c.in_ok-graph.ensures.given c.in_ok-graph.ensures.fetched ends.Done
     (inr (
       node,
-      sym (rw c.as_bytes-name.ensures.value at c.in_ok-node.ensures),
+      sym c.in_ok-node.ensures,
       text_with_table graph asked.terms before now right text c.in_ok-text.ensures.too_many (Ok (tt {0}))
-          (whole_text right before.output now.output text.items c.deref-2.result.now (rw (c.deref.ensures.value, c.as_bytes-name.ensures.value) at c.in_ok-text.ensures.forecasts) c.deref-2.ensures.value
+          (whole_text right before.output now.output text.items c.deref-2.result.now (rw c.deref.ensures.value at c.in_ok-text.ensures.forecasts) c.deref-2.ensures.value
           c.in_ok-write_all.ensures.writes),
     ))

@@ -1,4 +1,4 @@
-use Rattle.std.proofs.Common.{◌+◌, ◌∙◌}
+use Rattle.std.proofs.Common.{◌∙◌}
 use Rattle.tfpg_answers.proofs.lemmas.ask.Left.{numbers_pushed, numbers_kept}
 use Rattle.tfpg_answers.proofs.ask.among.numbers_among.Goals as goal
 use Rattle.tfpg_answers.proofs.ask.among.numbers_among.Goals.{then-is_left+in_ok-push, else-is_left}

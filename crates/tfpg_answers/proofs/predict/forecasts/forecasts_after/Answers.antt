@@ -3,7 +3,7 @@ use Rattle.std.specs.Prelude.{◌≤◌, IfOk}
 use Rattle.tfpg_base.specs.declared.terms.Terms.{Terms}
 use Rattle.tfpg_base.specs.Lines.{lines_of}
 use Rattle.tfpg_graph.specs.Graph.{Tfpg}
-use Rattle.tfpg_answers.specs.Probing.{IsAimAt}
+use Rattle.tfpg_answers.specs.Probing.{CanForecast}
 use Rattle.tfpg_answers.specs.Forecasts.{HasForecasts, prediction}
 use Rattle.tfpg_diagnose.proofs.lemmas.Diagnosed.{own_diagnosed}
 use Rattle.tfpg_answers.proofs.predict.forecasts.forecasts_after.Goals as goal
@@ -19,10 +19,10 @@ predicted_text-requires-clause-budget g c =
     let has = c.in_ok-take_text.ensures c.args.diagnosis.now.engine.graph c.args.diagnosis.now.engine.terms c.requires.new in
     subst (λ (terms : Terms). 1 ≤ terms.budget) (sym has.reports.terms_is) c.requires.budget
 
-pub predicted_text-requires-clause-aim : goal.predicted_text-requires-clause-aim
-predicted_text-requires-clause-aim g c =
+pub predicted_text-requires-clause-probe : goal.predicted_text-requires-clause-probe
+predicted_text-requires-clause-probe g c =
     let has = c.in_ok-take_text.ensures c.args.diagnosis.now.engine.graph c.args.diagnosis.now.engine.terms c.requires.new in
-    subst (λ (graph : Tfpg). IsAimAt graph c.args.aim.now) (sym has.reports.graph_is) c.requires.aim
+    subst (λ (graph : Tfpg). CanForecast graph c.args.node c.args.asked.now.ahead) (sym has.reports.graph_is) c.requires.probe
 
 pub returns : goal.returns
 returns g c =
@@ -30,5 +30,5 @@ returns g c =
     let terms = c.args.diagnosis.now.engine.terms in
     let lines = lines_of c.args.log_text.now in
     let has = c.in_ok-take_text.ensures graph terms c.requires.new in
-    subst₂ (λ (x : Tfpg) (y : Terms). IfOk c.predicted_text.result (λ text. HasForecasts x (prediction y c.args.aim.now.ahead c.args.aim.now.name.now) c.args.aim.now.node lines text.items))
+    subst₂ (λ (x : Tfpg) (y : Terms). IfOk c.predicted_text.result (λ text. HasForecasts x (prediction y c.args.asked.now.ahead c.args.asked.now.node.now) c.args.node lines text.items))
     has.reports.graph_is has.reports.terms_is (c.predicted_text.ensures lines (own_diagnosed graph terms lines c.take_text.new.self has))

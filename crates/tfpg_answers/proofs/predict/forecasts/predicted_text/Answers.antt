@@ -3,7 +3,7 @@ use Rattle.tfpg_log.specs.Log.{Logbook, IsLogOf}
 use Rattle.tfpg_predict.specs.LeastTime.{lookahead_of}
 use Rattle.tfpg_predict.specs.Probed.{IsProbeable}
 use Rattle.tfpg_answers.specs.Forecasts.{predict_line, time_ahead}
-use Rattle.tfpg_answers.proofs.lemmas.predict.Predictions.{last_askable, last_rising, now_upto, predicted_last, probeable_aim}
+use Rattle.tfpg_answers.proofs.lemmas.predict.Predictions.{last_askable, last_rising, now_upto, predicted_last, probeable_at}
 use Rattle.tfpg_answers.proofs.predict.forecasts.predicted_text.Goals as goal
 
 pub time_ahead-to-requires-clause-now : goal.time_ahead-to-requires-clause-now
@@ -11,9 +11,9 @@ time_ahead-to-requires-clause-now g c = omega (arith, c.now-now.ensures, now_upt
 
 pub append_forecasts-requires-clause-probeable : goal.append_forecasts-requires-clause-probeable
 append_forecasts-requires-clause-probeable g c =
-    subst (λ (log : Logbook). IsProbeable (lookahead_of c.args.diagnosis.now.engine.graph log c.args.aim.now.node c.time_ahead-to.result)) c.log-log.ensures.log
-    (probeable_aim c.args.diagnosis.now.engine.graph c.log-log.result.now c.args.aim.now c.time_ahead-to.result c.requires.aim c.log-log.ensures.of c.is_always_ordered.ensures
-    (c.time_ahead-to.ensures ∙ ap (λ (n : ℕ). time_ahead n c.args.aim.now.ahead) c.now-now.ensures))
+    subst (λ (log : Logbook). IsProbeable (lookahead_of c.args.diagnosis.now.engine.graph log c.args.node c.time_ahead-to.result)) c.log-log.ensures.log
+    (probeable_at c.args.diagnosis.now.engine.graph c.log-log.result.now c.args.node c.args.asked.now.ahead c.time_ahead-to.result c.requires.probe c.log-log.ensures.of c.is_always_ordered.ensures
+    (c.time_ahead-to.ensures ∙ ap (λ (n : ℕ). time_ahead n c.args.asked.now.ahead) c.now-now.ensures))
 
 pub append_forecasts-requires-clause-askable : goal.append_forecasts-requires-clause-askable
 append_forecasts-requires-clause-askable g c =
@@ -29,10 +29,10 @@ append_forecasts-requires-clause-rising g c =
 pub returns-in_ok-append_forecasts-in-Some : goal.returns-in_ok-append_forecasts-in-Some
 returns-in_ok-append_forecasts-in-Some g c = λ lines has.
     let d = c.args.diagnosis.now in
-    let aim = c.args.aim.now in
-    let to_is = c.time_ahead-to.ensures ∙ ap (λ (n : ℕ). time_ahead n aim.ahead) c.now-now.ensures in
+    let asked = c.args.asked.now in
+    let to_is = c.time_ahead-to.ensures ∙ ap (λ (n : ℕ). time_ahead n asked.ahead) c.now-now.ensures in
     let old : List ℕ = c.append_predict_line.new.into.items in
     let text : List ℕ = c.append_forecasts.new.into.items in
-    predicted_last d.engine.graph d.engine.terms lines d has aim c.log-log.result.now (c.log-log.ensures.log ∙ has.reports.log_is) _ old text d.engine.log c.time_ahead-to.result c.in-Some.is
-    (c.in_ok-append_predict_line.ensures ∙ (λ i. c.new-text.ensures.items i ++ predict_line aim.name.now (c.now-now.ensures i) (to_is i)))
+    predicted_last d.engine.graph d.engine.terms lines d has asked c.args.node c.log-log.result.now (c.log-log.ensures.log ∙ has.reports.log_is) _ old text d.engine.log c.time_ahead-to.result c.in-Some.is
+    (c.in_ok-append_predict_line.ensures ∙ (λ i. c.new-text.ensures.items i ++ predict_line asked.node.now (c.now-now.ensures i) (to_is i)))
     c.log-log.ensures.log to_is c.in_ok-append_forecasts-in-Some.ensures
