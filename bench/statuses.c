@@ -53,8 +53,8 @@ static void try_texts(void) {
 /* A graph of so many nodes. */
 static size_t many_nodes(int nodes, char *into, size_t size) {
     size_t end = (size_t)snprintf(into, size, "tfpg 1\nmode N\nfailure F 1\n");
-    for (int node = 1; node < nodes; node++)
-        end += (size_t)snprintf(into + end, size - end, "or D%d watch 0\nedge F D%d 1 3 *\n", node, node);
+    for (int node = 1; node < nodes; node++) end += (size_t)snprintf(into + end, size - end, "or D%d watch 0\n", node);
+    for (int node = 1; node < nodes; node++) end += (size_t)snprintf(into + end, size - end, "edge F D%d 1 3 *\n", node);
     return end + (size_t)snprintf(into + end, size - end, "end\n");
 }
 
