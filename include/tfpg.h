@@ -6,7 +6,7 @@
  * Memory: a call reads the texts that it is given only while it runs, and keeps no pointer to them; nothing writes them meanwhile. What a
  * call writes is the caller's: a session, a room, a result, a ranked hypothesis, times, an index. It writes nothing else of the caller's.
  * Each of these overlaps nothing else of the same call, and nothing else reads or writes them while the call runs. A call took at most
- * 22 KB of stack; 100 KB are ample.
+ * 32 KB of stack; 100 KB are ample.
  *
  * The library takes memory of its own, and says so if there is none. The calls over whole texts, `tfpg_report`, `tfpg_check`, `tfpg_ask`,
  * `tfpg_predict` and `tfpg_explain`, give all of it back before they return. An open session has memory until it is closed. What is in this
