@@ -60,6 +60,7 @@ link_with examples/answers.c answers -g -fsanitize=address,undefined
 link_with bench/numbers.c numbers -g -fsanitize=address,undefined
 link_with_pool examples/report.c report_pool 24
 link_with_pool examples/embed.c embed_pool 24
+link_with_pool examples/answers.c answers_pool 24
 link_with_pool bench/statuses.c statuses_pool 24
 link_with bench/statuses.c statuses -g -fsanitize=address,undefined
 link_with bench/causes.c causes -g -fsanitize=address,undefined
@@ -155,6 +156,7 @@ try_answer() {
     esac
     [ "$ended" = "$wanted" ] || differs "$name: status $ended"
     cmp -s "$made/text" "$made/written" || differs "$name"
+    "$made/answers_pool" "${@:2:4}" | cmp -s - "$made/text" || differs "$name, by a pool"
 }
 
 # The graph of this log.

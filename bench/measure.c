@@ -4,15 +4,16 @@
  *
  * Opens a session of the graph with this k, gives it each line of the log and asks for each block. Gives the log to a second session, each
  * other tick as an event, and asks for the numbers of each line, and for the block of each event, first without memory and then with it. Then
- * makes the report of the same log at once, of its first 1,000 lines at most, and judges it. Prints three lines of fields between bars, in
- * which NAME stands first:
+ * makes the report of the same log at once, of its first 1,000 lines at most, and judges it; and makes the questions after these lines, the
+ * forecasts of the last node, and the verdict on the map of the empty set. Prints three lines of fields between bars, in which NAME stands
+ * first:
  *
  * - `memory`: the bytes that the library has once the session is open, and after 1,000, 16,384 and 65,536 accepted lines, or `-`; the most
  *   that it had at once, where a block that is made larger counts as two; the same where each block takes the least power of two that holds
  *   it, as in `examples/pool.c`; and the calls of the three functions for memory for a line and its block, on average.
  * - `time`: the lines; the microseconds of `tfpg_line`, on average, of the 99th of 100, and at worst; those of `tfpg_block`, on average; the
- *   microseconds of `tfpg_open`; and the bytes of stack of the calls of the sessions, and of `tfpg_report` and `tfpg_check`. It is time of
- *   the processor, so it leaves out what other programs took meanwhile.
+ *   microseconds of `tfpg_open`; and the bytes of stack of the calls of the sessions, of `tfpg_report`, `tfpg_check`, `tfpg_ask`,
+ *   `tfpg_predict` and `tfpg_explain`. It is time of the processor, so it leaves out what other programs took meanwhile.
  * - `numbers`: the ticks; the microseconds of one by `tfpg_line`, and of one by `tfpg_event`; and those of all numbers of a line, by
  *   `tfpg_result_of` and a `tfpg_ranked_at` with its times for each rank, all on average. If asking took memory, it is said.
  *
@@ -156,7 +157,7 @@ static size_t end_of_line(size_t begin) {
 
 /* What was found. The bytes that the library has are noted when the session is open, and after so many accepted lines. */
 static const size_t accepted_wanted[] = {0, 1000, 16384, 65536};
-static size_t taken_then[4], lines, most_of_session, most_of_its_pool, left, stack_of_session, stack_of_report;
+static size_t taken_then[4], lines, most_of_session, most_of_its_pool, left, stack_of_session, stack_of_calls[5];
 static unsigned long calls_of_lines;
 static uint64_t block_time, open_time;
 
@@ -259,16 +260,61 @@ static void *run_events(void *unused) {
     return unused;
 }
 
+/* The bytes of the first 1,000 lines, and of the report of these. */
+static size_t first_lines, report_count;
+
 static void *run_report(void *unused) {
     uint8_t here = 0;
-    size_t end = 0;
     tfpg_answer answer;
     stack_begin = &here;
-    for (int line = 0; line < 1000 && end < history.count; line++) end = end_of_line(end) + 1;
-    if (end > history.count) end = history.count;
-    answer = tfpg_report(graph.bytes, graph.count, history.bytes, end, k, 0, 1000, room, sizeof room);
+    for (int line = 0; line < 1000 && first_lines < history.count; line++) first_lines = end_of_line(first_lines) + 1;
+    if (first_lines > history.count) first_lines = history.count;
+    answer = tfpg_report(graph.bytes, graph.count, history.bytes, first_lines, k, 0, 1000, room, sizeof room);
     expect_done("report", answer);
-    expect_done("check", tfpg_check(graph.bytes, graph.count, history.bytes, end, room, answer.count));
+    report_count = answer.count;
+    return unused;
+}
+
+static void *run_check(void *unused) {
+    uint8_t here = 0;
+    stack_begin = &here;
+    expect_done("check", tfpg_check(graph.bytes, graph.count, history.bytes, first_lines, room, report_count));
+    return unused;
+}
+
+static void *run_ask(void *unused) {
+    uint8_t here = 0;
+    stack_begin = &here;
+    expect_done("ask", tfpg_ask(graph.bytes, graph.count, history.bytes, first_lines, k, 0, 1000, room, sizeof room));
+    return unused;
+}
+
+/* Of a graph with no room for a probe there are no forecasts. */
+static void *run_predict(void *unused) {
+    uint8_t here = 0, node[32];
+    tfpg_prediction_terms hour = {0, 0, 1000, 3600000};
+    tfpg_session session = TFPG_SESSION;
+    size_t node_count = 0;
+    tfpg_answer answer;
+    hour.k = k;
+    expect_done("open", tfpg_open(&session, graph.bytes, graph.count, k, 0, 1000));
+    for (uint32_t index = 0;; index++) {
+        answer = tfpg_name(&session, TFPG_NODE_NAME, index, node, sizeof node);
+        if (answer.status != TFPG_DONE) break;
+        node_count = answer.count;
+    }
+    tfpg_close(&session);
+    stack_begin = &here;
+    answer = tfpg_predict(graph.bytes, graph.count, history.bytes, first_lines, node, node_count, &hour, room, sizeof room);
+    if (answer.status != TFPG_FULL_GRAPH) expect_done("predict", answer);
+    return unused;
+}
+
+static void *run_explain(void *unused) {
+    static const uint8_t map[] = "set -\n";
+    uint8_t here = 0;
+    stack_begin = &here;
+    expect_done("explain", tfpg_explain(graph.bytes, graph.count, history.bytes, first_lines, map, sizeof map - 1, room, sizeof room));
     return unused;
 }
 
@@ -310,9 +356,11 @@ static void print_time(void) {
     uint64_t all = 0;
     for (size_t line = 0; line < lines; line++) all += times[line];
     qsort(times, lines, sizeof *times, by_number);
-    printf("time | %s | %zu | %.1f | %.1f | %.1f | %.1f | %.0f | %zu | %zu |\n", name, lines, (double)all / (double)lines / 1e3,
+    printf("time | %s | %zu | %.1f | %.1f | %.1f | %.1f | %.0f | %zu |", name, lines, (double)all / (double)lines / 1e3,
            (double)times[lines * 99 / 100] / 1e3, (double)times[lines - 1] / 1e3, (double)block_time / (double)lines / 1e3,
-           (double)open_time / 1e3, stack_of_session, stack_of_report);
+           (double)open_time / 1e3, stack_of_session);
+    for (int call = 0; call < 5; call++) printf(" %zu |", stack_of_calls[call]);
+    printf("\n");
 }
 
 static double microseconds(uint64_t all, size_t of) {
@@ -326,6 +374,7 @@ static void print_numbers(void) {
 }
 
 int main(int count, char **words) {
+    static void *(*const calls_of_texts[])(void *) = {run_report, run_check, run_ask, run_predict, run_explain};
     size_t stack_of_events;
     if (count != 5) return TFPG_OUT_OF_RANGE;
     name = words[1];
@@ -335,7 +384,7 @@ int main(int count, char **words) {
     stack_of_session = stack_used(run_session);
     stack_of_events = stack_used(run_events);
     if (stack_of_events > stack_of_session) stack_of_session = stack_of_events;
-    stack_of_report = stack_used(run_report);
+    for (int call = 0; call < 5; call++) stack_of_calls[call] = stack_used(calls_of_texts[call]);
     if (lines == 0) return TFPG_OUT_OF_RANGE;
     print_memory();
     print_time();

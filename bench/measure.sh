@@ -87,8 +87,8 @@ echo '| Session | Open, bytes | After 1,000 events | After 16,384 | After 65,536
 echo '|---|---|---|---|---|---|---|---|'
 sed -n 's/^memory //p' "$made/long"
 echo
-echo '| Session | Lines | A line, microseconds | 99th of 100 | Worst | Its block | To open | Stack, bytes | Report and check, stack |'
-echo '|---|---|---|---|---|---|---|---|---|'
+echo '| Session | Lines | A line, microseconds | 99th of 100 | Worst | Its block | To open | Stack, bytes | Report | Check | Ask | Predict | Explain |'
+echo '|---|---|---|---|---|---|---|---|---|---|---|---|---|'
 sed -n 's/^time //p' "$made/short"
 echo
 echo '| Session | Ticks | A tick by a line, microseconds | By an event | The numbers of a line |'

@@ -59,17 +59,20 @@ int main(int count, char **words) {
     text graph = text_of(words[2]), log = text_of(words[3]), other = {(uint8_t *)words[count - 1], strlen(words[count - 1])};
     if (!asks && !predicts) other = text_of(words[4]);
 
-    text room = {(uint8_t *)malloc(1), 1};
-    if (!room.bytes) return TFPG_NO_MEMORY;
-    tfpg_answer said = answer(words[1], graph, log, other, room);
-    if (said.status == TFPG_ROOM_TOO_SMALL) {
-        room.count = said.count;
-        free(room.bytes);
+    text room = {NULL, 40000}; /* enough for questions and for a verdict */
+    tfpg_answer said;
+    for (;;) {
         room.bytes = (uint8_t *)malloc(room.count);
         if (!room.bytes) return TFPG_NO_MEMORY;
         said = answer(words[1], graph, log, other, room);
+        if (said.status != TFPG_ROOM_TOO_SMALL) break;
+        free(room.bytes);
+        room.count = said.count;
     }
     if (said.status == TFPG_DONE && (fwrite(room.bytes, 1, said.count, stdout) != said.count || fflush(stdout))) give_up("answer", 6);
+    if (said.status != TFPG_DONE)
+        fprintf(stderr, "%s %s, line %llu\n", tfpg_status_name(said.status), tfpg_cause_name(said.status, said.cause),
+                (unsigned long long)said.line);
     free(graph.bytes);
     free(log.bytes);
     if (!asks && !predicts) free(other.bytes);

@@ -46,7 +46,7 @@ int main(int count, char **words) {
     if (!report.bytes) return TFPG_NO_MEMORY;
 
     tfpg_answer answer = tfpg_report(graph.bytes, graph.count, log.bytes, log.count, 2, 0, 1000, report.bytes, report.count);
-    if (answer.status == TFPG_ROOM_TOO_SMALL) {
+    while (answer.status == TFPG_ROOM_TOO_SMALL) {
         report.count = answer.count;
         free(report.bytes);
         report.bytes = (uint8_t *)malloc(report.count);

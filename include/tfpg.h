@@ -1,16 +1,17 @@
 /* The diagnoser of timed failure propagation graphs, for C.
  *
- * Texts are bytes, given by a pointer and their number. `docs/formats.md` has the text of a graph, of a log and of a report. Times in
- * them are milliseconds. A text needs no byte 0 at its end. A pointer is never NULL, also where the number is 0.
+ * Texts are bytes, given by a pointer and their number. `docs/formats.md` has the text of a graph, of a log, of a report and of a map.
+ * Times in them are milliseconds. A text needs no byte 0 at its end, and none is written after one. A pointer is never NULL, also where the
+ * number is 0.
  *
- * Memory: a call reads the texts that it is given only while it runs, and keeps no pointer to them; nothing writes them meanwhile. What a
- * call writes is the caller's: a session, a room, a result, a ranked hypothesis, times, an index. It writes nothing else of the caller's.
- * Each of these overlaps nothing else of the same call, and nothing else reads or writes them while the call runs. A call took at most
- * 32 KB of stack; 100 KB are ample.
+ * Memory: a call reads the texts and the terms that it is given only while it runs, and keeps no pointer to them; nothing writes them
+ * meanwhile. What a call writes is the caller's: a session, a room, a result, a ranked hypothesis, times, an index. It writes nothing else
+ * of the caller's. Each of these overlaps nothing else of the same call, and nothing else reads or writes them while the call runs. A room
+ * is written only if the call is done, and behind the text it stays as it is. A call took at most 32 KB of stack; 100 KB are ample.
  *
  * The library takes memory of its own, and says so if there is none. The calls over whole texts, `tfpg_report`, `tfpg_check`, `tfpg_ask`,
- * `tfpg_predict` and `tfpg_explain`, give all of it back before they return. An open session has memory until it is closed. What is in this
- * memory is the library's: a program reads, writes and calls nothing of it.
+ * `tfpg_predict` and `tfpg_explain`, give all of it back before they return, and each may be made again, whatever it answered. An open
+ * session has memory until it is closed. What is in this memory is the library's: a program reads, writes and calls nothing of it.
  * The library asks for it by three functions, `rattle_alloc`, `rattle_realloc` and `rattle_dealloc`. The program links one of these:
  *
  * - The toolchain's archive `liblibc_c.a`, which defines them over `malloc`, `realloc` and `free`. These have to be of one allocator, and a
@@ -46,7 +47,7 @@ extern "C" {
  * then what is wrong with the report. `tfpg_ask`, `tfpg_predict` and `tfpg_explain` say the first of these: a number out of its range, a
  * text that is too long, a fault of the graph, no room for a probe, no such node, too many hypotheses, a faulty map. Memory may run out
  * before any of these is found. The numbers up to 8 are those with which the program ends; 5 and 6, a failed read and a failed write, are
- * not of a call. */
+ * not of a call. Where the program ends with 1 for a map, with 2 for a node and with 3 for a full graph, a call says 12, 11 and 13. */
 enum tfpg_status {
     /* It is done. */
     TFPG_DONE = 0,
@@ -72,8 +73,8 @@ enum tfpg_status {
     TFPG_NO_SUCH = 11,
     /* A line of the map is faulty: `line` is that of the first one. A map without a line is faulty at line 1. */
     TFPG_BAD_MAP = 12,
-    /* The graph has 512 nodes or 2,048 edges, and no room for the probe of `tfpg_predict`. `cause` is that of a graph with one more:
-     * TFPG_GRAPH_TOO_MANY_NODES or TFPG_GRAPH_TOO_MANY_EDGES. */
+    /* The graph has 512 nodes or 2,048 edges, and no room for the probe of `tfpg_predict`, a node and an edge into it that the call adds.
+     * `cause` is that of a graph with one more: TFPG_GRAPH_TOO_MANY_NODES, or if there are fewer nodes TFPG_GRAPH_TOO_MANY_EDGES. */
     TFPG_FULL_GRAPH = 13
 };
 
@@ -173,10 +174,10 @@ tfpg_answer tfpg_report(const uint8_t *graph, size_t graph_count, const uint8_t 
 tfpg_answer tfpg_check(const uint8_t *graph, size_t graph_count, const uint8_t *log, size_t log_count,
                        const uint8_t *report, size_t report_count);
 
-/* Says which observation would tell most after the log, and writes the questions to the front of the room: the text that the program writes
- * for `ask`, which `docs/formats.md` has under "Questions after a log". The log is diagnosed on terms as `tfpg_report` has them, and the
- * budget is also that of each answer. Lines that the log refuses are passed over. `count` and a room that is too small are as with
- * `tfpg_report`.
+/* Says which observation would tell most after the log, and writes the questions to the front of the room: a text as the program writes it
+ * for `ask`, which `docs/formats.md` has under "Questions after a log". It has at most 37,426 bytes. The log is diagnosed on terms as
+ * `tfpg_report` has them, and the budget is also that of each outcome, one hypothesis after a silence or an alarm. Lines that the log
+ * refuses are passed over. `count` and a room that is too small are as with `tfpg_report`.
  *
  * TFPG_DONE, TFPG_ROOM_TOO_SMALL, TFPG_OUT_OF_RANGE, TFPG_TOO_MUCH_INPUT, TFPG_BAD_GRAPH, TFPG_TOO_MANY_HYPOTHESES, TFPG_NO_MEMORY */
 tfpg_answer tfpg_ask(const uint8_t *graph, size_t graph_count, const uint8_t *log, size_t log_count, uint32_t k, uint32_t doubt,
@@ -190,9 +191,10 @@ typedef struct {
     uint64_t ahead;  /* so many milliseconds after the last event are looked at, but none after 10^12 */
 } tfpg_prediction_terms;
 
-/* Says when the node of this name becomes active at the earliest after the log, by each ranked hypothesis, and writes the forecasts with
- * their evidence to the front of the room: the text that the program writes for `predict`, which `docs/formats.md` has under "Prediction".
- * Lines that the log refuses are passed over. `count` and a room that is too small are as with `tfpg_report`.
+/* Says when the node of this name becomes active at the earliest, by each ranked hypothesis and the log, and writes the forecasts with their
+ * evidence to the front of the room: a text as the program writes it for `predict`, which `docs/formats.md` has under "Prediction". That
+ * time may lie before the last event, since a node may be active already. An open hypothesis has no forecast, and a log without an accepted
+ * line none at all. Lines that the log refuses are passed over. `count` and a room that is too small are as with `tfpg_report`.
  *
  * TFPG_DONE, TFPG_ROOM_TOO_SMALL, TFPG_OUT_OF_RANGE, TFPG_TOO_MUCH_INPUT, TFPG_BAD_GRAPH, TFPG_FULL_GRAPH, TFPG_NO_SUCH,
  * TFPG_TOO_MANY_HYPOTHESES, TFPG_NO_MEMORY */
@@ -200,9 +202,9 @@ tfpg_answer tfpg_predict(const uint8_t *graph, size_t graph_count, const uint8_t
                          size_t node_count, const tfpg_prediction_terms *terms, uint8_t *room, size_t room_count);
 
 /* Says whether a map, a set of failure modes with a trace, explains the log, and else what is wrong with it first, and writes the verdict
- * to the front of the room: the line that the program writes for `explain`, which `docs/formats.md` has under "Verdict". Monitors that the
- * map ignores are ignored in the log. Lines that the log refuses are passed over. `count` and a room that is too small are as with
- * `tfpg_report`.
+ * to the front of the room: the line that the program writes for `explain`, which `docs/formats.md` has under "Verdict". It has at most 59
+ * bytes, and the same texts have the same verdict. A `no` is done too. Monitors that the map ignores, `!NAME` in its set, are ignored in the
+ * log. Lines that the log refuses are passed over. `count` is the number of bytes of the verdict, also if the room is too small.
  *
  * TFPG_DONE, TFPG_ROOM_TOO_SMALL, TFPG_TOO_MUCH_INPUT, TFPG_BAD_GRAPH, TFPG_BAD_MAP, TFPG_NO_MEMORY */
 tfpg_answer tfpg_explain(const uint8_t *graph, size_t graph_count, const uint8_t *log, size_t log_count, const uint8_t *map,
