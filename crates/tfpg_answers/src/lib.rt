@@ -8,7 +8,8 @@
 //! [`explain_texts`].
 //!
 //! ```
-//! let text = predict_texts(alloc, graph_text, log_text, b"PressureLow", terms, 1000)?;
+//! let asked = ForecastRequest { terms, ahead: 1000, node: b"PressureLow" };
+//! let text = predict_texts(alloc, graph_text, log_text, &asked)?;
 //! ```
 //!
 //! # Proved, and by which clause

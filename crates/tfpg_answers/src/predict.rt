@@ -1,4 +1,4 @@
-//! When a node becomes active at the earliest after the lines of a log, by each ranked hypothesis, as a text.
+//! When a node becomes active at the earliest, by each ranked hypothesis after the lines of a log, as a text.
 
 mod forecast_lines;
 mod forecasts;

@@ -84,8 +84,8 @@ pub extern "C" fn tfpg_ask(
     }
 }
 
-/// Writes when the node of this name becomes active at the earliest after the lines of the log to the front of the room, as [`tfpg_report`]
-/// writes its report.
+/// Writes when the node of this name becomes active at the earliest, by each ranked hypothesis after the lines of the log, to the front of
+/// the room, as [`tfpg_report`] writes its report.
 #[unsafe(no_mangle)]
 pub extern "C" fn tfpg_predict(
     alloc: Global,

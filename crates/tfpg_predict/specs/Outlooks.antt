@@ -20,19 +20,20 @@ pub record IsProbeCase (asked : Lookahead) (set : List ℕ) (bound : ℕ) (case 
   pub probed : IsProbed asked bound case.graph case.log
   pub reach : IsReach case.graph set case.reach
 
--- The steps are a refutation for the probe with this bound, with no more splits than the budget.
+-- The steps are those of a search for the probe with this bound, and a refutation, with no more splits than the budget.
 pub record IsRefutedAt (asked : Lookahead) (set : List ℕ) (bound budget : ℕ) (steps : List Step) : Type 0 where
   pub case : Case
   pub probe : IsProbeCase asked set bound case
+  pub right : AreSearchSteps case [] steps
   pub refutation : IsRefutation case (with_steps [] case.log steps)
   pub within : split_count steps ≤ budget
 
--- The steps are those of a search for the probe with this bound, which spent its budget: they have as many live splits as the
--- budget says, their tree is unsettled, and no subtree is reusable after them. The budget is not one that is always enough.
+-- The steps are those of a search for the probe with this bound, which spent its budget: they have as many splits as the budget says,
+-- their tree is unsettled, and no subtree is reusable after them. The budget is not one that is always enough.
 pub record IsSpentAt (asked : Lookahead) (set : List ℕ) (bound budget : ℕ) (steps : List Step) : Type 0 where
   pub case : Case
   pub probe : IsProbeCase asked set bound case
-  pub live : AreSearchSteps case [] steps
+  pub right : AreSearchSteps case [] steps
   pub spent : split_count steps ≡ budget
   pub unsettled : IsUnsettled case (with_steps [] case.log steps)
   pub none_reusable : AllowsReuse case (with_steps [] case.log steps) → ⊥

@@ -16,6 +16,7 @@ use Rattle.tfpg_clause.specs.Paths.{with_steps}
 use Rattle.tfpg_hyp.specs.Views.{IsReachOf, case_for, HypothesisFits}
 use Rattle.tfpg_search.specs.Live.{AllowsReuse, IsUnsettled}
 use Rattle.tfpg_search.specs.Searched.{AreSearchSteps}
+use Rattle.tfpg_search.specs.Enough.{IsEnough}
 use Rattle.tfpg_engine.specs.EngineState.{EngineState}
 use Rattle.tfpg_whatif.specs.declared.outcome.Outcome.{Outcome}
 use Rattle.tfpg_whatif.specs.declared.outcome.Outcome.TheVariants.{Fits, Out, Unknown}
@@ -37,12 +38,13 @@ abbrev pub all_judged : Case → List Step → List Judged
 all_judged case steps = with_steps [] case.log steps
 
 -- The budget was spent on these steps: each split is live, there are as many as the budget, the tree is unsettled, and no subtree is
--- reusable after them.
+-- reusable after them. The budget is not one that is always enough.
 pub record AreSpent (case : Case) (budget : ℕ) (steps : List Step) : Type 0 where
   pub right : AreSearchSteps case [] steps
   pub spent : split_count steps ≡ budget
   pub unsettled : IsUnsettled case (all_judged case steps)
   pub none_reusable : AllowsReuse case (all_judged case steps) → ⊥
+  pub not_enough : IsEnough case.graph case.log budget → ⊥
 
 -- What an outcome shows of a set of failure modes: a trace that explains the log from the set; steps that are a refutation with no
 -- more splits than the budget; or that the budget was spent.

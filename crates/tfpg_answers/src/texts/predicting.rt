@@ -22,8 +22,8 @@ use tfpg_graph::{Graph, read};
 use tfpg_hyp::TableFault;
 use tfpg_hyp::laws::the_table_is_one;
 
-/// When the node that is asked about becomes active at the earliest after the lines of the log, for the graph that the text spells: what
-/// the program writes for `predict`.
+/// When the node that is asked about becomes active at the earliest, by each ranked hypothesis after the lines of the log, for the graph that
+/// the text spells: what the program writes for `predict`.
 pub fn predict_texts(
     alloc: Global,
     graph_text: &[u8],

@@ -36,25 +36,25 @@ module _ (asked : Lookahead) (bound : ℕ) (valid : IsValid asked.graph) (able :
   probe_case : IsProbeCase asked set bound (case_of graph log reach)
   probe_case = record { probed = is; reach = is_reach }
 
-  out : (budget : ℕ) (steps : List Step) → split_count steps ≤ budget → IsRefutation (case_of graph log reach) (with_steps [] log steps) → IsOutBy asked set bound budget steps
-  out budget steps within refutation = record {
+  out : (budget : ℕ) (steps : List Step) → split_count steps ≤ budget → AreSearchSteps (case_of graph log reach) [] steps → IsRefutation (case_of graph log reach) (with_steps [] log steps) → IsOutBy asked set bound budget steps
+  out budget steps within right refutation = record {
     none = not_by asked bound valid able ordered upto graph log is set
         (no_trace graph log log set reach (with_steps [] log steps) graph_valid (of_probed asked bound valid able ordered upto graph log is) log_ordered is_reach
         (record { more = []; events = sym (append-nil log.events); ignored = refl }) refutation);
-    refuted = record { case = case_of graph log reach; probe = probe_case; refutation = refutation; within = within };
+    refuted = record { case = case_of graph log reach; probe = probe_case; right = right; refutation = refutation; within = within };
   }
 
-  module _ (budget : ℕ) (steps : List Step) (within : split_count steps ≤ budget) (live : AreSearchSteps (case_of graph log reach) [] steps) where
+  module _ (budget : ℕ) (steps : List Step) (within : split_count steps ≤ budget) (right : AreSearchSteps (case_of graph log reach) [] steps) where
     found_as : (search : SearchState) (found : Found) → search.set ≡ set
         → (IsEnough graph log budget → ◌≡◌ {A = Result Found NoMemory} (Ok found) (Ok Spent) → ⊥)
         → Finds (case_of graph log reach) budget steps (with_steps [] log steps) search found → IsFoundAs asked set budget bound steps found
     found_as search (Shown trace) same enough finds =
         fits asked bound valid able ordered upto graph log is set trace (subst (λ (s : List ℕ). Explains graph log s trace) same finds.0)
-    found_as search Closed same enough finds = out budget steps within finds
+    found_as search Closed same enough finds = out budget steps within right finds
     found_as search Spent same enough finds = record {
       case = case_of graph log reach;
       probe = probe_case;
-      live = live;
+      right = right;
       spent = finds.0;
       unsettled = finds.1;
       none_reusable = finds.3;
@@ -69,8 +69,8 @@ module _ (asked : Lookahead) (bound : ℕ) (valid : IsValid asked.graph) (able :
     tried_by found enough searched =
         let added_is : after ≡ searched.added = searched.appended ∙ ap (λ (steps : List Step). steps ++ searched.added) none in
         let begun : SearchRepresents graph (first_events log old.seen) old [] = subst (λ (n : ℕ). SearchRepresents graph (first_events log n) old []) (sym seen) (represents log) in
-        let live : AreSearchSteps (case_of graph log reach) [] searched.added =
+        let right : AreSearchSteps (case_of graph log reach) [] searched.added =
         subst (λ (r : List ℕ). AreSearchSteps (case_of graph log r) [] searched.added) old_reach (searched.right [] begun) in
         let finds : Finds (case_of graph log reach) budget searched.added (with_steps [] log searched.added) new found =
         subst (λ (r : List ℕ). Finds (case_of graph log r) budget searched.added (with_steps [] log searched.added) new found) new_reach (searched.found [] begun) in
-        subst (λ (steps : List Step). IsFoundAs asked set budget bound steps found) (sym added_is) (found_as budget searched.added searched.within live new found new_set enough finds)
+        subst (λ (steps : List Step). IsFoundAs asked set budget bound steps found) (sym added_is) (found_as budget searched.added searched.within right new found new_set enough finds)

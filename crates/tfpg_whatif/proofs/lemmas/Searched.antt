@@ -19,10 +19,12 @@ use Rattle.tfpg_whatif.specs.inside.Asking.{IsShown, outcome_by}
 
 -- what was found is shown by its evidence
 evidence_by : (case : Case) (budget : ℕ) (steps : List Step) (search : SearchState) (found : Found) → AreSearchSteps case [] steps
-    → split_count steps ≤ budget → Finds case budget steps (with_steps [] case.log steps) search found → HasOutcomeEvidence case search.set budget (outcome_by found steps)
-evidence_by case budget steps search (Shown trace) right within finds = finds.0
-evidence_by case budget steps search Closed right within finds = (finds, within)
-evidence_by case budget steps search Spent right within finds = record { right = right; spent = finds.0; unsettled = finds.1; none_reusable = finds.3 }
+    → split_count steps ≤ budget → (IsEnough case.graph case.log budget → ◌≡◌ {A = Result Found NoMemory} (Ok found) (Ok Spent) → ⊥)
+    → Finds case budget steps (with_steps [] case.log steps) search found → HasOutcomeEvidence case search.set budget (outcome_by found steps)
+evidence_by case budget steps search (Shown trace) right within never finds = finds.0
+evidence_by case budget steps search Closed right within never finds = (finds, within)
+evidence_by case budget steps search Spent right within never finds =
+    record { right = right; spent = finds.0; unsettled = finds.1; none_reusable = finds.3; not_enough = λ enough. never enough refl }
 
 -- what was found and is not that the budget was spent, is not unknown
 known_by : (found : Found) (steps : List Step) → (found ≡ Spent → ⊥) → is_unknown (outcome_by found steps) ≡ false
@@ -39,13 +41,14 @@ module _ (graph : Tfpg) (log : Logbook) (search : SearchState) (unseen : search.
   represents_some = ([], represents_none)
 
   module _ (set reach : List ℕ) (budget : ℕ) (is_set : search.set ≡ set) (is_reach : search.reach ≡ reach) (after : SearchState) (same_set : after.set ≡ search.set) (same_reach : after.reach ≡ search.reach)
-      (before steps : List Step) (none : before ≡ []) (found : Found) (searched : IsSearched graph log budget (call_of search after before steps) (Ok found)) where
+      (before steps : List Step) (none : before ≡ []) (found : Found) (searched : IsSearched graph log budget (call_of search after before steps) (Ok found))
+      (never : IsEnough graph log budget → ◌≡◌ {A = Result Found NoMemory} (Ok found) (Ok Spent) → ⊥) where
     all_added : searched.added ≡ steps
     all_added = sym (searched.appended ∙ ap (λ (front : List Step). front ++ searched.added) none)
 
     evidence_added : HasOutcomeEvidence (case_of graph log after.reach) after.set budget (outcome_by found searched.added)
     evidence_added = evidence_by (case_of graph log after.reach) budget searched.added after found
-        (subst (λ (nodes : List ℕ). AreSearchSteps (case_of graph log nodes) [] searched.added) (sym same_reach) (searched.right [] represents_none)) searched.within (searched.found [] represents_none)
+        (subst (λ (nodes : List ℕ). AreSearchSteps (case_of graph log nodes) [] searched.added) (sym same_reach) (searched.right [] represents_none)) searched.within never (searched.found [] represents_none)
 
     evidence : HasOutcomeEvidence (case_of graph log reach) set budget (outcome_by found steps)
     evidence = subst (λ (all : List Step). HasOutcomeEvidence (case_of graph log reach) set budget (outcome_by found all)) all_added
@@ -53,8 +56,8 @@ module _ (graph : Tfpg) (log : Logbook) (search : SearchState) (unseen : search.
         (subst (λ (members : List ℕ). HasOutcomeEvidence (case_of graph log after.reach) members budget (outcome_by found searched.added)) (same_set ∙ is_set) evidence_added))
 
     -- A new search shows its outcome.
-    pub is_shown : (IsEnough graph log budget → ◌≡◌ {A = Result Found NoMemory} (Ok found) (Ok Spent) → ⊥) → IsShown (case_of graph log reach) set budget (outcome_by found steps)
-    is_shown never = record {
+    pub is_shown : IsShown (case_of graph log reach) set budget (outcome_by found steps)
+    is_shown = record {
       evidence = evidence;
       known = λ enough. known_by found steps (λ spent. never enough (ap Ok spent));
     }
