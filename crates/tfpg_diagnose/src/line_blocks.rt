@@ -1,8 +1,9 @@
 //! What a line of the log brings, and its block.
 
-ghost use Rattle.std.specs.Prelude.{◌≡◌, None, IfOk, IfSome};
+ghost use Rattle.std.specs.Prelude.{◌≡◌, ◌+◌, None, IfOk, IfSome};
 ghost use Rattle.tfpg_evidence.specs.RoundOf.{IsRoundOf};
 ghost use Rattle.tfpg_graph.specs.Graph.{Tfpg, sizes_of};
+ghost use Rattle.tfpg_engine.specs.EngineState.{calls_of_engine};
 ghost use Rattle.tfpg_report.specs.Blocks.{refused_text, round_text};
 ghost use Rattle.tfpg_check.specs.Report.{Progress};
 ghost use Rattle.tfpg_base.specs.declared.terms.Terms.{Terms};
@@ -49,6 +50,7 @@ pub(crate) fn take_line<L: Ledger>(
     ensures brings { (graph : Tfpg) (terms : Terms) (before : Progress) → EngineReports graph terms engine.old before → IfOk result
         (λ brought. IsBrought graph terms before (numbered number text.now) brought
         (engine_turn engine.old engine.new work.old work.new)) }
+    ensures counted { calls_of_engine engine.new + work.old ≡ calls_of_engine engine.old + work.new }
 {
     if is_too_long(text) {
         return Ok(Brought::Refused(RefusedLine::TooLong));
@@ -80,6 +82,7 @@ pub(crate) fn line_block<L: Ledger>(
     ensures block { (graph : Tfpg) (terms : Terms) (before : Progress) → EngineReports graph terms engine.old before → IfOk result
         (λ block. BringsBlock graph terms before (numbered number text.now) block.text.items block.round
         (engine_turn engine.old engine.new work.old work.new)) }
+    ensures counted { calls_of_engine engine.new + work.old ≡ calls_of_engine engine.old + work.new }
 {
     match take_line(engine, number, text, work)? {
         Brought::Refused(cause) => refused_block(alloc, number, cause),

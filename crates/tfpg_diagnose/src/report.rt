@@ -1,10 +1,10 @@
 //! The report of a diagnosis: line by line, each with its block written, and its round told, before the next is taken.
 
-ghost use Rattle.std.specs.Prelude.{◌≡◌, [], ℕ, IfOk, IfErr, OnOk, Ok, Err};
+ghost use Rattle.std.specs.Prelude.{◌≡◌, ◌+◌, [], ℕ, IfOk, IfErr, OnOk, Ok, Err};
 ghost use Rattle.tfpg_graph.specs.Graph.{Tfpg};
 ghost use Rattle.tfpg_graph.specs.Valid.{IsValid};
 ghost use Rattle.tfpg_log.specs.LogOfLines.{new_log};
-ghost use Rattle.tfpg_engine.specs.EngineState.{EngineRepresents};
+ghost use Rattle.tfpg_engine.specs.EngineState.{EngineRepresents, calls_of_engine};
 ghost use Rattle.tfpg_panel.specs.Desk.{seen_by};
 ghost use Rattle.tfpg_report.specs.Blocks.{head_text};
 ghost use Rattle.tfpg_check.specs.Report.{HasReports};
@@ -53,6 +53,8 @@ pub fn write_report<S: Source, K: Sink, P: Panel, L: Ledger>(
         (watched (S.state input.new) (K.state out.new) (seen_by P.state desk.new)) result }
     ensures work { OnOk result (WorksToEnd (IsReportWithin engine.old.graph engine.old.terms work.old work.new)
         (streams (S.state input.old) (K.state out.old)) (streams (S.state input.new) (K.state out.new))) }
+    // The counter counts what the systems of all searches count, however it ends.
+    ensures counted { calls_of_engine engine.new + work.old ≡ calls_of_engine engine.old + work.new }
 {
     desk.always_keeps_its_panels();
     a_desk_is_told_round_by_round();
@@ -104,6 +106,7 @@ fn write_next_block<S: Source, K: Sink, P: Panel, L: Ledger>(
         (diagnosis_at (watched (S.state input.old) (K.state out.old) (seen_by P.state desk.old)) lines.old engine.old)
         → IfErr result (λ fault. Diagnoses graph terms before
         (watched (S.state input.new) (K.state out.new) (seen_by P.state desk.new)) (Err fault)) }
+    ensures counted { calls_of_engine engine.new + work.old ≡ calls_of_engine engine.old + work.new }
 {
     a_report_goes_on_block_by_block();
     a_desk_is_told_round_by_round();

@@ -3,7 +3,6 @@
 //! [`diagnose_texts`] returns the report of a log, and [`check_texts`] judges one. A [`Session`] takes the lines of a log one by one, and
 //! returns the block of the last one when it is asked. It keeps the [`Latest`] of them.
 
-mod call_count;
 mod checking;
 mod fault;
 mod latest;

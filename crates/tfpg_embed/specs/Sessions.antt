@@ -4,7 +4,7 @@ use Rattle.std.specs.Option.{option_map_or}
 use Rattle.tfpg_base.specs.declared.terms.Terms.{Terms}
 use Rattle.tfpg_graph.specs.Graph.{Tfpg}
 use Rattle.tfpg_evidence.specs.declared.round.Round.{Round}
-use Rattle.tfpg_engine.specs.EngineState.{EngineState, EngineRepresents}
+use Rattle.tfpg_engine.specs.EngineState.{EngineState, EngineRepresents, calls_of_engine}
 use Rattle.tfpg_engine.specs.declared.told.EventFault.{EventFault}
 use Rattle.tfpg_engine.specs.declared.told.EventFault.TheVariants as event
 use Rattle.tfpg_report.specs.Blocks.{head_text}
@@ -53,10 +53,10 @@ HasEnded (Some one) = one.session.next ≡ None
 abbrev pub HoldsEngine : EngineState → Option OpenSession → Type 0
 HoldsEngine engine held = IsSomeAnd held (λ one. one.session.engine ≡ engine)
 
--- how many counted calls the session made that a handle holds
+-- how many counted calls the engine made of the session that a handle holds
 abbrev pub calls_of : Option OpenSession → ℕ
 calls_of None = 0
-calls_of (Some one) = one.session.calls
+calls_of (Some one) = calls_of_engine one.session.engine
 
 -- Opening was tried. The handle then holds a new session, whose text is the first line of the report; or it is closed, with the cause.
 -- Where nothing stands in its way there is a session, and where a fault does, it is that fault; or memory ran out. The answer says which.

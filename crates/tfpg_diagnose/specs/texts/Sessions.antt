@@ -4,7 +4,7 @@ use Rattle.tfpg_base.specs.declared.terms.Terms.{Terms}
 use Rattle.tfpg_graph.specs.Graph.{Tfpg}
 use Rattle.tfpg_log.specs.LogOfLines.{log_of_lines}
 use Rattle.tfpg_evidence.specs.declared.round.Round.{Round}
-use Rattle.tfpg_engine.specs.EngineState.{EngineState, EngineRepresents}
+use Rattle.tfpg_engine.specs.EngineState.{EngineState, EngineRepresents, calls_of_engine}
 use Rattle.tfpg_report.specs.Blocks.{Block, block_text, head_text}
 use Rattle.tfpg_check.specs.Report.{rounds_of}
 use Rattle.tfpg_diagnose.specs.Work.{IsBlockLimit}
@@ -13,12 +13,11 @@ use Rattle.tfpg_diagnose.specs.texts.Latest.{latest_after, text_of_latest}
 use Rattle.tfpg_diagnose.specs.texts.Opening.{GivesGraphOf}
 use Rattle.tfpg_diagnose.specs.texts.Reports.{IsPlainReport}
 
--- What contracts see of a session: its engine, the number of its next line, how many counted calls it made for the lines that it took, and
--- what came last. Once memory has run out there is no next line.
+-- What contracts see of a session: its engine, the number of its next line, and what came last. Once memory has run out there is no next
+-- line.
 pub record SessionState : Type 0 where
   pub engine : EngineState
   pub next : Option ℕ
-  pub calls : ℕ
   pub latest : Latest
 
 -- how many lines a session took that can take one more: the number before that of its next line
@@ -47,7 +46,7 @@ pub record IsNewSession (graph_text : List ℕ) (terms : Terms) (session : Sessi
   pub gives : GivesGraphOf graph_text graph
   pub represents : SessionRepresents graph terms [] (head_text terms) session
   pub text_is : latest_text session ≡ head_text terms
-  pub no_calls : session.calls ≡ 0
+  pub no_calls : calls_of_engine session.engine ≡ 0
 
 -- The bytes are the block of a line that came to an engine after these rounds. For it the count of calls went from one number to the other,
 -- by at most the limit of the block: that of its round, and 0 for a refused line.

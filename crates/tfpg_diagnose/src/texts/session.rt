@@ -4,7 +4,7 @@ ghost use Rattle.std.specs.Prelude.{◌≡◌, ◌↔◌, ◌<◌, ◌+◌, ◌+
 ghost use Rattle.std.specs.Option.{option_copied};
 ghost use Rattle.tfpg_evidence.specs.RoundOf.{IsFindingOf, IsRoundOf, is_ranked};
 ghost use Rattle.tfpg_evidence.specs.declared.round.Round.{Round};
-ghost use Rattle.tfpg_engine.specs.EngineState.{EngineRepresents};
+ghost use Rattle.tfpg_engine.specs.EngineState.{EngineRepresents, calls_of_engine};
 ghost use Rattle.tfpg_base.specs.declared.limits.TheConstants.{MAX_LINE_NUMBER};
 ghost use Rattle.tfpg_base.specs.declared.terms.Terms.{Terms};
 ghost use Rattle.tfpg_graph.specs.Graph.{Tfpg, sizes_of};
@@ -17,7 +17,6 @@ ghost use Rattle.tfpg_diagnose.specs.texts.Latest.{order_of, ranked_at, round_in
 ghost use Rattle.tfpg_diagnose.specs.texts.Opening.{IsOpenFault};
 ghost use Rattle.tfpg_diagnose.specs.texts.Sessions.{CountsBlock, IsNewSession, SessionRepresents, latest_text, lines_before};
 
-use super::call_count::CallCount;
 use super::fault::OpenFault;
 use super::latest::Latest;
 use super::opening::open_engine;
@@ -35,13 +34,12 @@ use tfpg_graph::Graph;
 ///
 /// [`Session::take`] takes a line, and makes no text. [`Session::block`] makes the block of the last line when it is asked, and
 /// [`Session::line`] does both. The first line of a report, which [`Session::head`] returns, and the blocks, one after the other, are a report
-/// of the lines that it took. No panel is told. It keeps the last round. Contracts see how many counted calls it made for them.
+/// of the lines that it took. No panel is told. It keeps the last round.
 #[derive(Drop)]
 pub struct Session {
     engine: Engine,
     /// The number of the next line. There is none once memory has run out.
     next: Option<u64>,
-    calls: CallCount,
     latest: Latest,
 }
 
@@ -54,7 +52,6 @@ impl Model for Session {
     ghost view = { λ session. record {
       engine = session.engine;
       next = session.next;
-      calls = session.calls.count;
       latest = session.latest;
     } };
 
@@ -68,12 +65,10 @@ impl Session {
         ensures fault { IfErr result (IsOpenFault graph_text.now terms) }
     {
         let engine = open_engine(alloc, graph_text, terms)?;
-        let calls = CallCount::none();
         let latest = Latest::nothing();
         Ok(Session {
             engine,
             next: Some(1),
-            calls,
             latest,
         })
     }
@@ -136,16 +131,17 @@ impl Session {
         ensures represents { (graph : Tfpg) (terms : Terms) (lines : List (List ℕ)) (bytes : List ℕ) →
             SessionRepresents graph terms lines bytes self.old →
             OnOk result (SessionRepresents graph terms (lines ++ text.now ∷ []) (bytes ++ latest_text self.new) self.new) }
-        // A round keeps within the limit of its counted calls, and a refused line costs none.
+        // A round keeps within the limit of its counted calls, by what the systems of all searches have counted, and a refused line costs none.
         ensures work { (rounds : List Round) → EngineRepresents self.old.engine rounds →
-            OnOk result (CountsBlock self.old.engine rounds text.now (latest_text self.new) self.old.calls self.new.calls) }
+            OnOk result (CountsBlock self.old.engine rounds text.now (latest_text self.new)
+            (calls_of_engine self.old.engine) (calls_of_engine self.new.engine)) }
         ensures ended { (result ≡ Err EventFault.Ended) ↔ (self.old.next ≡ None) }
         ensures ends { OnErr result (self.new.next ≡ None) }
         ensures goes_on { OnOk result (IsSome self.new.next) }
     {
         let number = self.next.take().ok_or(EventFault::Ended)?;
         let next = number_after(number)?;
-        let brought = brought_by_line(&mut self.engine, &mut self.calls, number, text)?;
+        let brought = brought_by_line(&mut self.engine, number, text)?;
         self.latest.note(brought);
         self.next = Some(next);
         Ok(())
@@ -170,7 +166,8 @@ impl Session {
             SessionRepresents graph terms lines bytes self.old →
             IfOk result (λ block. SessionRepresents graph terms (lines ++ text.now ∷ []) (bytes ++ block.items) self.new) }
         ensures work { (rounds : List Round) → EngineRepresents self.old.engine rounds →
-            IfOk result (λ block. CountsBlock self.old.engine rounds text.now block.items self.old.calls self.new.calls) }
+            IfOk result (λ block. CountsBlock self.old.engine rounds text.now block.items
+            (calls_of_engine self.old.engine) (calls_of_engine self.new.engine)) }
         ensures text { IfOk result (λ block. block.items ≡ latest_text self.new) }
         ensures ended { (result ≡ Err EventFault.Ended) ↔ (self.old.next ≡ None) }
         ensures ends { OnErr result (self.new.next ≡ None) }
@@ -228,7 +225,6 @@ fn number_after(number: u64) -> Result<u64, NoMemory>
 /// What a line of this number and text brings.
 fn brought_by_line(
     engine: &mut Engine,
-    calls: &mut CallCount,
     number: u64,
     text: &[u8],
 ) -> Result<Brought, NoMemory>
@@ -239,15 +235,14 @@ fn brought_by_line(
     ensures block { (graph : Tfpg) (terms : Terms) (before : Progress) → EngineReports graph terms engine.old before →
         IfOk result (λ brought. HasPlainBlock graph terms before (numbered number text.now) brought engine.new) }
     ensures work { (rounds : List Round) → EngineRepresents engine.old rounds → IfOk result (λ brought. CountsBlock engine.old rounds text.now
-        (block_text engine.old.graph (block_brought number brought)) calls.old.count calls.new.count) }
+        (block_text engine.old.graph (block_brought number brought)) (calls_of_engine engine.old) (calls_of_engine engine.new)) }
 {
-    brought_counted::<Brand>(engine, calls, number, text, Blank::new(1))
+    brought_counted::<Brand>(engine, number, text, Blank::new(1))
 }
 
 /// The same with a new counter of steps, which costs nothing.
 fn brought_counted<L: Ledger>(
     engine: &mut Engine,
-    calls: &mut CallCount,
     number: u64,
     text: &[u8],
     blank: Blank,
@@ -262,11 +257,8 @@ fn brought_counted<L: Ledger>(
     ensures block { (graph : Tfpg) (terms : Terms) (before : Progress) → EngineReports graph terms engine.old before →
         IfOk result (λ brought. HasPlainBlock graph terms before (numbered number text.now) brought engine.new) }
     ensures work { (rounds : List Round) → EngineRepresents engine.old rounds → IfOk result (λ brought. CountsBlock engine.old rounds text.now
-        (block_text engine.old.graph (block_brought number brought)) calls.old.count calls.new.count) }
+        (block_text engine.old.graph (block_brought number brought)) (calls_of_engine engine.old) (calls_of_engine engine.new)) }
 {
     let mut work = Steps::<L>::new(blank);
-    let brought = take_line(engine, number, text, &mut work)?;
-    let sum = calls.with(&work);
-    *calls = sum;
-    Ok(brought)
+    take_line(engine, number, text, &mut work)
 }

@@ -6,7 +6,7 @@ use Rattle.std.proofs.lemmas.Bool.{false≢true}
 use Rattle.tfpg_base.specs.declared.terms.Terms.{Terms}
 use Rattle.tfpg_graph.specs.Graph.{Tfpg}
 use Rattle.tfpg_evidence.specs.declared.round.Round.{Round}
-use Rattle.tfpg_engine.specs.EngineState.{EngineState, EngineRepresents}
+use Rattle.tfpg_engine.specs.EngineState.{EngineState, EngineRepresents, calls_of_engine}
 use Rattle.tfpg_engine.specs.declared.told.EventFault.{EventFault}
 use Rattle.tfpg_engine.specs.declared.told.EventFault.TheVariants as event
 use Rattle.tfpg_diagnose.specs.declared.texts.fault.OpenFault.{OpenFault}
@@ -49,7 +49,7 @@ module _ (line : List ℕ) (old new : Option OpenSession) (answer : TfpgAnswer) 
       → ((graph : Tfpg) (terms : Terms) (lines : List (List ℕ)) (bytes : List ℕ) → SessionRepresents graph terms lines bytes before.session
       → SessionRepresents graph terms (lines ++ line ∷ []) (bytes ++ open_text after) after.session)
       → ((rounds : List Round) → EngineRepresents before.session.engine rounds
-      → CountsBlock before.session.engine rounds line (open_text after) before.session.calls after.session.calls)
+      → CountsBlock before.session.engine rounds line (open_text after) (calls_of_engine before.session.engine) (calls_of_engine after.session.engine))
       → count ≡ length (open_text after) → (◌≡◌ {A = Result T EventFault} (Ok value) (Err event.Ended)) ↔ (before.session.next ≡ None)
       → answer ≡ counted DONE count → AnswersLine line old new answer
   line_taken before after value count had has block within counts ended answer_is =
@@ -57,7 +57,7 @@ module _ (line : List ℕ) (old new : Option OpenSession) (answer : TfpgAnswer) 
         made = Ok (open_text after);
         block = block;
         work = λ engine rounds same represents.
-            subst (λ (e : EngineState). CountsBlock e rounds line (open_text after) before.session.calls after.session.calls) same
+            subst (λ (e : EngineState). CountsBlock e rounds line (open_text after) (calls_of_engine before.session.engine) (calls_of_engine after.session.engine)) same
             (within rounds (subst (λ (e : EngineState). EngineRepresents e rounds) (sym same) represents));
         text = refl;
         ended = (λ same. absurd (ok_is_no_error (open_text after) event.Ended same), λ none. absurd (ok_is_no_error value event.Ended (ended.1 none)));

@@ -4,7 +4,7 @@ ghost use Rattle.std.specs.Prelude.{◌≡◌, ◌↔◌, ◌++◌, ◌∷◌, [
 ghost use Rattle.tfpg_base.specs.declared.terms.Terms.{Terms};
 ghost use Rattle.tfpg_graph.specs.Graph.{Tfpg};
 ghost use Rattle.tfpg_evidence.specs.declared.round.Round.{Round};
-ghost use Rattle.tfpg_engine.specs.EngineState.{EngineRepresents};
+ghost use Rattle.tfpg_engine.specs.EngineState.{EngineRepresents, calls_of_engine};
 ghost use Rattle.tfpg_diagnose.specs.texts.Opening.{IsOpenFault};
 ghost use Rattle.tfpg_diagnose.specs.texts.Sessions.{CountsBlock, SessionRepresents};
 ghost use Rattle.tfpg_embed.specs.EventLines.{line_of_event};
@@ -48,7 +48,8 @@ impl OpenSession {
             SessionRepresents graph terms lines bytes self.old.session →
             OnOk result (SessionRepresents graph terms (lines ++ line.now ∷ []) (bytes ++ open_text self.new) self.new.session) }
         ensures work { (rounds : List Round) → EngineRepresents self.old.session.engine rounds →
-            OnOk result (CountsBlock self.old.session.engine rounds line.now (open_text self.new) self.old.session.calls self.new.session.calls) }
+            OnOk result (CountsBlock self.old.session.engine rounds line.now (open_text self.new)
+            (calls_of_engine self.old.session.engine) (calls_of_engine self.new.session.engine)) }
         ensures count { IfOk result (λ count. count ≡ length (open_text self.new)) }
         ensures kept { OnOk result (KeepsText self.new) }
         ensures ended { (result ≡ Err EventFault.Ended) ↔ (self.old.session.next ≡ None) }
@@ -74,7 +75,7 @@ impl OpenSession {
             (bytes ++ open_text self.new) self.new.session) }
         ensures work { (rounds : List Round) → EngineRepresents self.old.session.engine rounds →
             OnOk result (CountsBlock self.old.session.engine rounds (line_of_event self.old.session.engine.graph time kind index)
-            (open_text self.new) self.old.session.calls self.new.session.calls) }
+            (open_text self.new) (calls_of_engine self.old.session.engine) (calls_of_engine self.new.session.engine)) }
         ensures unmade { OnOk result (self.new.text ≡ None) }
         ensures ended { (result ≡ Err EventFault.Ended) ↔ (self.old.session.next ≡ None) }
     {

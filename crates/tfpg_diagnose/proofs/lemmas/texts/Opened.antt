@@ -15,7 +15,7 @@ use Rattle.tfpg_log.specs.LogOfLines.{new_log}
 use Rattle.tfpg_hyp.specs.Hypotheses.{HasHypotheses}
 use Rattle.tfpg_hyp.specs.declared.table.TableFault.{TableFault}
 use Rattle.tfpg_hyp.specs.declared.table.TableFault.TheVariants as table
-use Rattle.tfpg_engine.specs.EngineState.{EngineState, EngineRepresents}
+use Rattle.tfpg_engine.specs.EngineState.{EngineState, EngineRepresents, calls_of_engine}
 use Rattle.tfpg_check.specs.Report.{HasReports}
 use Rattle.tfpg_diagnose.specs.declared.texts.fault.OpenFault.{OpenFault}
 use Rattle.tfpg_diagnose.specs.declared.texts.fault.OpenFault.TheVariants.{OutOfRange, Graph, TooManyHypotheses, NoMemory}
@@ -49,12 +49,13 @@ opens_no_graph text terms refusal.NoMemory within is = tt
 
 -- the engine that was made
 pub opens_engine : (text : List ℕ) (terms : Terms) (graph : Tfpg) (engine : EngineState) → GivesGraphOf text graph → AreReportTerms terms → CountsHypotheses graph terms (Ok engine)
-    → engine.graph ≡ graph → engine.terms ≡ terms → engine.log ≡ new_log → EngineRepresents engine [] → IsNewEngineOf text terms engine
-opens_engine text terms graph engine gives within exact graph_is terms_is log_is represents = record {
+    → engine.graph ≡ graph → engine.terms ≡ terms → engine.log ≡ new_log → EngineRepresents engine [] → calls_of_engine engine ≡ 0 → IsNewEngineOf text terms engine
+opens_engine text terms graph engine gives within exact graph_is terms_is log_is represents uncounted = record {
   gives = subst (GivesGraphOf text) (sym graph_is) gives;
   terms_is = terms_is;
   log_is = log_is;
   represents = represents;
+  uncounted = uncounted;
   has_reports = has_reports graph terms engine engine.graph engine.terms exact graph_is terms_is within;
 }
 

@@ -10,7 +10,7 @@ use Rattle.tfpg_graph.specs.Graph.{Tfpg, sizes_of}
 use Rattle.tfpg_graph.specs.Valid.{IsValid}
 use Rattle.tfpg_evidence.specs.RoundOf.{IsRoundOf}
 use Rattle.tfpg_evidence.specs.declared.round.Round.{Round}
-use Rattle.tfpg_engine.specs.EngineState.{EngineState}
+use Rattle.tfpg_engine.specs.EngineState.{EngineState, calls_of_engine}
 use Rattle.tfpg_log.specs.declared.refused_line.RefusedLine.{RefusedLine}
 use Rattle.tfpg_report.specs.Blocks.{Block, block_text, head_text, refused_text, round_text}
 use Rattle.tfpg_check.specs.Report.{HasReports, Progress, progress_of}
@@ -29,9 +29,9 @@ use Rattle.tfpg_diagnose.specs.texts.Sessions.{CountsBlock, IsNewSession, Sessio
 use Rattle.tfpg_diagnose.proofs.lemmas.NextBlocks.{AreBlocks-none, AreBlocks-push, RoundsSay-none, RoundsSay-push, report_text-push}
 
 -- a session of a new engine has the first line as its text
-pub new_session : (graph_text : List ℕ) (terms : Terms) (engine : EngineState) → IsNewEngineOf graph_text terms engine → (calls : ℕ) → calls ≡ 0 → (latest : Latest) → latest ≡ nothing_yet
-    → IsNewSession graph_text terms (record { engine = engine; next = Some 1; calls = calls; latest = latest })
-new_session graph_text terms engine new calls none latest nothing = record {
+pub new_session : (graph_text : List ℕ) (terms : Terms) (engine : EngineState) → IsNewEngineOf graph_text terms engine → (latest : Latest) → latest ≡ nothing_yet
+    → IsNewSession graph_text terms (record { engine = engine; next = Some 1; latest = latest })
+new_session graph_text terms engine new latest nothing = record {
   graph = engine.graph;
   gives = new.gives;
   represents = record {
@@ -54,7 +54,7 @@ new_session graph_text terms engine new calls none latest nothing = record {
     latest_is = nothing;
   };
   text_is = ap (text_of_latest engine.graph engine.terms 0) nothing ∙ ap head_text new.terms_is;
-  no_calls = none;
+  no_calls = new.uncounted;
 }
 
 -- ---- what came last
@@ -116,10 +116,10 @@ module _ (graph : Tfpg) (terms : Terms) (lines : List (List ℕ)) (bytes : List 
     latest_now latest noted =
         noted ∙ (λ i. latest_with_block (so_far.latest_is i) (sym is.block_is i)) ∙ sym (fold_push latest_with_block nothing_yet Blocks is.has.block)
 
-    pub session_with_line : (next calls : ℕ) → next ≡ number + 1 → (latest : Latest) → latest ≡ latest_with_block old.latest (block_brought number what)
-        → (now : SessionState) → now ≡ record { engine = engine; next = Some next; calls = calls; latest = latest }
+    pub session_with_line : (next : ℕ) → next ≡ number + 1 → (latest : Latest) → latest ≡ latest_with_block old.latest (block_brought number what)
+        → (now : SessionState) → now ≡ record { engine = engine; next = Some next; latest = latest }
         → SessionRepresents graph terms (lines ++ line ∷ []) (bytes ++ latest_text now) now
-    session_with_line next calls next_is latest noted now now_is =
+    session_with_line next next_is latest noted now now_is =
         let step = progress_of-push graph lines Blocks line is.has.block in
         let reports = subst (EngineReports graph terms engine) (sym step) is.has.reports in
         let so_far_is = so_far.report.report in
@@ -177,9 +177,9 @@ brought_counts old new rounds number line what start finish is =
     let within = is.brings.2 in
     record { block = is.brings.0.block; text = is.brings.0.text; limit = within.0; is_limit = within.1; within = within.2 }
 
--- a counter that began at 0 is added to what was counted before
-pub counted_later : (engine : EngineState) (rounds : List Round) (line bytes : List ℕ) (start end before after : ℕ) → start ≡ 0 → after ≡ before + end → CountsBlock engine rounds line bytes start end
-    → CountsBlock engine rounds line bytes before after
-counted_later engine rounds line bytes start end before after new adds counts =
+-- what the counter counts, the systems of the engine count
+pub counted_by_systems : (old new : EngineState) (rounds : List Round) (line bytes : List ℕ) (start finish : ℕ) → calls_of_engine new + start ≡ calls_of_engine old + finish
+    → CountsBlock old rounds line bytes start finish → CountsBlock old rounds line bytes (calls_of_engine old) (calls_of_engine new)
+counted_by_systems old new rounds line bytes start finish counted counts =
     let within = counts.within in
-    record { block = counts.block; text = counts.text; limit = counts.limit; is_limit = counts.is_limit; within = omega (arith, new, adds, within) }
+    record { block = counts.block; text = counts.text; limit = counts.limit; is_limit = counts.is_limit; within = omega (arith, counted, within) }

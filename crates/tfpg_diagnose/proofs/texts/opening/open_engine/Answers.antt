@@ -23,4 +23,4 @@ pub returns-clause-opened : goal.returns-clause-opened
 returns-clause-opened c =
     let within : IsTrue c.are_report_terms.result = search rules in
     opens_engine c.args.graph_text.now c.args.terms c.in_ok-graph.graph c.in_ok-new.field-0 (record { spells = c.in_ok-graph.ensures.spelled; valid = c.in_ok-graph.ensures.valid }) (c.are_report_terms.ensures.0 within)
-    c.in_ok-new.ensures.too_many c.in_ok-new.ensures.graph c.in_ok-new.ensures.terms c.in_ok-new.ensures.log c.in_ok-new.ensures.represents
+    c.in_ok-new.ensures.too_many c.in_ok-new.ensures.graph c.in_ok-new.ensures.terms c.in_ok-new.ensures.log c.in_ok-new.ensures.represents c.in_ok-new.ensures.uncounted
