@@ -1,5 +1,6 @@
 pub mod Addressed
 pub mod LinesFor
+pub mod FleetCalls
 pub mod FleetTells
 pub mod SaidTo
 pub mod OneLog

@@ -1,5 +1,5 @@
 -- What contracts see of a fleet, which rounds it represents, and what a line brings.
-use Rattle.std.specs.Prelude.{◌≡◌, ℕ, ◌+◌, ◌^◌, ◌<◌, List, [], ◌∷◌, ◌++◌, length, map, ◌==◌, if◌then◌else◌, Bool, true, false, Option, Some, None, is_none, slice_get, Result, Ok, Err}
+use Rattle.std.specs.Prelude.{◌≡◌, ℕ, ◌+◌, ◌^◌, ◌<◌, List, [], ◌∷◌, ◌++◌, length, map, ◌==◌, if◌then◌else◌, Bool, true, false, Option, Some, None, is_none, slice_get, sum_by, Result, Ok, Err}
 use Rattle.tfpg_base.specs.declared.terms.Terms.{Terms}
 use Rattle.tfpg_graph.specs.Graph.{Tfpg}
 use Rattle.tfpg_log.specs.declared.event.Offered.TheVariants.{Refused}
@@ -11,7 +11,7 @@ use Rattle.tfpg_engine.specs.declared.told.Told.{Told}
 use Rattle.tfpg_engine.specs.declared.told.Told.TheVariants as told
 use Rattle.tfpg_engine.specs.declared.told.EventFault.{EventFault}
 use Rattle.tfpg_engine.specs.declared.told.EventFault.TheVariants.{NoMemory, Ended}
-use Rattle.tfpg_engine.specs.EngineState.{EngineState, EngineRepresents, Brings, CountsCalls}
+use Rattle.tfpg_engine.specs.EngineState.{EngineState, EngineRepresents, Brings, CountsCalls, calls_of_engine}
 use Rattle.tfpg_fleet.specs.declared.fleet_told.FleetTold.{FleetTold}
 use Rattle.tfpg_fleet.specs.declared.fleet_told.FleetTold.TheVariants.{Stray, Of}
 use Rattle.tfpg_fleet.specs.Belonging.{IsFor, belongs, lines_for, vehicle_line}
@@ -29,6 +29,10 @@ pub record FleetState : Type 0 where
 -- the names of the vehicles, in their order
 abbrev pub names_of : FleetState → List (List ℕ)
 names_of fleet = map (λ vehicle. vehicle.name) fleet.vehicles
+
+-- how many counted calls there were for all vehicles
+abbrev pub calls_of_fleet : FleetState → ℕ
+calls_of_fleet fleet = sum_by (λ vehicle. calls_of_engine vehicle.engine) fleet.vehicles
 
 -- whether memory ran out in an earlier call for the vehicle
 abbrev pub has_ended : VehicleState → Bool

@@ -1,6 +1,6 @@
 //! Many vehicles on one stream.
 
-ghost use Rattle.std.specs.Prelude.{◌≡◌, ◌≤◌, ◌<◌, ◌*◌, ◌↔◌, ◌++◌, ◌∷◌, [], ℕ, List, length, map, All, IfOk, IfSome, MatchOption, Ok, Err, Some, None, slice_get, option_map};
+ghost use Rattle.std.specs.Prelude.{◌≡◌, ◌≤◌, ◌<◌, ◌+◌, ◌*◌, ◌↔◌, ◌++◌, ◌∷◌, [], ℕ, List, length, map, All, IfOk, IfSome, MatchOption, Ok, Err, Some, None, slice_get, option_map};
 ghost use Rattle.tfpg_base.specs.declared.limits.TheConstants.{MAX_DOUBT, MAX_VEHICLES};
 ghost use Rattle.tfpg_base.specs.declared.terms.Terms.{Terms};
 ghost use Rattle.tfpg_graph.specs.Graph.{Tfpg};
@@ -12,7 +12,7 @@ ghost use Rattle.tfpg_evidence.specs.declared.round.Round.{Round};
 ghost use Rattle.tfpg_engine.specs.declared.told.Told.TheVariants as told;
 ghost use Rattle.tfpg_fleet.specs.declared.limits.TheConstants.{MAX_FLEET_HYPOTHESES};
 ghost use Rattle.tfpg_fleet.specs.Belonging.{AreVehicleNames, IsFor, belongs};
-ghost use Rattle.tfpg_fleet.specs.FleetState.{FleetBrings, FleetCounts, FleetRepresents, IsForEnded, IsNew, RefusesFor, VehicleState, names_of, rounds_after};
+ghost use Rattle.tfpg_fleet.specs.FleetState.{FleetBrings, FleetCounts, FleetRepresents, IsForEnded, IsNew, RefusesFor, VehicleState, calls_of_fleet, names_of, rounds_after};
 ghost use Rattle.tfpg_fleet.specs.TooMany.{IsExcess, IsTooMany};
 
 use crate::belonging::addressee;
@@ -102,6 +102,8 @@ impl Fleet {
             slice_get self.new.vehicles number ≡ slice_get self.old.vehicles number }
         ensures ended { (result ≡ Err EventFault.Ended) ↔ IsForEnded self.old text.now }
         ensures work { FleetCounts self.old self.new result work.old work.new }
+        // The counter counts what the systems of all searches count.
+        ensures counted { calls_of_fleet self.new + work.old ≡ calls_of_fleet self.old + work.new }
         ensures names { names_of self.new ≡ names_of self.old }
         ensures represents { (graph : Tfpg) (terms : Terms) (stream : List (List ℕ)) (rounds : ℕ → List Round) →
             FleetRepresents graph terms self.old stream rounds →

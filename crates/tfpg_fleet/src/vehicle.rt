@@ -1,13 +1,13 @@
 //! A vehicle of a fleet: its engine, and the numbers of its lines.
 
-ghost use Rattle.std.specs.Prelude.{◌≡◌, ◌≤◌, ◌↔◌, ℕ, List, true, IfOk, OnErr, Err, Ok, Some, bytes_eq};
+ghost use Rattle.std.specs.Prelude.{◌≡◌, ◌≤◌, ◌↔◌, ◌+◌, ℕ, List, true, IfOk, OnErr, Err, Ok, Some, bytes_eq};
 ghost use Rattle.tfpg_base.specs.declared.limits.TheConstants.{MAX_DOUBT};
 ghost use Rattle.tfpg_evidence.specs.declared.round.Round.{Round};
 ghost use Rattle.tfpg_hyp.specs.Hypotheses.{HasHypotheses};
 ghost use Rattle.tfpg_hyp.specs.declared.limits.TheConstants.{MAX_HYPOTHESES};
 ghost use Rattle.tfpg_log.specs.Log.{IsLogOf};
 ghost use Rattle.tfpg_log.specs.declared.refusal.Refusal.{Refusal};
-ghost use Rattle.tfpg_engine.specs.EngineState.{EngineRepresents, CountsCalls};
+ghost use Rattle.tfpg_engine.specs.EngineState.{EngineRepresents, CountsCalls, calls_of_engine};
 ghost use Rattle.tfpg_fleet.specs.FleetState.{IsNew, IsVehicleTold, Refuses, has_ended};
 
 use std::alloc::Global;
@@ -90,6 +90,7 @@ impl Vehicle {
         ensures told { IfOk result (λ answer. IsVehicleTold text.now self.old self.new answer.0 answer.1) }
         ensures work { IfOk result (λ answer. (rounds : List Round) → EngineRepresents self.old.engine rounds →
             CountsCalls self.new.engine rounds (Ok answer.1) work.old work.new) }
+        ensures counted { calls_of_engine self.new.engine + work.old ≡ calls_of_engine self.old.engine + work.new }
         ensures refused { (line : ℕ) (refusal : Refusal) → Refuses text.now self.old line refusal →
             result ≡ Ok (line, Told.Refused refusal) }
         ensures ended { (result ≡ Err EventFault.Ended) ↔ (has_ended self.old ≡ true) }
