@@ -72,8 +72,8 @@ pub fn a_vehicle_is_diagnosed_as_if_alone()
     rounds_of_the_same_lines_find_the_same();
 }
 
-/// Each block is written before the next line is taken. The input may fail whenever it is asked for more. Where it does, a run of `diagnose`
-/// that has a graph has written the whole report of the lines that came whole by then, and told its rounds.
+/// Each block is written before the next line is taken, in this sense: the input may fail whenever it is asked for more, and where it does, a
+/// run of `diagnose` that has a graph has written the whole report of the lines that came whole by then, and told its rounds.
 pub fn each_block_is_written_before_the_next_line_is_taken()
     ensures { BlocksComeInTime }
 {}
