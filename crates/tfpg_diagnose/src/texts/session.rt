@@ -223,11 +223,7 @@ fn number_after(number: u64) -> Result<u64, NoMemory>
 }
 
 /// What a line of this number and text brings.
-fn brought_by_line(
-    engine: &mut Engine,
-    number: u64,
-    text: &[u8],
-) -> Result<Brought, NoMemory>
+fn brought_by_line(engine: &mut Engine, number: u64, text: &[u8]) -> Result<Brought, NoMemory>
     requires { IsEngineReady engine.old }
     ensures ready { OnOk result (IsEngineReady engine.new) }
     ensures graph { engine.new.graph ≡ engine.old.graph }

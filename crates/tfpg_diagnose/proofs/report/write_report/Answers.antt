@@ -41,10 +41,12 @@ pub loop-head-init : goal.loop-head-init
 loop-head-init g c =
     let before = watched (g.S.Source.state c.args.input.now) (g.K.Sink.state c.args.out.now) (seen_by g.P.Panel.state c.args.desk.now) in
     let told = c.a_desk_is_told_round_by_round.ensures.start (seen_by g.P.Panel.state c.args.desk.now) c.always_keeps_its_panels.ensures in
-    let output = g.K.Sink.state c.write_all.new.out in
-    (begins_within c.args.engine.now.graph c.args.engine.now.terms before c.in_ok-lines.lines c.args.engine.now output c.args.work.now
-    c.requires.has_reports c.in_ok-lines.ensures.unread (record { graph_is = refl; terms_is = refl; log_is = c.requires.unread; represents = c.requires.new })
-    (Puts-same (g.K.Sink.state c.args.out.now) output _ _ (c.deref.ensures.value ∙ head_as _ _ _ c.terms.ensures c.in_ok-head.ensures) c.in_ok-write_all.ensures.put) c.in_ok-write_all.ensures.no_fault told, refl)
+    let output = g.K.Sink.state c.write_all.new.out in (
+      begins_within c.args.engine.now.graph c.args.engine.now.terms before c.in_ok-lines.lines c.args.engine.now output c.args.work.now
+          c.requires.has_reports c.in_ok-lines.ensures.unread (record { graph_is = refl; terms_is = refl; log_is = c.requires.unread; represents = c.requires.new })
+          (Puts-same (g.K.Sink.state c.args.out.now) output _ _ (c.deref.ensures.value ∙ head_as _ _ _ c.terms.ensures c.in_ok-head.ensures) c.in_ok-write_all.ensures.put) c.in_ok-write_all.ensures.no_fault told,
+      refl,
+    )
 
 -- the engine is ready for the next block
 pub write_next_block-requires : goal.write_next_block-requires
@@ -66,10 +68,11 @@ returns-in-Ended-clause-diagnoses g c =
     (c.in_ok-write_next_block.ensures.comes_to c.args.engine.now.graph c.args.engine.now.terms _ c.loop-head.invariant.0.under)
 
 pub loop-head-preserved : goal.loop-head-preserved
-loop-head-preserved g c =
-    (subst (ComesToWithin c.args.engine.now.graph c.args.engine.now.terms _ (diagnosis_at _ c.write_next_block.new.lines c.write_next_block.new.engine) c.args.work.now c.write_next_block.new.work) c.in-Written.is
-    (c.in_ok-write_next_block.ensures.counts c.args.engine.now.graph c.args.engine.now.terms _ c.args.work.now c.loop-head.invariant.0),
-    counted_on _ _ _ _ _ _ c.loop-head.invariant.1 c.in_ok-write_next_block.ensures.counted)
+loop-head-preserved g c = (
+  subst (ComesToWithin c.args.engine.now.graph c.args.engine.now.terms _ (diagnosis_at _ c.write_next_block.new.lines c.write_next_block.new.engine) c.args.work.now c.write_next_block.new.work) c.in-Written.is
+      (c.in_ok-write_next_block.ensures.counts c.args.engine.now.graph c.args.engine.now.terms _ c.args.work.now c.loop-head.invariant.0),
+  counted_on _ _ _ _ _ _ c.loop-head.invariant.1 c.in_ok-write_next_block.ensures.counted,
+)
 
 pub returns-in-Ended-clause-work : goal.returns-in-Ended-clause-work
 returns-in-Ended-clause-work g c =
