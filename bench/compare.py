@@ -36,6 +36,7 @@ from diagnose import TOP, kept_searches, large_graph, large_script
 
 MODES = ["M0", "M1", "M2"]
 LATENCY_LINES, LATENCY_RUNS = 10_000, 3
+SCRIPT_EVENTS = 8_000  # a script has at most 8,192 lines
 
 
 @dataclass
@@ -207,16 +208,21 @@ def show_others(programs, rows, runs):
         print(f"{row.name:34}{1000 * before.seconds:12.1f}{1000 * after.seconds:10.1f}{memory}{note(programs, row)}")
 
 
+def with_ticks(log):
+    """The first lines of the log, and then ticks, one each millisecond."""
+    lines = log.splitlines()[:LATENCY_LINES]
+    now = int(lines[-1].split()[0])
+    lines += [f"{now + number} tick" for number in range(1, 1 + LATENCY_LINES - len(lines))]
+    return "\n".join(lines) + "\n"
+
+
 def latency_rows(program, top):
     """The rows of lines that are given one by one."""
-    log = (TOP / "examples" / "pump.log").read_text().splitlines(keepends=True)
-    log += [f"{at} tick\n" for at in range(5_400_001, 5_400_001 + LATENCY_LINES - len(log))]
-    (top / "pump").write_text("".join(log))
+    (top / "pump").write_text(with_ticks((TOP / "examples" / "pump.log").read_text()))
     draws = random.Random(7)
     (top / "wide").write_text(large_graph(draws))
-    (top / "long-script").write_text(large_script(draws, LATENCY_LINES))
-    lines = simulated(program, 5, top / "wide", top / "long-script").splitlines(keepends=True)
-    (top / "long").write_bytes(b"".join(lines[:LATENCY_LINES]))
+    (top / "long-script").write_text(large_script(draws, SCRIPT_EVENTS))
+    (top / "long").write_text(with_ticks(simulated(program, 5, top / "wide", top / "long-script").decode()))
     pump = ["diagnose", str(TOP / "examples" / "pump.tfpg")]
     return [
         Row("latency, pump", pump, top / "pump"),
