@@ -1,5 +1,4 @@
 -- The lemmas of each command, in folders named like those of the source.
-pub mod diagnose
 pub mod check
 pub mod simulate
 pub mod generate
@@ -14,5 +13,6 @@ pub mod Stops
 pub mod PlannedNumbers
 pub mod Completing
 pub mod ConvertedBack
+pub mod InTime
 
 -- The lemmas of each room, in a folder named like that of the source.

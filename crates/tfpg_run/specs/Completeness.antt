@@ -17,7 +17,8 @@ use Rattle.tfpg_run.specs.Fetch.{GivesGraphBy, GivesGraphAndText}
 use Rattle.tfpg_diagnose.specs.JudgedReports.{problem_of}
 use Rattle.tfpg_run.specs.convert.Converting.{SpellsFrom}
 use Rattle.tfpg_map.specs.Spelling.{HasMap}
-use Rattle.tfpg_run.specs.fleet.FleetEnds.{HasFewForFleet, fleet_words}
+use Rattle.tfpg_run.specs.fleet.FleetEnds.{HasFewForFleet}
+use Rattle.tfpg_run.specs.fleet.FleetOutput.{fleet_problem}
 use Rattle.tfpg_run.specs.TooMany.{HasFewHypotheses}
 use Rattle.tfpg_answers.specs.declared.predict.probing.ProbeFault.{ProbeFault}
 use Rattle.tfpg_answers.specs.Probing.{probed_node}
@@ -68,7 +69,7 @@ CanBeDone (Generate draw size) before = Unit {0}
 CanBeDone (Convert json file) before = ServesGraph (SpellsFrom json) before.shelf file (λ graph. Unit {0})
 CanBeDone (Ask terms file log) before = ServesGraphAndText before.shelf file log (λ graph text. HasFewHypotheses terms graph)
 CanBeDone (Fleet terms file names) before =
-    ServesGraph Spells before.shelf file (HasFewForFleet (fleet_words terms file names)) × IsShort before.input
+    ServesGraph Spells before.shelf file (λ graph. HasFewForFleet (fleet_problem graph terms names)) × IsShort before.input
 CanBeDone (Predict terms ahead file log node) before =
     ServesGraphAndText before.shelf file log (λ graph text. CanBeProbed graph node × HasFewHypotheses terms graph)
 

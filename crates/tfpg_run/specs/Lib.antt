@@ -5,6 +5,8 @@ pub mod Ends
 pub mod EndsOf
 pub mod Run
 pub mod FilesAsked
+pub mod InTime
+pub mod Work
 pub mod Completeness
 pub mod TooMany
 -- What they say of each command, in folders named like those of the source.

@@ -12,7 +12,7 @@ use Rattle.tfpg_run.specs.simulate.Simulating.{HasSimulation, SimulateEnds}
 use Rattle.tfpg_run.specs.generate.Generating.{GenerateEnds}
 use Rattle.tfpg_run.specs.convert.Converting.{ConvertEnds}
 use Rattle.tfpg_run.specs.ask.Asking.{AskEnds}
-use Rattle.tfpg_run.specs.fleet.FleetEnds.{FleetEnds, fleet_words}
+use Rattle.tfpg_run.specs.fleet.FleetEnds.{FleetEnds}
 use Rattle.tfpg_answers.specs.Forecasts.{prediction}
 use Rattle.tfpg_run.specs.predict.Predicting.{PredictEnds}
 
@@ -33,7 +33,7 @@ CommandEnds (Ok (Simulate draw trace graph script)) before now end =
 CommandEnds (Ok (Generate draw size)) before now end = GenerateEnds draw size before now end
 CommandEnds (Ok (Convert json graph)) before now end = ConvertEnds json graph before now end × (now.input ≡ before.input)
 CommandEnds (Ok (Ask terms graph log)) before now end = AskEnds terms graph log before now end × (now.input ≡ before.input)
-CommandEnds (Ok (Fleet terms graph names)) before now end = FleetEnds (fleet_words terms graph names) before now end
+CommandEnds (Ok (Fleet terms graph names)) before now end = FleetEnds terms graph names before now end
 CommandEnds (Ok (Predict terms ahead graph log node)) before now end =
     PredictEnds (prediction terms ahead node) graph log before now end × (now.input ≡ before.input)
 

@@ -1,4 +1,2 @@
 -- How `diagnose` ends.
 pub mod Diagnosing
-pub mod Work
-pub mod InTime

@@ -3,3 +3,4 @@ pub mod Answers
 pub mod Counting
 pub mod FleetOutput
 pub mod FleetEnds
+pub mod FleetWork

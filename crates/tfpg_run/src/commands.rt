@@ -11,7 +11,7 @@ ghost use Rattle.tfpg_run.specs.EndsOf.{end_of_result};
 ghost use Rattle.tfpg_run.specs.Run.{RunEnds, CommandEnds, LeavesDesk};
 ghost use Rattle.tfpg_run.specs.World.{World, world};
 ghost use Rattle.tfpg_run.specs.check.AfterDiagnosis.{FollowsDiagnosis};
-ghost use Rattle.tfpg_run.specs.diagnose.Work.{RunsWithin};
+ghost use Rattle.tfpg_run.specs.Work.{RunsWithin};
 
 use crate::ask::ask_by_files;
 use crate::check::check_by_files;
@@ -78,7 +78,7 @@ pub fn run<F: Shelf, S: Source, K: Sink, L: Ledger>(
         (world (F.state shelf.new) (S.state input.new) (K.state out.new) (seen_by ⟦<Box<dyn Panel> as Panel>⟧.state desk.new)) →
         IsRefusedFor line cause result }
 
-    // A diagnosis that is done kept within the limits of counted calls of its rounds.
+    // A diagnosis that is done, of one system or of many vehicles, kept within the limits of counted calls of its rounds.
     ensures work { (meant : Meaning) → meaning (map string_bytes words.now) ≡ Ok meant → result ≡ End.Done →
         RunsWithin meant (world (F.state shelf.old) (S.state input.old) (K.state out.old)
         (seen_by ⟦<Box<dyn Panel> as Panel>⟧.state desk.old))

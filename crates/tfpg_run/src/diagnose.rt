@@ -6,7 +6,8 @@ ghost use Rattle.tfpg_panel.specs.Desk.{seen_by};
 ghost use Rattle.tfpg_run.specs.World.{world};
 ghost use Rattle.tfpg_run.specs.EndsOf.{end_of_result};
 ghost use Rattle.tfpg_run.specs.diagnose.Diagnosing.{DiagnoseEnds};
-ghost use Rattle.tfpg_run.specs.diagnose.Work.{DiagnosesWithin};
+ghost use Rattle.tfpg_run.specs.Work.{WorksByLines};
+ghost use Rattle.tfpg_diagnose.specs.Work.{IsReportWithin};
 
 use crate::end::End;
 use crate::fetching::fetch_graph;
@@ -42,9 +43,10 @@ pub(crate) fn diagnose_file<F: Shelf, S: Source, K: Sink, P: Panel, L: Ledger>(
     ensures stopped { IfErr result (DiagnoseEnds subject.now.terms subject.now.name.now
         (world (F.state shelf.old) (S.state input.old) (K.state out.old) (seen_by P.state desk.old))
         (world (F.state shelf.new) (S.state input.new) (K.state out.new) (seen_by P.state desk.new))) }
-    ensures work { end_of_result (λ end. end) result ≡ End.Done → DiagnosesWithin subject.now.terms subject.now.name.now
+    ensures work { end_of_result (λ end. end) result ≡ End.Done →
+        WorksByLines (λ graph. IsReportWithin graph subject.now.terms work.old work.new) subject.now.name.now
         (world (F.state shelf.old) (S.state input.old) (K.state out.old) (seen_by P.state desk.old))
-        (world (F.state shelf.new) (S.state input.new) (K.state out.new) (seen_by P.state desk.new)) work.old work.new }
+        (world (F.state shelf.new) (S.state input.new) (K.state out.new) (seen_by P.state desk.new)) }
 {
     desk.always_keeps_its_panels();
     a_desk_is_told_round_by_round();

@@ -6,10 +6,13 @@ ghost use Rattle.tfpg_base.specs.Words.{comma_parts};
 ghost use Rattle.tfpg_panel.specs.Desk.{DeskState};
 ghost use Rattle.tfpg_words.specs.Names.{AreNames};
 ghost use Rattle.tfpg_run.specs.Fetch.{Fetched, GivesGraph};
+ghost use Rattle.tfpg_run.specs.EndsOf.{end_of_result};
 ghost use Rattle.tfpg_run.specs.World.{world};
+ghost use Rattle.tfpg_run.specs.Work.{WorksByLines};
 ghost use Rattle.tfpg_run.specs.fleet.FleetEnds.{FleetEnds};
+ghost use Rattle.tfpg_run.specs.fleet.FleetOutput.{fleet_problem};
+ghost use Rattle.tfpg_run.specs.fleet.FleetWork.{IsFleetOutputWithin};
 ghost use Rattle.tfpg_run.specs.inside.Faults.{IsFetchFault};
-ghost use Rattle.tfpg_run.specs.inside.fleet.UnderWay.{said_by};
 
 mod answering;
 mod counting;
@@ -49,12 +52,16 @@ pub(crate) fn fleet_file<F: Shelf, S: Source, K: Sink, L: Ledger>(
 ) -> Result<(), End>
     requires terms { AreReportTerms subject.now.terms }
     requires names { AreNames (comma_parts subject.now.names.now) }
-    ensures done { (desk : DeskState) → OnOk result (FleetEnds (said_by subject.now)
+    ensures done { (desk : DeskState) → OnOk result (FleetEnds subject.now.terms subject.now.file.now (comma_parts subject.now.names.now)
         (world (F.state shelf.old) (S.state input.old) (K.state out.old) desk)
         (world (F.state shelf.new) (S.state input.new) (K.state out.new) desk) End.Done) }
-    ensures stopped { (desk : DeskState) → IfErr result (FleetEnds (said_by subject.now)
+    ensures stopped { (desk : DeskState) → IfErr result (FleetEnds subject.now.terms subject.now.file.now (comma_parts subject.now.names.now)
         (world (F.state shelf.old) (S.state input.old) (K.state out.old) desk)
         (world (F.state shelf.new) (S.state input.new) (K.state out.new) desk)) }
+    ensures work { (desk : DeskState) → end_of_result (λ end. end) result ≡ End.Done →
+        WorksByLines (λ graph. IsFleetOutputWithin (fleet_problem graph subject.now.terms (comma_parts subject.now.names.now))
+        work.old work.new) subject.now.file.now (world (F.state shelf.old) (S.state input.old) (K.state out.old) desk)
+        (world (F.state shelf.new) (S.state input.new) (K.state out.new) desk) }
 {
     let (graph, names) = fetch_graph_and_names(alloc, shelf, subject)?;
     let vehicles = Vehicles {

@@ -23,7 +23,7 @@ ghost use Rattle.tfpg_run.specs.World.{World};
 ghost use Rattle.tfpg_run.specs.convert.Converting.{ConvertEnds};
 ghost use Rattle.tfpg_fleet.specs.Alone.{RoundsFindTheSame};
 ghost use Rattle.tfpg_fleet.specs.Belonging.{lines_for};
-ghost use Rattle.tfpg_run.specs.diagnose.InTime.{BlocksComeInTime};
+ghost use Rattle.tfpg_run.specs.InTime.{AnswersComeInTime, BlocksComeInTime};
 ghost use Rattle.tfpg_diagnose.specs.BlockFindings.{HasSettledRoundInBlock};
 ghost use Rattle.tfpg_run.specs.fleet.Answers.{Answer, blocks_for};
 ghost use Rattle.tfpg_run.specs.fleet.FleetOutput.{AreAnswers, FleetProblem};
@@ -72,10 +72,16 @@ pub fn a_vehicle_is_diagnosed_as_if_alone()
     rounds_of_the_same_lines_find_the_same();
 }
 
-/// Each block is written before the next line is taken, in this sense: the input may fail whenever it is asked for more, and where it does, a
-/// run of `diagnose` that has a graph has written the whole report of the lines that came whole by then, and told its rounds.
+/// Each block is written before the next line is taken: where a read of the input fails, a run of `diagnose` that has a graph has written the
+/// whole report of the lines that came whole by then, and told its rounds. It cannot do so after that read, since a write may fail too,
+/// and no run ends with both failed.
 pub fn each_block_is_written_before_the_next_line_is_taken()
     ensures { BlocksComeInTime }
+{}
+
+/// So `fleet` writes each answer before it takes the next line.
+pub fn each_answer_is_written_before_the_next_line_is_taken()
+    ensures { AnswersComeInTime }
 {}
 
 /// A run asks the shelf for no file but those that its words name, in their order, and for none after the first that is missing or too long.

@@ -160,7 +160,7 @@ begins graph terms desk input taken given blocks front has_reports few are say w
 -- ---- the counted calls
 
 -- without a block there is none
-blocks_within-none : (graph : Tfpg) (count : ℕ) → AreBlocksWithin graph [] [] count count
+pub blocks_within-none : (graph : Tfpg) (count : ℕ) → AreBlocksWithin graph [] [] count count
 blocks_within-none graph count = record {
   limits = [];
   are = record { one_each = refl; each = λ index line block limit at there own. absurd (omega (arith, slice_get_within {A = List ℕ} [] index line at)) };
@@ -168,7 +168,7 @@ blocks_within-none graph count = record {
 }
 
 -- with one block more that keeps within its limit, all keep within theirs
-blocks_within-push : (graph : Tfpg) (lines : List (List ℕ)) (blocks : List Block) (last : List ℕ) (end : Block) (start middle finish : ℕ) → length blocks ≡ length lines → AreBlocksWithin graph lines blocks start middle
+pub blocks_within-push : (graph : Tfpg) (lines : List (List ℕ)) (blocks : List Block) (last : List ℕ) (end : Block) (start middle finish : ℕ) → length blocks ≡ length lines → AreBlocksWithin graph lines blocks start middle
     → IsBlockWithin graph (progress_of graph lines blocks) last end middle finish → AreBlocksWithin graph (lines ++ last ∷ []) (blocks ++ end ∷ []) start finish
 blocks_within-push graph lines blocks last end start middle finish one_each is own =
     let limit = own.0 in

@@ -54,7 +54,7 @@ use Rattle.tfpg_map.specs.Spelling.{HasMap}
 use Rattle.tfpg_map.proofs.lemmas.MapFaults.{no_map_fault}
 use Rattle.tfpg_streams.specs.Outputs.{IsStreamFault, TextEnds}
 use Rattle.tfpg_run.specs.Run.{CommandEnds, RunEnds}
-use Rattle.tfpg_run.specs.fleet.FleetEnds.{AnswersStream, FleetDiagnosisEnds, FleetEnds, FleetWords, HasFewForFleet, fleet_words}
+use Rattle.tfpg_run.specs.fleet.FleetEnds.{AnswersStream, FleetDiagnosisEnds, FleetEnds, HasFewForFleet}
 use Rattle.tfpg_run.specs.fleet.FleetOutput.{fleet_problem}
 use Rattle.tfpg_diagnose.specs.Diagnosing.{Diagnoses}
 use Rattle.tfpg_run.specs.diagnose.Diagnosing.{DiagnoseEnds, DiagnosisEnds}
@@ -211,19 +211,19 @@ module _ (graphs : GraphLaws) (laws : CheckLaws) (before now : World) (calm : No
           (λ by. go by.result by.works by.end_is)
 
   -- a diagnosis of many vehicles
-  fleet_diagnosed : IsShort before.input → (end : End) (said : FleetWords) → ServesGraph Spells before.shelf said.file (HasFewForFleet said) → FleetEnds said before now end → IsCompleted end
-  fleet_diagnosed short end said can (inl lacks) =
-      inr (without_memory end lacks.fault (one_fetched before.shelf can.files can.known graphs said.file can.graph can.gives now.shelf lacks.fault calm.shelf lacks.is_fault) lacks.end_is)
-  fleet_diagnosed short end said can (inr file) = of_works file.works
+  fleet_diagnosed : IsShort before.input → (end : End) (terms : Terms) (name : List ℕ) (names : List (List ℕ)) → ServesGraph Spells before.shelf name (λ graph. HasFewForFleet (fleet_problem graph terms names)) → FleetEnds terms name names before now end → IsCompleted end
+  fleet_diagnosed short end terms name names can (inl lacks) =
+      inr (without_memory end lacks.fault (one_fetched before.shelf can.files can.known graphs name can.graph can.gives now.shelf lacks.fault calm.shelf lacks.is_fault) lacks.end_is)
+  fleet_diagnosed short end terms name names can (inr file) = of_works file.works
     where
-      go : (result : Result (Unit {0}) StreamFault) → AnswersStream (fleet_problem file.graph said.terms said.names) (streams_of before) (streams_of now) result
+      go : (result : Result (Unit {0}) StreamFault) → AnswersStream (fleet_problem file.graph terms names) (streams_of before) (streams_of now) result
           → end ≡ end_of_result end_of_stream_fault result → IsCompleted end
       go (Ok done) works e = inl e
       go (Err fault) works e = inr (e ∙ ap end_of_stream_fault (no_stream_fault short works.taken works.takes fault works.ends.0))
 
-      of_works : FleetDiagnosisEnds said before now file.graph end → IsCompleted end
+      of_works : FleetDiagnosisEnds (fleet_problem file.graph terms names) before now end → IsCompleted end
       of_works (inl many) =
-          absurd (subst (HasFewForFleet said) (only_graph before.shelf can.files can.known said.file can.graph file.graph can.gives file.gives) can.holds many.count many.too_many)
+          absurd (subst (λ (graph : Tfpg). HasFewForFleet (fleet_problem graph terms names)) (only_graph before.shelf can.files can.known name can.graph file.graph can.gives file.gives) can.holds many.count many.too_many)
       of_works (inr few) = go few.1.result few.1.works few.1.end_is
 
   module _ {Hold : Tfpg → List ℕ → Type 0} (end : End) (graph_name text_name : List ℕ) (can : ServesGraphAndText before.shelf graph_name text_name Hold) where
@@ -382,7 +382,7 @@ module _ (graphs : GraphLaws) (laws : CheckLaws) (before now : World) (calm : No
   completed (Generate draw size) end can is = subst IsCompleted (sym is.0.end_is) (text_written (HasSummary draw size) is.0.result is.0.works)
   completed (Convert json graph) end can is = converted json end graph can is.0
   completed (Ask terms graph log) end can is = asked terms end graph log can is.0
-  completed (Fleet terms graph names) end can is = fleet_diagnosed can.1 end (fleet_words terms graph names) can.0 is
+  completed (Fleet terms graph names) end can is = fleet_diagnosed can.1 end terms graph names can.0 is
   completed (Predict terms ahead graph log node) end can is = predicted end (prediction terms ahead node) graph log can is.0
 
   -- the whole run

@@ -25,7 +25,7 @@ use Rattle.tfpg_streams.specs.declared.fault.OutputFault.{OutputFault}
 use Rattle.tfpg_streams.specs.declared.fault.OutputFault.TheVariants as output
 use Rattle.tfpg_run.specs.TooMany.{EndsUnlessTooMany, HasFewHypotheses, TextEndsUnlessTooMany}
 use Rattle.tfpg_diagnose.specs.Work.{IsReportWithin}
-use Rattle.tfpg_run.specs.diagnose.Work.{RunsWithin}
+use Rattle.tfpg_run.specs.Work.{RunsWithin}
 use Rattle.tfpg_words.specs.declared.usage_cause.UsageCause.{UsageCause}
 use Rattle.tfpg_run.specs.Fetch.{EndsByFiles, Fetched, GivesGraph, GivesGraphAndText}
 use Rattle.tfpg_run.specs.Run.{CommandEnds}

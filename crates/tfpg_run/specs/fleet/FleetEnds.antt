@@ -3,7 +3,6 @@ use Rattle.std.specs.Prelude.{◌≡◌, ◌⊎◌, ◌++◌, ℕ, List, [], len
 use Rattle.tfpg_base.specs.declared.terms.Terms.{Terms}
 use Rattle.tfpg_base.specs.Lines.{lines_of}
 use Rattle.tfpg_base.specs.Outside.{SourceState, IsAtEnd}
-use Rattle.tfpg_graph.specs.Graph.{Tfpg}
 use Rattle.tfpg_graph.specs.Text.{Spells}
 use Rattle.tfpg_fleet.specs.TooMany.{IsTooMany}
 use Rattle.tfpg_run.specs.declared.end.End.{End}
@@ -41,35 +40,25 @@ AnsweringEnds fleet before now (Err fault) taken written =
 abbrev pub AnswersStream : FleetProblem → Streams → Streams → Result (Unit {0}) StreamFault → Type 0
 AnswersStream fleet before now result = TakesAndWrites (AnsweringEnds fleet before now result) before now
 
--- What the words say of a fleet: its terms, the name of the graph file, and the names of the vehicles.
-pub record FleetWords : Type 0 where
-  pub terms : Terms
-  pub file : List ℕ
-  pub names : List (List ℕ)
-
--- these three
-abbrev pub fleet_words : Terms → List ℕ → List (List ℕ) → FleetWords
-fleet_words terms file names = record { terms = terms; file = file; names = names }
-
 -- The graph has not too many hypotheses for the vehicles.
-abbrev pub HasFewForFleet : FleetWords → Tfpg → Type 0
-HasFewForFleet said graph = (count : ℕ) → IsTooMany graph said.terms (length said.names) count → ⊥
+abbrev pub HasFewForFleet : FleetProblem → Type 0
+HasFewForFleet fleet = (count : ℕ) → IsTooMany fleet.graph fleet.terms (length fleet.names) count → ⊥
 
 -- It has too many, as this number says, and all but the shelf is untouched.
-pub record EndsWithTooManyForFleet (said : FleetWords) (graph : Tfpg) (before now : World) (end : End) : Type 0 where
+pub record EndsWithTooManyForFleet (fleet : FleetProblem) (before now : World) (end : End) : Type 0 where
   pub count : ℕ
-  pub too_many : IsTooMany graph said.terms (length said.names) count
+  pub too_many : IsTooMany fleet.graph fleet.terms (length fleet.names) count
   pub end_is : end ≡ ends.TooManyHypotheses count
   pub untouched : watched_of now ≡ watched_of before
 
--- How a diagnosis of the vehicles of a graph ends: it has too many hypotheses for them; or it has not, and they were diagnosed.
-abbrev pub FleetDiagnosisEnds : FleetWords → World → World → Tfpg → End → Type 0
-FleetDiagnosisEnds said before now graph end =
-    EndsWithTooManyForFleet said graph before now end
-    ⊎ (HasFewForFleet said graph
-    × EndsBy (AnswersStream (fleet_problem graph said.terms said.names) (streams_of before) (streams_of now)) end_of_stream_fault end)
+-- How a diagnosis of the vehicles ends: there are too many hypotheses for them; or there are not, and they were diagnosed.
+abbrev pub FleetDiagnosisEnds : FleetProblem → World → World → End → Type 0
+FleetDiagnosisEnds fleet before now end =
+    EndsWithTooManyForFleet fleet before now end
+    ⊎ (HasFewForFleet fleet × EndsBy (AnswersStream fleet (streams_of before) (streams_of now)) end_of_stream_fault end)
 
--- There is no graph of the file; or the diagnosis of the vehicles ended so.
-abbrev pub FleetEnds : FleetWords → World → World → End → Type 0
-FleetEnds said before now end =
-    LacksFiles said.file [] before now end ⊎ WorksByGraph Spells said.file (FleetDiagnosisEnds said before now) before now end
+-- There is no graph of the file of that name; or the diagnosis of the vehicles of these names ended so.
+abbrev pub FleetEnds : Terms → List ℕ → List (List ℕ) → World → World → End → Type 0
+FleetEnds terms name names before now end =
+    LacksFiles name [] before now end
+    ⊎ WorksByGraph Spells name (λ graph. FleetDiagnosisEnds (fleet_problem graph terms names) before now) before now end

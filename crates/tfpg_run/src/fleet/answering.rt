@@ -1,10 +1,10 @@
 //! The answer to a line of the stream.
 
-ghost use Rattle.std.specs.Prelude.{◌≡◌, ◌<◌, ◌++◌, ◌∷◌, [], ℕ, List, IfOk, length, slice_index_or};
+ghost use Rattle.std.specs.Prelude.{◌≡◌, ◌<◌, ◌++◌, [], ℕ, List, IfOk, length, slice_index_or};
 ghost use Rattle.tfpg_base.specs.Append.{Appends};
 ghost use Rattle.tfpg_graph.specs.Graph.{sizes_of};
 ghost use Rattle.tfpg_run.specs.fleet.Answers.{Answer, naming_text, stray_text};
-ghost use Rattle.tfpg_run.specs.inside.fleet.UnderWay.{Answers, HasAnswered, IsToldOf, IsWatching, problem_in, told_text};
+ghost use Rattle.tfpg_run.specs.inside.fleet.UnderWay.{Answers, HasAnswered, IsToldOf, IsWatching, answer_turn, problem_in, told_text};
 
 use super::opening::append_name;
 use super::watch::{Vehicles, Watch, keep_at, kept_at, ranked_after};
@@ -33,7 +33,8 @@ pub(super) fn answer_line<L: Ledger>(
     requires { IsWatching (problem_in vehicles.now) watch.old }
     ensures { (lines : List (List ℕ)) (answers : List Answer) →
         HasAnswered (problem_in vehicles.now) lines answers watch.old →
-        IfOk result (λ answer. Answers (problem_in vehicles.now) (lines ++ text.now ∷ []) answers number answer.items watch.new) }
+        IfOk result (λ answer. Answers (problem_in vehicles.now) (answer_turn lines answers text.now number work.old work.new)
+        answer.items watch.new) }
 {
     rounds_say_which_sets_fit();
     statuses_are_those_of_minimal_sets();

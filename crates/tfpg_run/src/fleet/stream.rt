@@ -1,9 +1,11 @@
 //! The stream: line by line, each with its answer written before the next is taken, and the counts at its end.
 
-ghost use Rattle.std.specs.Prelude.{[], IfErr, IfOk, OnOk, Err, Ok};
+ghost use Rattle.std.specs.Prelude.{[], ℕ, IfErr, IfOk, OnOk, Err, Ok};
 ghost use Rattle.tfpg_check.specs.Report.{HasReports};
+ghost use Rattle.tfpg_streams.specs.Outputs.{WorksToEnd};
 ghost use Rattle.tfpg_streams.specs.Streams.{Streams, streams};
 ghost use Rattle.tfpg_run.specs.fleet.FleetEnds.{AnswersStream};
+ghost use Rattle.tfpg_run.specs.fleet.FleetWork.{IsFleetOutputWithin};
 ghost use Rattle.tfpg_run.specs.inside.fleet.UnderWay.{ComesTo, HasAnswered, IsAnswering, IsWatching, WritesAnswer, answering_at, problem_in};
 
 use super::answering::{answer_line, stray_answer};
@@ -37,6 +39,8 @@ pub(super) fn answer_stream<S: Source, K: Sink, L: Ledger>(
         (streams (S.state input.new) (K.state out.new)) (Ok tt)) }
     ensures stopped { IfErr result (λ fault. AnswersStream (problem_in vehicles.now) (streams (S.state input.old) (K.state out.old))
         (streams (S.state input.new) (K.state out.new)) (Err fault)) }
+    ensures work { OnOk result (WorksToEnd (IsFleetOutputWithin (problem_in vehicles.now) work.old work.new)
+        (streams (S.state input.old) (K.state out.old)) (streams (S.state input.new) (K.state out.new))) }
 {
     let mut lines = Lines::new(alloc)?;
     let opening = opening_of(alloc, vehicles)?;
@@ -62,12 +66,12 @@ fn write_next_answer<S: Source, K: Sink, L: Ledger>(
     work: &mut Steps<L>,
 ) -> Result<NextAnswer, StreamFault>
     requires { IsWatching (problem_in vehicles.now) watch.old }
-    ensures comes_to { (before : Streams) → IsAnswering (problem_in vehicles.now) before
-        (answering_at (streams (S.state input.old) (K.state out.old)) lines.old watch.old)
-        → IfOk result (ComesTo (problem_in vehicles.now) before lines.old.number
-        (answering_at (streams (S.state input.new) (K.state out.new)) lines.new watch.new)) }
-    ensures stopped { (before : Streams) → IsAnswering (problem_in vehicles.now) before
-        (answering_at (streams (S.state input.old) (K.state out.old)) lines.old watch.old)
+    ensures comes_to { (start : ℕ) (before : Streams) → IsAnswering (problem_in vehicles.now) start before
+        (answering_at (streams (S.state input.old) (K.state out.old)) lines.old watch.old work.old)
+        → IfOk result (ComesTo (problem_in vehicles.now) start before lines.old.number
+        (answering_at (streams (S.state input.new) (K.state out.new)) lines.new watch.new work.new)) }
+    ensures stopped { (start : ℕ) (before : Streams) → IsAnswering (problem_in vehicles.now) start before
+        (answering_at (streams (S.state input.old) (K.state out.old)) lines.old watch.old work.old)
         → IfErr result (λ fault. AnswersStream (problem_in vehicles.now) before
         (streams (S.state input.new) (K.state out.new)) (Err fault)) }
 {

@@ -2,8 +2,7 @@ use Rattle.tfpg_base.specs.declared.terms.Terms.{Terms}
 use Rattle.std.proofs.Common.{◌≡◌, ◌∙◌, ap, rules, refl}
 use Rattle.tfpg_base.specs.Words.{comma_parts}
 use Rattle.tfpg_words.specs.Plans.{meaning_of}
-use Rattle.tfpg_run.specs.fleet.FleetEnds.{fleet_words}
-use Rattle.tfpg_run.proofs.lemmas.fleet.NewFleets.{fleet_done, fleet_stopped}
+use Rattle.tfpg_run.proofs.lemmas.fleet.NewFleets.{fleet_done, fleet_stopped, fleet_within}
 use Rattle.tfpg_run.specs.World.{world}
 use Rattle.tfpg_run.proofs.lemmas.Stops.{OnOk-with, check_stopped, explain_stopped, simulate_stopped, convert_stopped, ask_stopped}
 use Rattle.tfpg_run.proofs.lemmas.predict.Endings.{predict_done, predict_stopped}
@@ -89,18 +88,24 @@ returns-in-Fleet-clause-done g c =
     let before = world (g.F.Shelf.state c.args.shelf.now) (g.S.Source.state c.args.input.now) (g.K.Sink.state c.args.out.now) (seen_by g.P.Panel.state c.args.desk.now) in
     let now = world (g.F.Shelf.state c.fleet_file.new.shelf) (g.S.Source.state c.fleet_file.new.input) (g.K.Sink.state c.fleet_file.new.out) (seen_by g.P.Panel.state c.args.desk.now) in
     let terms : Terms = record { k = c.in-Fleet.k; doubt = c.in-Fleet.doubt; budget = c.in-Fleet.budget } in
-    fleet_done c.fleet_file.result (meaning_of c.args.command.now) (fleet_words terms c.as_str-in-Fleet.result.now (comma_parts c.as_str-in-Fleet-2.result.now)) before now
-    terms c.in-Fleet.graph (comma_parts c.in-Fleet.names) (ap meaning_of c.in-Fleet.is) (λ i. fleet_words terms (c.as_str-in-Fleet.ensures i) (comma_parts (c.as_str-in-Fleet-2.ensures i)))
-    (c.fleet_file.ensures.done (seen_by g.P.Panel.state c.args.desk.now))
+    fleet_done c.fleet_file.result (meaning_of c.args.command.now) terms c.as_str-in-Fleet.result.now c.in-Fleet.graph (comma_parts c.as_str-in-Fleet-2.result.now) (comma_parts c.in-Fleet.names) before now
+    (ap meaning_of c.in-Fleet.is) c.as_str-in-Fleet.ensures (ap comma_parts c.as_str-in-Fleet-2.ensures) (c.fleet_file.ensures.done (seen_by g.P.Panel.state c.args.desk.now))
 
 pub returns-in-Fleet-clause-stopped : goal.returns-in-Fleet-clause-stopped
 returns-in-Fleet-clause-stopped g c =
     let before = world (g.F.Shelf.state c.args.shelf.now) (g.S.Source.state c.args.input.now) (g.K.Sink.state c.args.out.now) (seen_by g.P.Panel.state c.args.desk.now) in
     let now = world (g.F.Shelf.state c.fleet_file.new.shelf) (g.S.Source.state c.fleet_file.new.input) (g.K.Sink.state c.fleet_file.new.out) (seen_by g.P.Panel.state c.args.desk.now) in
     let terms : Terms = record { k = c.in-Fleet.k; doubt = c.in-Fleet.doubt; budget = c.in-Fleet.budget } in
-    fleet_stopped c.fleet_file.result (meaning_of c.args.command.now) (fleet_words terms c.as_str-in-Fleet.result.now (comma_parts c.as_str-in-Fleet-2.result.now)) before now
-    terms c.in-Fleet.graph (comma_parts c.in-Fleet.names) (ap meaning_of c.in-Fleet.is) (λ i. fleet_words terms (c.as_str-in-Fleet.ensures i) (comma_parts (c.as_str-in-Fleet-2.ensures i)))
-    (c.fleet_file.ensures.stopped (seen_by g.P.Panel.state c.args.desk.now))
+    fleet_stopped c.fleet_file.result (meaning_of c.args.command.now) terms c.as_str-in-Fleet.result.now c.in-Fleet.graph (comma_parts c.as_str-in-Fleet-2.result.now) (comma_parts c.in-Fleet.names) before now
+    (ap meaning_of c.in-Fleet.is) c.as_str-in-Fleet.ensures (ap comma_parts c.as_str-in-Fleet-2.ensures) (c.fleet_file.ensures.stopped (seen_by g.P.Panel.state c.args.desk.now))
+
+pub returns-in-Fleet-clause-work : goal.returns-in-Fleet-clause-work
+returns-in-Fleet-clause-work g c done =
+    let before = world (g.F.Shelf.state c.args.shelf.now) (g.S.Source.state c.args.input.now) (g.K.Sink.state c.args.out.now) (seen_by g.P.Panel.state c.args.desk.now) in
+    let now = world (g.F.Shelf.state c.fleet_file.new.shelf) (g.S.Source.state c.fleet_file.new.input) (g.K.Sink.state c.fleet_file.new.out) (seen_by g.P.Panel.state c.args.desk.now) in
+    let terms : Terms = record { k = c.in-Fleet.k; doubt = c.in-Fleet.doubt; budget = c.in-Fleet.budget } in
+    fleet_within (meaning_of c.args.command.now) terms c.as_str-in-Fleet.result.now c.in-Fleet.graph (comma_parts c.as_str-in-Fleet-2.result.now) (comma_parts c.in-Fleet.names) before now c.args.work.now c.fleet_file.new.work
+    (ap meaning_of c.in-Fleet.is) c.as_str-in-Fleet.ensures (ap comma_parts c.as_str-in-Fleet-2.ensures) (c.fleet_file.ensures.work (seen_by g.P.Panel.state c.args.desk.now) done)
 
 -- the forecasts were written
 pub returns-in-Predict-clause-done : goal.returns-in-Predict-clause-done

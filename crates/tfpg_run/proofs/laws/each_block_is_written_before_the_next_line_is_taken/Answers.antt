@@ -1,4 +1,4 @@
-use Rattle.tfpg_run.proofs.lemmas.diagnose.WholeLines.{blocks_in_time}
+use Rattle.tfpg_run.proofs.lemmas.InTime.{blocks_in_time}
 use Rattle.tfpg_run.proofs.laws.each_block_is_written_before_the_next_line_is_taken.Goals as goal
 
 pub returns : goal.returns

@@ -22,17 +22,19 @@ use Rattle.tfpg_streams.specs.declared.fault.StreamFault.TheVariants as faults
 use Rattle.tfpg_run.specs.declared.fleet.stream.NextAnswer.{NextAnswer}
 use Rattle.tfpg_run.specs.declared.fleet.watch.Watch.{Watch}
 use Rattle.tfpg_streams.specs.Faults.{stream_fault_of_lines, stream_fault_of_output}
-use Rattle.tfpg_streams.specs.Outputs.{HasOutputOfFirstLines, TextEnds}
+use Rattle.tfpg_streams.specs.Outputs.{HasOutputOfFirstLines, TextEnds, WorksToEnd}
 use Rattle.tfpg_streams.specs.Streams.{Streams, streams}
 use Rattle.tfpg_run.specs.fleet.Answers.{Answer, answer_text, answers_text, blocks_for, opening_text, vehicle_of}
 use Rattle.tfpg_run.specs.fleet.FleetOutput.{AreAnswers, BeginsFleetOutput, FleetProblem, IsFleetOutputSoFar, answered_text, mode_counts_text}
 use Rattle.tfpg_run.specs.fleet.FleetEnds.{AnswersStream}
-use Rattle.tfpg_run.specs.inside.fleet.UnderWay.{Answers, AreOwnBlocks, ComesTo, HasAnswered, HasAnsweredAll, IsAnswering, WritesAnswer, answering_at, kept_text}
+use Rattle.tfpg_run.specs.fleet.FleetWork.{AreAnswersWithin, IsFleetOutputWithin}
+use Rattle.tfpg_run.specs.inside.fleet.UnderWay.{AnsweringState, Answers, AreOwnBlocks, ComesTo, HasAnswered, HasAnsweredAll, IsAnswering, WritesAnswer, answer_turn, answering_at, kept_text}
 use Rattle.tfpg_streams.proofs.lemmas.InputLines.{came_to_end, front_of_input, rest_at_end, rest_is_left, rest_of}
 use Rattle.tfpg_streams.proofs.lemmas.FewLines.{few_lines}
 use Rattle.tfpg_streams.proofs.lemmas.Putting.{Puts-append, Puts-same_held}
 use Rattle.tfpg_diagnose.proofs.lemmas.NextBlocks.{few_numbered}
 use Rattle.tfpg_run.proofs.lemmas.fleet.Counts.{kept_counts}
+use Rattle.tfpg_run.proofs.lemmas.fleet.FleetCalls.{answers_within-none}
 use Rattle.tfpg_run.proofs.lemmas.fleet.NextAnswers.{no_own_blocks}
 
 -- the lines by what is kept, for equal lists
@@ -147,9 +149,9 @@ module _ (fleet : FleetProblem) where
     }
 
     -- what stands before the answers is written
-    pub begins_answering : (lines : LinesState) (watch : Watch) (output : SinkState) → LinesRepresent lines new_reading → HasAnswered fleet [] [] watch
-        → Puts before.output output (opening_text fleet.names fleet.terms) → output.faults ≡ before.output.faults → IsAnswering fleet before (answering_at (streams before.input output) lines watch)
-    begins_answering lines watch output unread answered puts no_fault = record {
+    pub begins_answering : (lines : LinesState) (watch : Watch) (output : SinkState) (count : ℕ) → LinesRepresent lines new_reading → HasAnswered fleet [] [] watch
+        → Puts before.output output (opening_text fleet.names fleet.terms) → output.faults ≡ before.output.faults → IsAnswering fleet count before (answering_at (streams before.input output) lines watch count)
+    begins_answering lines watch output count unread answered puts no_fault = record {
       reading = new_reading;
       takes = Takes-nothing before.input;
       few = omega arith;
@@ -158,6 +160,7 @@ module _ (fleet : FleetProblem) where
       front = refl;
       answers = [];
       answered = answered;
+      within = answers_within-none fleet count;
       writes = subst (Puts before.output output) (sym (append-nil (opening_text fleet.names fleet.terms))) puts;
       has_reports = has_reports;
       no_fault = record { input = refl; output = no_fault };
@@ -165,7 +168,7 @@ module _ (fleet : FleetProblem) where
 
   -- ---- one line
 
-  module _ (before now : Streams) (lines : LinesState) (watch : Watch) (input : SourceState) (reader : LinesState) (under : IsAnswering fleet before (answering_at now lines watch)) where
+  module _ (start calls : ℕ) (before now : Streams) (lines : LinesState) (watch : Watch) (input : SourceState) (reader : LinesState) (under : IsAnswering fleet start before (answering_at now lines watch calls)) where
     -- after the next line was asked for only the input has changed
     abbrev asked : Streams
     asked = streams input now.output
@@ -209,7 +212,7 @@ module _ (fleet : FleetProblem) where
 
     module _ (l : Line) (continues : Continues under.reading under.reading.ended now.input input (Ok l) reader) where
       -- the input has ended
-      pub met_end : l ≡ line.End → HasAnsweredAll fleet before asked watch
+      pub met_end : l ≡ line.End → HasAnsweredAll fleet start before (answering_at asked reader watch calls)
       met_end e =
           let end = came_to_end under.reading now.input input lines reader under.few under.goes_on under.represents
           (subst (λ (x : Line). Continues under.reading under.reading.ended now.input input (Ok x) reader) e continues) in
@@ -220,6 +223,7 @@ module _ (fleet : FleetProblem) where
             at_end = end.end;
             answers = under.answers;
             answered = subst (λ (ls : List (List ℕ)). HasAnswered fleet ls under.answers watch) (sym end.all) under.answered;
+            within = subst (λ (ls : List (List ℕ)). AreAnswersWithin fleet ls under.answers start calls) (sym end.all) under.within;
             writes = under.writes;
             has_reports = under.has_reports;
             no_fault = record { input = end.no_fault ∙ under.no_fault.input; output = under.no_fault.output };
@@ -256,8 +260,8 @@ module _ (fleet : FleetProblem) where
         );
       }
 
-      module _ (number : ℕ) (bytes : List ℕ) (later : Watch) (output : SinkState) (number_is : number ≡ reader.number)
-          (answers : Answers fleet (under.reading.given ++ gave.first ∷ []) under.answers number bytes later) where
+      module _ (number finish : ℕ) (bytes : List ℕ) (later : Watch) (output : SinkState) (number_is : number ≡ reader.number)
+          (answers : Answers fleet (answer_turn under.reading.given under.answers gave.first number calls finish) bytes later) where
         abbrev all_answers : List Answer
         all_answers = under.answers ++ answers.answer ∷ []
 
@@ -267,7 +271,7 @@ module _ (fleet : FleetProblem) where
             ap (λ (t : List ℕ). answered_text fleet under.answers ++ t) answers.text ∙ answered-push under.answers answers.answer number index
 
         -- the answer is written
-        gave_answer : Puts now.output output bytes → output.faults ≡ now.output.faults → IsAnswering fleet before (answering_at (streams input output) reader later)
+        gave_answer : Puts now.output output bytes → output.faults ≡ now.output.faults → IsAnswering fleet start before (answering_at (streams input output) reader later finish)
         gave_answer puts no_fault = record {
           reading = with_line (with_bytes under.reading gave.more) gave.first;
           takes = takes_now;
@@ -277,6 +281,7 @@ module _ (fleet : FleetProblem) where
           front = front_with (lines_of all_taken) under.reading.given gave.first gave.next.front;
           answers = all_answers;
           answered = answers.answered;
+          within = answers.within start under.within;
           writes = subst (Puts before.output output) text_now (Puts-append before.output now.output output (answered_text fleet under.answers) bytes under.writes puts);
           has_reports = under.has_reports;
           no_fault = record { input = gave.no_fault ∙ under.no_fault.input; output = no_fault ∙ under.no_fault.output };
@@ -310,9 +315,9 @@ module _ (fleet : FleetProblem) where
 
         -- as the code comes to it
         pub wrote : (result : Result NextAnswer StreamFault) → WritesAnswer bytes now.output output result
-            → IfOk result (ComesTo fleet before lines.number (answering_at (streams input output) reader later))
+            → IfOk result (ComesTo fleet start before lines.number (answering_at (streams input output) reader later finish))
         wrote (Ok next) (is, puts, no_fault) =
-            subst (ComesTo fleet before lines.number (answering_at (streams input output) reader later)) (sym is) (gave_answer puts no_fault, gave_one_more)
+            subst (ComesTo fleet start before lines.number (answering_at (streams input output) reader later finish)) (sym is) (gave_answer puts no_fault, gave_one_more)
         wrote (Err f) writes = tt
 
         pub stopped : (result : Result NextAnswer StreamFault) → WritesAnswer bytes now.output output result
@@ -323,44 +328,59 @@ module _ (fleet : FleetProblem) where
 
   -- ---- the counts at the end
 
-  module _ (before now : Streams) (watch : Watch) (all : HasAnsweredAll fleet before now watch) (output : SinkState) where
+  module _ (start : ℕ) (before : Streams) (now : AnsweringState) (all : HasAnsweredAll fleet start before now) (output : SinkState) where
     all_answered : AreAnswers fleet (lines_of all.taken) all.answers
     all_answered = right_answers (lines_of all.taken) all.answers all.answered.addressed all.answered.blocks all.has_reports
         (omega (arith, few_lines all.taken, all.few))
 
     -- what was left of the input is nothing
-    all_lines : take (length (lines_of all.taken)) (lines_of (all.taken ++ rest_of now.input)) ≡ lines_of all.taken
+    all_lines : take (length (lines_of all.taken)) (lines_of (all.taken ++ rest_of now.streams.input)) ≡ lines_of all.taken
     all_lines =
-        ap (λ (rest : List ℕ). take (length (lines_of all.taken)) (lines_of (all.taken ++ rest))) (rest_at_end now.input all.at_end)
+        ap (λ (rest : List ℕ). take (length (lines_of all.taken)) (lines_of (all.taken ++ rest))) (rest_at_end now.streams.input all.at_end)
         ∙ ap (λ (bytes : List ℕ). take (length (lines_of all.taken)) (lines_of bytes)) (append-nil all.taken)
         ∙ take_all (length (lines_of all.taken)) (lines_of all.taken) (omega arith)
 
-    counts_are : kept_text fleet.graph watch.ranked.items ≡ mode_counts_text fleet all.answers
-    counts_are = kept_counts fleet (lines_of all.taken) all.answers watch all.answered
+    counts_are : kept_text fleet.graph now.watch.ranked.items ≡ mode_counts_text fleet all.answers
+    counts_are = kept_counts fleet (lines_of all.taken) all.answers now.watch all.answered
 
-    -- they are written
-    pub counted : TextEnds (λ text. text ≡ kept_text fleet.graph watch.ranked.items) now.output output (Ok tt) → AnswersStream fleet before (streams now.input output) (Ok tt)
-    counted wrote = record {
+    -- they are written, and the calls are within the limits
+    pub counted_within : TextEnds (λ text. text ≡ kept_text fleet.graph now.watch.ranked.items) now.streams.output output (Ok tt)
+        → WorksToEnd (IsFleetOutputWithin fleet start now.calls) before (streams now.streams.input output)
+    counted_within wrote = record {
       taken = all.taken;
       takes = all.takes;
       written = answered_text fleet all.answers ++ wrote.text;
-      writes = Puts-append before.output now.output output (answered_text fleet all.answers) wrote.text all.writes wrote.writes;
+      writes = Puts-append before.output now.streams.output output (answered_text fleet all.answers) wrote.text all.writes wrote.writes;
       ends = record {
-        right = record { answers = all.answers; are = all_answered; text = ap (λ (t : List ℕ). answered_text fleet all.answers ++ t) (wrote.right ∙ counts_are) };
+        right = record {
+          output = record { answers = all.answers; are = all_answered; text = ap (λ (t : List ℕ). answered_text fleet all.answers ++ t) (wrote.right ∙ counts_are) };
+          within = all.within;
+        };
         few = all.few;
         at_end = all.at_end;
         no_fault = record { input = all.no_fault.input; output = wrote.no_fault ∙ all.no_fault.output };
       };
     }
 
+    pub counted : TextEnds (λ text. text ≡ kept_text fleet.graph now.watch.ranked.items) now.streams.output output (Ok tt) → AnswersStream fleet before (streams now.streams.input output) (Ok tt)
+    counted wrote =
+        let works = counted_within wrote in
+        record {
+          taken = works.taken;
+          takes = works.takes;
+          written = works.written;
+          writes = works.writes;
+          ends = record { right = works.ends.right.output; few = works.ends.few; at_end = works.ends.at_end; no_fault = works.ends.no_fault };
+        }
+
     -- they are not
-    pub not_counted : (f : OutputFault) → TextEnds (λ text. text ≡ kept_text fleet.graph watch.ranked.items) now.output output (Err f)
-        → AnswersStream fleet before (streams now.input output) (Err (stream_fault_of_output f))
+    pub not_counted : (f : OutputFault) → TextEnds (λ text. text ≡ kept_text fleet.graph now.watch.ranked.items) now.streams.output output (Err f)
+        → AnswersStream fleet before (streams now.streams.input output) (Err (stream_fault_of_output f))
     not_counted output_fault.WriteFault begun = record {
       taken = all.taken;
       takes = all.takes;
       written = answered_text fleet all.answers ++ begun.front;
-      writes = Puts-append before.output now.output output (answered_text fleet all.answers) begun.front all.writes begun.writes;
+      writes = Puts-append before.output now.streams.output output (answered_text fleet all.answers) begun.front all.writes begun.writes;
       ends = (
         (subst (λ (count : ℕ). Rose count output.faults) all.no_fault.output begun.rose, all.no_fault.input),
         inr (
@@ -381,6 +401,6 @@ module _ (fleet : FleetProblem) where
       writes = subst (λ (sink : SinkState). Puts before.output sink (answered_text fleet all.answers)) (sym same) all.writes;
       ends = (
         record { input = all.no_fault.input; output = ap (λ (sink : SinkState). sink.faults) same ∙ all.no_fault.output },
-        inr (so_far_of_first now.input all.taken (lines_of all.taken) all.answers all_lines all_answered),
+        inr (so_far_of_first now.streams.input all.taken (lines_of all.taken) all.answers all_lines all_answered),
       );
     }

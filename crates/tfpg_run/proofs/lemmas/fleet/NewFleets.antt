@@ -1,5 +1,5 @@
 -- When there are too many hypotheses for a fleet, and how a run of it ends.
-use Rattle.std.proofs.Common.{◌≡◌, ◌↔◌, ℕ, List, [], ◌∷◌, length, Result, Ok, Err, refl, sym, ap, subst, ◌∙◌, inl, inr}
+use Rattle.std.proofs.Common.{◌≡◌, ◌↔◌, ℕ, List, [], ◌∷◌, length, Result, Ok, Err, refl, sym, ap, subst, subst₂, ◌∙◌, inl, inr}
 use Rattle.std.specs.Prelude.{IsErrAnd, IfErr, OnOk}
 use Rattle.tfpg_base.specs.declared.terms.Terms.{Terms}
 use Rattle.tfpg_base.specs.Terms.{AreReportTerms}
@@ -23,7 +23,9 @@ use Rattle.tfpg_streams.specs.Streams.{Streams}
 use Rattle.tfpg_diagnose.specs.Watched.{Watched, streams_in}
 use Rattle.tfpg_run.specs.World.{World, streams_of, watched_of}
 use Rattle.tfpg_run.specs.fleet.FleetOutput.{fleet_problem}
-use Rattle.tfpg_run.specs.fleet.FleetEnds.{AnswersStream, FleetEnds, FleetWords, fleet_words}
+use Rattle.tfpg_run.specs.Work.{RunsWithin, WorksByLines}
+use Rattle.tfpg_run.specs.fleet.FleetWork.{IsFleetOutputWithin}
+use Rattle.tfpg_run.specs.fleet.FleetEnds.{AnswersStream, FleetEnds}
 use Rattle.tfpg_run.specs.Run.{CommandEnds}
 use Rattle.tfpg_words.specs.Meaning.{Meaning, Fleet}
 use Rattle.tfpg_run.proofs.lemmas.fleet.AnsweredStreams.{begins_without_memory}
@@ -71,21 +73,21 @@ module _ (graph : Tfpg) (terms : Terms) (vehicles : ℕ) where
 
 -- ---- the ends
 
-module _ {T : Type 0} (said : FleetWords) (before now : World) (result : Result T End) where
+module _ {T : Type 0} (terms : Terms) (name : List ℕ) (names : List (List ℕ)) (before now : World) (result : Result T End) where
   -- the end at the exit of a `?`
-  ends_by : (end : End) → IsErrAnd result (λ e. e ≡ end) → FleetEnds said before now end → IfErr result (FleetEnds said before now)
-  ends_by end err ends = IfErr-from (FleetEnds said before now) result end err ends
+  ends_by : (end : End) → IsErrAnd result (λ e. e ≡ end) → FleetEnds terms name names before now end → IfErr result (FleetEnds terms name names before now)
+  ends_by end err ends = IfErr-from (FleetEnds terms name names before now) result end err ends
 
   -- there is no graph
-  pub stops_without_graph : (fault : FetchFault) → IsFetchFault said.file [] before.shelf now.shelf fault → watched_of now ≡ watched_of before → IsErrAnd result (λ end. end ≡ end_of_fetch_fault fault)
-      → IfErr result (FleetEnds said before now)
+  pub stops_without_graph : (fault : FetchFault) → IsFetchFault name [] before.shelf now.shelf fault → watched_of now ≡ watched_of before → IsErrAnd result (λ end. end ≡ end_of_fetch_fault fault)
+      → IfErr result (FleetEnds terms name names before now)
   stops_without_graph fault is untouched err =
       ends_by (end_of_fetch_fault fault) err (inl (record { fault = fault; is_fault = is; end_is = refl; untouched = untouched }))
 
-  module _ (graph : Tfpg) (gives : GivesGraph before.shelf said.file graph) (fetched : Fetched (said.file ∷ []) before.shelf now.shelf) where
+  module _ (graph : Tfpg) (gives : GivesGraph before.shelf name graph) (fetched : Fetched (name ∷ []) before.shelf now.shelf) where
     -- there is no fleet
-    pub stops_without_fleet : {X : Type 0} (fault : TableFault) → AreReportTerms said.terms → CountsTooMany {X = X} graph said.terms (length said.names) (Err fault)
-        → watched_of now ≡ watched_of before → IsErrAnd result (λ end. end ≡ end_of_table_fault fault) → IfErr result (FleetEnds said before now)
+    pub stops_without_fleet : {X : Type 0} (fault : TableFault) → AreReportTerms terms → CountsTooMany {X = X} graph terms (length names) (Err fault)
+        → watched_of now ≡ watched_of before → IsErrAnd result (λ end. end ≡ end_of_table_fault fault) → IfErr result (FleetEnds terms name names before now)
     stops_without_fleet (TooMany count) within exact untouched err =
         ends_by (ends.TooManyHypotheses count) err (inr (record {
           graph = graph;
@@ -94,7 +96,7 @@ module _ {T : Type 0} (said : FleetWords) (before now : World) (result : Result 
           works = inl (record { count = count; too_many = (exact count).0 refl; end_is = refl; untouched = untouched });
         }))
     stops_without_fleet NoMemory within exact untouched err =
-        let none = without_memory graph said.terms (length said.names) exact in
+        let none = without_memory graph terms (length names) exact in
         ends_by ends.NoMemory err (inr (record {
           graph = graph;
           gives = gives;
@@ -103,25 +105,25 @@ module _ {T : Type 0} (said : FleetWords) (before now : World) (result : Result 
             none,
             record {
               result = Err faults.NoMemory;
-              works = subst (λ (w : Watched). AnswersStream (fleet_problem graph said.terms said.names) (streams_of before) (streams_in w) (Err faults.NoMemory)) (sym untouched)
-                  (begins_without_memory (fleet_problem graph said.terms said.names) (streams_of before) (has_reports graph said.terms (length said.names) none within));
+              works = subst (λ (w : Watched). AnswersStream (fleet_problem graph terms names) (streams_of before) (streams_in w) (Err faults.NoMemory)) (sym untouched)
+                  (begins_without_memory (fleet_problem graph terms names) (streams_of before) (has_reports graph terms (length names) none within));
               end_is = refl;
             },
           );
         }))
 
     -- the answering was stopped
-    pub stops_answering : ((count : ℕ) → IsTooMany graph said.terms (length said.names) count → ⊥) → (fault : StreamFault)
-        → AnswersStream (fleet_problem graph said.terms said.names) (streams_of before) (streams_of now) (Err fault) → IsErrAnd result (λ end. end ≡ end_of_stream_fault fault)
-        → IfErr result (FleetEnds said before now)
+    pub stops_answering : ((count : ℕ) → IsTooMany graph terms (length names) count → ⊥) → (fault : StreamFault)
+        → AnswersStream (fleet_problem graph terms names) (streams_of before) (streams_of now) (Err fault) → IsErrAnd result (λ end. end ≡ end_of_stream_fault fault)
+        → IfErr result (FleetEnds terms name names before now)
     stops_answering none fault answers err = ends_by (end_of_stream_fault fault) err
         (inr (record { graph = graph; gives = gives; fetched = fetched; works = inr (none, record { result = Err fault; works = answers; end_is = refl }) }))
 
 -- all lines were answered
-pub stops_when_answered : (said : FleetWords) (before now : World) (graph : Tfpg) → GivesGraph before.shelf said.file graph → Fetched (said.file ∷ []) before.shelf now.shelf
-    → ((count : ℕ) → IsTooMany graph said.terms (length said.names) count → ⊥) → AnswersStream (fleet_problem graph said.terms said.names) (streams_of before) (streams_of now) (Ok tt)
-    → FleetEnds said before now ends.Done
-stops_when_answered said before now graph gives fetched none answers =
+pub stops_when_answered : (terms : Terms) (name : List ℕ) (names : List (List ℕ)) (before now : World) (graph : Tfpg) → GivesGraph before.shelf name graph → Fetched (name ∷ []) before.shelf now.shelf
+    → ((count : ℕ) → IsTooMany graph terms (length names) count → ⊥) → AnswersStream (fleet_problem graph terms names) (streams_of before) (streams_of now) (Ok tt)
+    → FleetEnds terms name names before now ends.Done
+stops_when_answered terms name names before now graph gives fetched none answers =
     inr (record { graph = graph; gives = gives; fetched = fetched; works = inr (none, record { result = Ok tt; works = answers; end_is = refl }) })
 
 -- for the names that the words have
@@ -135,12 +137,21 @@ counts_for_names graph terms names said result same exact = subst (λ (ns : List
 
 -- ---- as the words name the file and the vehicles
 
-pub fleet_stopped : {T : Type 0} (result : Result T End) (meant : Meaning) (said : FleetWords) (before now : World) (terms : Terms) (graph : List ℕ) (names : List (List ℕ)) → meant ≡ Fleet terms graph names
-    → said ≡ fleet_words terms graph names → IfErr result (FleetEnds said before now) → IfErr result (CommandEnds (Ok meant) before now)
-fleet_stopped result meant said before now terms graph names means same is =
-    subst (λ (m : Meaning). IfErr result (CommandEnds (Ok m) before now)) (sym means) (subst (λ (s : FleetWords). IfErr result (FleetEnds s before now)) same is)
+pub fleet_stopped : {T : Type 0} (result : Result T End) (meant : Meaning) (terms : Terms) (file graph : List ℕ) (words names : List (List ℕ)) (before now : World) → meant ≡ Fleet terms graph names
+    → file ≡ graph → words ≡ names → IfErr result (FleetEnds terms file words before now) → IfErr result (CommandEnds (Ok meant) before now)
+fleet_stopped result meant terms file graph words names before now means same other is =
+    subst (λ (m : Meaning). IfErr result (CommandEnds (Ok m) before now)) (sym means)
+    (subst₂ (λ (f : List ℕ) (w : List (List ℕ)). IfErr result (FleetEnds terms f w before now)) same other is)
 
-pub fleet_done : {T : Type 0} (result : Result T End) (meant : Meaning) (said : FleetWords) (before now : World) (terms : Terms) (graph : List ℕ) (names : List (List ℕ)) → meant ≡ Fleet terms graph names
-    → said ≡ fleet_words terms graph names → OnOk result (FleetEnds said before now ends.Done) → OnOk result (CommandEnds (Ok meant) before now ends.Done)
-fleet_done result meant said before now terms graph names means same is =
-    subst (λ (m : Meaning). OnOk result (CommandEnds (Ok m) before now ends.Done)) (sym means) (subst (λ (s : FleetWords). OnOk result (FleetEnds s before now ends.Done)) same is)
+pub fleet_done : {T : Type 0} (result : Result T End) (meant : Meaning) (terms : Terms) (file graph : List ℕ) (words names : List (List ℕ)) (before now : World) → meant ≡ Fleet terms graph names
+    → file ≡ graph → words ≡ names → OnOk result (FleetEnds terms file words before now ends.Done) → OnOk result (CommandEnds (Ok meant) before now ends.Done)
+fleet_done result meant terms file graph words names before now means same other is =
+    subst (λ (m : Meaning). OnOk result (CommandEnds (Ok m) before now ends.Done)) (sym means)
+    (subst₂ (λ (f : List ℕ) (w : List (List ℕ)). OnOk result (FleetEnds terms f w before now ends.Done)) same other is)
+
+-- what its calls are within, by the words' names of the file and the vehicles
+pub fleet_within : (meant : Meaning) (terms : Terms) (file graph : List ℕ) (words names : List (List ℕ)) (before now : World) (start end : ℕ) → meant ≡ Fleet terms graph names → file ≡ graph → words ≡ names
+    → WorksByLines (λ g. IsFleetOutputWithin (fleet_problem g terms words) start end) file before now → RunsWithin meant before now start end
+fleet_within meant terms file graph words names before now start end means same other is =
+    subst (λ (m : Meaning). RunsWithin m before now start end) (sym means)
+    (subst₂ (λ (f : List ℕ) (w : List (List ℕ)). WorksByLines (λ g. IsFleetOutputWithin (fleet_problem g terms w) start end) f before now) same other is)

@@ -17,12 +17,13 @@ use Rattle.tfpg_base.specs.declared.terms.Terms.{Terms}
 use Rattle.tfpg_graph.specs.Graph.{Tfpg, failures}
 use Rattle.tfpg_graph.specs.Valid.{IsValid}
 use Rattle.tfpg_evidence.specs.declared.round.Round.{Round}
+use Rattle.tfpg_engine.specs.EngineState.{CountsCalls}
 use Rattle.tfpg_engine.specs.declared.told.Told.{Told}
 use Rattle.tfpg_engine.specs.declared.told.Told.TheVariants as told
 use Rattle.tfpg_fleet.specs.declared.fleet_told.FleetTold.{FleetTold}
 use Rattle.tfpg_fleet.specs.declared.fleet_told.FleetTold.TheVariants.{Stray, Of}
 use Rattle.tfpg_fleet.specs.Belonging.{addressee, belongs, lines_for, vehicle_line}
-use Rattle.tfpg_fleet.specs.FleetState.{FleetBrings, FleetRepresents, FleetState, IsToldTo, names_of, rounds_after, rounds_with}
+use Rattle.tfpg_fleet.specs.FleetState.{FleetBrings, FleetCounts, FleetRepresents, FleetState, IsToldTo, names_of, rounds_after, rounds_with}
 use Rattle.tfpg_fleet.proofs.lemmas.FleetTells.{represents_stray}
 use Rattle.tfpg_fleet.proofs.lemmas.LinesFor.{lines-other, lines-own, lines-stray}
 use Rattle.tfpg_report.specs.Blocks.{Block}
@@ -33,10 +34,11 @@ use Rattle.tfpg_diagnose.specs.TellsPanels.{losses_in}
 use Rattle.tfpg_run.specs.fleet.Answers.{Answer, OwnBlock, StrayLine, block_for, blocks_for, naming_text, stray_text, vehicle_of}
 use Rattle.tfpg_run.specs.fleet.Counting.{is_in, ranks}
 use Rattle.tfpg_run.specs.fleet.FleetOutput.{FleetProblem, rounds_for}
-use Rattle.tfpg_run.specs.inside.fleet.UnderWay.{Answers, AreOwnBlocks, HasAnswered, IsKept, KeepsLast, told_text}
+use Rattle.tfpg_run.specs.inside.fleet.UnderWay.{Answers, AreOwnBlocks, HasAnswered, IsKept, KeepsLast, answer_turn, told_text}
 use Rattle.tfpg_diagnose.proofs.lemmas.NextBlocks.{AreBlocks-none, AreBlocks-push, RoundsSay-none, RoundsSay-push}
 use Rattle.tfpg_diagnose.proofs.lemmas.ToldBlocks.{flat_map-push}
-use Rattle.tfpg_run.proofs.lemmas.fleet.OwnBlocks.{RoundLaws, own_block, own_number, its_line}
+use Rattle.tfpg_run.proofs.lemmas.fleet.OwnBlocks.{RoundLaws, own_block, own_number, own_within, its_line}
+use Rattle.tfpg_run.proofs.lemmas.fleet.FleetCalls.{answers_within-own, answers_within-stray}
 
 -- the last of a list with one item more
 last_pushed : {X : Type 0} (xs : List X) (x : X) → last_of (xs ++ x ∷ []) ≡ Some x
@@ -81,6 +83,15 @@ brings_stray text old new t is brings = subst (λ (x : FleetTold). FleetBrings t
 -- a line of a vehicle
 pub brings_of : (text : List ℕ) (old new : FleetState) (t : FleetTold) (number line : ℕ) (answer : Told) → t ≡ Of number line answer → FleetBrings text old new (Ok t) → IsToldTo text old new number line answer
 brings_of text old new t number line answer is brings = subst (λ (x : FleetTold). FleetBrings text old new (Ok x)) is brings
+
+-- the calls of a stray line
+pub counts_stray : (old new : FleetState) (t : FleetTold) (start finish : ℕ) → t ≡ Stray → FleetCounts old new (Ok t) start finish → finish ≡ start
+counts_stray old new t start finish is counts = subst (λ (x : FleetTold). FleetCounts old new (Ok x) start finish) is counts
+
+-- those of a line of a vehicle
+pub counts_of : (old new : FleetState) (t : FleetTold) (number line : ℕ) (answer : Told) (start finish : ℕ) → t ≡ Of number line answer → FleetCounts old new (Ok t) start finish
+    → FleetCounts old new (Ok (Of number line answer)) start finish
+counts_of old new t number line answer start finish is counts = subst (λ (x : FleetTold). FleetCounts old new (Ok x) start finish) is counts
 
 -- ---- the line of a vehicle
 
@@ -178,23 +189,27 @@ module _ (laws : RoundLaws) (fleet : FleetProblem) (valid : IsValid fleet.graph)
       }
 
       -- with its text
-      pub answers_own : (place : ℕ) (bytes : List ℕ) → bytes ≡ naming_text (get_or fleet.names number []) ++ told_text fleet.graph line answer
-          → Answers fleet (lines ++ text ∷ []) answers place bytes later
-      answers_own place bytes is_text =
+      pub answers_own : (place : ℕ) (bytes : List ℕ) (start finish : ℕ) → bytes ≡ naming_text (get_or fleet.names number []) ++ told_text fleet.graph line answer
+          → CountsCalls is.after.engine (rounds_for number answers) (Ok answer) start finish → Answers fleet (answer_turn lines answers text place start finish) bytes later
+      answers_own place bytes start finish is_text counts =
           let its = own_block laws fleet valid lines answers watch so_far text later.fleet number line answer is in
           record {
             answer = OwnBlock number block;
             answered = answered_own;
+            within = λ first so_far_within. answers_within-own fleet lines answers text number own block for_it
+                (own_within laws fleet valid lines answers watch so_far text later.fleet number line answer is) (so_far.blocks number).are.one_each
+                first start finish so_far_within (its.within start finish counts);
             text = is_text ∙ ap (λ (t : List ℕ). naming_text (get_or fleet.names number []) ++ t) its.has.text;
           }
 
 -- the answer to a stray line, with its text
-pub answers_stray : (fleet : FleetProblem) (lines : List (List ℕ)) (answers : List Answer) (watch later : Watch) (text : List ℕ) (place : ℕ) (bytes : List ℕ) → HasAnswered fleet lines answers watch
-    → belongs fleet.names text ≡ None → later.fleet ≡ watch.fleet → later.ranked.items ≡ watch.ranked.items → bytes ≡ stray_text place
-    → Answers fleet (lines ++ text ∷ []) answers place bytes later
-answers_stray fleet lines answers watch later text place bytes so_far none same_fleet same_ranked is = record {
+pub answers_stray : (fleet : FleetProblem) (lines : List (List ℕ)) (answers : List Answer) (watch later : Watch) (text : List ℕ) (place : ℕ) (bytes : List ℕ) (start finish : ℕ) → HasAnswered fleet lines answers watch
+    → belongs fleet.names text ≡ None → later.fleet ≡ watch.fleet → later.ranked.items ≡ watch.ranked.items → finish ≡ start → bytes ≡ stray_text place
+    → Answers fleet (answer_turn lines answers text place start finish) bytes later
+answers_stray fleet lines answers watch later text place bytes start finish so_far none same_fleet same_ranked uncounted is = record {
   answer = StrayLine;
   answered = answered_stray fleet lines answers watch later so_far text none same_fleet same_ranked;
+  within = λ first. answers_within-stray fleet lines answers text first start finish none uncounted;
   text = is;
 }
 

@@ -1,5 +1,5 @@
 -- The block of a vehicle's own line.
-use Rattle.std.proofs.Common.{◌≡◌, ℕ, ◌+◌, ◌<◌, false, List, [], ◌∷◌, ◌++◌, length, Some, refl, sym, ap, subst, ◌∙◌, arith}
+use Rattle.std.proofs.Common.{◌≡◌, ℕ, ◌+◌, ◌<◌, false, List, [], ◌∷◌, ◌++◌, length, Some, Ok, refl, sym, ap, subst, subst₂, ◌∙◌, arith}
 use Rattle.std.specs.Prelude.{is_none}
 use Rattle.std.proofs.lemmas.List.{append-nil, length-map}
 use Rattle.std.proofs.lemmas.Option.{slice_get_within}
@@ -8,10 +8,11 @@ use Rattle.tfpg_base.specs.declared.limits.TheConstants.{LONGEST_LINE}
 use Rattle.tfpg_base.specs.Lines.{is_too_long}
 use Rattle.tfpg_graph.specs.Graph.{Tfpg, sizes_of}
 use Rattle.tfpg_graph.specs.Valid.{IsValid}
-use Rattle.tfpg_log.specs.Log.{IsLogOf, IsOrdered}
+use Rattle.tfpg_log.specs.Log.{Logbook, IsLogOf, IsOrdered}
 use Rattle.tfpg_log.specs.LogOfLines.{log_of_lines}
 use Rattle.tfpg_evidence.specs.declared.round.Round.{Round}
-use Rattle.tfpg_engine.specs.EngineState.{GivesRound}
+use Rattle.tfpg_engine.specs.EngineState.{CountsCalls, GivesRound}
+use Rattle.tfpg_engine.specs.Work.{IsRoundLimit}
 use Rattle.tfpg_engine.specs.declared.told.Told.{Told}
 use Rattle.tfpg_engine.specs.declared.told.Told.TheVariants as told
 use Rattle.tfpg_fleet.specs.Belonging.{belongs, lines_for, vehicle_line}
@@ -23,7 +24,7 @@ use Rattle.tfpg_check.specs.Report.{Progress, progress_of, rounds_of}
 use Rattle.tfpg_run.specs.declared.fleet.watch.Watch.{Watch}
 use Rattle.tfpg_diagnose.specs.TellsPanels.{losses_in}
 use Rattle.tfpg_diagnose.specs.EngineReports.{EngineReports}
-use Rattle.tfpg_diagnose.specs.inside.LineBlocks.{HasBlock, numbered}
+use Rattle.tfpg_diagnose.specs.inside.LineBlocks.{HasBlock, IsBlockWithin, numbered}
 use Rattle.tfpg_run.specs.fleet.Answers.{Answer, blocks_for}
 use Rattle.tfpg_run.specs.fleet.FleetOutput.{FleetProblem, rounds_for}
 use Rattle.tfpg_run.specs.inside.fleet.UnderWay.{HasAnswered, IsToldOf, told_text}
@@ -104,6 +105,8 @@ module _ (laws : RoundLaws) (fleet : FleetProblem) (valid : IsValid fleet.graph)
   pub record HasOwnBlock (answer : Told) (is : IsToldTo text watch.fleet later number line answer) : Type 0 where
     pub has : HasBlock fleet.graph fleet.terms own_progress (numbered line is.own) (told_text fleet.graph line answer) is.after.engine
     pub none_lost : losses_in has.block ≡ []
+    pub within : (start finish : ℕ) → CountsCalls is.after.engine (rounds_for number answers) (Ok answer) start finish
+        → IsBlockWithin fleet.graph own_progress is.own has.block start finish
     pub rounds : (before : List Round) → rounds_with before answer ≡ before ++ rounds_of has.block
 
   pub own_block : (answer : Told) (is : IsToldTo text watch.fleet later number line answer) → HasOwnBlock answer is
@@ -114,6 +117,7 @@ module _ (laws : RoundLaws) (fleet : FleetProblem) (valid : IsValid fleet.graph)
         has = block_of_refusal fleet.graph fleet.terms own_progress line is.own (told_text fleet.graph line (told.Refused refusal)) is.before.engine is.after.engine
             (ltb-false LONGEST_LINE (length is.own) (its_line_short (told.Refused refusal) is)) (reports_so_far (told.Refused refusal) is) refusal brings.0 brings.1 refl;
         none_lost = refl;
+        within = λ start finish none. (0, refl, omega (arith, none));
         rounds = λ before. sym (append-nil before);
       }
   own_block (told.Round round) is =
@@ -129,5 +133,8 @@ module _ (laws : RoundLaws) (fleet : FleetProblem) (valid : IsValid fleet.graph)
             (ltb-false LONGEST_LINE (length is.own) (its_line_short (told.Round round) is)) (reports_so_far (told.Round round) is) round gives says
             is.taken.graph is.taken.terms (ap (λ (g : Tfpg). round_text g round) (sym now.graph_is));
         none_lost = refl;
+        within = λ start finish counts.
+            let limit : ℕ = counts.0 in
+            (limit, subst₂ (λ (g : Tfpg) (l : Logbook). IsRoundLimit g l (rounds_for number answers) round limit) now.graph_is (now.log_is ∙ laws.grows fleet.graph own_lines is.own) counts.1, counts.2);
         rounds = λ before. refl;
       }

@@ -5,7 +5,6 @@ use Rattle.tfpg_base.specs.declared.terms.Terms.{Terms}
 use Rattle.tfpg_base.specs.declared.limits.TheConstants.{MAX_BYTES}
 use Rattle.tfpg_base.specs.Lines.{Reading, LinesState, LinesRepresent, lines_of}
 use Rattle.tfpg_base.specs.Outside.{SinkState, Takes, Puts, IsAtEnd}
-use Rattle.tfpg_base.specs.Words.{comma_parts}
 use Rattle.tfpg_graph.specs.Graph.{Tfpg, Sizes, failures}
 use Rattle.tfpg_evidence.specs.RoundOf.{IsRoundOf}
 use Rattle.tfpg_evidence.specs.declared.round.Round.{Round}
@@ -18,7 +17,6 @@ use Rattle.tfpg_report.specs.Blocks.{Block, refused_text, round_text}
 use Rattle.tfpg_check.specs.Report.{AreBlocks, HasReports}
 use Rattle.tfpg_streams.specs.declared.fault.StreamFault.{StreamFault}
 use Rattle.tfpg_streams.specs.declared.fault.StreamFault.TheVariants.{WriteFault}
-use Rattle.tfpg_run.specs.declared.fleet.FleetSubject.{FleetSubject}
 use Rattle.tfpg_run.specs.declared.fleet.stream.NextAnswer.{NextAnswer}
 use Rattle.tfpg_run.specs.declared.fleet.stream.NextAnswer.TheVariants.{Written, Ended}
 use Rattle.tfpg_run.specs.declared.fleet.watch.Vehicles.{Vehicles}
@@ -28,13 +26,9 @@ use Rattle.tfpg_diagnose.specs.RightReport.{RoundsSay}
 use Rattle.tfpg_diagnose.specs.TellsPanels.{losses_in}
 use Rattle.tfpg_run.specs.fleet.Answers.{Answer, answer_text, blocks_for, vehicle_of}
 use Rattle.tfpg_run.specs.fleet.Counting.{is_in, last_ranks, modes_text, ranks, vehicles_that}
-use Rattle.tfpg_run.specs.fleet.FleetEnds.{FleetWords, fleet_words}
 use Rattle.tfpg_run.specs.fleet.FleetOutput.{FleetProblem, answered_text, fleet_problem, rounds_for}
+use Rattle.tfpg_run.specs.fleet.FleetWork.{AreAnswersWithin}
 use Rattle.tfpg_streams.specs.Writing.{Cuts}
-
--- what the words say, as the code has it
-abbrev pub said_by : FleetSubject → FleetWords
-said_by subject = fleet_words subject.terms subject.file.now (comma_parts subject.names.now)
 
 -- what is diagnosed, as the code has it
 abbrev pub problem_in : Vehicles → FleetProblem
@@ -68,11 +62,27 @@ pub record IsWatching (fleet : FleetProblem) (watch : Watch) : Type 0 where
   pub answers : List Answer
   pub answered : HasAnswered fleet lines answers watch
 
--- With one answer more, to a line of this number, these lines have theirs; and the bytes are its text.
-pub record Answers (fleet : FleetProblem) (lines : List (List ℕ)) (answers : List Answer) (number : ℕ) (bytes : List ℕ) (watch : Watch) : Type 0 where
+-- The next line of the stream and its number, the lines and the answers before it, and the count of calls before its answer and after it.
+pub record AnswerTurn : Type 0 where
+  pub lines : List (List ℕ)
+  pub answers : List Answer
+  pub line : List ℕ
+  pub number : ℕ
+  pub start : ℕ
+  pub end : ℕ
+
+-- these
+abbrev pub answer_turn : List (List ℕ) → List Answer → List ℕ → ℕ → ℕ → ℕ → AnswerTurn
+answer_turn lines answers line number start end =
+    record { lines = lines; answers = answers; line = line; number = number; start = start; end = end }
+
+-- With one answer more the lines have theirs, within their limits if those before were; and the bytes are its text.
+pub record Answers (fleet : FleetProblem) (turn : AnswerTurn) (bytes : List ℕ) (watch : Watch) : Type 0 where
   pub answer : Answer
-  pub answered : HasAnswered fleet lines (answers ++ answer ∷ []) watch
-  pub text : bytes ≡ answer_text fleet.graph fleet.names number answer
+  pub answered : HasAnswered fleet (turn.lines ++ turn.line ∷ []) (turn.answers ++ answer ∷ []) watch
+  pub within : (first : ℕ) → AreAnswersWithin fleet turn.lines turn.answers first turn.start
+      → AreAnswersWithin fleet (turn.lines ++ turn.line ∷ []) (turn.answers ++ answer ∷ []) first turn.end
+  pub text : bytes ≡ answer_text fleet.graph fleet.names turn.number answer
 
 -- a round that was told is of a graph of these sizes
 abbrev pub IsToldOf : Sizes → Told → Type 0
@@ -101,19 +111,21 @@ abbrev pub WritesAnswer : List ℕ → SinkState → SinkState → Result NextAn
 WritesAnswer text before after (Ok next) = (next ≡ Written) × Puts before after text × (after.faults ≡ before.faults)
 WritesAnswer text before after (Err fault) = (fault ≡ WriteFault) × Cuts text before after
 
--- the streams, the reader of lines, and the fleet with what is kept, at one moment
+-- the streams, the reader of lines, the fleet with what is kept, and the count of calls, at one moment
 pub record AnsweringState : Type 0 where
   pub streams : Streams
   pub lines : LinesState
   pub watch : Watch
+  pub calls : ℕ
 
--- these three
-abbrev pub answering_at : Streams → LinesState → Watch → AnsweringState
-answering_at streams lines watch = record { streams = streams; lines = lines; watch = watch }
+-- these four
+abbrev pub answering_at : Streams → LinesState → Watch → ℕ → AnsweringState
+answering_at streams lines watch calls = record { streams = streams; lines = lines; watch = watch; calls = calls }
 
--- A diagnosis that began with the streams before has come to this: each line that the reader has returned has its answer, which is
--- written, and nothing else was written but what stands before the answers. Nothing has failed.
-pub record IsAnswering (fleet : FleetProblem) (before : Streams) (now : AnsweringState) : Type 0 where
+-- A diagnosis that began with this count of calls and the streams before has come to this: each line that the reader has returned has its
+-- answer, which is written, and nothing else was written but what stands before the answers. Its calls are within the limits of its
+-- rounds. Nothing has failed.
+pub record IsAnswering (fleet : FleetProblem) (start : ℕ) (before : Streams) (now : AnsweringState) : Type 0 where
   pub reading : Reading
   pub takes : Takes before.input now.streams.input reading.taken
   pub few : length reading.taken ≤ MAX_BYTES
@@ -122,23 +134,25 @@ pub record IsAnswering (fleet : FleetProblem) (before : Streams) (now : Answerin
   pub front : take (length reading.given) (lines_of reading.taken) ≡ reading.given
   pub answers : List Answer
   pub answered : HasAnswered fleet reading.given answers now.watch
+  pub within : AreAnswersWithin fleet reading.given answers start now.calls
   pub writes : Puts before.output now.streams.output (answered_text fleet answers)
   pub has_reports : HasReports fleet.graph fleet.terms
   pub no_fault : CountsUnchanged before now.streams
 
 -- It has come to the end of the input, and all lines have their answers.
-pub record HasAnsweredAll (fleet : FleetProblem) (before now : Streams) (watch : Watch) : Type 0 where
+pub record HasAnsweredAll (fleet : FleetProblem) (start : ℕ) (before : Streams) (now : AnsweringState) : Type 0 where
   pub taken : List ℕ
-  pub takes : Takes before.input now.input taken
+  pub takes : Takes before.input now.streams.input taken
   pub few : length taken ≤ MAX_BYTES
-  pub at_end : IsAtEnd now.input
+  pub at_end : IsAtEnd now.streams.input
   pub answers : List Answer
-  pub answered : HasAnswered fleet (lines_of taken) answers watch
-  pub writes : Puts before.output now.output (answered_text fleet answers)
+  pub answered : HasAnswered fleet (lines_of taken) answers now.watch
+  pub within : AreAnswersWithin fleet (lines_of taken) answers start now.calls
+  pub writes : Puts before.output now.streams.output (answered_text fleet answers)
   pub has_reports : HasReports fleet.graph fleet.terms
-  pub no_fault : CountsUnchanged before now
+  pub no_fault : CountsUnchanged before now.streams
 
 -- What writing the answer after the line of this number leads to: one line on; or to the end of the input.
-abbrev pub ComesTo : FleetProblem → Streams → ℕ → AnsweringState → NextAnswer → Type 0
-ComesTo fleet before number now Written = IsAnswering fleet before now × (now.lines.number ≡ number + 1)
-ComesTo fleet before number now Ended = HasAnsweredAll fleet before now.streams now.watch
+abbrev pub ComesTo : FleetProblem → ℕ → Streams → ℕ → AnsweringState → NextAnswer → Type 0
+ComesTo fleet start before number now Written = IsAnswering fleet start before now × (now.lines.number ≡ number + 1)
+ComesTo fleet start before number now Ended = HasAnsweredAll fleet start before now

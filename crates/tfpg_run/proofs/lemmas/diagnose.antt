@@ -1,2 +1,0 @@
--- The lines that came whole have their blocks.
-pub mod WholeLines
