@@ -1,6 +1,6 @@
 -- What the words of a command line mean: a command with its values and the panels, or the first cause by which they are refused.
-use Rattle.std.specs.Prelude.{ℕ, ◌&&◌, Bool, List, [], ◌∷◌, Option, Some, None, Result, Ok, Err}
-use Rattle.std.specs.Prelude.{bytes_eq, codes, if◌then◌else◌, is_some, nat_le, find}
+use Rattle.std.specs.Prelude.{ℕ, ◌&&◌, Bool, List, [], ◌∷◌, ◌++◌, Option, Some, None, Result, Ok, Err}
+use Rattle.std.specs.Prelude.{bytes_eq, codes, if◌then◌else◌, is_some, nat_le, find, ok_or, option_map, unwrap_or}
 use Rattle.tfpg_base.specs.declared.terms.Terms.{Terms}
 use Rattle.tfpg_base.specs.Words.{comma_parts, number_of}
 use Rattle.tfpg_base.specs.declared.limits.TheConstants.{MAX_K, MAX_DOUBT, MAX_BUDGET, MAX_CASE_SIZE, MAX_TIME}
@@ -9,7 +9,7 @@ use Rattle.tfpg_words.specs.declared.usage_cause.UsageCause.{UsageCause}
 use Rattle.tfpg_words.specs.declared.usage_cause.UsageCause.TheVariants.{NoCommand, UnknownCommand, BadWords, BadNumber, OutOfRange, BadPanel, BadNames}
 use Rattle.tfpg_words.specs.declared.panel_word.PanelWord.{PanelWord}
 use Rattle.tfpg_words.specs.Names.{are_names}
-use Rattle.tfpg_words.specs.Words.{Form, Parts, Use, Word, parts_of_words}
+use Rattle.tfpg_words.specs.Words.{Use, Word, parts_of_words}
 use Rattle.tfpg_words.specs.PanelWords.{panels_named}
 
 -- What a command asks for.
@@ -29,15 +29,14 @@ pub record Meant : Type 0 where
   pub command : Meaning
   pub panels : List PanelWord
 
--- what words mean whose command has no panels
-abbrev pub without_panels : Result Meaning UsageCause → Result Meant UsageCause
-without_panels (Ok command) = Ok (record { command = command; panels = [] })
-without_panels (Err cause) = Err cause
+-- what words mean that name no panels: their command alone
+abbrev pub alone : Meaning → Result Meant UsageCause
+alone command = Ok (record { command = command; panels = [] })
 
--- what the command asks for, of words that mean this
-abbrev pub command_meant : Result Meant UsageCause → Result Meaning UsageCause
-command_meant (Ok meant) = Ok meant.command
-command_meant (Err cause) = Err cause
+-- The next step with a value. A value that is refused has no next step: its cause stays.
+abbrev pub and_then : {A B : Type 0} → Result A UsageCause → (A → Result B UsageCause) → Result B UsageCause
+and_then (Ok value) next = next value
+and_then (Err cause) next = Err cause
 
 -- The first use of this name.
 abbrev pub use_of : Word → List Use → Option Use
@@ -55,17 +54,13 @@ pub record NumberOption : Type 0 where
   pub limit : ℕ
   pub default : ℕ
 
--- the number of an option by its use, where there is one, and else its default
-abbrev pub number_in : NumberOption → Option Use → Result ℕ UsageCause
-number_in option None = Ok option.default
-number_in option (Some used) = within option.least option.limit (number_of used.value)
-
--- the number of an option by the uses
+-- The number of an option by the uses: that of its first use, and its default where it is not used.
 abbrev pub number_by : NumberOption → List Use → Result ℕ UsageCause
-number_by option uses = number_in option (use_of option.name uses)
+number_by option uses =
+    unwrap_or (option_map (λ used. within option.least option.limit (number_of used.value)) (use_of option.name uses))
+    (Ok option.default)
 
--- Of two causes that refuse a number the one that wins: a word that is no number comes before a number out of its
--- limits.
+-- Of two causes that refuse a number the one that wins: a word that is no number comes before a number out of its limits.
 abbrev pub winning_cause : UsageCause → UsageCause → UsageCause
 winning_cause BadNumber other = BadNumber
 winning_cause cause other = other
@@ -89,10 +84,6 @@ doubt_option = record { name = codes "--doubt"; least = 0; limit = MAX_DOUBT; de
 abbrev pub budget_option : NumberOption
 budget_option = record { name = codes "--budget"; least = 1; limit = MAX_BUDGET; default = DEFAULT_BUDGET }
 
--- `k`, `doubt` and the budget, by the uses
-abbrev pub terms_by : List Use → Result ((ℕ × ℕ) × ℕ) UsageCause
-terms_by uses = both (both (number_by k_option uses) (number_by doubt_option uses)) (number_by budget_option uses)
-
 -- `--ahead N`: how many milliseconds past the last event are looked ahead
 abbrev pub ahead_option : NumberOption
 ahead_option = record { name = codes "--ahead"; least = 0; limit = MAX_TIME; default = DEFAULT_AHEAD }
@@ -105,179 +96,97 @@ draw_option = record { name = codes "--draw"; least = 0; limit = MAX_DRAW; defau
 abbrev pub size_option : NumberOption
 size_option = record { name = codes "--size"; least = 1; limit = MAX_CASE_SIZE; default = DEFAULT_SIZE }
 
--- What words mean whose parts mean this: words that have no parts are bad.
-abbrev pub by_parts : {X : Type 0} → (Parts → Result X UsageCause) → Option Parts → Result X UsageCause
-by_parts means None = Err BadWords
-by_parts means (Some parts) = means parts
+-- the names of the options for the terms of a diagnosis
+abbrev pub terms_options : List Word
+terms_options = k_option.name ∷ doubt_option.name ∷ budget_option.name ∷ []
 
--- The options of `diagnose`, `ask` and `fleet`.
-abbrev pub terms_form : Form
-terms_form = record { options = k_option.name ∷ doubt_option.name ∷ budget_option.name ∷ []; flags = [] }
+-- the terms of a diagnosis, by the uses
+abbrev pub terms_by : List Use → Result Terms UsageCause
+terms_by uses =
+    and_then (both (both (number_by k_option uses) (number_by doubt_option uses)) (number_by budget_option uses))
+    (λ numbers. Ok (record { k = numbers.0.0; doubt = numbers.0.1; budget = numbers.1 }))
 
--- What `explain` and `check` take: words alone.
-abbrev pub words_form : Form
-words_form = record { options = []; flags = [] }
-
--- `diagnose [--k N] [--doubt N] [--budget N] GRAPH [PANEL]..`: on these terms, where each word names a panel
-abbrev pub diagnose_to : Terms → Word → Option (List PanelWord) → Result Meant UsageCause
-diagnose_to terms graph None = Err BadPanel
-diagnose_to terms graph (Some panels) = Ok (record { command = Diagnose terms graph; panels = panels })
-
--- what the positional words after `diagnose` mean with these numbers
-abbrev pub diagnose_with : Word → List Word → Result ((ℕ × ℕ) × ℕ) UsageCause → Result Meant UsageCause
-diagnose_with graph words (Err cause) = Err cause
-diagnose_with graph words (Ok ((k, doubt), budget)) =
-    diagnose_to (record { k = k; doubt = doubt; budget = budget }) graph (panels_named words)
-
--- what the uses and the positional words after `diagnose` mean
+-- What the uses and the positional words mean in `diagnose [--k N] [--doubt N] [--budget N] GRAPH [PANEL]..`.
 abbrev pub diagnose_on : List Use → List Word → Result Meant UsageCause
 diagnose_on uses [] = Err BadWords
-diagnose_on uses (graph ∷ words) = diagnose_with graph words (terms_by uses)
+diagnose_on uses (graph ∷ words) =
+    and_then (terms_by uses) (λ terms. and_then (ok_or (panels_named words) BadPanel)
+    (λ panels. Ok (record { command = Diagnose terms graph; panels = panels })))
 
--- what the words after `diagnose` mean, by their parts
-abbrev pub diagnose_of : Option Parts → Result Meant UsageCause
-diagnose_of = by_parts (λ parts. diagnose_on parts.uses parts.positional)
+-- The same in `explain GRAPH LOG`.
+abbrev pub explain_on : List Use → List Word → Result Meant UsageCause
+explain_on uses (graph ∷ log ∷ []) = alone (Explain graph log)
+explain_on uses _ = Err BadWords
 
--- `explain GRAPH LOG`: what its positional words mean
-abbrev pub explain_on : List Word → Result Meaning UsageCause
-explain_on (graph ∷ log ∷ []) = Ok (Explain graph log)
-explain_on _ = Err BadWords
+-- The same in `check GRAPH LOG`.
+abbrev pub check_on : List Use → List Word → Result Meant UsageCause
+check_on uses (graph ∷ log ∷ []) = alone (Check graph log)
+check_on uses _ = Err BadWords
 
--- what the words after `explain` mean, by their parts
-abbrev pub explain_of : Option Parts → Result Meaning UsageCause
-explain_of = by_parts (λ parts. explain_on parts.positional)
-
--- `check GRAPH LOG`: what its positional words mean
-abbrev pub check_on : List Word → Result Meaning UsageCause
-check_on (graph ∷ log ∷ []) = Ok (Check graph log)
-check_on _ = Err BadWords
-
--- what the words after `check` mean, by their parts
-abbrev pub check_of : Option Parts → Result Meaning UsageCause
-check_of = by_parts (λ parts. check_on parts.positional)
-
--- `simulate [--draw N] [--trace] GRAPH SCRIPT`
-abbrev pub simulate_form : Form
-simulate_form = record { options = draw_option.name ∷ []; flags = codes "--trace" ∷ [] }
-
--- what the words after `simulate` mean with this draw
-abbrev pub simulate_with : Bool → Word → Word → Result ℕ UsageCause → Result Meaning UsageCause
-simulate_with trace graph script (Err cause) = Err cause
-simulate_with trace graph script (Ok draw) = Ok (Simulate draw trace graph script)
-
--- what the uses and the positional words after `simulate` mean
-abbrev pub simulate_on : List Use → List Word → Result Meaning UsageCause
+-- The same in `simulate [--draw N] [--trace] GRAPH SCRIPT`.
+abbrev pub simulate_on : List Use → List Word → Result Meant UsageCause
 simulate_on uses (graph ∷ script ∷ []) =
-    simulate_with (is_some (use_of (codes "--trace") uses)) graph script (number_by draw_option uses)
+    and_then (number_by draw_option uses)
+    (λ draw. alone (Simulate draw (is_some (use_of (codes "--trace") uses)) graph script))
 simulate_on uses _ = Err BadWords
 
--- what the words after `simulate` mean, by their parts
-abbrev pub simulate_of : Option Parts → Result Meaning UsageCause
-simulate_of = by_parts (λ parts. simulate_on parts.uses parts.positional)
-
--- `generate [--draw N] [--size N]`
-abbrev pub generate_form : Form
-generate_form = record { options = draw_option.name ∷ size_option.name ∷ []; flags = [] }
-
--- what the words after `generate` mean with these numbers
-abbrev pub generate_with : Result (ℕ × ℕ) UsageCause → Result Meaning UsageCause
-generate_with (Err cause) = Err cause
-generate_with (Ok (draw, size)) = Ok (Generate draw size)
-
--- what the uses and the positional words after `generate` mean
-abbrev pub generate_on : List Use → List Word → Result Meaning UsageCause
-generate_on uses [] = generate_with (both (number_by draw_option uses) (number_by size_option uses))
+-- The same in `generate [--draw N] [--size N]`.
+abbrev pub generate_on : List Use → List Word → Result Meant UsageCause
+generate_on uses [] =
+    and_then (both (number_by draw_option uses) (number_by size_option uses)) (λ numbers. alone (Generate numbers.0 numbers.1))
 generate_on uses _ = Err BadWords
 
--- what the words after `generate` mean, by their parts
-abbrev pub generate_of : Option Parts → Result Meaning UsageCause
-generate_of = by_parts (λ parts. generate_on parts.uses parts.positional)
+-- The same in `convert [--json] GRAPH`.
+abbrev pub convert_on : List Use → List Word → Result Meant UsageCause
+convert_on uses (graph ∷ []) = alone (Convert (is_some (use_of (codes "--json") uses)) graph)
+convert_on uses _ = Err BadWords
 
--- `convert [--json] GRAPH`
-abbrev pub convert_form : Form
-convert_form = record { options = []; flags = codes "--json" ∷ [] }
-
--- what the positional words after `convert` mean, where the flag is used or not
-abbrev pub convert_with : Bool → List Word → Result Meaning UsageCause
-convert_with json (graph ∷ []) = Ok (Convert json graph)
-convert_with json _ = Err BadWords
-
--- what the words after `convert` mean, by their parts
-abbrev pub convert_of : Option Parts → Result Meaning UsageCause
-convert_of = by_parts (λ parts. convert_with (is_some (use_of (codes "--json") parts.uses)) parts.positional)
-
--- `ask [--k N] [--doubt N] [--budget N] GRAPH LOG`: what its positional words mean with these numbers
-abbrev pub ask_with : Word → Word → Result ((ℕ × ℕ) × ℕ) UsageCause → Result Meaning UsageCause
-ask_with graph log (Err cause) = Err cause
-ask_with graph log (Ok ((k, doubt), budget)) = Ok (Ask (record { k = k; doubt = doubt; budget = budget }) graph log)
-
--- what the uses and the positional words after `ask` mean
-abbrev pub ask_on : List Use → List Word → Result Meaning UsageCause
-ask_on uses (graph ∷ log ∷ []) = ask_with graph log (terms_by uses)
+-- The same in `ask [--k N] [--doubt N] [--budget N] GRAPH LOG`.
+abbrev pub ask_on : List Use → List Word → Result Meant UsageCause
+ask_on uses (graph ∷ log ∷ []) = and_then (terms_by uses) (λ terms. alone (Ask terms graph log))
 ask_on uses _ = Err BadWords
 
--- what the words after `ask` mean, by their parts
-abbrev pub ask_of : Option Parts → Result Meaning UsageCause
-ask_of = by_parts (λ parts. ask_on parts.uses parts.positional)
-
--- `fleet [--k N] [--doubt N] [--budget N] GRAPH NAMES`: what a graph and names mean with these numbers
-abbrev pub fleet_with : Word → List Word → Result ((ℕ × ℕ) × ℕ) UsageCause → Result Meaning UsageCause
-fleet_with graph names (Err cause) = Err cause
-fleet_with graph names (Ok ((k, doubt), budget)) =
-    if are_names names then Ok (Fleet (record { k = k; doubt = doubt; budget = budget }) graph names) else Err BadNames
-
--- what the uses and the positional words after `fleet` mean
-abbrev pub fleet_on : List Use → List Word → Result Meaning UsageCause
-fleet_on uses (graph ∷ names ∷ []) = fleet_with graph (comma_parts names) (terms_by uses)
+-- The same in `fleet [--k N] [--doubt N] [--budget N] GRAPH NAMES`, where NAMES has commas between the names.
+abbrev pub fleet_on : List Use → List Word → Result Meant UsageCause
+fleet_on uses (graph ∷ names ∷ []) =
+    and_then (terms_by uses)
+    (λ terms. if are_names (comma_parts names) then alone (Fleet terms graph (comma_parts names)) else Err BadNames)
 fleet_on uses _ = Err BadWords
 
--- what the words after `fleet` mean, by their parts
-abbrev pub fleet_of : Option Parts → Result Meaning UsageCause
-fleet_of = by_parts (λ parts. fleet_on parts.uses parts.positional)
-
--- `predict [--k N] [--doubt N] [--budget N] [--ahead N] GRAPH LOG NODE`
-abbrev pub predict_form : Form
-predict_form = record { options = k_option.name ∷ doubt_option.name ∷ budget_option.name ∷ ahead_option.name ∷ []; flags = [] }
-
--- what the positional words after `predict` mean with these numbers
-abbrev pub predict_with : Word → Word → Word → Result (((ℕ × ℕ) × ℕ) × ℕ) UsageCause → Result Meaning UsageCause
-predict_with graph log node (Err cause) = Err cause
-predict_with graph log node (Ok (((k, doubt), budget), ahead)) =
-    Ok (Predict (record { k = k; doubt = doubt; budget = budget }) ahead graph log node)
-
--- what the uses and the positional words after `predict` mean
-abbrev pub predict_on : List Use → List Word → Result Meaning UsageCause
+-- The same in `predict [--k N] [--doubt N] [--budget N] [--ahead N] GRAPH LOG NODE`.
+abbrev pub predict_on : List Use → List Word → Result Meant UsageCause
 predict_on uses (graph ∷ log ∷ node ∷ []) =
-    predict_with graph log node (both (terms_by uses) (number_by ahead_option uses))
+    and_then (both (terms_by uses) (number_by ahead_option uses)) (λ values. alone (Predict values.0 values.1 graph log node))
 predict_on uses _ = Err BadWords
 
--- what the words after `predict` mean, by their parts
-abbrev pub predict_of : Option Parts → Result Meaning UsageCause
-predict_of = by_parts (λ parts. predict_on parts.uses parts.positional)
+-- What words mean after a command that takes these options and flags: what their parts mean. Words without parts are bad.
+abbrev pub by_form : List Word → List Word → (List Use → List Word → Result Meant UsageCause) → List Word → Result Meant UsageCause
+by_form options flags means words =
+    and_then (ok_or (parts_of_words (record { options = options; flags = flags }) words) BadWords)
+    (λ parts. means parts.uses parts.positional)
 
--- What the words after another command than `diagnose` mean.
-abbrev pub other_meaning : Word → List Word → Result Meaning UsageCause
-other_meaning command words =
-    if bytes_eq command (codes "explain") then explain_of (parts_of_words words_form words)
-    else (if bytes_eq command (codes "check") then check_of (parts_of_words words_form words)
-    else (if bytes_eq command (codes "simulate") then simulate_of (parts_of_words simulate_form words)
-    else (if bytes_eq command (codes "generate") then generate_of (parts_of_words generate_form words)
-    else (if bytes_eq command (codes "convert") then convert_of (parts_of_words convert_form words)
-    else (if bytes_eq command (codes "ask") then ask_of (parts_of_words terms_form words)
-    else (if bytes_eq command (codes "fleet") then fleet_of (parts_of_words terms_form words)
-    else (if bytes_eq command (codes "predict") then predict_of (parts_of_words predict_form words)
-    else Err UnknownCommand)))))))
-
--- What the words after a command mean: no command but `diagnose` has panels.
+-- What the words after a command mean: for each command its name, its options, its flags, and what the parts mean.
 abbrev pub command_meaning : Word → List Word → Result Meant UsageCause
 command_meaning command words =
-    if bytes_eq command (codes "diagnose") then diagnose_of (parts_of_words terms_form words)
-    else without_panels (other_meaning command words)
+    if bytes_eq command (codes "diagnose") then by_form terms_options [] diagnose_on words
+    else (if bytes_eq command (codes "explain") then by_form [] [] explain_on words
+    else (if bytes_eq command (codes "check") then by_form [] [] check_on words
+    else (if bytes_eq command (codes "simulate") then by_form (draw_option.name ∷ []) (codes "--trace" ∷ []) simulate_on words
+    else (if bytes_eq command (codes "generate") then by_form (draw_option.name ∷ size_option.name ∷ []) [] generate_on words
+    else (if bytes_eq command (codes "convert") then by_form [] (codes "--json" ∷ []) convert_on words
+    else (if bytes_eq command (codes "ask") then by_form terms_options [] ask_on words
+    else (if bytes_eq command (codes "fleet") then by_form terms_options [] fleet_on words
+    else (if bytes_eq command (codes "predict") then by_form (terms_options ++ ahead_option.name ∷ []) [] predict_on words
+    else Err UnknownCommand))))))))
 
 -- What the words after the program's name mean.
 abbrev pub meant_by : List Word → Result Meant UsageCause
 meant_by [] = Err NoCommand
 meant_by (command ∷ words) = command_meaning command words
+
+-- what the command asks for, of words that mean this
+abbrev pub command_meant : Result Meant UsageCause → Result Meaning UsageCause
+command_meant meant = and_then meant (λ found. Ok found.command)
 
 -- What the command of these words asks for.
 abbrev pub meaning : List Word → Result Meaning UsageCause

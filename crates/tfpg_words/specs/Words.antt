@@ -1,6 +1,7 @@
 -- How the words after a command come apart: uses of options and flags, and positional words.
 use Rattle.std.specs.Prelude.{ℕ, ◌+◌, ◌==◌, Bool, false, List, [], ◌∷◌, ◌++◌, Option, Some, None}
-use Rattle.std.specs.Prelude.{bytes_eq, codes, count_by, drop, if◌then◌else◌, nat_le, option_map, take}
+use Rattle.std.specs.Prelude.{bytes_eq, codes, count_by, drop, if◌then◌else◌, nat_le, option_and_then, option_map, take}
+use Rattle.std.specs.Bool.{then_some}
 use Rattle.std.specs.List.{list_all, list_any, position}
 
 -- a word of the command line, by its bytes
@@ -66,10 +67,6 @@ pub record Parts : Type 0 where
   pub uses : List Use
   pub positional : List Word
 
--- the parts of no word
-abbrev pub no_parts : Parts
-no_parts = record { uses = []; positional = [] }
-
 -- the parts with one more use before the others
 abbrev pub with_use : Word → Word → Parts → Parts
 with_use name value parts = record parts { uses = (record { name = name; value = value }) ∷ parts.uses }
@@ -89,7 +86,7 @@ after_turn next Wrong others = None
 -- an option may not lack its value
 abbrev pub at_end : Next → Option Parts
 at_end (ValueOf option) = None
-at_end _ = Some no_parts
+at_end _ = Some (record { uses = []; positional = [] })
 
 -- The parts of the words, where each word has its place.
 abbrev pub parts_from : Form → List Word → Next → Option Parts
@@ -101,15 +98,7 @@ abbrev pub are_once : Form → List Use → Bool
 are_once form uses =
     list_all (λ name. nat_le (count_by (λ used. bytes_eq used.name name) uses) 1) (form.options ++ form.flags)
 
--- the parts, where no option and no flag is used twice
-abbrev pub if_once : Form → Parts → Option Parts
-if_once form parts = if are_once form parts.uses then Some parts else None
-
--- the parts that there are, where no option and no flag is used twice
-abbrev pub once : Form → Option Parts → Option Parts
-once form None = None
-once form (Some parts) = if_once form parts
-
--- The parts of the words after a command, where they are of its form.
+-- The parts of the words after a command, where they are of its form and no option and no flag is used twice.
 abbrev pub parts_of_words : Form → List Word → Option Parts
-parts_of_words form words = once form (parts_from form words Any)
+parts_of_words form words =
+    option_and_then (λ parts. then_some (are_once form parts.uses) parts) (parts_from form words Any)

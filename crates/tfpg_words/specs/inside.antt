@@ -4,5 +4,4 @@ pub mod Rules
 pub mod Rows
 pub mod Given
 pub mod Numbers
-pub mod CommandOf
 pub mod PanelsOf

@@ -1,7 +1,10 @@
 //! What the words ask for.
 
+ghost use Rattle.std.specs.Prelude.{◌≡◌, []};
+
 use crate::panel_word::PanelWordList;
-use tfpg_base::Text;
+use std::alloc::Global;
+use tfpg_base::{Items, Text};
 
 /// A command with its values.
 #[derive(Drop)]
@@ -88,4 +91,16 @@ pub struct Planned {
     pub command: Command,
     /// The panels of `diagnose`, in the order of the words: `top:FILE`, `count:FILE` or `json:FILE`. No other command has any.
     pub panels: PanelWordList,
+}
+
+impl Planned {
+    /// The command alone, with no panels.
+    pub(crate) fn alone(alloc: Global, command: Command) -> Planned
+        ensures { result ≡ record { command = command; panels = [] } }
+    {
+        Planned {
+            command,
+            panels: Items::new(alloc),
+        }
+    }
 }

@@ -1,13 +1,11 @@
 //! The plan of a line of words.
 
-ghost use Rattle.std.specs.Prelude.{◌≡◌, ◌≤◌, IfOk, map};
+ghost use Rattle.std.specs.Prelude.{◌≡◌, ◌≤◌, ◌++◌, ◌∷◌, [], IfOk, codes, map};
 ghost use Rattle.std.specs.String.{string_bytes};
-ghost use Rattle.tfpg_words.specs.Meaning.{words_form, check_of, command_meaning, meant_by, other_meaning, without_panels, convert_form, convert_of, terms_form, diagnose_of, diagnose_to, explain_of, generate_form, generate_of, simulate_form, simulate_of, ask_of, fleet_of, predict_form, predict_of};
+ghost use Rattle.tfpg_words.specs.Meaning.{ahead_option, ask_on, by_form, check_on, command_meaning, convert_on, diagnose_on, draw_option, explain_on, fleet_on, generate_on, meant_by, predict_on, simulate_on, size_option, terms_options};
 ghost use Rattle.tfpg_words.specs.PanelWords.{panels_named};
 ghost use Rattle.tfpg_words.specs.Plans.{IsPlanOf};
-ghost use Rattle.tfpg_words.specs.Words.{parts_of_words};
-ghost use Rattle.tfpg_words.specs.inside.CommandOf.{IsCommandOf};
-ghost use Rattle.tfpg_words.specs.inside.Given.{ask_given, check_given, convert_given, diagnose_given, explain_given, generate_given, simulate_given, fleet_given, terms_given, predict_given, predict_numbers};
+ghost use Rattle.tfpg_words.specs.inside.Given.{ask_given, check_given, convert_given, diagnose_given, diagnose_to, explain_given, fleet_given, generate_given, numbers_given, predict_given, simulate_given, terms_given};
 ghost use Rattle.tfpg_base.specs.declared.limits.TheConstants.{MAX_DOUBT, MAX_K};
 ghost use Rattle.tfpg_words.specs.inside.Parts.{rows_in};
 
@@ -23,7 +21,7 @@ use crate::parts::Parts;
 use crate::plan_fault::PlanFault;
 use crate::usage_cause::UsageCause;
 use std::alloc::Global;
-use tfpg_base::{Items, MAX_BUDGET, MAX_CASE_SIZE, MAX_DOUBT, MAX_K, MAX_TIME, Terms, Text};
+use tfpg_base::{MAX_BUDGET, MAX_CASE_SIZE, MAX_DOUBT, MAX_K, MAX_TIME, Terms, Text};
 
 const K: NumberOption = NumberOption {
     name: "k",
@@ -99,27 +97,7 @@ fn plan_command(alloc: Global, command: &str, words: &[String]) -> Result<Planne
 {
     if command == "diagnose" {
         plan_diagnose(alloc, words)
-    } else {
-        plan_other(alloc, command, words)
-    }
-}
-
-/// The plan for a command other than `diagnose`, which has no panels.
-fn plan_other(alloc: Global, command: &str, words: &[String]) -> Result<Planned, PlanFault>
-    ensures { IsPlanOf (without_panels (other_meaning command.now (map string_bytes words.now))) result }
-{
-    let command = command_of(alloc, command, words)?;
-    Ok(Planned {
-        command,
-        panels: Items::new(alloc),
-    })
-}
-
-/// The command of this name, which is not `diagnose`, with the words after it.
-fn command_of(alloc: Global, command: &str, words: &[String]) -> Result<Command, PlanFault>
-    ensures { IsCommandOf (other_meaning command.now (map string_bytes words.now)) result }
-{
-    if command == "explain" {
+    } else if command == "explain" {
         plan_explain(alloc, words)
     } else if command == "check" {
         plan_check(alloc, words)
@@ -142,7 +120,7 @@ fn command_of(alloc: Global, command: &str, words: &[String]) -> Result<Command,
 
 /// `diagnose [--k N] [--doubt N] [--budget N] GRAPH [PANEL]..`
 fn plan_diagnose(alloc: Global, words: &[String]) -> Result<Planned, PlanFault>
-    ensures { IsPlanOf (diagnose_of (parts_of_words terms_form (map string_bytes words.now))) result }
+    ensures { IsPlanOf (by_form terms_options [] diagnose_on (map string_bytes words.now)) result }
 {
     let form = Form {
         options: &[K.name, DOUBT.name, BUDGET.name],
@@ -158,13 +136,7 @@ fn plan_diagnose_by(alloc: Global, parts: &Parts) -> Result<Planned, PlanFault>
     let Some([graph, words @ ..]) = parts.positional() else {
         return Err(PlanFault::Usage(UsageCause::BadWords));
     };
-    let members = both(K.number_in(parts), DOUBT.number_in(parts));
-    let ((k, doubt), budget) = both(members, BUDGET.number_in(parts))?;
-    let terms = Terms {
-        k: k as u32,
-        doubt: doubt as u32,
-        budget,
-    };
+    let terms = terms_in(parts)?;
     diagnose_to(alloc, terms, graph, words)
 }
 
@@ -188,8 +160,8 @@ fn diagnose_to(
 }
 
 /// `explain GRAPH LOG`
-fn plan_explain(alloc: Global, words: &[String]) -> Result<Command, PlanFault>
-    ensures { IsCommandOf (explain_of (parts_of_words words_form (map string_bytes words.now))) result }
+fn plan_explain(alloc: Global, words: &[String]) -> Result<Planned, PlanFault>
+    ensures { IsPlanOf (by_form [] [] explain_on (map string_bytes words.now)) result }
 {
     let form = Form {
         options: &[],
@@ -199,21 +171,22 @@ fn plan_explain(alloc: Global, words: &[String]) -> Result<Command, PlanFault>
     plan_explain_by(alloc, &parts)
 }
 
-fn plan_explain_by(alloc: Global, parts: &Parts) -> Result<Command, PlanFault>
-    ensures { IsCommandOf (explain_given (rows_in parts.now)) result }
+fn plan_explain_by(alloc: Global, parts: &Parts) -> Result<Planned, PlanFault>
+    ensures { IsPlanOf (explain_given (rows_in parts.now)) result }
 {
     let Some([graph, log]) = parts.positional() else {
         return Err(PlanFault::Usage(UsageCause::BadWords));
     };
-    Ok(Command::Explain {
+    let command = Command::Explain {
         graph: Text::of(alloc, graph)?,
         log: Text::of(alloc, log)?,
-    })
+    };
+    Ok(Planned::alone(alloc, command))
 }
 
 /// `check GRAPH LOG`
-fn plan_check(alloc: Global, words: &[String]) -> Result<Command, PlanFault>
-    ensures { IsCommandOf (check_of (parts_of_words words_form (map string_bytes words.now))) result }
+fn plan_check(alloc: Global, words: &[String]) -> Result<Planned, PlanFault>
+    ensures { IsPlanOf (by_form [] [] check_on (map string_bytes words.now)) result }
 {
     let form = Form {
         options: &[],
@@ -223,21 +196,22 @@ fn plan_check(alloc: Global, words: &[String]) -> Result<Command, PlanFault>
     plan_check_by(alloc, &parts)
 }
 
-fn plan_check_by(alloc: Global, parts: &Parts) -> Result<Command, PlanFault>
-    ensures { IsCommandOf (check_given (rows_in parts.now)) result }
+fn plan_check_by(alloc: Global, parts: &Parts) -> Result<Planned, PlanFault>
+    ensures { IsPlanOf (check_given (rows_in parts.now)) result }
 {
     let Some([graph, log]) = parts.positional() else {
         return Err(PlanFault::Usage(UsageCause::BadWords));
     };
-    Ok(Command::Check {
+    let command = Command::Check {
         graph: Text::of(alloc, graph)?,
         log: Text::of(alloc, log)?,
-    })
+    };
+    Ok(Planned::alone(alloc, command))
 }
 
 /// `simulate [--draw N] [--trace] GRAPH SCRIPT`
-fn plan_simulate(alloc: Global, words: &[String]) -> Result<Command, PlanFault>
-    ensures { IsCommandOf (simulate_of (parts_of_words simulate_form (map string_bytes words.now))) result }
+fn plan_simulate(alloc: Global, words: &[String]) -> Result<Planned, PlanFault>
+    ensures { IsPlanOf (by_form (draw_option.name ∷ []) (codes "--trace" ∷ []) simulate_on (map string_bytes words.now)) result }
 {
     let form = Form {
         options: &[DRAW.name],
@@ -247,49 +221,51 @@ fn plan_simulate(alloc: Global, words: &[String]) -> Result<Command, PlanFault>
     plan_simulate_by(alloc, &parts)
 }
 
-fn plan_simulate_by(alloc: Global, parts: &Parts) -> Result<Command, PlanFault>
-    ensures { IsCommandOf (simulate_given (rows_in parts.now)) result }
+fn plan_simulate_by(alloc: Global, parts: &Parts) -> Result<Planned, PlanFault>
+    ensures { IsPlanOf (simulate_given (rows_in parts.now)) result }
 {
     let Some([graph, script]) = parts.positional() else {
         return Err(PlanFault::Usage(UsageCause::BadWords));
     };
     let draw = DRAW.number_in(parts)?;
-    Ok(Command::Simulate {
+    let command = Command::Simulate {
         draw,
         trace: parts.has("trace"),
         graph: Text::of(alloc, graph)?,
         script: Text::of(alloc, script)?,
-    })
+    };
+    Ok(Planned::alone(alloc, command))
 }
 
 /// `generate [--draw N] [--size N]`
-fn plan_generate(alloc: Global, words: &[String]) -> Result<Command, PlanFault>
-    ensures { IsCommandOf (generate_of (parts_of_words generate_form (map string_bytes words.now))) result }
+fn plan_generate(alloc: Global, words: &[String]) -> Result<Planned, PlanFault>
+    ensures { IsPlanOf (by_form (draw_option.name ∷ size_option.name ∷ []) [] generate_on (map string_bytes words.now)) result }
 {
     let form = Form {
         options: &[DRAW.name, SIZE.name],
         flags: &[],
     };
     let parts = Parts::of(alloc, &form, words)?;
-    plan_generate_by(&parts)
+    plan_generate_by(alloc, &parts)
 }
 
-fn plan_generate_by(parts: &Parts) -> Result<Command, PlanFault>
-    ensures { IsCommandOf (generate_given (rows_in parts.now)) result }
+fn plan_generate_by(alloc: Global, parts: &Parts) -> Result<Planned, PlanFault>
+    ensures { IsPlanOf (generate_given (rows_in parts.now)) result }
 {
     if let Some([_, ..]) = parts.positional() {
         return Err(PlanFault::Usage(UsageCause::BadWords));
     }
     let (draw, size) = both(DRAW.number_in(parts), SIZE.number_in(parts))?;
-    Ok(Command::Generate {
+    let command = Command::Generate {
         draw,
         size: size as u32,
-    })
+    };
+    Ok(Planned::alone(alloc, command))
 }
 
 /// `convert [--json] GRAPH`
-fn plan_convert(alloc: Global, words: &[String]) -> Result<Command, PlanFault>
-    ensures { IsCommandOf (convert_of (parts_of_words convert_form (map string_bytes words.now))) result }
+fn plan_convert(alloc: Global, words: &[String]) -> Result<Planned, PlanFault>
+    ensures { IsPlanOf (by_form [] (codes "--json" ∷ []) convert_on (map string_bytes words.now)) result }
 {
     let form = Form {
         options: &[],
@@ -299,21 +275,22 @@ fn plan_convert(alloc: Global, words: &[String]) -> Result<Command, PlanFault>
     plan_convert_by(alloc, &parts)
 }
 
-fn plan_convert_by(alloc: Global, parts: &Parts) -> Result<Command, PlanFault>
-    ensures { IsCommandOf (convert_given (rows_in parts.now)) result }
+fn plan_convert_by(alloc: Global, parts: &Parts) -> Result<Planned, PlanFault>
+    ensures { IsPlanOf (convert_given (rows_in parts.now)) result }
 {
     let Some([graph]) = parts.positional() else {
         return Err(PlanFault::Usage(UsageCause::BadWords));
     };
-    Ok(Command::Convert {
+    let command = Command::Convert {
         json: parts.has("json"),
         graph: Text::of(alloc, graph)?,
-    })
+    };
+    Ok(Planned::alone(alloc, command))
 }
 
 /// `ask [--k N] [--doubt N] [--budget N] GRAPH LOG`
-fn plan_ask(alloc: Global, words: &[String]) -> Result<Command, PlanFault>
-    ensures { IsCommandOf (ask_of (parts_of_words terms_form (map string_bytes words.now))) result }
+fn plan_ask(alloc: Global, words: &[String]) -> Result<Planned, PlanFault>
+    ensures { IsPlanOf (by_form terms_options [] ask_on (map string_bytes words.now)) result }
 {
     let form = Form {
         options: &[K.name, DOUBT.name, BUDGET.name],
@@ -323,25 +300,26 @@ fn plan_ask(alloc: Global, words: &[String]) -> Result<Command, PlanFault>
     plan_ask_by(alloc, &parts)
 }
 
-fn plan_ask_by(alloc: Global, parts: &Parts) -> Result<Command, PlanFault>
-    ensures { IsCommandOf (ask_given (rows_in parts.now)) result }
+fn plan_ask_by(alloc: Global, parts: &Parts) -> Result<Planned, PlanFault>
+    ensures { IsPlanOf (ask_given (rows_in parts.now)) result }
 {
     let Some([graph, log]) = parts.positional() else {
         return Err(PlanFault::Usage(UsageCause::BadWords));
     };
-    let ((k, doubt), budget) = terms_in(parts)?;
-    Ok(Command::Ask {
-        k: k as u32,
-        doubt: doubt as u32,
-        budget,
+    let terms = terms_in(parts)?;
+    let command = Command::Ask {
+        k: terms.k,
+        doubt: terms.doubt,
+        budget: terms.budget,
         graph: Text::of(alloc, graph)?,
         log: Text::of(alloc, log)?,
-    })
+    };
+    Ok(Planned::alone(alloc, command))
 }
 
 /// `fleet [--k N] [--doubt N] [--budget N] GRAPH NAMES`
-fn plan_fleet(alloc: Global, words: &[String]) -> Result<Command, PlanFault>
-    ensures { IsCommandOf (fleet_of (parts_of_words terms_form (map string_bytes words.now))) result }
+fn plan_fleet(alloc: Global, words: &[String]) -> Result<Planned, PlanFault>
+    ensures { IsPlanOf (by_form terms_options [] fleet_on (map string_bytes words.now)) result }
 {
     let form = Form {
         options: &[K.name, DOUBT.name, BUDGET.name],
@@ -351,28 +329,29 @@ fn plan_fleet(alloc: Global, words: &[String]) -> Result<Command, PlanFault>
     plan_fleet_by(alloc, &parts)
 }
 
-fn plan_fleet_by(alloc: Global, parts: &Parts) -> Result<Command, PlanFault>
-    ensures { IsCommandOf (fleet_given (rows_in parts.now)) result }
+fn plan_fleet_by(alloc: Global, parts: &Parts) -> Result<Planned, PlanFault>
+    ensures { IsPlanOf (fleet_given (rows_in parts.now)) result }
 {
     let Some([graph, names]) = parts.positional() else {
         return Err(PlanFault::Usage(UsageCause::BadWords));
     };
-    let ((k, doubt), budget) = terms_in(parts)?;
+    let terms = terms_in(parts)?;
     if !has_names(alloc, names)? {
         return Err(PlanFault::Usage(UsageCause::BadNames));
     }
-    Ok(Command::Fleet {
-        k: k as u32,
-        doubt: doubt as u32,
-        budget,
+    let command = Command::Fleet {
+        k: terms.k,
+        doubt: terms.doubt,
+        budget: terms.budget,
         graph: Text::of(alloc, graph)?,
         names: Text::of(alloc, names)?,
-    })
+    };
+    Ok(Planned::alone(alloc, command))
 }
 
 /// `predict [--k N] [--doubt N] [--budget N] [--ahead N] GRAPH LOG NODE`
-fn plan_predict(alloc: Global, words: &[String]) -> Result<Command, PlanFault>
-    ensures { IsCommandOf (predict_of (parts_of_words predict_form (map string_bytes words.now))) result }
+fn plan_predict(alloc: Global, words: &[String]) -> Result<Planned, PlanFault>
+    ensures { IsPlanOf (by_form (terms_options ++ ahead_option.name ∷ []) [] predict_on (map string_bytes words.now)) result }
 {
     let form = Form {
         options: &[K.name, DOUBT.name, BUDGET.name, AHEAD.name],
@@ -382,43 +361,42 @@ fn plan_predict(alloc: Global, words: &[String]) -> Result<Command, PlanFault>
     plan_predict_by(alloc, &parts)
 }
 
-fn plan_predict_by(alloc: Global, parts: &Parts) -> Result<Command, PlanFault>
-    ensures { IsCommandOf (predict_given (rows_in parts.now)) result }
+fn plan_predict_by(alloc: Global, parts: &Parts) -> Result<Planned, PlanFault>
+    ensures { IsPlanOf (predict_given (rows_in parts.now)) result }
 {
     let Some([graph, log, node]) = parts.positional() else {
         return Err(PlanFault::Usage(UsageCause::BadWords));
     };
-    let (((k, doubt), budget), ahead) = predict_numbers(parts)?;
-    Ok(Command::Predict {
-        k: k as u32,
-        doubt: doubt as u32,
-        budget,
+    let (terms, ahead) = both(terms_in(parts), AHEAD.number_in(parts))?;
+    let command = Command::Predict {
+        k: terms.k,
+        doubt: terms.doubt,
+        budget: terms.budget,
         ahead,
         graph: Text::of(alloc, graph)?,
         log: Text::of(alloc, log)?,
         node: Text::of(alloc, node)?,
+    };
+    Ok(Planned::alone(alloc, command))
+}
+
+/// The terms of a diagnosis.
+fn terms_in(parts: &Parts) -> Result<Terms, UsageCause>
+    ensures { result ≡ terms_given (rows_in parts.now) }
+{
+    let ((k, doubt), budget) = numbers_in(parts)?;
+    Ok(Terms {
+        k: k as u32,
+        doubt: doubt as u32,
+        budget,
     })
 }
 
 /// The numbers of the terms of a diagnosis, which are within their limits.
-fn terms_in(parts: &Parts) -> Result<((u64, u64), u64), UsageCause>
-    ensures numbers { result ≡ terms_given (rows_in parts.now) }
-    ensures small { IfOk result (λ numbers. (numbers.0.0 ≤ MAX_K) × (numbers.0.1 ≤ MAX_DOUBT)) }
-{
-    numbers_in(parts)
-}
-
 fn numbers_in(parts: &Parts) -> Result<((u64, u64), u64), UsageCause>
-    ensures { result ≡ terms_given (rows_in parts.now) }
+    ensures numbers { result ≡ numbers_given (rows_in parts.now) }
+    ensures small { IfOk result (λ numbers. (numbers.0.0 ≤ MAX_K) × (numbers.0.1 ≤ MAX_DOUBT)) }
 {
     let members = both(K.number_in(parts), DOUBT.number_in(parts));
     both(members, BUDGET.number_in(parts))
-}
-
-/// The numbers of the options of `predict`.
-fn predict_numbers(parts: &Parts) -> Result<(((u64, u64), u64), u64), UsageCause>
-    ensures numbers { result ≡ predict_numbers (rows_in parts.now) }
-    ensures small { IfOk result (λ numbers. (numbers.0.0.0 ≤ MAX_K) × (numbers.0.0.1 ≤ MAX_DOUBT)) }
-{
-    both(terms_in(parts), AHEAD.number_in(parts))
 }

@@ -1,6 +1,7 @@
 -- That no option and no flag is used twice, by the rows of a parse and by the parts of the words.
 use Rattle.std.proofs.Common.{◌≡◌, ◌∙◌, ◌&&◌, ap, ap₂, refl, sym, ℕ, Bool, true, false, List, [], ◌∷◌, length, map, Option, Some, None, bytes_eq, nat_le, arith}
-use Rattle.std.specs.Prelude.{count_by, filter, if◌then◌else◌}
+use Rattle.std.specs.Prelude.{count_by, filter, option_and_then}
+use Rattle.std.specs.Bool.{then_some}
 use Rattle.std.specs.List.{list_all}
 use Rattle.std.specs.Borrow.{Bor}
 use Rattle.std.proofs.lemmas.List.{length-map}
@@ -9,10 +10,14 @@ use Rattle.std.proofs.lemmas.List.Folds.{list_all-map, list_all-append}
 use Rattle.tfpg_base.proofs.lemmas.lists.Sequences.{nat_le-min}
 use Rattle.clap.specs.Walk.{Row, Text, count_of}
 use Rattle.tfpg_words.specs.declared.form.Form.{Form as CodeForm}
-use Rattle.tfpg_words.specs.Words.{Form, Parts, Use, Word, are_once, once}
+use Rattle.tfpg_words.specs.Words.{Form, Parts, Use, Word, are_once}
 use Rattle.tfpg_words.specs.inside.Given.{once_given}
 use Rattle.tfpg_words.specs.inside.Parts.{flags_in, options_in}
 use Rattle.tfpg_words.specs.inside.Rows.{AllAmong, Holds, form_for, hyphened, vals, values_of}
+
+-- the parts, where no option and no flag is used twice
+abbrev once : Form → Option Parts → Option Parts
+once form parts = option_and_then (λ said. then_some (are_once form said.uses) said) parts
 
 -- how often a name is used
 abbrev uses_of : Word → List Use → ℕ
@@ -56,14 +61,14 @@ module _ (options flags : List Text) (among_options : AllAmong (map hyphened opt
       → (said : Parts) × (once (form_for options flags) parts ≡ Some said) × Holds (form_for options flags) rows said
   kept parts rows b is on h =
       let all : are_once (form_for options flags) h.0.uses ≡ true = sym (once_is rows h.0 h.2) ∙ (sym is ∙ on) in
-      (h.0, ap (once (form_for options flags)) h.1 ∙ (λ i. if all i then Some h.0 else None), h.2)
+      (h.0, ap (once (form_for options flags)) h.1 ∙ (λ i. then_some (all i) h.0), h.2)
 
   pub repeated : (parts : Option Parts) (rows : List Row) (b : Bool) → b ≡ once_given options flags rows → b ≡ false
       → (said : Parts) × (parts ≡ Some said) × Holds (form_for options flags) rows said
       → once (form_for options flags) parts ≡ None
   repeated parts rows b is off h =
       let some : are_once (form_for options flags) h.0.uses ≡ false = sym (once_is rows h.0 h.2) ∙ (sym is ∙ off) in
-      ap (once (form_for options flags)) h.1 ∙ (λ i. if some i then Some h.0 else None)
+      ap (once (form_for options flags)) h.1 ∙ (λ i. then_some (some i) h.0)
 
 -- ---- over the code's form
 

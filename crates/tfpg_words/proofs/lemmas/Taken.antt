@@ -19,9 +19,9 @@ use Rattle.tfpg_words.proofs.lemmas.walk.Main.{AreUtf8}
 use Rattle.tfpg_words.proofs.lemmas.walk.Forms.{parsed}
 use Rattle.clap.specs.Walk.{Row, Text}
 use Rattle.clap.specs.Kinds.{Kinds}
-use Rattle.tfpg_words.specs.Words.{Form, Parts, no_parts}
+use Rattle.tfpg_words.specs.Words.{Form, Parts}
 use Rattle.tfpg_words.specs.inside.Given.{first_value}
-use Rattle.tfpg_words.specs.inside.Rows.{Holds}
+use Rattle.tfpg_words.specs.inside.Rows.{no_parts, Holds}
 use Rattle.tfpg_words.proofs.lemmas.walk.Walks.{Outcome}
 
 -- a parse that passes has the rows of the parts, and one that fails shows that there are none

@@ -18,6 +18,10 @@ vals id rows = unwrap_or (all_of id rows) []
 abbrev pub values_of : Word → List Use → List Word
 values_of name uses = map (λ used. used.value) (filter (λ used. bytes_eq used.name name) uses)
 
+-- the parts of no word
+abbrev pub no_parts : Parts
+no_parts = record { uses = []; positional = [] }
+
 -- the rows have the parts
 pub record Holds (form : Form) (rows : List Row) (parts : Parts) : Type 0 where
   pub values : (name : Text) → is_word_among form.options (hyphened name) ≡ true

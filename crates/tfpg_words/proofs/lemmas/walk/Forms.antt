@@ -18,8 +18,8 @@ use Rattle.clap.specs.declared.builder.value_parser.Reading.TheVariants as readi
 use Rattle.tfpg_base.proofs.lemmas.lists.Choices.{cond-same}
 use Rattle.tfpg_base.proofs.lemmas.lists.FirstFound.{find-map_fail}
 use Rattle.tfpg_base.proofs.lemmas.lists.SameBytes.{bytes_eq-same, bytes_eq-true, bytes_eq-apart}
-use Rattle.tfpg_words.specs.Words.{Any, Form, Parts, Word, is_word_among, no_parts, parts_from}
-use Rattle.tfpg_words.specs.inside.Rows.{AllAmong, Apart, Holds, form_for, hyphened, joined_to, rules_for, built_for}
+use Rattle.tfpg_words.specs.Words.{Any, Form, Parts, Word, is_word_among, parts_from}
+use Rattle.tfpg_words.specs.inside.Rows.{no_parts, AllAmong, Apart, Holds, form_for, hyphened, joined_to, rules_for, built_for}
 use Rattle.tfpg_words.specs.inside.Rules.{LongIs, between, flag_rule, option_rule, shape_with, words_id, words_rule}
 use Rattle.tfpg_words.proofs.lemmas.walk.Walks.{Outcome, all_nil, both_nil}
 use Rattle.tfpg_words.proofs.lemmas.walk.Rows.{other_values, row_at, vals_in, count_in, skipped, found}

@@ -19,8 +19,8 @@ use Rattle.clap.proofs.ValueTestLemmas.{Accepts-accepts}
 use Rattle.clap.proofs.CountText.{IsSignedIn-count_text}
 use Rattle.std.specs.Prelude.{pos, ◌≤◌}
 use Rattle.clap.specs.Faults.{settle_fault, turn_fault, use_fault, walk_fault, word_fault}
-use Rattle.tfpg_words.specs.Words.{Form, Next, Any, ValueOf, OnlyPositional, Parts, WordUse, Divider, Positional, Used, Waits, Wrong, Use, Word, after_turn, is_word_among, no_parts, option_turn, cut_at_equals, parts_from, use_of_word, with_positional, with_use}
-use Rattle.tfpg_words.specs.inside.Rows.{Apart, Holds, hyphened, joined_to}
+use Rattle.tfpg_words.specs.Words.{Form, Next, Any, ValueOf, OnlyPositional, Parts, WordUse, Divider, Positional, Used, Waits, Wrong, Use, Word, after_turn, is_word_among, option_turn, cut_at_equals, parts_from, use_of_word, with_positional, with_use}
+use Rattle.tfpg_words.specs.inside.Rows.{no_parts, Apart, Holds, hyphened, joined_to}
 use Rattle.tfpg_words.specs.inside.Rules.{LongIs, between, flag_rule, option_rule, shape_with, words_id, words_rule}
 use Rattle.tfpg_words.proofs.lemmas.walk.View.{View, plain, divider, long, short, view, cut_long, named, parted}
 use Rattle.tfpg_words.proofs.lemmas.walk.Turns.{held, quiet, no_subcommand, turn_by, walked_by, words_fault, words_step, plain_met, plain_fault, divider_met, divider_fault, short_fault_is, value_met, lacks, settles, attached, attached_fault, waits, waits_fault, flag, flag_fault, unneeded_fault, unknown_fault}

@@ -1,14 +1,13 @@
 use Rattle.std.proofs.Common.{map, subst, Result}
 use Rattle.std.specs.String.{string_bytes}
 use Rattle.tfpg_words.specs.declared.usage_cause.UsageCause.{UsageCause}
-use Rattle.tfpg_words.specs.Meaning.{Meaning, convert_form}
-use Rattle.tfpg_words.specs.inside.CommandOf.{IsCommandOf}
-use Rattle.tfpg_words.specs.Words.{parts_of_words}
+use Rattle.tfpg_words.specs.Meaning.{Meant}
+use Rattle.tfpg_words.specs.Plans.{IsPlanOf}
 use Rattle.tfpg_words.specs.inside.Parts.{rows_in}
 use Rattle.tfpg_words.proofs.lemmas.Commands.{convert_is}
 use Rattle.tfpg_words.proofs.planning.plan_convert.Goals as goal
 
 pub returns : goal.returns
 returns c =
-    subst (λ (meant : Result Meaning UsageCause). IsCommandOf meant c.plan_convert_by.result)
-    (convert_is (parts_of_words convert_form (map string_bytes c.args.words.now)) (rows_in c.in_ok-parts.parts) c.in_ok-parts.ensures) c.plan_convert_by.ensures
+    subst (λ (meant : Result Meant UsageCause). IsPlanOf meant c.plan_convert_by.result)
+    (convert_is (map string_bytes c.args.words.now) (rows_in c.in_ok-parts.parts) c.in_ok-parts.ensures) c.plan_convert_by.ensures

@@ -1,9 +1,8 @@
 use Rattle.std.proofs.Common.{map, subst, Result}
 use Rattle.std.specs.String.{string_bytes}
 use Rattle.tfpg_words.specs.declared.usage_cause.UsageCause.{UsageCause}
-use Rattle.tfpg_words.specs.Meaning.{Meant, terms_form}
+use Rattle.tfpg_words.specs.Meaning.{Meant}
 use Rattle.tfpg_words.specs.Plans.{IsPlanOf}
-use Rattle.tfpg_words.specs.Words.{parts_of_words}
 use Rattle.tfpg_words.specs.inside.Parts.{rows_in}
 use Rattle.tfpg_words.proofs.lemmas.Commands.{diagnose_is}
 use Rattle.tfpg_words.proofs.planning.plan_diagnose.Goals as goal
@@ -11,4 +10,4 @@ use Rattle.tfpg_words.proofs.planning.plan_diagnose.Goals as goal
 pub returns : goal.returns
 returns c =
     subst (λ (meant : Result Meant UsageCause). IsPlanOf meant c.plan_diagnose_by.result)
-    (diagnose_is (parts_of_words terms_form (map string_bytes c.args.words.now)) (rows_in c.in_ok-parts.parts) c.in_ok-parts.ensures) c.plan_diagnose_by.ensures
+    (diagnose_is (map string_bytes c.args.words.now) (rows_in c.in_ok-parts.parts) c.in_ok-parts.ensures) c.plan_diagnose_by.ensures
