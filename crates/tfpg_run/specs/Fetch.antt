@@ -59,8 +59,8 @@ pub record FetchedUpTo (name : List ℕ) (names : List (List ℕ)) (before now :
   pub fetched : Fetched (take count names) before between
   pub asked : NotesName between now name
 
--- Why there is no graph, for any notion of the first fault of a text, or no text of the other files. They are fetched first, that of the
--- graph before the others.
+-- Why there is no graph, for any notion of the first fault of a text, or no text of the other files. All files are fetched first, that of
+-- the graph before the others.
 abbrev pub IsFetchFaultBy : (List ℕ → GraphFault → Type 0) → List ℕ → List (List ℕ) → ShelfState → ShelfState → FetchFault → Type 0
 -- The shelf failed at the last file that it was asked for.
 IsFetchFaultBy IsFirst graph_name others before now Failed =

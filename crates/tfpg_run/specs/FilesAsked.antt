@@ -5,7 +5,7 @@ use Rattle.tfpg_words.specs.declared.usage_cause.UsageCause.{UsageCause}
 use Rattle.tfpg_words.specs.Meaning.{Meaning, Diagnose, Explain, Check, Simulate, Generate, Convert, Ask, Fleet, Predict}
 use Rattle.tfpg_run.specs.Fetch.{HasFile}
 
--- the files that words name which mean this, in their order; those that are refused name none
+-- the files that words of this meaning name, in their order; refused words name none
 abbrev pub named_files : Result Meaning UsageCause → List (List ℕ)
 named_files (Err cause) = []
 named_files (Ok (Diagnose terms graph)) = graph ∷ []

@@ -1,4 +1,4 @@
--- Each block, and each answer, is written before the next line is taken.
+-- Each block, and each answer, is written before the next read.
 use Rattle.std.specs.Prelude.{◌≡◌, ◌⊎◌, List, [], ℕ, Ok}
 use Rattle.tfpg_base.specs.declared.terms.Terms.{Terms}
 use Rattle.tfpg_base.specs.Lines.{whole_lines}
@@ -21,9 +21,9 @@ pub record WritesWholeLines (IsRight : Tfpg → List (List ℕ) → List ℕ →
   pub works : TakesAndWrites (λ taken written. IsRight graph (whole_lines taken) written) (streams_of before) (streams_of now)
   pub no_write_failed : now.output.faults ≡ before.output.faults
 
--- What is right for a line is written before the next line is taken. A read may fail whenever the input is asked for more: then what is right
--- for all lines that came whole is written, and no write failed, or there is no graph. Nor can it be written after the read that failed,
--- since a write may fail too, and no run has an end in which both failed.
+-- What is right for a line is written before the next read. If a read fails, what is right for all lines that came whole is written, and no
+-- write failed (`whole`); or the file that could not be read was that of the graph. No run has a failed read and a failed write
+-- (`not_both`). A body cannot know which will fail. If it read on before it wrote, that read could fail, then the write, and it had no end.
 pub record WritesInTime (meant : Meaning) (name : List ℕ) (IsRight : World → World → Tfpg → List (List ℕ) → List ℕ → Type 0) : Type 0 where
   pub whole : (before now : World) → RunEnds (Ok meant) before now ReadFault
       → LacksFiles name [] before now ReadFault ⊎ WritesWholeLines (IsRight before now) name before now

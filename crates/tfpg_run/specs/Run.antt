@@ -16,7 +16,7 @@ use Rattle.tfpg_run.specs.fleet.FleetEnds.{FleetEnds}
 use Rattle.tfpg_answers.specs.Forecasts.{prediction}
 use Rattle.tfpg_run.specs.predict.Predicting.{PredictEnds}
 
--- No command touches the desk but the one that diagnoses, and words that are refused do not either.
+-- No command but `diagnose` touches the desk, and refused words do not either.
 abbrev pub LeavesDesk : {Desk : Type 0} → Result Meaning UsageCause → Desk → Desk → Type 0
 LeavesDesk (Ok (Diagnose terms graph)) before now = Unit {0}
 LeavesDesk meant before now = now ≡ before

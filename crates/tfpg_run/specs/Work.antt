@@ -1,4 +1,4 @@
--- How many counted calls a run makes at most: the sum of the limits of its rounds.
+-- How many counted calls a run of `diagnose` or `fleet` makes at most: the sum of the limits of its rounds.
 use Rattle.std.specs.Prelude.{ℕ, List}
 use Rattle.tfpg_graph.specs.Graph.{Tfpg}
 use Rattle.tfpg_words.specs.Meaning.{Meaning, Diagnose, Fleet}
@@ -9,7 +9,8 @@ use Rattle.tfpg_run.specs.fleet.FleetOutput.{fleet_problem}
 use Rattle.tfpg_run.specs.fleet.FleetWork.{IsFleetOutputWithin}
 use Rattle.tfpg_diagnose.specs.Work.{IsReportWithin}
 
--- The file of this name spells a graph, by which the input was worked on to its end, and this holds of its lines and of what was written.
+-- The file of this name spells a graph. By it the input was worked on to its end, and this holds of the graph, of the lines of the input and
+-- of what was written.
 pub record WorksByLines (Holds : Tfpg → List (List ℕ) → List ℕ → Type 0) (name : List ℕ) (before now : World) : Type 0 where
   pub graph : Tfpg
   pub gives : GivesGraph before.shelf name graph

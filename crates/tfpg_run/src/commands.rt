@@ -36,15 +36,15 @@ use tfpg_words::laws::numbers_are_within_their_limits;
 use tfpg_words::{Command, PlanFault, Planned, plan};
 
 /// Does what the words say. To diagnose it reads the graph that they name, then takes the input line by line, writes the block of
-/// each line before the next one is taken, and tells the desk its round. To explain it reads the graph and the log that they name, then the map of
+/// each line before the next read, and tells the desk its round. To explain it reads the graph and the log that they name, then the map of
 /// the input, and then writes the verdict on it. To check it reads the same files, judges the report of the input line by line, and
 /// then writes how many rounds it has. To simulate it reads the graph and the script that they name, and writes the log
 /// or the map of what happens. To generate it draws a graph and a script, diagnoses the log, and writes what became of
 /// the truth. To convert it reads the graph that they name, and writes it in the other form: a graph text as JSON, or JSON as a
 /// graph text. To ask it reads the graph and the log that they name, diagnoses the log, and writes which observation would tell most. To
-/// diagnose a fleet it reads the graph, then takes the input line by line, writes the answer to each line before the next one is taken, and
+/// diagnose a fleet it reads the graph, then takes the input line by line, writes the answer to each line before the next read, and
 /// at the end writes how many vehicles have which failure mode. To predict it reads the graph and the log that they name, diagnoses the
-/// log, and writes when at the earliest a node becomes active by each ranked hypothesis. Searches count their steps on `work`.
+/// log, and writes when at the earliest a node becomes active by each ranked hypothesis. Searches count their calls on `work`.
 pub fn run<F: Shelf, S: Source, K: Sink, L: Ledger>(
     alloc: Global,
     words: &[String],
@@ -78,7 +78,7 @@ pub fn run<F: Shelf, S: Source, K: Sink, L: Ledger>(
         (world (F.state shelf.new) (S.state input.new) (K.state out.new) (seen_by ⟦<Box<dyn Panel> as Panel>⟧.state desk.new)) →
         IsRefusedFor line cause result }
 
-    // A diagnosis that is done, of one system or of many vehicles, kept within the limits of counted calls of its rounds.
+    // A run of `diagnose` or `fleet` that is done made at most as many counted calls as the limits of its rounds allow.
     ensures work { (meant : Meaning) → meaning (map string_bytes words.now) ≡ Ok meant → result ≡ End.Done →
         RunsWithin meant (world (F.state shelf.old) (S.state input.old) (K.state out.old)
         (seen_by ⟦<Box<dyn Panel> as Panel>⟧.state desk.old))
@@ -88,7 +88,7 @@ pub fn run<F: Shelf, S: Source, K: Sink, L: Ledger>(
     // No command but `diagnose` touches the desk.
     ensures desk { LeavesDesk (meaning (map string_bytes words.now)) desk.old desk.new }
 
-    // What a diagnosis has written that is done can be checked by the same graph and the same lines.
+    // What a diagnosis that is done has written can be checked by the same graph and the same lines.
     ensures rechecks { (terms : Terms) (diagnosed : List ℕ) →
         meaning (map string_bytes words.now) ≡ Ok (Diagnose terms diagnosed) → result ≡ End.Done →
         (graph log : List ℕ) (later : World) → FollowsDiagnosis diagnosed graph log

@@ -27,7 +27,7 @@ use tfpg_streams::{OutputFault, StreamFault};
 use tfpg_words::{PlanFault, UsageCause, usage_cause_word};
 
 /// How a run ends. Of several that would hold, the first in the order of the work decides: the words, the files in their order,
-/// the graph, the script, the number of hypotheses, and then input and output line by line.
+/// the graph, the script, room for a probe and its node, the number of hypotheses, and then input and output line by line.
 #[derive(Clone, Copy, Debug, PartialEq, Eq)]
 pub enum End {
     /// All was written, and where the input is read, it was read to its end.

@@ -72,15 +72,14 @@ pub fn a_vehicle_is_diagnosed_as_if_alone()
     rounds_of_the_same_lines_find_the_same();
 }
 
-/// Each block is written before the next line is taken: where a read of the input fails, a run of `diagnose` that has a graph has written the
-/// whole report of the lines that came whole by then, and told its rounds. It cannot do so after that read, since a write may fail too,
-/// and no run ends with both failed.
-pub fn each_block_is_written_before_the_next_line_is_taken()
+/// Each block is written before the next read. If a read of the input fails, a run of `diagnose` has written the whole report of the lines that
+/// came whole by then, and told its rounds. It cannot write after that read: the write may fail too, and no run ends with both failed.
+pub fn each_block_is_written_before_the_next_read()
     ensures { BlocksComeInTime }
 {}
 
-/// So `fleet` writes each answer before it takes the next line.
-pub fn each_answer_is_written_before_the_next_line_is_taken()
+/// So does `fleet` with each answer.
+pub fn each_answer_is_written_before_the_next_read()
     ensures { AnswersComeInTime }
 {}
 
@@ -91,7 +90,7 @@ pub fn files_are_asked_for_in_order()
         AsksInOrder (named_files meant) before.shelf now.shelf }
 {}
 
-/// What a diagnosis has written that is done is accepted by `check`, with the same graph file, and with a log file that has the lines of the
+/// What a diagnosis that is done has written is accepted by `check`, with the same graph file, and with a log file that has the lines of the
 /// input that was diagnosed: the check is done, or memory runs out, where neither files, input nor output fail.
 pub fn what_diagnose_wrote_is_accepted()
     ensures can_be_done { (terms : Terms) (diagnosed graph log : List ℕ) (before now later : World) →

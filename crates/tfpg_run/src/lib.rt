@@ -1,8 +1,9 @@
 //! A run of the diagnoser, from the words of the command line to its end, over any shelf of files, input and output.
 //!
 //! [`run`] is the call that the program makes. It says how it ended by an [`End`], which has an exit code and a line. [`laws`] says that a
-//! simulated set is rejected in no round, that files are asked for in their order, that `diagnose` writes each block before it takes the
-//! next line, that what it wrote is accepted by `check`, and that a graph that is converted to JSON and back is the same graph.
+//! simulated set is rejected in no round, that a vehicle is diagnosed as if alone, that files are asked for in their order, that `diagnose`
+//! writes each block and `fleet` each answer before the next read, that what `diagnose` wrote is accepted by `check`, and that a graph that
+//! is converted to JSON and back is the same graph.
 //! [`panel_lines`] has the lines that panels over files write.
 //!
 //! ```

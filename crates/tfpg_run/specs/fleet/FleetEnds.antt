@@ -29,8 +29,8 @@ IsAnsweredBefore fleet input taken written WriteFault = IsCutOutput fleet input 
 IsAnsweredBefore fleet input taken written fault =
     IsWrittenBefore (IsFleetOutputSoFar fleet) (BeginsFleetOutput fleet) input taken written fault
 
--- How it ends where these bytes were taken, and these were written: with the whole output for the whole input; or with its cause, and
--- what was written by then.
+-- How answering ends where these bytes were taken, and these were written: with the whole output for the whole input; or with its cause,
+-- and what was written by then.
 abbrev pub AnsweringEnds : FleetProblem → Streams → Streams → Result (Unit {0}) StreamFault → List ℕ → List ℕ → Type 0
 AnsweringEnds fleet before now (Ok done) taken written = WritesOutput (IsFleetOutput fleet) before now taken written
 AnsweringEnds fleet before now (Err fault) taken written =

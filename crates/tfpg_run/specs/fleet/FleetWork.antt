@@ -5,8 +5,8 @@ use Rattle.tfpg_diagnose.specs.Work.{AreBlocksWithin}
 use Rattle.tfpg_run.specs.fleet.Answers.{Answer, blocks_for}
 use Rattle.tfpg_run.specs.fleet.FleetOutput.{FleetProblem, IsFleetOutput}
 
--- For the answers to these lines the count of calls went from one number to the other, by at most the sum of what the vehicles took. Each
--- keeps within the limits of its own blocks.
+-- For the answers to these lines the count of calls went from one number to the other, by at most the sum of these numbers, one for each
+-- vehicle. Each is within the limits of the vehicle's own blocks.
 pub record AreAnswersWithin (fleet : FleetProblem) (lines : List (List ℕ)) (answers : List Answer) (start end : ℕ) : Type 0 where
   pub calls : List ℕ
   pub one_each : length calls ≡ length fleet.names
