@@ -63,10 +63,6 @@ class Header(unittest.TestCase):
                 else:
                     self.assertEqual(declared, {one.name: int(one) for one in known})
 
-    def test_never(self):
-        never = found(r"#define TFPG_NEVER UINT64_C\((\d+)\)")
-        self.assertEqual(int(never[1]), layouts.NEVER)
-
     def test_all_of_them_are_there(self):
         self.assertEqual(set(re.findall(r"^\} (tfpg_\w+);", HEADER, re.M)), set(layouts.LAYOUTS))
         self.assertEqual(set(re.findall(r"^(?:tfpg_answer|void) (tfpg_\w+)\(", HEADER, re.M)), set(CALLS))

@@ -3,7 +3,7 @@
 import unittest
 
 from support import EXAMPLES, lint, run, text, tiny, underlined, unwrapped, widest
-from tfpg.lint.log_lines import SENTENCES, explain_log_line
+from tfpg.explaining.log_lines import SENTENCES, explain_log_line
 from tfpg.reading.graphs import graph_of
 
 TINY_GRAPH = tiny()

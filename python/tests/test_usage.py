@@ -3,7 +3,7 @@
 import unittest
 
 from support import EXAMPLES, files, run, tiny, underlined, unwrapped, widest
-from tfpg.lint.usage import explain_words
+from tfpg.explaining.usage import explain_words
 
 NAMES = ",".join(f"V{n}" for n in range(65))
 

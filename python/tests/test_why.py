@@ -5,10 +5,11 @@ import unittest
 from unittest import mock
 
 from support import EXAMPLES, TOP, run, unwrapped
-from tfpg.brief.subject import subject_of
+from tfpg.inputs import subject_of
 from tfpg.reading.clauses import fact_of
 from tfpg.reading.steps import Reason
 from tfpg.saying.contradictions import reason_sentence
+from tfpg.saying.speech import speech_of
 
 NOTHING = """\
 pump.log by pump.tfpg: sets of at most 2 members
@@ -116,7 +117,7 @@ class Why(unittest.TestCase):
         subject = subject_of(*files_of("satellite", "satellite-relay", EXAMPLES / "satellite-relay.report"))
         reason = Reason(kind, event=6)
         fact = fact_of(subject.graph, subject.log, set(), set(), reason)
-        return reason_sentence(subject.speech("RelayStuck"), reason, fact, None)
+        return reason_sentence(speech_of(subject, "RelayStuck"), reason, fact, None)
 
     def test_a_set_that_is_covered(self):
         said = run("brief", *files_of("pump", "pump", EXAMPLES / "pump.report"), "--why", "ValveStuck,LevelWiring")[1]

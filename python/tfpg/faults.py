@@ -4,6 +4,8 @@ from __future__ import annotations
 
 from typing import TYPE_CHECKING
 
+from .limits import MOST_HYPOTHESES, spoken
+
 if TYPE_CHECKING:
     from .calls.answers import Refused
 
@@ -41,7 +43,8 @@ class TooManyHypotheses(Error):
     """There are more than 4,096 hypotheses; `count` says how many."""
 
     def __init__(self, count: int) -> None:
-        super().__init__(f"there are {count:,} hypotheses, and at most 4,096 are possible: use a smaller k, or a smaller doubt")
+        super().__init__(f"there are {count:,} hypotheses, and at most {spoken(MOST_HYPOTHESES)} are possible: "
+                         "use a smaller k, or a smaller doubt")
         self.count = count
 
 

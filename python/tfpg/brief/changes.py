@@ -6,9 +6,9 @@ from typing import Dict, List, Optional, Tuple
 
 from ..reading.reports import Ranked, Refused, Round
 from ..reading.sets import is_proper_part, set_words
+from ..reading.subjects import Subject
 from .paper import Paper
 from .ranking import alarms_words, sets_words
-from .subject import Subject
 
 Places = Dict[str, Tuple[int, Ranked]]
 

@@ -5,20 +5,21 @@ from __future__ import annotations
 import argparse
 import sys
 from pathlib import Path
-from typing import List, Optional, Sequence
+from typing import Sequence
 
-from ..lint.log_lines import explain_log_line
+from ..explaining.log_lines import explain_log_line
+from ..inputs import add_files, add_terms, subject_of, terms_words
 from ..reading.reports import Terms
 from ..reading.spans import spans_at
+from ..reading.subjects import Subject
+from ..saying.speech import speech_of
 from ..saying.times import start_of
 from .changes import put_changes
 from .paper import Paper, has_colour
 from .ranking import put_ranking
-from .subject import Subject, subject_of
 from .why import put_why
 
 MOST_REFUSED = 10
-TERMS = ("k", "doubt", "budget")
 
 DESCRIPTION = """\
 Says what a crew needs of a report: the refused lines, what is ranked now with its
@@ -42,9 +43,7 @@ def brief(words: Sequence[str]) -> int:
 
 def _parser() -> argparse.ArgumentParser:
     parser = argparse.ArgumentParser(prog="tfpg brief", description=DESCRIPTION, formatter_class=argparse.RawDescriptionHelpFormatter)
-    parser.add_argument("graph", metavar="GRAPH")
-    parser.add_argument("log", metavar="LOG")
-    parser.add_argument("report", metavar="REPORT", nargs="?")
+    add_files(parser)
     parser.add_argument("--why", metavar="SET", help="the refutation of a set in words; SET is as in a report, as - or A,!B")
     parser.add_argument("--sets", metavar="N", type=int, default=3, help="how many ranked sets have their history told (3)")
     parser.add_argument("--start", metavar="TIME", type=_start, default=0, help="the time of day of the time 0, as 6:00")
@@ -57,23 +56,6 @@ def _start(text: str) -> int:
     if start is None:
         raise argparse.ArgumentTypeError("a time of day, such as 6:00")
     return start
-
-
-def add_terms(parser: argparse.ArgumentParser) -> None:
-    """The options of `diagnose`, for runs without a report."""
-    for name in TERMS:
-        parser.add_argument(f"--{name}", metavar="N", help="as diagnose has it, if there is no REPORT")
-
-
-def terms_words(said: argparse.Namespace) -> List[str]:
-    """The words of the terms for the program. It judges their numbers."""
-    words: List[str] = []
-    for name in TERMS:
-        value: Optional[str] = getattr(said, name)
-        if value is not None and said.report is not None:
-            raise SystemExit(f"tfpg: --{name} is of a run of the program, and REPORT has been written already")
-        words += [f"--{name}={value}"] if value is not None else []
-    return words
 
 
 def put_head(paper: Paper, subject: Subject, graph: str, log: str) -> None:
@@ -99,7 +81,7 @@ def put_brief(paper: Paper, subject: Subject, told: int) -> None:
         return
     modes, mode = subject.graph.modes, spans_at(subject.log.changes, here.now)[-1].mode
     where = f", in mode {modes[mode]}" if len(modes) > 1 else ""
-    paper.title(f"Now {subject.speech('-').time(here.now)}{where}, by line {here.line}: {subject.line(here.line)}")
+    paper.title(f"Now {speech_of(subject, '-').time(here.now)}{where}, by line {here.line}: {subject.line(here.line)}")
     put_ranking(paper, subject, here, told)
     put_changes(paper, subject)
     ranked, covered, rejected, left = (f"{count:,}" for count in here.counts)

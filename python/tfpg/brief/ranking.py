@@ -4,14 +4,16 @@ from __future__ import annotations
 
 from typing import List
 
+from ..limits import MOST_HYPOTHESES, OPTIONS, spoken
 from ..reading.histories import history_of
 from ..reading.reports import Ranked, Round
 from ..reading.sets import members_of, reach_of, set_words
+from ..reading.subjects import Subject
 from ..saying.activations import activation_sentence
+from ..saying.speech import speech_of
 from .paper import Paper
-from .subject import Subject
 
-MOST_HYPOTHESES, MOST_DOUBT, MOST_K, MOST_BUDGET = 4096, 4, 64, 10**12
+MOST_K, MOST_DOUBT, MOST_BUDGET = (OPTIONS[name].greatest for name in ("--k", "--doubt", "--budget"))
 
 
 def put_ranking(paper: Paper, subject: Subject, here: Round, told: int) -> None:
@@ -29,7 +31,7 @@ def put_ranking(paper: Paper, subject: Subject, here: Round, told: int) -> None:
 
 
 def put_history(paper: Paper, subject: Subject, here: Round, ranked: Ranked) -> None:
-    speech = subject.speech(ranked.set)
+    speech = speech_of(subject, ranked.set)
     for activation in history_of(subject.graph, subject.log, ranked, here.now):
         time = speech.time(activation.time)
         paper.put(f"{time} {activation_sentence(speech, activation)}", 5, len(time) + 1)
@@ -70,7 +72,7 @@ def _put_nothing(paper: Paper, subject: Subject, here: Round) -> None:
         if earlier.ranked:
             break
         since = earlier
-    at = f"since line {since.line}, at {subject.speech('-').time(since.now)}: {subject.line(since.line)}"
+    at = f"since line {since.line}, at {speech_of(subject, '-').time(since.now)}: {subject.line(since.line)}"
     if here.open:
         paper.title(f"Nothing is ranked, {at}")
         _put_open(paper, subject, here)
@@ -98,4 +100,4 @@ def _put_wider(paper: Paper, subject: Subject) -> None:
 
 def _too_many(subject: Subject, k: int, doubt: int) -> str:
     count = subject.set_count(k, doubt)
-    return f", if that did not make {count:,} sets, of which 4,096 are the limit" if count > MOST_HYPOTHESES else ""
+    return f", if that did not make {count:,} sets, of which {spoken(MOST_HYPOTHESES)} are the limit" if count > MOST_HYPOTHESES else ""

@@ -7,14 +7,14 @@ from typing import Optional, Tuple
 from ..reading.reports import Round
 from ..reading.sets import is_proper_part, members_of, set_words, spelled
 from ..reading.steps import steps_of
+from ..reading.subjects import Subject
 from ..reading.texts import BadText
 from ..reading.trees import Case, Choice, Contradiction, Tree, TreeNode, chain_of, contradictions_in, rests_on, tree_of
 from ..saying.choices import case_sentence, excluded_sentence, reused_sentence, split_sentence
 from ..saying.contradictions import contradiction_sentences, reason_sentence
-from ..saying.speech import Speech
+from ..saying.speech import Speech, speech_of
 from .paper import Paper
 from .ranking import sets_words
-from .subject import Subject
 
 MOST_LINES = 10
 CROSS = "✕"
@@ -37,7 +37,7 @@ def put_why(paper: Paper, subject: Subject, asked: str) -> None:
         return
     tree = tree_of(subject.graph, subject.log, text, steps)
     _put_counts(paper, subject, tree)
-    _put_node(paper, subject.speech(text), tree.root, 0)
+    _put_node(paper, speech_of(subject, text), tree.root, 0)
 
 
 def _known(subject: Subject, asked: str) -> str:
@@ -64,7 +64,7 @@ def _meaning(subject: Subject, here: Round, text: str) -> Tuple[str, str]:
         return "ranked", "It is in the ranking of this round. These steps were taken on the way to its history."
     since = next((one for one in subject.rounds if text in one.rejected.values()), None)
     if since is not None:
-        time = subject.speech(text).time(since.now)
+        time = speech_of(subject, text).time(since.now)
         return "rejected", f"Rejected since round {since.number}, at {time}: no history of it explains the log."
     covering = [ranked.set for ranked in here.ranked if is_proper_part(ranked.set, text)]
     if covering:

@@ -6,12 +6,11 @@ from dataclasses import dataclass, field
 from struct import Struct
 from typing import Dict, List, NamedTuple, Optional, Tuple, Union
 
-from ..lint.explaining import line_explanation
-from ..lint.forms import spoken
-from ..lint.refusals import Explanation
+from ..explaining.explanations import Explanation
+from ..explaining.refusals import line_explanation
+from ..limits import MOST_TIME, NEVER, spoken
 from ..reading.graphs import DeclaredGraph
-from ..reading.texts import MOST_TIME, is_number, text_of
-from .layouts import NEVER
+from ..reading.texts import is_number, text_of
 
 
 @dataclass(frozen=True)

@@ -6,13 +6,14 @@ from dataclasses import asdict, dataclass
 from operator import index as whole
 from typing import Tuple
 
+from ..explaining.refusals import NO_ROOM
 from ..faults import Error, FullGraph, NoMemory, NotAccepted, OutOfRange, SessionClosed, TooManyHypotheses, TooMuchInput, UnknownNode
-from ..lint.command_words import OPTIONS
-from ..lint.explaining import NO_ROOM
+from ..limits import FILE_BYTES, INPUT_BYTES, OPTIONS, spoken
 from .graph import Graph
 from .layouts import GRAPH_CAUSES, REPORT_CAUSES, Answer, Status
 
-TOO_LONG = "a log has at most 2^24 bytes, and 2^32 where a report is made of it; a report or a map that is judged has at most 2^32"
+TOO_LONG = (f"a log has at most {spoken(FILE_BYTES)} bytes, and {spoken(INPUT_BYTES)} where a report is made of it; "
+            f"a report or a map that is judged has at most {spoken(INPUT_BYTES)}")
 
 
 @dataclass(frozen=True)

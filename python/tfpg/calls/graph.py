@@ -2,13 +2,13 @@
 
 from __future__ import annotations
 
-import json
 import os
-from typing import Any, Dict, List, Tuple, Union
+from typing import List, Tuple, Union
 
 from ..faults import BadGraph
-from ..lint.explaining import graph_explanation
+from ..explaining.refusals import graph_explanation
 from ..program import file_words, run_program
+from ..reading.graph_json import json_lines
 from ..reading.graphs import DeclaredGraph, Edge, Node, graph_of
 from ..reading.texts import lines_of, shown, text_of
 from .texts import Text, text_bytes
@@ -69,19 +69,5 @@ def graph_text(name: str, content: bytes) -> bytes:
         return ended.output
     line, cause = ended.cause
     if ended.line.startswith("graph ") and line:
-        raise bad_graph(lines_said(json.loads(content)), line, cause)
+        raise bad_graph(json_lines(content), line, cause)
     raise BadGraph(0, cause, "", JSON_FAULTS.get(cause, f"The program says: {ended.line}"))
-
-
-def lines_said(graph: Dict[str, Any]) -> List[str]:
-    """The lines of the text that JSON of the right shape stands for."""
-    lines = ["tfpg 2"] + [f"mode {name}" for name in graph["modes"]]
-    for node in graph["nodes"]:
-        lag = node.get("lag")
-        what = f"watch {node.get('least', 0)} {lag}" if lag is not None else "hidden"
-        lines.append(f"{node['kind']} {node['name']} {node['rarity'] if node['kind'] == 'failure' else what}")
-    for edge in graph["edges"]:
-        modes, greatest = edge["modes"], edge["max"]
-        where = "*" if modes is None else ",".join(modes) or "-"
-        lines.append(f"edge {edge['from']} {edge['to']} {edge['min']} {'inf' if greatest is None else greatest} {where}")
-    return lines + ["end"]

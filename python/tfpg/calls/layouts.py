@@ -8,7 +8,7 @@ from enum import IntEnum
 from struct import Struct
 from typing import Dict, Type
 
-NEVER = 10**12 + 1  # the time of a node that is never active
+from ..reading import causes
 
 
 class Status(IntEnum):
@@ -28,16 +28,10 @@ class Status(IntEnum):
     FULL_GRAPH = 13
 
 
-# The names of causes in docs/formats.md, by their numbers from 1.
-GRAPH_CAUSES = dict(enumerate((
-    "BadHeader", "BadLine", "BadName", "DuplicateName", "UnknownName", "BadNumber", "NumberTooLarge", "MinOverMax", "EdgeIntoFailure",
-    "SelfEdge", "DuplicateEdge", "NoModes", "NoIncoming", "ZeroCycle", "TooManyNodes", "TooManyFailures", "TooManyEdges", "TooManyModes",
-    "TooManyIncoming", "MissingEnd", "AfterEnd"), 1))
-REPORT_CAUSES = dict(enumerate((
-    "AfterClosed", "NotReusable", "NotAClause", "NotAFact", "NotOnPath", "Unchained", "NotNegative", "BadReport", "Surplus", "WrongRound",
-    "WrongHypothesis", "WrongRanked", "NotATrace", "WrongOpen", "WrongRejected", "WrongStatus", "WrongCounts", "EndsEarly"), 1))
-LOG_CAUSES = dict(enumerate((
-    "BadLine", "BadNumber", "TimeTooLarge", "TimeBack", "UnknownName", "NotMonitored", "NotAMode", "LogFull", "ModesFull", "TooLong"), 1))
+# The names of causes by their numbers, which count from 1.
+GRAPH_CAUSES = dict(enumerate(causes.GRAPH_CAUSES, 1))
+REPORT_CAUSES = dict(enumerate(causes.REPORT_CAUSES, 1))
+LOG_CAUSES = dict(enumerate(causes.LOG_CAUSES, 1))
 
 
 class EventKind(IntEnum):

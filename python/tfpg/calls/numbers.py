@@ -5,6 +5,7 @@ from __future__ import annotations
 import ctypes
 from typing import List, Optional, Tuple, Union
 
+from ..limits import LONGEST_NAME
 from .answers import Names, Ranked, Round, Why
 from .layouts import LOG_CAUSES, Handle, NameKind, RankedNumbers, ResultNumbers, Status, numbers_in
 from .library import Library
@@ -12,7 +13,6 @@ from .library import Library
 unpack_result = numbers_in(ResultNumbers).unpack_from
 unpack_ranked = numbers_in(RankedNumbers).unpack_from
 RANKED_SIZE = ctypes.sizeof(RankedNumbers)
-LONGEST_NAME = 32
 
 
 class Numbers:

@@ -12,7 +12,8 @@ from operator import index as whole
 from typing import Dict, Iterator, Optional, Tuple, Type, Union
 
 from ..faults import LineRefused
-from ..reading.texts import LONGEST_LINE, NUMBER
+from ..limits import LONGEST_LINE
+from ..reading.texts import NUMBER
 from .answers import Answered, Refused, Round
 from .endings import About, Terms, fault_of
 from .graph import Graph

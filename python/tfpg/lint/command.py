@@ -8,15 +8,16 @@ from collections import Counter
 from pathlib import Path
 from typing import List, Sequence, Tuple
 
+from ..explaining.command_words import words_in_line
+from ..explaining.explanations import Explanation
+from ..explaining.refusals import explained, graph_explanation, line_explanation
+from ..explaining.usage import explain_node, explain_words, graph_file
 from ..program import Ended, file_words, run_program
 from ..reading.graphs import graph_of
 from ..reading.reports import Refused, read_report
 from ..reading.texts import lines_of, read_text, text_of
-from .command_words import words_in_line
 from .ends import end_sentence
-from .explaining import explained, graph_explanation, line_explanation
-from .refusals import Explanation, Refusal, refusal_lines, wrapped
-from .usage import explain_node, explain_words, graph_file
+from .refusals import Refusal, refusal_lines, wrapped
 
 MOST_TOLD = 20
 REFUSED_WORDS, REFUSED_GRAPH, REFUSED_LINES = 2, 3, 1

@@ -2,13 +2,14 @@
 
 from __future__ import annotations
 
+from ..limits import FILE_BYTES, INPUT_BYTES, spoken
 from ..program import Ended
 
 SENTENCES = {
     4: "There are more sets than the program takes: {count}. Use a smaller --k, or a smaller --doubt.",
     5: "A file is absent or could not be read.",
     6: "Writing the output failed.",
-    7: "The file has more bytes than the program takes: 2^24 of a graph, 2^32 of a log.",
+    7: f"The file has more bytes than the program takes: {spoken(FILE_BYTES)} of a graph, {spoken(INPUT_BYTES)} of a log.",
     8: "Memory ran out.",
 }
 

@@ -3,23 +3,14 @@
 from __future__ import annotations
 
 import textwrap
-from dataclasses import dataclass, field
-from typing import Iterable, List, Optional, Sequence
+from dataclasses import dataclass
+from typing import List, Optional
 
+from ..explaining.explanations import Explanation
 from ..reading.texts import Word, shown
 
 WIDTH = 80
 BEFORE = 30  # bytes of a long line that are shown before the word at fault
-MOST_NAMES = 60
-
-
-@dataclass(frozen=True)
-class Explanation:
-    """The word at fault, if it is one word, a sentence on the cause, and hints on the form."""
-
-    sentence: str
-    word: Optional[Word] = None
-    hints: List[str] = field(default_factory=list)
 
 
 @dataclass(frozen=True)
@@ -30,14 +21,6 @@ class Refusal:
     cause: str
     text: Optional[str]
     explanation: Explanation
-
-
-def listed(title: str, names: Sequence[str]) -> str:
-    """Names in a list, the first of them if they are many."""
-    if not names:
-        return f"{title}: none."
-    more = f" and {len(names) - MOST_NAMES} more" if len(names) > MOST_NAMES else ""
-    return f"{title}: {', '.join(names[:MOST_NAMES])}{more}."
 
 
 def wrapped(text: str, indent: str = "  ") -> List[str]:
@@ -68,8 +51,3 @@ def refusal_lines(refusal: Refusal) -> List[str]:
     for sentence in [refusal.explanation.sentence, *refusal.explanation.hints]:
         lines += wrapped(sentence)
     return lines
-
-
-def join_and(words: Iterable[str]) -> str:
-    some = list(words)
-    return ", ".join(some[:-1]) + " and " + some[-1] if len(some) > 1 else "".join(some)

@@ -6,8 +6,7 @@ import argparse
 import sys
 from typing import Sequence
 
-from ..brief.command import add_terms, terms_words
-from ..brief.subject import subject_of
+from ..inputs import add_files, add_terms, subject_of, terms_words
 
 NO_MATPLOTLIB = 4
 
@@ -19,9 +18,7 @@ sets, the modes, and the alarms. Without REPORT the program is run."""
 def plot(words: Sequence[str]) -> int:
     """Runs the command on these words, and returns its status."""
     parser = argparse.ArgumentParser(prog="tfpg plot", description=DESCRIPTION, formatter_class=argparse.RawDescriptionHelpFormatter)
-    parser.add_argument("graph", metavar="GRAPH")
-    parser.add_argument("log", metavar="LOG")
-    parser.add_argument("report", metavar="REPORT", nargs="?")
+    add_files(parser)
     add_terms(parser)
     said = parser.parse_args(words)
     try:

@@ -11,9 +11,9 @@ matplotlib.use("svg")
 from matplotlib import pyplot  # noqa: E402
 from matplotlib.ticker import MultipleLocator  # noqa: E402
 
-from ..brief.subject import Subject  # noqa: E402
 from ..reading.sets import set_words  # noqa: E402
 from ..reading.spans import spans_at  # noqa: E402
+from ..reading.subjects import Subject  # noqa: E402
 from ..saying.times import time_words  # noqa: E402
 
 MOST_SETS = 12

@@ -5,7 +5,8 @@ from __future__ import annotations
 from dataclasses import dataclass, field
 from typing import List, Optional, Sequence, Set
 
-from .constraints import NEVER, Constraint, at_least, at_least_after, at_most, at_most_after
+from ..limits import NEVER
+from .constraints import Constraint, at_least, at_least_after, at_most, at_most_after
 from .graphs import DeclaredGraph, Edge
 from .logs import Event, EventLog
 from .spans import Span, Window, edge_window, spans_at, window_of

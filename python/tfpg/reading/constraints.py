@@ -6,10 +6,8 @@ from dataclasses import dataclass
 from typing import Optional
 
 from .graphs import Edge
-from .texts import MOST_TIME
 
 ZERO = -1  # the constant zero, beside the numbers of nodes
-NEVER = MOST_TIME + 1  # the time of a node that never becomes active
 
 
 @dataclass(frozen=True)

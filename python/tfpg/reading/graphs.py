@@ -5,7 +5,8 @@ from __future__ import annotations
 from dataclasses import dataclass
 from typing import Dict, FrozenSet, Iterable, List, Optional, Set, Tuple
 
-from .texts import LONGEST_LINE, is_number, lines_of, number_of
+from ..limits import LONGEST_LINE
+from .texts import is_number, lines_of, number_of
 
 HEADERS = {"tfpg 1": 1, "tfpg 2": 2}
 

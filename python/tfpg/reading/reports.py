@@ -6,9 +6,10 @@ import re
 from dataclasses import dataclass, field
 from typing import Dict, List, Optional, Tuple, Union
 
+from .texts import NAME as NAME_SHAPE
 from .texts import BadText, lines_of
 
-N, NAME = r"(0|[1-9][0-9]{0,18})", r"[A-Za-z][A-Za-z0-9_.-]{0,31}"
+N, NAME = r"(0|[1-9][0-9]{0,18})", NAME_SHAPE.pattern
 SET = rf"(-|!?{NAME}(?:,!?{NAME})*)"
 HEADS = [re.compile(rf"report 1 k {N} budget {N}"), re.compile(rf"report 2 k {N} doubt {N} budget {N}")]
 REFUSED = re.compile(rf"refused {N} ([A-Za-z]+)(?: {N})?")

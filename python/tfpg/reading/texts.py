@@ -7,11 +7,10 @@ from dataclasses import dataclass
 from pathlib import Path
 from typing import List
 
-NAME = re.compile(r"[A-Za-z][A-Za-z0-9_.-]{0,31}")
+from ..limits import LONGEST_NAME
+
+NAME = re.compile(rf"[A-Za-z][A-Za-z0-9_.-]{{0,{LONGEST_NAME - 1}}}")
 NUMBER = re.compile(r"0|[1-9][0-9]*")
-LONGEST_LINE = 4096
-MOST_TIME = 10**12
-MOST_RARITY = 10**6
 
 
 class BadText(Exception):

@@ -4,7 +4,8 @@ from __future__ import annotations
 
 from typing import List, Optional, Tuple
 
-from ..reading.constraints import NEVER, Constraint
+from ..limits import NEVER
+from ..reading.constraints import Constraint
 from ..reading.sets import set_words
 from ..reading.steps import Reason
 from ..reading.trees import Case, Choice, Contradiction, chain_of

@@ -6,6 +6,7 @@ from dataclasses import dataclass
 
 from ..reading.graphs import DeclaredGraph, Edge
 from ..reading.logs import EventLog
+from ..reading.subjects import Subject
 from .times import time_words
 
 
@@ -34,3 +35,8 @@ class Speech:
     def line(self, event: int) -> str:
         """The line of the log of an event."""
         return f"line {self.log.events[event - 1].line}"
+
+
+def speech_of(subject: Subject, set_text: str) -> Speech:
+    """What sentences on a set of a subject need."""
+    return Speech(subject.graph, subject.log, set_text, subject.start)

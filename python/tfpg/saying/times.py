@@ -5,7 +5,7 @@ from __future__ import annotations
 import re
 from typing import Optional
 
-from ..reading.constraints import NEVER
+from ..limits import NEVER
 from ..reading.graphs import Edge
 
 SECOND = 1000

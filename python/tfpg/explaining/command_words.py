@@ -3,27 +3,11 @@
 from __future__ import annotations
 
 from dataclasses import dataclass, field
-from typing import Dict, List, NamedTuple, Optional, Sequence, Tuple
+from typing import Dict, List, Optional, Sequence, Tuple
 
+from ..limits import OPTIONS
 from ..reading.texts import Word
 
-
-class Limits(NamedTuple):
-    """The least and the greatest value of an option, and the value without it."""
-
-    least: int
-    greatest: int
-    default: int
-
-
-OPTIONS = {
-    "--k": Limits(0, 64, 2),
-    "--doubt": Limits(0, 4, 0),
-    "--budget": Limits(1, 10**12, 1000),
-    "--ahead": Limits(0, 10**12, 1000),
-    "--draw": Limits(0, 10**12, 1),
-    "--size": Limits(1, 100, 10),
-}
 FLAGS = ("--trace", "--json")
 TERMS = ("--k", "--doubt", "--budget")
 

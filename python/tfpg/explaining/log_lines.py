@@ -5,15 +5,15 @@ from __future__ import annotations
 import re
 from typing import Callable, Dict, List, Optional, Sequence, Tuple
 
+from ..limits import LONGEST_LINE, MOST_CHANGES, MOST_EVENTS, MOST_TIME, spoken
 from ..reading.graphs import DeclaredGraph
-from ..reading.texts import LONGEST_LINE, MOST_TIME, Word, is_number, words_of
-from .forms import empty_word, line_hints, number_hints, quoted, size_hints, spoken
-from .refusals import Explanation, listed
+from ..reading.texts import Word, is_number, words_of
+from .explanations import Explanation, listed
+from .forms import empty_word, line_hints, number_hints, quoted, size_hints
 
 SHAPES = ["T alarm NODE", "T silent NODE", "T sweep", "T tick", "T mode MODE"]
 RIGHT = "The shapes are " + ", ".join(f"`{shape}`" for shape in SHAPES) + "."
 COUNTS = {"alarm": 3, "silent": 3, "mode": 3, "sweep": 2, "tick": 2}
-MOST_EVENTS, MOST_CHANGES = 65536, 1024
 
 
 class RefusedLine:
@@ -109,17 +109,17 @@ def _not_a_mode(here: RefusedLine) -> Explanation:
 
 
 def _log_full(here: RefusedLine) -> Explanation:
-    return Explanation(f"A log has at most {MOST_EVENTS:,} accepted lines, and this one comes after so many.", None)
+    return Explanation(f"A log has at most {spoken(MOST_EVENTS)} accepted lines, and this one comes after so many.", None)
 
 
 def _modes_full(here: RefusedLine) -> Explanation:
-    return Explanation(f"A log has at most {MOST_CHANGES:,} changes of mode, and this one comes after so many.", here.words[1])
+    return Explanation(f"A log has at most {spoken(MOST_CHANGES)} changes of mode, and this one comes after so many.", here.words[1])
 
 
 def _too_long(here: RefusedLine) -> Explanation:
     has_return = re.search(r"\r.", here.line) is not None
     hints = ["There are carriage returns in it. Only a line feed ends a line."] if has_return else []
-    return Explanation(f"A line has at most {LONGEST_LINE:,} bytes, and this one has {len(here.line):,}.", None, hints)
+    return Explanation(f"A line has at most {spoken(LONGEST_LINE)} bytes, and this one has {len(here.line):,}.", None, hints)
 
 
 SENTENCES: Dict[str, Callable[[RefusedLine], Explanation]] = {

@@ -1,23 +1,20 @@
-"""What a brief is of: a graph, the lines of a log, and a report of them."""
+"""What is told of: a graph, the lines of a log, and a report of them."""
 
 from __future__ import annotations
 
 from math import comb
-from pathlib import Path
 from typing import List, Optional, Sequence
 
-from ..program import NoReport, file_words, run_program
-from ..reading.graphs import DeclaredGraph, graph_of
-from ..reading.logs import EventLog
-from ..reading.reports import Report, Round, read_report
-from ..reading.texts import BadText, lines_of, read_text, shown, text_of
-from ..saying.speech import Speech
+from .graphs import DeclaredGraph
+from .logs import EventLog
+from .reports import Report, Round
+from .texts import BadText, shown
 
 MOST_SHOWN = 64  # bytes of a line of the log
 
 
 class Subject:
-    """The texts of a brief, read. `start` is the time of day of the time 0, in milliseconds."""
+    """The texts, read. `start` is the time of day of the time 0, in milliseconds."""
 
     def __init__(self, graph: DeclaredGraph, lines: Sequence[str], report: Report, start: int = 0) -> None:
         self.graph, self.lines, self.report, self.start = graph, list(lines), report, start
@@ -41,9 +38,6 @@ class Subject:
     def last(self) -> Optional[Round]:
         return self.rounds[-1] if self.rounds else None
 
-    def speech(self, set_text: str) -> Speech:
-        return Speech(self.graph, self.log, set_text, self.start)
-
     def line(self, number: int) -> str:
         """What a reader sees of a line of the log."""
         said = self.lines[number - 1]
@@ -53,18 +47,3 @@ class Subject:
         """How many sets of at most k members there are, of which at most so many are monitors."""
         failures, monitors = len(self.graph.failures), len(self.graph.monitored)
         return sum(comb(monitors, wrong) * comb(failures, size - wrong) for size in range(k + 1) for wrong in range(min(size, doubt) + 1))
-
-
-def subject_of(graph: str, log: str, report: Optional[str], terms: Sequence[str] = (), start: int = 0) -> Subject:
-    """Reads the files. Without a report it runs the program on them, with these words for its terms."""
-    declared, lines = graph_of(read_text(graph)), lines_of(read_text(log))
-    said = diagnosed(graph, log, terms) if report is None else read_text(report)
-    return Subject(declared, lines, read_report(said), start)
-
-
-def diagnosed(graph: str, log: str, terms: Sequence[str]) -> str:
-    """The report of the program, or NoReport with the line by which it ended."""
-    ended = run_program(["diagnose", *terms, *file_words(graph)], Path(log).read_bytes())
-    if ended.status != 0:
-        raise NoReport(ended.status, ended.line)
-    return text_of(ended.output)

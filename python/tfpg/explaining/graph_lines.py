@@ -4,14 +4,15 @@ from __future__ import annotations
 
 from typing import Callable, Dict, List, Optional, Sequence
 
+from ..limits import MOST_EDGES, MOST_FAILURES, MOST_INCOMING, MOST_MODES, MOST_NODES, MOST_RARITY, MOST_TIME, spoken
 from ..reading.graphs import DeclaredGraph
-from ..reading.texts import MOST_RARITY, MOST_TIME, Word, is_name, is_number, number_of, words_of
-from .forms import line_hints, name_hints, number_hints, quoted, spoken
+from ..reading.texts import Word, is_name, is_number, number_of, words_of
+from .explanations import Explanation, listed
+from .forms import line_hints, name_hints, number_hints, quoted
 from .graph_shapes import explain_header, explain_shape
-from .refusals import Explanation, listed
 
-MOST = {"TooManyNodes": (512, "nodes"), "TooManyFailures": (64, "failure modes"), "TooManyEdges": (2048, "edges"),
-        "TooManyModes": (64, "modes"), "TooManyIncoming": (32, "edges into one node")}
+MOST = {"TooManyNodes": (MOST_NODES, "nodes"), "TooManyFailures": (MOST_FAILURES, "failure modes"), "TooManyEdges": (MOST_EDGES, "edges"),
+        "TooManyModes": (MOST_MODES, "modes"), "TooManyIncoming": (MOST_INCOMING, "edges into one node")}
 
 
 class RefusedLine:
@@ -106,9 +107,10 @@ def _bad_number(here: RefusedLine) -> Explanation:
 
 
 def _too_large(here: RefusedLine) -> Explanation:
-    most = MOST_RARITY if here.keyword == "failure" else MOST_TIME
+    is_rarity = here.keyword == "failure"
+    most = MOST_RARITY if is_rarity else MOST_TIME
     word = next(word for word in here.numbers() if number_of(word.text) > most)
-    what = "A rarity is at most 1,000,000" if here.keyword == "failure" else f"A lag or a delay is at most {spoken(MOST_TIME)} milliseconds"
+    what = f"A rarity is at most {spoken(most)}" if is_rarity else f"A lag or a delay is at most {spoken(most)} milliseconds"
     hints = ["For no greatest delay write `inf`."] if here.keyword == "edge" and word is here.words[4] else []
     return Explanation(f"{what}, and {quoted(word.text)} is above it.", word, hints)
 

@@ -4,14 +4,14 @@ from __future__ import annotations
 
 from typing import Callable, Dict, List, Sequence
 
+from ..limits import MOST_VEHICLES, OPTIONS, Limits, spoken
 from ..reading.graphs import DeclaredGraph
 from ..reading.texts import Word, is_name, is_number
-from .command_words import COMMANDS, OPTIONS, Limits, Parts, parts_of, usage_of, words_in_line
-from .forms import name_hints, number_hints, quoted, spoken
-from .refusals import Explanation, listed
+from .command_words import COMMANDS, Parts, parts_of, usage_of, words_in_line
+from .explanations import Explanation, listed
+from .forms import name_hints, number_hints, quoted
 
 PANELS = ("top:", "count:", "json:")
-MOST_VEHICLES = 64
 
 
 def explain_words(words: Sequence[str], cause: str) -> Explanation:
@@ -103,7 +103,7 @@ def _bad_names(parts: Parts) -> Explanation:
             return Explanation(sentence, word, name_hints(name))
         if name in names[:number]:
             return Explanation(f"The vehicle {quoted(name)} stands twice.", word)
-    return Explanation("NAMES are 1 to 64 names, no two alike, with commas between.", whole)
+    return Explanation(f"NAMES are 1 to {MOST_VEHICLES} names, no two alike, with commas between.", whole)
 
 
 SENTENCES: Dict[str, Callable[[Parts], Explanation]] = {

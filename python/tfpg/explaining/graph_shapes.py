@@ -4,10 +4,11 @@ from __future__ import annotations
 
 from typing import List, Optional, Sequence, Tuple
 
+from ..limits import LONGEST_LINE, spoken
 from ..reading.graphs import DeclaredGraph
-from ..reading.texts import LONGEST_LINE, Word, words_of
+from ..reading.texts import Word, words_of
+from .explanations import Explanation
 from .forms import empty_word, line_hints, quoted
-from .refusals import Explanation
 
 KEYWORDS = ["mode", "failure", "or", "and", "edge", "end"]
 SHAPES = {
@@ -53,7 +54,7 @@ def explain_shape(line: str, lines: Sequence[str], graph: DeclaredGraph) -> Expl
     """Why a line below the first is refused as `BadLine`, by what the lines above it declare."""
     hints = line_hints(line, lines)
     if len(line) > LONGEST_LINE:
-        return Explanation(f"A line has at most {LONGEST_LINE:,} bytes, and this one has {len(line):,}.", None, hints)
+        return Explanation(f"A line has at most {spoken(LONGEST_LINE)} bytes, and this one has {len(line):,}.", None, hints)
     words = words_of(line)
     if any(word.text == "" for word in words):
         return Explanation("Each space separates two words, so a space too many makes an empty word.", empty_word(line), hints)

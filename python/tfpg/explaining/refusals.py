@@ -5,10 +5,10 @@ from __future__ import annotations
 from typing import Callable, Optional, Sequence
 
 from ..reading.graphs import DeclaredGraph
+from .explanations import Explanation
 from .graph_lines import explain_graph_line
 from .graph_wholes import CAUSES, explain_whole
 from .log_lines import explain_log_line
-from .refusals import Explanation
 
 NO_ROOM = "There is no room for one node and one edge more, which predict needs."
 

@@ -6,9 +6,9 @@ import re
 from datetime import datetime, timezone
 from typing import List, Sequence
 
-from ..reading.texts import MOST_TIME, Word, shown, words_of
+from ..limits import LONGEST_NAME
+from ..reading.texts import Word, shown, words_of
 
-LONGEST_NAME = 32
 SPACES = {"\t": "a tab", "\xa0": "a space that does not break", "\r": "a carriage return"}
 
 
@@ -120,7 +120,3 @@ def size_hints(word: str) -> List[str]:
     return [f"It has {len(word)} digits, as Unix time in {unit} has: it would be {date}. "
             "Take a start of your own, and count milliseconds from it."]
 
-
-def spoken(number: int) -> str:
-    """A limit as a reader sees it."""
-    return "10^12" if number == MOST_TIME else f"{number:,}"

@@ -6,8 +6,8 @@ from typing import List, Optional, Sequence
 
 from ..reading.graphs import DeclaredGraph, Edge
 from ..reading.texts import words_of
+from .explanations import Explanation, join_and
 from .forms import quoted
-from .refusals import Explanation, join_and
 
 CAUSES = ("NoIncoming", "ZeroCycle", "MissingEnd")
 

@@ -1,0 +1,54 @@
+"""What `brief` and `plot` take: GRAPH, LOG and REPORT, or the terms of a run of the program that writes a report."""
+
+from __future__ import annotations
+
+import argparse
+from pathlib import Path
+from typing import List, Optional, Sequence
+
+from .program import NoReport, file_words, run_program
+from .reading.graphs import graph_of
+from .reading.reports import read_report
+from .reading.subjects import Subject
+from .reading.texts import lines_of, read_text, text_of
+
+TERMS = ("k", "doubt", "budget")
+
+
+def add_files(parser: argparse.ArgumentParser) -> None:
+    """The names of the files."""
+    parser.add_argument("graph", metavar="GRAPH")
+    parser.add_argument("log", metavar="LOG")
+    parser.add_argument("report", metavar="REPORT", nargs="?")
+
+
+def add_terms(parser: argparse.ArgumentParser) -> None:
+    """The options of `diagnose`, for runs without a report."""
+    for name in TERMS:
+        parser.add_argument(f"--{name}", metavar="N", help="as diagnose has it, if there is no REPORT")
+
+
+def terms_words(said: argparse.Namespace) -> List[str]:
+    """The words of the terms for the program. It judges their numbers."""
+    words: List[str] = []
+    for name in TERMS:
+        value: Optional[str] = getattr(said, name)
+        if value is not None and said.report is not None:
+            raise SystemExit(f"tfpg: --{name} is of a run of the program, and REPORT has been written already")
+        words += [f"--{name}={value}"] if value is not None else []
+    return words
+
+
+def subject_of(graph: str, log: str, report: Optional[str], terms: Sequence[str] = (), start: int = 0) -> Subject:
+    """Reads the files. Without a report it runs the program on them, with these words for its terms."""
+    declared, lines = graph_of(read_text(graph)), lines_of(read_text(log))
+    said = diagnosed(graph, log, terms) if report is None else read_text(report)
+    return Subject(declared, lines, read_report(said), start)
+
+
+def diagnosed(graph: str, log: str, terms: Sequence[str]) -> str:
+    """The report of the program, or NoReport with the line by which it ended."""
+    ended = run_program(["diagnose", *terms, *file_words(graph)], Path(log).read_bytes())
+    if ended.status != 0:
+        raise NoReport(ended.status, ended.line)
+    return text_of(ended.output)
