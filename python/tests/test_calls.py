@@ -7,7 +7,7 @@ from pathlib import Path
 
 import tfpg
 from support import EXAMPLES, files, library_words, text, tiny
-from tfpg.calls.library import FILE, Library, find_library
+from tfpg.calls.library import CALLS, FILE, Library, find_library
 from tfpg.program import run_program
 
 PUMP = EXAMPLES / "pump.tfpg"
@@ -56,6 +56,15 @@ class Loading(unittest.TestCase):
             Library(str(folder / FILE))
         with self.assertRaisesRegex(tfpg.NoLibrary, "has no tfpg_report"):
             Library("libc.so.6")
+
+    def test_which_calls_keep_the_lock_of_python(self):
+        """Those that only read what is there. Others may take long, as `tfpg_block`, which makes the text after an event."""
+        kept, left = ({name: unittest.mock.Mock() for name in CALLS} for _ in range(2))
+        with unittest.mock.patch("ctypes.PyDLL", return_value=kept), unittest.mock.patch("ctypes.CDLL", return_value=left):
+            bound = list(vars(Library("some.so")).values())
+        reads = {"tfpg_result_of", "tfpg_ranked_at", "tfpg_index", "tfpg_name"}
+        self.assertEqual({name for name in CALLS if kept[name] in bound}, reads)
+        self.assertEqual({name for name in CALLS if left[name] in bound}, CALLS.keys() - reads)
 
     def test_where_it_is(self):
         with unittest.mock.patch.dict("os.environ", {"TFPG_LIBRARY": "here.so"}):

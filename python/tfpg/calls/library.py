@@ -46,8 +46,8 @@ class Library:
     """The calls of a library.
 
     `line`, `event`, `result_of` and `ranked_at` take C values of the right types alone, which are made once: to make them of numbers takes
-    longer than the call. The others take numbers, bytes and places. Other threads run during the calls that may take long, and wait for
-    those that only read what is there."""
+    longer than the call. The others take numbers, bytes and places. Other threads run during the calls that may take long, as `block` may
+    after an event, and wait for those that only read what is there."""
 
     def __init__(self, path: str) -> None:
         try:
@@ -57,7 +57,7 @@ class Library:
         self.path = path
         self.report, self.check, self.open = bind(calls, "tfpg_report"), bind(calls, "tfpg_check"), bind(calls, "tfpg_open")
         self.ask, self.predict, self.explain = bind(calls, "tfpg_ask"), bind(calls, "tfpg_predict"), bind(calls, "tfpg_explain")
-        self.line, self.block, self.close = bind(calls, "tfpg_line", False), bind(reads, "tfpg_block"), bind(calls, "tfpg_close")
+        self.line, self.block, self.close = bind(calls, "tfpg_line", False), bind(calls, "tfpg_block"), bind(calls, "tfpg_close")
         self.event, self.result_of = bind(calls, "tfpg_event", False), bind(reads, "tfpg_result_of", False)
         self.ranked_at = bind(reads, "tfpg_ranked_at", False)
         self.index, self.name = bind(reads, "tfpg_index"), bind(reads, "tfpg_name")
