@@ -41,6 +41,7 @@ extern "C" {
 
 /* The version of this header. It rises with each change of a declaration or a number in it. The library does not say which one it has. */
 #define TFPG_HEADER_VERSION 3
+#define TFPG_VERSION "0.1.0"
 
 /* How a call ended. Where more than one cause holds, the first one is said, in the order of the program: a number out of its range, a fault
  * of the graph, too many hypotheses, a log that is too long. `tfpg_check` says first that a log is too long, then a fault of the graph, and
