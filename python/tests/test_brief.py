@@ -3,6 +3,7 @@
 import unittest
 
 from support import EXAMPLES, TOP, files, run, widest
+from tfpg.reading.causes import LOG_CAUSES
 
 PUMP = """\
 pump.log by pump.tfpg: sets of at most 2 members
@@ -243,7 +244,22 @@ class Words(unittest.TestCase):
         with files(log="5 tick\n", report=report):
             status, said = run("brief", str(EXAMPLES / "pump.tfpg"), "log", "report")
         self.assertEqual(status, 1)
-        self.assertIn("the report names what the graph does not declare", said)
+        self.assertIn("line 3: BadReport: it names what the graph does not declare, so it is of another graph", said)
+
+    def test_a_cause_that_is_none(self):
+        report = (EXAMPLES / "pump.report").read_text().replace("refused 5 TimeBack 3300000", "refused 5 Banana")
+        with files(report=report):
+            status, said = run("brief", str(EXAMPLES / "pump.tfpg"), str(EXAMPLES / "pump.log"), "report")
+        self.assertEqual((status, said), (1, f"tfpg brief: line {1 + report[:report.index('Banana')].count(chr(10))}: BadReport\n"))
+
+    def test_a_cause_that_the_line_does_not_bear(self):
+        """Line 5 is `3290000 tick`: short, with a time, without a name, and no change of mode."""
+        for cause in (*(cause for cause in LOG_CAUSES if cause not in ("TimeBack", "LogFull")), "TimeBack 3290000"):
+            report = (EXAMPLES / "pump.report").read_text().replace("refused 5 TimeBack 3300000", f"refused 5 {cause}")
+            with self.subTest(cause=cause), files(report=report):
+                status, said = run("brief", str(EXAMPLES / "pump.tfpg"), str(EXAMPLES / "pump.log"), "report")
+                self.assertEqual(status, 0)
+                self.assertIn(f"  line 5, {cause.split(' ')[0]}: 3290000 tick\n    The line does not bear out this cause, so", said)
 
     def test_a_text_that_is_no_report(self):
         with files(report="report 2 k 2 doubt 0 budget 1000\nround 1 1 600000\n"):

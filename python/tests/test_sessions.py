@@ -27,7 +27,7 @@ def wanted(graph, log, k=2, doubt=0, budget=1000):
     with files(graph=graph.text):
         ended = run_program(["diagnose", f"--k={k}", f"--doubt={doubt}", f"--budget={budget}", "graph"], log)
     order, found = [], []
-    for block in reports.read_report(text_of(ended.output)).blocks:
+    for block in reports.read_report(text_of(ended.output), graph.declared).blocks:
         if isinstance(block, reports.Refused):
             found.append((block.line, block.cause, block.time))
         else:

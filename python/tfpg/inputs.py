@@ -43,7 +43,7 @@ def subject_of(graph: str, log: str, report: Optional[str], terms: Sequence[str]
     """Reads the files. Without a report it runs the program on them, with these words for its terms."""
     declared, lines = graph_of(read_text(graph)), lines_of(read_text(log))
     said = diagnosed(graph, log, terms) if report is None else read_text(report)
-    return Subject(declared, lines, read_report(said), start)
+    return Subject(declared, lines, read_report(said, declared), start)
 
 
 def diagnosed(graph: str, log: str, terms: Sequence[str]) -> str:

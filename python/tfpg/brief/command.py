@@ -7,7 +7,7 @@ import sys
 from pathlib import Path
 from typing import Sequence
 
-from ..explaining.log_lines import explain_log_line
+from ..explaining.refusals import line_explanation
 from ..inputs import add_files, add_terms, subject_of, terms_words
 from ..reading.reports import Terms
 from ..reading.spans import spans_at
@@ -20,6 +20,7 @@ from .ranking import put_ranking
 from .why import put_why
 
 MOST_REFUSED = 10
+NOT_BORNE = "The line does not bear out this cause, so the report is wrong or of another log. `tfpg check` says more."
 
 DESCRIPTION = """\
 Says what a crew needs of a report: the refused lines, what is ranked now with its
@@ -94,7 +95,7 @@ def put_refused(paper: Paper, subject: Subject) -> None:
     refused = subject.report.refused
     paper.title(f"{_count(len(subject.lines), 'line')}, {len(refused):,} refused")
     for one in refused[:MOST_REFUSED]:
-        explanation = explain_log_line(subject.graph, subject.lines, one.line, one.cause, one.time)
+        explanation = line_explanation(subject.graph, subject.lines, one.line, one.cause, one.time, NOT_BORNE)
         paper.warn(f"line {one.line}, {one.cause}: {subject.line(one.line)}")
         paper.put(explanation.sentence, 4, 0)
     if len(refused) > MOST_REFUSED:

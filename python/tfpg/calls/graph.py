@@ -49,7 +49,7 @@ class Graph:
 
     def node(self, name: str) -> Node:
         """The node of this name, or KeyError."""
-        return self.nodes[self.declared.number_of[name]]
+        return self.declared.node(name)
 
     def fault(self, line: int, cause: str) -> BadGraph:
         """Why this graph is refused."""

@@ -7,7 +7,7 @@ from typing import Callable, Dict, List, Optional, Sequence, Tuple
 
 from ..limits import LONGEST_LINE, MOST_CHANGES, MOST_EVENTS, MOST_TIME, spoken
 from ..reading.graphs import DeclaredGraph
-from ..reading.texts import Word, is_number, words_of
+from ..reading.texts import Word, is_number, number_of, words_of
 from .explanations import Explanation, listed
 from .forms import empty_word, line_hints, number_hints, quoted, size_hints
 
@@ -23,6 +23,7 @@ class RefusedLine:
         self.graph, self.lines, self.number, self.time = graph, lines, number, time
         self.line = lines[number - 1]
         self.words = words_of(self.line)
+        self.texts = [word.text for word in self.words]
 
     def hints(self) -> List[str]:
         return line_hints(self.line, self.lines)
@@ -32,8 +33,10 @@ class RefusedLine:
 
 
 def explain_log_line(graph: DeclaredGraph, lines: Sequence[str], number: int, cause: str, time: Optional[int]) -> Explanation:
-    """Why a line is refused with this cause."""
+    """Why a line is refused with this cause. It is an error, KeyError or IndexError, if no line like this one is."""
     here = RefusedLine(graph, lines, number, time)
+    if not BEARS[cause](here):
+        raise KeyError(cause)
     said = SENTENCES[cause](here)
     return Explanation(said.sentence, said.word, here.hints() + said.hints)
 
@@ -122,6 +125,19 @@ def _too_long(here: RefusedLine) -> Explanation:
     return Explanation(f"A line has at most {spoken(LONGEST_LINE)} bytes, and this one has {len(here.line):,}.", None, hints)
 
 
+# Whether a line bears a cause, as far as it shows that by itself. How many lines were accepted before, it does not.
+BEARS: Dict[str, Callable[[RefusedLine], bool]] = {
+    "BadLine": lambda here: len(here.words) < 2 or "" in here.texts or COUNTS.get(here.texts[1]) != len(here.words),
+    "BadNumber": lambda here: not is_number(here.texts[0]),
+    "TimeTooLarge": lambda here: number_of(here.texts[0]) > MOST_TIME,
+    "TimeBack": lambda here: here.time is not None and number_of(here.texts[0]) < here.time,
+    "UnknownName": lambda here: here.texts[2] not in here.graph.number_of,
+    "NotMonitored": lambda here: here.graph.node(here.texts[2]).lags is None,
+    "NotAMode": lambda here: here.texts[2] not in here.graph.modes,
+    "LogFull": lambda here: True,
+    "ModesFull": lambda here: here.texts[1] == "mode",
+    "TooLong": lambda here: len(here.line) > LONGEST_LINE,
+}
 SENTENCES: Dict[str, Callable[[RefusedLine], Explanation]] = {
     "BadLine": _bad_line,
     "BadNumber": _bad_number,

@@ -10,15 +10,16 @@ from .graph_lines import explain_graph_line
 from .graph_wholes import CAUSES, explain_whole
 from .log_lines import explain_log_line
 
+UNKNOWN = "The program refuses this, and no sentence for it is known here."
 NO_ROOM = "There is no room for one node and one edge more, which predict needs."
 
 
-def explained(explain: Callable[[], Explanation]) -> Explanation:
-    """An explanation; or only that there is none, of a cause that is not known here or a file that has changed meanwhile."""
+def explained(explain: Callable[[], Explanation], otherwise: str = UNKNOWN) -> Explanation:
+    """An explanation; or only another sentence, if the cause is not known here or does not fit what is there."""
     try:
         return explain()
     except (KeyError, IndexError, StopIteration):
-        return Explanation("The program refuses this, and no sentence for it is known here.")
+        return Explanation(otherwise)
 
 
 def graph_explanation(lines: Sequence[str], number: int, cause: str) -> Explanation:
@@ -29,6 +30,7 @@ def graph_explanation(lines: Sequence[str], number: int, cause: str) -> Explanat
     return explained(lambda: explain(lines, number, cause))
 
 
-def line_explanation(graph: DeclaredGraph, lines: Sequence[str], number: int, cause: str, time: Optional[int]) -> Explanation:
-    """Why the line of this number is refused, with the time that the cause carries."""
-    return explained(lambda: explain_log_line(graph, lines, number, cause, time))
+def line_explanation(graph: DeclaredGraph, lines: Sequence[str], number: int, cause: str, time: Optional[int],
+                     otherwise: str = UNKNOWN) -> Explanation:
+    """Why the line of this number is refused, with the time that the cause carries. Else the other sentence is said."""
+    return explained(lambda: explain_log_line(graph, lines, number, cause, time), otherwise)

@@ -13,7 +13,7 @@ from ..explaining.explanations import Explanation
 from ..explaining.refusals import explained, graph_explanation, line_explanation
 from ..explaining.usage import explain_node, explain_words, graph_file
 from ..program import Ended, file_words, run_program
-from ..reading.graphs import graph_of
+from ..reading.graphs import DeclaredGraph, graph_of
 from ..reading.reports import Refused, read_report
 from ..reading.texts import lines_of, read_text, text_of
 from .ends import end_sentence
@@ -80,18 +80,18 @@ def lint_log(graph: str, log: str, tell_all: bool) -> Tuple[int, List[str]]:
     ended = run_program(["diagnose", "--k", "0", "--budget", "1", *file_words(graph)], content)
     if ended.status != 0:
         return _graph_verdict(graph, ended, "")
-    report = read_report(text_of(ended.output))
-    lines = lines_of(text_of(content))
+    declared, lines = graph_of(read_text(graph)), lines_of(text_of(content))
+    report = read_report(text_of(ended.output), declared)
     if not report.refused:
         return 0, [f"{graph}: the program accepts this graph.", f"{log}: the program accepts all {len(lines)} lines."]
-    return REFUSED_LINES, _refused_lines(graph, log, lines, report.refused, tell_all)
+    return REFUSED_LINES, _refused_lines(declared, log, lines, report.refused, tell_all)
 
 
-def _refused_lines(graph: str, log: str, lines: Sequence[str], refused: Sequence[Refused], tell_all: bool) -> List[str]:
-    declared, told = graph_of(read_text(graph)), refused if tell_all else refused[:MOST_TOLD]
+def _refused_lines(graph: DeclaredGraph, log: str, lines: Sequence[str], refused: Sequence[Refused], tell_all: bool) -> List[str]:
+    told = refused if tell_all else refused[:MOST_TOLD]
     said: List[str] = []
     for one in told:
-        explanation = line_explanation(declared, lines, one.line, one.cause, one.time)
+        explanation = line_explanation(graph, lines, one.line, one.cause, one.time)
         said += refusal_lines(Refusal(f"{log} line {one.line}", one.cause, lines[one.line - 1], explanation))
     left = refused[len(told):]
     if left:

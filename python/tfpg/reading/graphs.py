@@ -97,6 +97,10 @@ class DeclaredGraph:
     def name(self, node: int) -> str:
         return self.nodes[node].name
 
+    def node(self, name: str) -> Node:
+        """The node of this name, or KeyError."""
+        return self.nodes[self.number_of[name]]
+
     def edge_of(self, source: int, target: int) -> Optional[Edge]:
         return next((edge for edge in self.incoming[target] if edge.source == source), None)
 

@@ -1,26 +1,18 @@
-"""Reads a report of `diagnose`: its terms, and its blocks in their order. It reads what stands there, and judges nothing."""
+"""Reads a report of `diagnose`: its terms, and its blocks in their order. It reads what stands there, and judges nothing: which lines a
+report may have, and in which order, is all that it asks for."""
 
 from __future__ import annotations
 
-import re
 from dataclasses import dataclass, field
-from typing import Dict, List, Optional, Tuple, Union
+from typing import Any, Callable, Dict, List, Optional, Set, Tuple, Union
 
-from .texts import NAME as NAME_SHAPE
-from .texts import BadText, lines_of
+from ..limits import LONGEST_LINE
+from .graphs import DeclaredGraph
+from .report_lines import AFTER, CAUSES, LAST, NUMBERS, SHAPES
+from .sets import members_of, spelled
+from .texts import BadText, is_number, lines_of
 
-N, NAME = r"(0|[1-9][0-9]{0,18})", NAME_SHAPE.pattern
-SET = rf"(-|!?{NAME}(?:,!?{NAME})*)"
-HEADS = [re.compile(rf"report 1 k {N} budget {N}"), re.compile(rf"report 2 k {N} doubt {N} budget {N}")]
-REFUSED = re.compile(rf"refused {N} ([A-Za-z]+)(?: {N})?")
-ROUND = re.compile(rf"round {N} {N} {N}")
-HYP = re.compile(rf"hyp {N}")
-STEP = re.compile(r"(?:split|cycle|why) [^ ].*|again")
-RANKED = re.compile(rf"ranked {N} cost {N} robust {N}/{N} set {SET}")
-AT = re.compile(rf"at ({NAME}) {N}")
-LISTED = re.compile(rf"(open|rejected) {N} set {SET}")
-COUNTS = re.compile(rf"counts ranked {N} covered {N} rejected {N} open {N}")
-PANEL = re.compile(rf"panel {N} (lost|memory)")
+OTHER_GRAPH = "it names what the graph does not declare, so it is of another graph"
 
 
 @dataclass(frozen=True)
@@ -108,76 +100,196 @@ class Report:
         return {number: here for here in self.rounds for number in here.rejected}
 
 
-def read_report(text: str) -> Report:
-    """What a text says, if it is a report of whole blocks. Else BadText, with the line at which that shows."""
-    lines = lines_of(text)
-    report = Report(_terms(lines[0] if lines else ""))
-    here: Optional[Round] = None
-    for at, line in enumerate(lines[1:], 2):
-        begun = ROUND.fullmatch(line)
-        refused = REFUSED.fullmatch(line)
-        if (begun or refused) and here is not None and not _is_whole(here):
-            raise BadText(at, "BadReport")
-        if begun:
-            here = Round(int(begun[1]), int(begun[2]), int(begun[3]), counts=(-1, 0, 0, 0))
-            report.blocks.append(here)
-        elif refused:
-            report.blocks.append(Refused(int(refused[1]), refused[2], int(refused[3]) if refused[3] else None))
-            here = None
-        elif here is None or not _take(here, line, at):
-            raise BadText(at, "BadReport")
-    if here is not None and not _is_whole(here):
+class NoLine(Exception):
+    """No report goes on with a line, with what more is to be said of that, or nothing."""
+
+
+@dataclass(frozen=True)
+class Line:
+    """A line of a report: its number, its text, and the values of its words by its shape: numbers, names, and sets and causes as they are
+    spelled."""
+
+    at: int
+    text: str
+    values: List[Any]
+
+    @property
+    def last_word(self) -> str:
+        return self.text.split(" ")[-1]
+
+
+def read_report(text: str, graph: DeclaredGraph) -> Report:
+    """What a text says, if it is a report of whole blocks about this graph. Else BadText: BadReport at the first line with which no report
+    goes on, or EndsEarly."""
+    lines, reader = lines_of(text), Reader(graph)
+    for at, line in enumerate(lines, 1):
+        try:
+            reader.take(at, line)
+        except NoLine as fault:
+            raise BadText(at, ": ".join(["BadReport", *fault.args])) from None
+    if reader.before not in LAST.split(" "):
         raise BadText(len(lines) + 1, "EndsEarly")
-    return report
+    return Report(reader.terms, reader.blocks)
 
 
-def _terms(head: str) -> Terms:
-    first, second = (shape.fullmatch(head) for shape in HEADS)
-    if first:
-        return Terms(int(first[1]), 0, int(first[2]))
-    if second:
-        return Terms(int(second[1]), int(second[2]), int(second[3]))
-    raise BadText(1, "BadReport")
+class Reader:
+    """Takes the lines of a report one by one, and keeps what they say."""
+
+    def __init__(self, graph: DeclaredGraph) -> None:
+        self.shapes = Shapes(graph)
+        self.terms, self.here = Terms(0, 0, 0), Round(0, 0, 0)  # the last round
+        self.blocks: List[Block] = []
+        self.before = ""  # the first word of the line before
+        self.owed = 0  # so many reasons of the last cycle are to come
+        self.last = -1  # the last node of a trace, or the last panel that was lost
+
+    def take(self, at: int, text: str) -> None:
+        """Keeps what a line says, or raises NoLine if no report goes on with it."""
+        kind = text.split(" ")[0]
+        if kind not in AFTER[self.before].split(" ") or (kind == "why") != (self.owed > 0):
+            raise NoLine
+        KEEPERS[kind](self, Line(at, text, self.shapes.values(text)))
+        self.before = kind
+
+    def head(self, line: Line) -> None:
+        k, *doubt, budget = line.values
+        self.terms = Terms(k, sum(doubt), budget)
+
+    def refuse(self, line: Line) -> None:
+        number, said = line.values
+        self.blocks.append(Refused(number, said, None) if isinstance(said, str) else Refused(number, "TimeBack", said))
+
+    def begin_round(self, line: Line) -> None:
+        self.here = Round(*line.values)
+        self.blocks.append(self.here)
+
+    def begin_part(self, line: Line) -> None:
+        self.here.parts.append(Part(line.values[0], line.at + 1))
+
+    def keep_step(self, line: Line) -> None:
+        self.here.parts[-1].lines.append(line.text)
+
+    def begin_cycle(self, line: Line) -> None:
+        self.keep_step(line)
+        self.owed = line.values[0]
+
+    def keep_reason(self, line: Line) -> None:
+        self.keep_step(line)
+        self.owed -= 1
+
+    def rank(self, line: Line) -> None:
+        self.here.ranked.append(Ranked(*line.values))
+        self.last = -1
+
+    def activate(self, line: Line) -> None:
+        name, time = line.values
+        self.rise(self.shapes.graph.number_of[name])
+        self.here.ranked[-1].trace.append((name, time))
+
+    def leave_open(self, line: Line) -> None:
+        number, text = line.values
+        self.here.open[number] = text
+
+    def reject(self, line: Line) -> None:
+        number, text = line.values
+        self.here.rejected[number] = text
+
+    def count(self, line: Line) -> None:
+        ranked, covered, rejected, left = line.values
+        self.here.counts = ranked, covered, rejected, left
+        self.last = -1
+
+    def lose(self, line: Line) -> None:
+        self.rise(line.values[0])
+        self.here.panels.append((line.values[0], line.last_word))
+
+    def rise(self, number: int) -> None:
+        """Refuses a number that is not above the last one."""
+        if number <= self.last:
+            raise NoLine
+        self.last = number
 
 
-def _is_whole(here: Round) -> bool:
-    return here.counts[0] >= 0
+KEEPERS: Dict[str, Callable[[Reader, Line], None]] = {
+    "report": Reader.head,
+    "refused": Reader.refuse,
+    "round": Reader.begin_round,
+    "hyp": Reader.begin_part,
+    "split": Reader.keep_step,
+    "again": Reader.keep_step,
+    "cycle": Reader.begin_cycle,
+    "why": Reader.keep_reason,
+    "ranked": Reader.rank,
+    "at": Reader.activate,
+    "open": Reader.leave_open,
+    "rejected": Reader.reject,
+    "counts": Reader.count,
+    "panel": Reader.lose,
+}
 
 
-def _take(here: Round, line: str, at: int) -> bool:
-    """Keeps what a line of a round says, or returns false if no round has such a line there."""
-    said = PANEL.fullmatch(line)
-    if _is_whole(here):
-        if said:
-            here.panels.append((int(said[1]), said[2]))
-        return said is not None
-    said = AT.fullmatch(line)
-    if said:
-        if here.ranked:
-            here.ranked[-1].trace.append((said[1], int(said[2])))
-        return bool(here.ranked)
-    if STEP.fullmatch(line):
-        if here.parts:
-            here.parts[-1].lines.append(line)
-        return bool(here.parts)
-    return _take_hypothesis(here, line, at)
+class Shapes:
+    """What the lines of reports about a graph may be."""
+
+    def __init__(self, graph: DeclaredGraph) -> None:
+        self.graph = graph
+        self.known: Set[str] = set()  # the sets that were right
+        self.forms: Dict[Tuple[str, int], List[List[str]]] = {}
+        for shape in SHAPES:
+            words = shape.split(" ")
+            self.forms.setdefault((words[0], len(words)), []).append(words)
+
+    def values(self, text: str) -> List[Any]:
+        """The values of a line, or NoLine if it has no shape."""
+        words = text.split(" ")
+        for form in self.forms.get((words[0], len(words)), []) if len(text) <= LONGEST_LINE else []:
+            pairs = list(zip(form, words))
+            if all(asked.isupper() or asked == word for asked, word in pairs):
+                found = [value for asked, word in pairs if asked.isupper() for value in self.word_values(asked, word)]
+                self.need_edge(dict(pairs))
+                return found
+        raise NoLine
+
+    def word_values(self, asked: str, word: str) -> List[Any]:
+        """The values of a word in the place of one in capitals. A fraction has two."""
+        if "/" in asked:
+            parts = list(zip(asked.split("/"), word.split("/")))
+            if asked.count("/") != word.count("/"):
+                raise NoLine
+            return [value for one, part in parts for value in self.word_values(one, part)]
+        if asked in NUMBERS:
+            return [number_within(word, *NUMBERS[asked])]
+        if asked == "SET":
+            self.need_set(word)
+        elif asked == "CAUSE" and word not in CAUSES:
+            raise NoLine
+        elif asked != "CAUSE" and word not in self.graph.number_of:
+            raise NoLine(OTHER_GRAPH)
+        return [word]
+
+    def need_edge(self, words: Dict[str, str]) -> None:
+        """Refuses a source and a target between which there is no edge."""
+        if "SOURCE" in words:
+            source, target = self.graph.number_of[words["SOURCE"]], self.graph.number_of[words["TARGET"]]
+            if self.graph.edge_of(source, target) is None:
+                raise NoLine(OTHER_GRAPH)
+
+    def need_set(self, text: str) -> None:
+        """Refuses a set of others than failure modes and monitors, or whose members are not in order."""
+        if text in self.known:
+            return
+        failures, doubts = members_of(text)
+        if not self.graph.number_of.keys() >= {*failures, *doubts}:
+            raise NoLine(OTHER_GRAPH)
+        kinds = [self.graph.node(name).kind for name in failures], [self.graph.node(name).lags for name in doubts]
+        is_twice = len({*failures}) < len(failures) or len({*doubts}) < len(doubts)
+        if {*kinds[0]} - {"failure"} or None in kinds[1] or is_twice or spelled(self.graph, text) != text:
+            raise NoLine
+        self.known.add(text)
 
 
-def _take_hypothesis(here: Round, line: str, at: int) -> bool:
-    """The same of lines that begin a part, name a hypothesis with its status, or count them."""
-    said = HYP.fullmatch(line)
-    if said:
-        here.parts.append(Part(int(said[1]), at + 1))
-        return True
-    said = RANKED.fullmatch(line)
-    if said:
-        here.ranked.append(Ranked(int(said[1]), int(said[2]), int(said[3]), int(said[4]), said[5]))
-        return True
-    said = LISTED.fullmatch(line)
-    if said:
-        (here.open if said[1] == "open" else here.rejected)[int(said[2])] = said[3]
-        return True
-    said = COUNTS.fullmatch(line)
-    if said:
-        here.counts = (int(said[1]), int(said[2]), int(said[3]), int(said[4]))
-    return said is not None
+def number_within(word: str, least: int, greatest: int) -> int:
+    """A number from a least to a greatest one."""
+    if not is_number(word) or len(word) > len(str(greatest)) or not least <= int(word) <= greatest:
+        raise NoLine
+    return int(word)

@@ -7,7 +7,6 @@ from typing import List, Optional
 
 from .graphs import DeclaredGraph, Edge
 from .reports import Report, Round
-from .texts import BadText
 
 
 @dataclass(frozen=True)
@@ -58,15 +57,12 @@ def steps_of(graph: DeclaredGraph, report: Report, hypothesis: int) -> List[Step
 def _take(graph: DeclaredGraph, steps: List[Step], here: Round, at: int, line: str) -> None:
     """Adds the step that a line begins, or the reason that it says to the last step."""
     words = line.split(" ")
-    try:
-        if words[0] == "split":
-            steps.append(Step("split", at, here, clause=_clause(graph, words)))
-        elif words[0] == "why":
-            steps[-1].reasons.append(_reason(graph, words))
-        else:
-            steps.append(Step(words[0], at, here))
-    except (KeyError, IndexError, ValueError):
-        raise BadText(at, "BadReport") from None
+    if words[0] == "split":
+        steps.append(Step("split", at, here, clause=_clause(graph, words)))
+    elif words[0] == "why":
+        steps[-1].reasons.append(_reason(graph, words))
+    else:
+        steps.append(Step(words[0], at, here))
 
 
 def _clause(graph: DeclaredGraph, words: List[str]) -> Clause:

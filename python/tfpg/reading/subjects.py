@@ -25,14 +25,10 @@ class Subject:
         self._need_fit()
 
     def _need_fit(self) -> None:
-        """Refuses a report that is not of these lines and this graph, as far as their times and names show that."""
+        """Refuses a report that is not of these lines, as far as its times show that."""
         for here, event in zip(self.rounds, self.log.events):
             if here.now != event.time:
                 raise BadText(here.line, "the report has another time for this line: it is of another log")
-            named = {member.lstrip("!") for one in here.ranked for member in one.set.split(",") if one.set != "-"}
-            named |= {name for one in here.ranked for name, _ in one.trace}
-            if not named <= self.graph.number_of.keys():
-                raise BadText(here.line, "the report names what the graph does not declare: it is of another graph")
 
     @property
     def last(self) -> Optional[Round]:
