@@ -27,7 +27,8 @@ def written(command, folder):
     """What a command writes in this folder, beside which the examples stand."""
     words = {**os.environ, "PYTHONPATH": str(TOP / "python"), "TFPG_PROGRAM": find_program(), "PYTHONDONTWRITEBYTECODE": "1"}
     command = re.sub(r"^python3 ", f"{sys.executable} ", command)
-    return subprocess.run(["sh", "-c", command], cwd=folder, env=words, stdout=subprocess.PIPE, check=False).stdout.decode()
+    return subprocess.run(["sh", "-c", command], cwd=folder, env=words, stdout=subprocess.PIPE,
+                          stderr=subprocess.DEVNULL, check=False).stdout.decode()
 
 
 def printed(*words, folder=TOP):

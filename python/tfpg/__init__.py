@@ -11,14 +11,17 @@ from .calls.graph import Graph
 from .calls.predicting import Forecast, Prediction, predict
 from .calls.session import Session
 from .calls.whole_logs import check, report
-from .faults import (BadGraph, Error, FullGraph, LineRefused, LogFull, NoLibrary, NoMemory, NoProgram, NotAccepted, OutOfRange,
+from .faults import (BadGraph, BadRecord, Error, FullGraph, LineRefused, LogFull, NoLibrary, NoMemory, NoProgram, NotAccepted, OutOfRange,
                      SessionClosed, TooManyHypotheses, TooMuchInput, UnknownNode)
 from .reading.graphs import Edge, Node
+from .recording.calling import records
+from .recording.making import RecordedLog
 
 __version__ = "0.1.0"
 
 __all__ = [
-    "BadGraph", "Edge", "Error", "Forecast", "FullGraph", "Graph", "LineRefused", "LogFull", "NoLibrary", "NoMemory", "NoProgram", "Node",
-    "NotAccepted", "OutOfRange", "Prediction", "Question", "Questions", "Ranked", "Refused", "Round", "Session", "SessionClosed",
-    "TooManyHypotheses", "TooMuchInput", "UnknownNode", "Verdict", "ask", "check", "explain", "predict", "report",
+    "BadGraph", "BadRecord", "Edge", "Error", "Forecast", "FullGraph", "Graph", "LineRefused", "LogFull", "NoLibrary", "NoMemory",
+    "NoProgram", "Node", "NotAccepted", "OutOfRange", "Prediction", "Question", "Questions", "Ranked", "RecordedLog", "Refused", "Round",
+    "Session", "SessionClosed", "TooManyHypotheses", "TooMuchInput", "UnknownNode", "Verdict", "ask", "check", "explain", "predict",
+    "records", "report",
 ]

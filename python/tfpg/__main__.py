@@ -1,4 +1,4 @@
-"""Runs a command: `python3 -m tfpg lint`, `brief` or `plot`."""
+"""Runs a command: `python3 -m tfpg records`, `lint`, `brief` or `plot`."""
 
 from __future__ import annotations
 
@@ -7,14 +7,16 @@ import sys
 from typing import Callable, Dict, List, Sequence
 
 from .brief.command import brief
-from .faults import NoProgram
+from .faults import BadGraph, BadRecord, NoProgram
 from .lint.command import lint
 from .plot.command import plot
 from .program import NO_TRIAL, NoReport
 from .reading.texts import BadText
+from .recording.command import records
 
-COMMANDS: Dict[str, Callable[[Sequence[str]], int]] = {"lint": lint, "brief": brief, "plot": plot}
+COMMANDS: Dict[str, Callable[[Sequence[str]], int]] = {"records": records, "lint": lint, "brief": brief, "plot": plot}
 USAGE = """\
+python3 -m tfpg records GRAPH RECORDS..     the log of the records of a system
 python3 -m tfpg lint GRAPH [LOG]            what the program refuses, and why
 python3 -m tfpg lint --words WORD..         the same of the words of a command line
 python3 -m tfpg brief GRAPH LOG [REPORT]    what a crew reads of a report
@@ -36,7 +38,7 @@ def main(words: List[str]) -> int:
     except NoReport as fault:
         print(f"tfpg {words[0]}: {fault}", file=sys.stderr)
         return fault.status
-    except BadText as fault:
+    except (BadText, BadRecord, BadGraph) as fault:
         print(f"tfpg {words[0]}: {fault}", file=sys.stderr)
         return BAD_TEXT
     except OSError as fault:

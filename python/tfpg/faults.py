@@ -56,6 +56,20 @@ class NoMemory(Error, MemoryError):
     """Memory ran out. A session is closed then."""
 
 
+class BadRecord(Error, ValueError):
+    """A record cannot be taken into a log: its file, or nothing if it stands in none, the line there, from 1, and a sentence. The line is 0
+    if it is no matter of one record."""
+
+    def __init__(self, file: str, line: int, sentence: str) -> None:
+        super().__init__(file, line, sentence)
+        self.file, self.line, self.sentence = file, line, sentence
+
+    def __str__(self) -> str:
+        place = [self.file] if self.file else []
+        place += [f"line {self.line}" if self.file else f"record {self.line}"] if self.line else []
+        return f"{' '.join(place)}: {self.sentence}" if place else self.sentence
+
+
 class SessionClosed(Error):
     """The session is closed, by a call or since memory ran out before."""
 
