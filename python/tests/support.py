@@ -44,8 +44,8 @@ def run(*words: str) -> Tuple[int, str]:
         try:
             status = main(list(words))
         except SystemExit as end:
-            status = end.code if isinstance(end.code, int) else 2
-            faults.write("" if isinstance(end.code, (int, type(None))) else str(end.code))
+            status = end.code if isinstance(end.code, int) else int(end.code is not None)  # as Python itself ends
+            faults.write("" if isinstance(end.code, (int, type(None))) else f"{end.code}\n")
     return status, output.getvalue() + faults.getvalue()
 
 

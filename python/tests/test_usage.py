@@ -75,6 +75,16 @@ class Usage(unittest.TestCase):
         self.assertEqual(status, 3)
         self.assertTrue(said.startswith("The program accepts the words, and refuses the graph.\ngraph line 4: BadNumber\n"), said)
 
+    def test_names_of_files_with_letters_of_all_kinds(self):
+        with files(**{"gräph": tiny((4, "failure Leak two"))}):
+            status, said = run("lint", "--words", "convert", "gräph")
+            self.assertEqual(status, 3)
+            self.assertIn("\ngräph line 4: BadNumber\n", said)
+        with files(**{"gräph": tiny(), "log": ""}):
+            status, said = run("lint", "--words", "predict", "gräph", "log", "Nobody")
+            self.assertEqual(status, 2)
+            self.assertIn("The graph declares no node `Nobody`. Its nodes: Leak, Jam, Hidden, Wet.", unwrapped(said))
+
     def test_ends_that_are_no_fault_of_a_word(self):
         status, said = run("lint", "--words", "convert", "no-such-file")
         self.assertEqual(status, 5)

@@ -75,8 +75,10 @@ class Words(unittest.TestCase):
 
     def test_a_report_has_its_terms(self):
         names = [str(EXAMPLES / name) for name in ("pump.tfpg", "pump.log", "pump.report")]
-        status, said = run("brief", "--k", "3", *names)
-        self.assertEqual((status, said), (2, "tfpg: --k is of a run of the program, and REPORT has been written already"))
+        for command in ("brief", "plot"):
+            status, said = run(command, "--k", "3", *names)
+            self.assertEqual(status, 2)
+            self.assertIn(f"tfpg {command}: error: --k is of a run of the program, and REPORT has been written already\n", said)
 
 
 class Shown(unittest.TestCase):

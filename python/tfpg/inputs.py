@@ -28,13 +28,13 @@ def add_terms(parser: argparse.ArgumentParser) -> None:
         parser.add_argument(f"--{name}", metavar="N", help="as diagnose has it, if there is no REPORT")
 
 
-def terms_words(said: argparse.Namespace) -> List[str]:
-    """The words of the terms for the program. It judges their numbers."""
+def terms_words(parser: argparse.ArgumentParser, said: argparse.Namespace) -> List[str]:
+    """The words of the terms for the program, which judges their numbers. With a report they are refused."""
     words: List[str] = []
     for name in TERMS:
         value: Optional[str] = getattr(said, name)
         if value is not None and said.report is not None:
-            raise SystemExit(f"tfpg: --{name} is of a run of the program, and REPORT has been written already")
+            parser.error(f"--{name} is of a run of the program, and REPORT has been written already")
         words += [f"--{name}={value}"] if value is not None else []
     return words
 

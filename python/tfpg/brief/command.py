@@ -30,9 +30,10 @@ Without REPORT the program is run, with --k, --doubt and --budget as `diagnose` 
 
 def brief(words: Sequence[str]) -> int:
     """Runs the command on these words, and returns its status."""
-    said = _parser().parse_args(words)
+    parser = _parser()
+    said = parser.parse_args(words)
     paper = Paper(has_colour(sys.stdout))
-    subject = subject_of(said.graph, said.log, said.report, terms_words(said), said.start)
+    subject = subject_of(said.graph, said.log, said.report, terms_words(parser, said), said.start)
     put_head(paper, subject, said.graph, said.log)
     if said.why is None:
         put_brief(paper, subject, said.sets)

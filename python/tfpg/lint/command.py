@@ -103,8 +103,13 @@ def _refused_lines(graph: DeclaredGraph, log: str, lines: Sequence[str], refused
 
 def _words_explanation(words: Sequence[str], cause: str) -> Explanation:
     if cause == "UnknownNode":
-        return explain_node(words, graph_of(read_text(graph_file(words))))
+        return explain_node(words, graph_of(read_text(_file_name(words))))
     return explain_words(words, cause)
+
+
+def _file_name(words: Sequence[str]) -> str:
+    """The name of the graph's file, whose bytes the words have."""
+    return os.fsdecode(graph_file(words).encode("latin-1"))
 
 
 def lint_words(words: Sequence[str]) -> Tuple[int, List[str]]:
@@ -117,7 +122,7 @@ def lint_words(words: Sequence[str]) -> Tuple[int, List[str]]:
         return ended.status, refusal_lines(Refusal("words", cause, line, known))
     if ended.status == REFUSED_GRAPH and "--json" not in words:
         return ended.status, ["The program accepts the words, and refuses the graph."] + refusal_lines(
-            graph_refusal(graph_file(words), *ended.cause))
+            graph_refusal(_file_name(words), *ended.cause))
     if ended.status in (0, 1):
         return 0, ["The program accepts these words."]
     return ended.status, [f"The program accepts the words. It says: {ended.line}", *wrapped(end_sentence(ended))]

@@ -21,11 +21,12 @@ def plot(words: Sequence[str]) -> int:
     add_files(parser)
     add_terms(parser)
     said = parser.parse_args(words)
+    terms = terms_words(parser, said)
     try:
         from .picture import picture
     except ImportError:
         print("tfpg plot: matplotlib is missing; on Debian it is the package python3-matplotlib, for /usr/bin/python3", file=sys.stderr)
         return NO_MATPLOTLIB
-    content = picture(subject_of(said.graph, said.log, said.report, terms_words(said)))
+    content = picture(subject_of(said.graph, said.log, said.report, terms))
     sys.stdout.buffer.write(content)
     return 0
