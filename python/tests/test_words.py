@@ -2,6 +2,8 @@
 
 import os
 import stat
+import subprocess
+import sys
 import unittest
 from unittest import mock
 
@@ -53,6 +55,28 @@ class Program(unittest.TestCase):
                 status, said = run("lint", str(EXAMPLES / "pump.tfpg"))
         self.assertEqual(status, 70)
         self.assertIn("did not answer, and ended with 70: tfpg: there is no trial", said)
+
+
+class LeftOut(unittest.TestCase):
+    """What the runner of these tests says where something is missing, in one line for each reason."""
+
+    def told(self, *words, **missing):
+        ran = subprocess.run([sys.executable, TOP / "python" / "test", *words], env={**os.environ, **missing}, stdout=subprocess.PIPE,
+                             check=False)
+        return ran.returncode, ran.stdout.decode()
+
+    def test_without_a_program(self):
+        tests = sum(line.startswith("    def test_") for line in (TOP / "python" / "tests" / "test_header.py").read_text().splitlines())
+        said = f"python: all {tests} tests were left out: there is no program to run: "
+        self.assertEqual([(status, words.startswith(said)) for status, words in
+                          (self.told("header", TFPG_PROGRAM="/no"), self.told("--leave-out", "header", TFPG_PROGRAM="/no"))],
+                         [(1, True), (0, True)])
+
+    def test_without_a_library(self):
+        status, said = self.told("answers", TFPG_LIBRARY="/no/library.so")
+        lines = [line for line in said.splitlines() if " left out: " in line]
+        self.assertEqual((status, len(lines)), (0, 2), said)
+        self.assertRegex(lines[-1], r"^python: (\d+) of \1 tests were left out: /no/library\.so is not loaded")
 
 
 class Words(unittest.TestCase):
