@@ -4,28 +4,13 @@ use crate::given::reach_of_first;
 use std::test::Fail;
 use tfpg_base::{Doubts, Set};
 use tfpg_graph::read;
-use tfpg_hyp::{Fraction, Place, Table, before, cost, robust};
+use tfpg_hyp::{Fraction, Place, before, cost, robust};
 use tfpg_log::Log;
 
 /// Three failure modes. The first is shown by two monitors, the second by one that also needs the third.
 const THREE: &[u8] =
     b"tfpg 1\nmode N\nfailure F 5\nfailure G 7\nfailure H 0\nor A watch 0\nor E watch 0\n\
     and B watch 0\nedge F A 1 3 *\nedge F E 9 9 *\nedge G B 0 1 *\nedge H B 0 1 *\nend\n";
-
-#[test]
-fn a_hypothesis_has_its_members_and_its_reach(rt: HostRuntime) -> Result<(), Fail> {
-    let graph = read(rt.alloc(), THREE)?;
-    let table = Table::new(rt.alloc(), &graph, 2, 1)?;
-    // Three failure modes and three monitors: 1 + 6 + 3 + 9. The tenth is F with a doubt of A.
-    assert_eq!(rt; table.len(), 19);
-    if table.len() > 9 {
-        assert!(rt; table.set(9).has(0));
-        assert!(rt; table.doubts(9).has(3));
-        assert!(rt; table.reach(9).has(4));
-        assert!(rt; !table.reach(9).has(5));
-    }
-    Ok(())
-}
 
 /// Name, the key that comes first, and the other: cost, alarmed and monitored nodes, number.
 const RANKED: [(&str, (u64, u32, u32, u32), (u64, u32, u32, u32)); 8] = [

@@ -18,13 +18,9 @@ mod given;
 #[cfg(test)]
 mod hyp;
 #[cfg(test)]
-mod kernel;
-#[cfg(test)]
 mod panel;
 #[cfg(test)]
 mod predict;
-#[cfg(test)]
-mod search;
 #[cfg(test)]
 mod sim;
 #[cfg(test)]

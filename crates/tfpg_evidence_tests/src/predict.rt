@@ -7,7 +7,6 @@ ghost use Rattle.tfpg_predict.specs.LeastTime.{lookahead_of};
 ghost use Rattle.tfpg_predict.specs.Probed.{IsProbeable};
 
 use crate::given::{TWO, log_of, set_of};
-use crate::kernel::take_step;
 use std::alloc::Global;
 use std::marker::Brand;
 use std::sync::ledger::{Blank, Ledger};
@@ -84,6 +83,14 @@ fn takes_probe(graph: &Graph, log: &Log, node: u32, to: u64) -> bool
         && graph.edge_count() < MAX_EDGES
         && log.now() <= to
         && to <= MAX_TIME
+}
+
+/// What the checker returns for a step, with room for it.
+fn take_step(checker: &mut Checker, graph: &Graph, log: &Log, step: &Step) -> Result<Taken, Fail>
+    requires { IsLogOf graph.now log.now }
+{
+    checker.reserve()?;
+    Ok(checker.take(graph, log, step))
 }
 
 /// Whether the checker takes each of the steps, and its tree is closed then.

@@ -4,12 +4,12 @@
 ghost use Rattle.std.specs.Prelude.{◌≡◌, ◌<◌, ◌≤◌, length, All, IfOk};
 
 use crate::given::{ONE, TWO};
-use crate::search::split_count;
 use std::alloc::Global;
 use std::marker::Brand;
 use std::sync::ledger::{Blank, Ledger};
 use std::test::Fail;
 use tfpg_base::{NumberList, Steps};
+use tfpg_clause::split_count;
 use tfpg_engine::{Engine, Told};
 use tfpg_graph::read;
 use tfpg_log::Refusal;
@@ -23,7 +23,7 @@ enum Expected {
     Fits,
     Out,
     /// That the budget is spent, on so many splits.
-    Unknown(usize),
+    Unknown(u64),
 }
 
 /// What is returned.
@@ -185,7 +185,9 @@ fn is_outcome(expected: &Expected, outcome: &Outcome) -> bool {
     match (expected, outcome) {
         (Expected::Fits, Outcome::Fits(_)) => true,
         (Expected::Out, Outcome::Out(_)) => true,
-        (Expected::Unknown(splits), Outcome::Unknown(steps)) => split_count(steps) == *splits,
+        (Expected::Unknown(splits), Outcome::Unknown(steps)) => {
+            split_count(steps.as_slice()) == *splits
+        }
         _ => false,
     }
 }

@@ -1,4 +1,4 @@
-use Rattle.tfpg_evidence_tests.proofs.kernel.take_step.Goals as goal
+use Rattle.tfpg_evidence_tests.proofs.predict.take_step.Goals as goal
 
 pub take-requires-clause-of : goal.take-requires-clause-of
 take-requires-clause-of c = c.requires

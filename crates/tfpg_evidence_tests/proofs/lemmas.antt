@@ -1,2 +1,0 @@
--- A search from one event to the next.
-pub mod GoingOn
