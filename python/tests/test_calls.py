@@ -1,13 +1,18 @@
 """Graphs, reports and checks, and the errors of each call."""
 
 import json
+import shutil
+import subprocess
 import unittest
 import unittest.mock
 from pathlib import Path
+from types import SimpleNamespace
 
 import tfpg
 from support import EXAMPLES, files, library_words, text, tiny
+from tfpg.calls.layouts import Answer, Handle, Status
 from tfpg.calls.library import CALLS, FILE, Library, find_library
+from tfpg.calls.numbers import Numbers
 from tfpg.program import run_program
 
 PUMP = EXAMPLES / "pump.tfpg"
@@ -60,11 +65,34 @@ class Loading(unittest.TestCase):
     def test_which_calls_keep_the_lock_of_python(self):
         """Those that only read what is there. Others may take long, as `tfpg_block`, which makes the text after an event."""
         kept, left = ({name: unittest.mock.Mock() for name in CALLS} for _ in range(2))
-        with unittest.mock.patch("ctypes.PyDLL", return_value=kept), unittest.mock.patch("ctypes.CDLL", return_value=left):
+        with unittest.mock.patch("ctypes.PyDLL", return_value=kept), unittest.mock.patch("ctypes.CDLL", return_value=left), \
+                unittest.mock.patch("tfpg.calls.library.need_version"):
             bound = list(vars(Library("some.so")).values())
         reads = {"tfpg_result_of", "tfpg_ranked_at", "tfpg_index", "tfpg_name"}
         self.assertEqual({name for name in CALLS if kept[name] in bound}, reads)
         self.assertEqual({name for name in CALLS if left[name] in bound}, CALLS.keys() - reads)
+
+    @unittest.skipUnless(shutil.which("cc"), "cc, the C compiler, is missing")
+    def test_a_library_of_another_header(self):
+        """All calls are there, and the version of the header is an older one, or is not said."""
+        calls = "".join(f"void {name}(void) {{}}\n" for name in CALLS)
+        for version, said in (("const unsigned tfpg_header_version = 2;", "is of version 2 of the header, and this package of version 3: "),
+                              ("", "does not say the version of its header, so it is older than this package: ")):
+            with self.subTest(version=version), files(**{"calls.c": calls + version}) as folder:
+                subprocess.run(["cc", "-shared", "-fPIC", "-o", FILE, "calls.c"], check=True)
+                with self.assertRaisesRegex(tfpg.NoLibrary, f"{FILE} {said}python/build-library of the checkout makes it anew$"):
+                    Library(str(folder / FILE))
+
+    def test_statuses_of_the_calls_that_read_numbers(self):
+        none = lambda *_: Answer(Status.NO_SUCH)
+        calls = SimpleNamespace(name=none, result_of=none, ranked_at=none)
+        numbers = Numbers(calls, Handle(), 0)
+        numbers.result_of = lambda *_: Answer(Status.ENDED)
+        self.assertRaises(tfpg.SessionClosed, numbers.brought)
+        numbers.result_of = lambda *_: Answer(Status.DONE)
+        self.assertEqual(numbers.brought().ranked, ())
+        numbers.result.ranked = 1
+        self.assertRaisesRegex(tfpg.Error, "the library answers 11", numbers.brought)
 
     def test_where_it_is(self):
         with unittest.mock.patch.dict("os.environ", {"TFPG_LIBRARY": "here.so"}):

@@ -1,6 +1,7 @@
 """The layouts, the numbers and the calls of `tfpg.calls`, beside those that `include/tfpg.h` declares."""
 
 import ctypes
+import hashlib
 import re
 import unittest
 
@@ -42,7 +43,18 @@ def fields_of(body):
             yield typed(f"{first.split()[0]} {name.strip()}", FIELDS)
 
 
+# Of the declarations and the numbers of the header, without comments and spaces.
+SUM = "a4198824d3040732aae3b82ff89aeed512dd45d7c8a2eba44022d0f31278e525"
+
+
 class Header(unittest.TestCase):
+    def test_the_version_rises_with_each_change(self):
+        """If this fails, raise TFPG_HEADER_VERSION, change HEADER_VERSION and what else the change asks for, and then the sum."""
+        version = found(r"#define TFPG_HEADER_VERSION (\d+)")
+        self.assertEqual(int(version[1]), layouts.HEADER_VERSION)
+        declarations = "".join(HEADER[:HEADER.index("static inline")].split())
+        self.assertEqual(hashlib.sha256(declarations.encode("ascii")).hexdigest(), SUM)
+
     def test_layouts(self):
         for name, layout in layouts.LAYOUTS.items():
             with self.subTest(name=name):

@@ -10,6 +10,8 @@ from typing import Dict, Type
 
 from ..reading import causes
 
+HEADER_VERSION = 3  # of the header that has these layouts and numbers
+
 
 class Status(IntEnum):
     """How a call ended."""

@@ -11,10 +11,11 @@ from typing import Any, Callable, Dict, List, Tuple
 
 from ..faults import NoLibrary
 from ..program import checkout
-from .layouts import Answer
+from .layouts import HEADER_VERSION, Answer
 
 VARIABLE = "TFPG_LIBRARY"
 FILE = "libtfpg.so"
+MAKE_ANEW = "python/build-library of the checkout makes it anew"
 
 PLACE = c_void_p
 TEXT: List[Any] = [c_char_p, c_size_t]
@@ -55,6 +56,11 @@ class Library:
         except OSError as fault:
             raise NoLibrary(f"{path} is not loaded: {fault}") from None
         self.path = path
+        self.bind_all(calls, reads)
+        need_version(path, calls)
+
+    def bind_all(self, calls: ctypes.CDLL, reads: ctypes.CDLL) -> None:
+        """Binds each call, by the library that lets other threads run or by the one that does not."""
         self.report, self.check, self.open = bind(calls, "tfpg_report"), bind(calls, "tfpg_check"), bind(calls, "tfpg_open")
         self.ask, self.predict, self.explain = bind(calls, "tfpg_ask"), bind(calls, "tfpg_predict"), bind(calls, "tfpg_explain")
         self.line, self.block, self.close = bind(calls, "tfpg_line", False), bind(calls, "tfpg_block"), bind(calls, "tfpg_close")
@@ -73,6 +79,16 @@ def bind(calls: ctypes.CDLL, name: str, converts: bool = True) -> Call:
     if converts:
         call.argtypes = words
     return call
+
+
+def need_version(path: str, calls: ctypes.CDLL) -> None:
+    """Refuses a library of another version of the header, in which layouts and numbers may be others."""
+    try:
+        version = c_uint32.in_dll(calls, "tfpg_header_version").value
+    except ValueError:
+        raise NoLibrary(f"{path} does not say the version of its header, so it is older than this package: {MAKE_ANEW}") from None
+    if version != HEADER_VERSION:
+        raise NoLibrary(f"{path} is of version {version} of the header, and this package of version {HEADER_VERSION}: {MAKE_ANEW}")
 
 
 def find_library() -> str:

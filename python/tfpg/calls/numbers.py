@@ -5,9 +5,10 @@ from __future__ import annotations
 import ctypes
 from typing import List, Optional, Tuple, Union
 
+from ..faults import Error, SessionClosed
 from ..limits import LONGEST_NAME
 from .answers import Names, Ranked, Round, Why
-from .layouts import LOG_CAUSES, Handle, NameKind, RankedNumbers, ResultNumbers, Status, numbers_in
+from .layouts import LOG_CAUSES, Answer, Handle, NameKind, RankedNumbers, ResultNumbers, Status, numbers_in
 from .library import Library
 
 unpack_result = numbers_in(ResultNumbers).unpack_from
@@ -45,7 +46,9 @@ class Numbers:
 
     def brought(self) -> Union[Round, Why]:
         """What the last line brought."""
-        self.result_of(self.session, self.result_room)
+        answer = self.result_of(self.session, self.result_room)
+        if answer.status:
+            raise unread(answer)
         refusal, changed, line, last, number, now, ranked, covered, rejected, left = unpack_result(self.result)
         if refusal:
             cause = LOG_CAUSES[refusal]
@@ -58,7 +61,9 @@ class Numbers:
         ranked_at, session, room, rooms = self.ranked_at, self.session, self.room, self.rooms
         contents = []
         for rank in range(count):
-            ranked_at(session, rank, *rooms)
+            answer = ranked_at(session, rank, *rooms)
+            if answer.status:
+                raise unread(answer)
             contents.append(room.raw)
         if contents != self.contents:
             known = dict(zip(self.contents, self.ranking))
@@ -72,6 +77,11 @@ class Numbers:
         doubts = sum(mask << 64 * place for place, mask in enumerate(masks))
         return Ranked(hypothesis, named(failures, self.names.failures), named(doubts, self.names.nodes), cost, alarmed, monitored,
                       content[RANKED_SIZE:], self.names)
+
+
+def unread(answer: Answer) -> Error:
+    """Why the numbers of a session are not read."""
+    return SessionClosed("the session is closed") if answer.status == Status.ENDED else Error(f"the library answers {answer.status}")
 
 
 def named(mask: int, names: Tuple[str, ...]) -> Tuple[str, ...]:
