@@ -12,7 +12,7 @@ def digest(text):
 
 
 def outcome(command, texts):
-    """The status and the words of a check of these texts. The checker reads copies, so these are the bytes that the page carries."""
+    """The status, the output and the errors of a check of these texts. It reads copies, so these are the bytes that the page carries."""
     with tempfile.TemporaryDirectory() as folder:
         graph, log = Path(folder) / "graph", Path(folder) / "log"
         graph.write_bytes(texts["graph"])
@@ -20,13 +20,12 @@ def outcome(command, texts):
         try:
             ran = subprocess.run([*shlex.split(command), "check", graph, log], input=texts["report"], capture_output=True)
         except (OSError, ValueError) as fault:
-            return None, getattr(fault, "strerror", None) or "the command is no command"
-    said = ran.stdout if ran.returncode == 0 else ran.stderr
-    return ran.returncode, said.decode(errors="replace").strip()
+            return None, "", getattr(fault, "strerror", None) or "the command is no command"
+    return ran.returncode, ran.stdout.decode(errors="replace"), ran.stderr.decode(errors="replace")
 
 
 def checked(command, texts):
-    """A check of a report, as the page carries it."""
-    status, said = outcome(command, texts)
+    """A check of a report, as the page carries it. What it means is for the page to say."""
+    status, output, errors = outcome(command, texts)
     digests = {kind: digest(texts[kind]) for kind in ("graph", "log", "report")}
-    return {"command": command, "digests": digests, "said": said, "status": status}
+    return {"command": command, "digests": digests, "errors": errors, "output": output, "status": status}

@@ -4,7 +4,7 @@ from pathlib import Path
 
 from .graph_json import read_graph_json
 from .graph_text import read_graph_text
-from .report_text import CHECKS
+from .report_text import CHECKS, Named
 from .texts import Fault, kind_of
 
 
@@ -19,10 +19,10 @@ def read_graph(text):
     return read_graph_json(text) if text.lstrip().startswith(b"{") else read_graph_text(text)
 
 
-def need_kind(kind, text, names):
+def need_kind(kind, text, named):
     """Refuses a text that is not of this kind. Any lines are a log, but those that begin as another text does."""
     if kind != "log":
-        return CHECKS[kind](text, names)
+        return CHECKS[kind](text, named)
     if kind_of(text) != "log":
         raise Fault(1, f"this is no log, but begins as {kind_of(text)}")
 
@@ -36,7 +36,7 @@ def read_texts(files):
             if place == "graph":
                 graph = read_graph(texts[place])
             else:
-                need_kind(place.rstrip("0123456789"), texts[place], {node.name for node in graph.nodes})
+                need_kind(place.rstrip("0123456789"), texts[place], Named.of(graph))
         except Fault as fault:
             raise SystemExit(f"tfpg-page: {name} line {fault.line}: {fault.cause}") from None
     return graph, texts

@@ -1,169 +1,184 @@
-"""Whether a text is a report, or what `ask`, `predict` or `fleet` writes.
+"""Whether a text is a report, or what `ask`, `predict` or `fleet` writes. Whether what it says is right is for `tfpg check` to say.
 
-Reports are long, and most of their lines stand in them many times. So shapes and names are tested once for each different line, and the
-order of lines once for each different pair of first words.
+Reports are long, and most of their lines stand in them many times. So each different line is held against the shapes once.
 """
 
 import re
 
 from .fleet import reports_in
-from .texts import NAME, NUMBER, Fault, line_at, lines_of
-
-SET = rb"(?:-|!?%s(?:,!?%s)*)" % (NAME, NAME)
-REFUSAL = rb"(?:BadLine|BadNumber|TimeTooLarge|TimeBack %s|UnknownName|NotMonitored|NotAMode|LogFull|ModesFull|TooLong)" % NUMBER
+from .shapes import ASK, ENDS, FLEET, GREATEST, NEXT, PREDICT, REPORT
+from .texts import LONGEST_LINE, NAME, Fault, lines_of
 
 
-def shape(text):
-    """An expression for a line, where N is a number, M a name and S a set."""
-    words = {b"N": NUMBER, b"M": NAME, b"S": SET}
-    return b" ".join(words.get(word, word) for word in text.encode().split(b" "))
+class Named:
+    """What lines may name: nodes by their numbers, edges, failure modes and monitored nodes."""
+
+    def __init__(self, number_of, edges, failures, monitored):
+        self.number_of, self.edges, self.failures, self.monitored = number_of, edges, failures, monitored
+
+    @classmethod
+    def of(cls, graph):
+        number_of = {node.name: number for number, node in enumerate(graph.nodes)}
+        edges = {(edge.source, edge.target) for edge in graph.edges}
+        failures = {node.name for node in graph.nodes if node.kind == b"failure"}
+        return cls(number_of, edges, failures, {node.name for node in graph.nodes if node.lags})
+
+    def with_probe(self, node):
+        """With the node that the steps of forecasts add to the graph, after this node."""
+        number = 0
+        while b"probe.%d" % number in self.number_of:
+            number += 1
+        probe = b"probe.%d" % number
+        return Named({**self.number_of, probe: len(self.number_of)}, self.edges | {(node, probe)}, self.failures, self.monitored | {probe})
+
+    def is_set(self, word):
+        """Whether the word is the text of a set: failure modes, and then monitors, each by rising numbers."""
+        members = [] if word == b"-" else word.split(b",")
+        names = [member for member in members if not member.startswith(b"!")]
+        doubts = [member[1:] for member in members[len(names) :] if member.startswith(b"!")]
+        if len(names) + len(doubts) != len(members) or not (set(names) <= self.failures and set(doubts) <= self.monitored):
+            return False
+        return all(self.is_rising(some) for some in (names, doubts))
+
+    def is_rising(self, names):
+        numbers = [self.number_of[name] for name in names]
+        return all(here < there for here, there in zip(numbers, numbers[1:]))
 
 
-STEPS = [
-    shape("split (?:ormay|andmust) M N N"),
-    shape("split (?:andmay|ormust) M M N N"),
-    b"again",
-    shape("cycle N"),
-    shape("why (?:zero|top) M"),
-    shape("why unreached M N"),
-    shape("why (?:from|upto) N"),
-    shape("why quiet N M"),
-    shape("why pick N N"),
-]
-TRACE = [shape("at M N")]
-BLOCKS = [
-    shape("refused N") + b" " + REFUSAL,
-    shape("round N N N"),
-    shape("hyp N"),
-    *STEPS,
-    *TRACE,
-    shape("ranked N cost N robust") + rb" %s/%s set %s" % (NUMBER, NUMBER, SET),
-    shape("(?:open|rejected) N set S"),
-    shape("counts ranked N covered N rejected N open N"),
-    shape("panel N (?:lost|memory)"),
-]
-HEAD = rb"(?:%s|%s)" % (shape("report 1 k N budget N"), shape("report 2 k N doubt N budget N"))
-STEP_WORDS, RANKING_WORDS = "split again cycle", "ranked open rejected counts"
-NEXT = {  # the first words that a line may have after one with one of these first words
-    "report refused": "refused round",
-    "counts panel": "refused round panel",
-    "round": "hyp " + RANKING_WORDS,
-    "hyp": STEP_WORDS,
-    "split again": f"{STEP_WORDS} hyp {RANKING_WORDS}",
-    "cycle why": f"why {STEP_WORDS} hyp {RANKING_WORDS}",
-    "ranked at": "at " + RANKING_WORDS,
-    "open": "open rejected counts",
-    "rejected": "rejected counts",
-}
-PAIRS = {(here.encode().ljust(3)[:3], there.encode().ljust(3)[:3]) for heres, theres in NEXT.items() for here in heres.split() for there in theres.split()}
-NAMING = re.compile(rb"^(?:at|ask|mode|predict|why (?:zero|top|unreached)|why quiet \d+|split (?:ormay|andmust)) (\S+)", re.MULTILINE)
-NAMING_TWICE = re.compile(rb"^split (?:andmay|ormust) (\S+) (\S+)", re.MULTILINE)
-MEMBERS = re.compile(rb"^(?:ranked|open|rejected|forecast) .*set (\S+)", re.MULTILINE)
+def is_number(word, kind):
+    if not re.fullmatch(rb"0|[1-9][0-9]{0,18}", word) or int(word) > GREATEST[kind]:
+        return False
+    return kind != "<budget>" or word != b"0"
 
 
-def names_in(text):
-    """The nodes that the lines of a text name, but for a first line."""
-    named = set(NAMING.findall(text))
-    for sets in set(MEMBERS.findall(text)) - {b"-"}:
-        named |= {member.lstrip(b"!") for member in sets.split(b",")}
-    return named.union(*NAMING_TWICE.findall(text))
+def is_share(word):
+    alarmed, _, monitored = word.partition(b"/")
+    return is_number(alarmed, "<number>") and is_number(monitored, "<number>")
 
 
-class Lines:
-    """The lines of a text, and the different ones among them."""
+class Shapes:
+    """The shapes of the lines of a text. A line has a kind, which is its first word, or it is none."""
 
-    def __init__(self, text):
-        self.all = lines_of(text)
-        self.different = b"\n".join(dict.fromkeys(self.all[1:]))
+    def __init__(self, shapes, named):
+        self.named, self.kinds, self.shapes = named, {}, {}
+        for shape in shapes:
+            words = shape.replace("<edge>", "<node> <node>").split(" ")
+            self.shapes.setdefault((words[0], len(words)), []).append((words, "<edge>" in shape))
 
-    def refuse(self, line, cause):
-        raise Fault(self.all.index(line) + 1, cause)
+    def kind(self, line):
+        if line not in self.kinds:
+            self.kinds[line] = self.find(line)
+        return self.kinds[line]
 
-    def need_head(self, head, cause):
-        if not self.all or not re.fullmatch(head, self.all[0]):
-            raise Fault(1, cause)
+    def find(self, line):
+        words = line.split(b" ")
+        first = words[0].decode("latin-1")
+        shapes = self.shapes.get((first, len(words)), []) if len(line) <= LONGEST_LINE else []
+        return first if any(self.has(words, shape, is_of_edge) for shape, is_of_edge in shapes) else None
 
-    def need_shapes(self, shapes, cause):
-        other = re.search(rb"^(?!(?:%s)$).*$" % b"|".join(shapes), self.different, re.MULTILINE)
-        if other and self.all[1:]:
-            self.refuse(other[0], cause)
+    def has(self, words, shape, is_of_edge):
+        if not all(self.is_value(word, kind) if kind[0] == "<" else word == kind.encode() for word, kind in zip(words, shape)):
+            return False
+        return not is_of_edge or (words[2], words[3]) in self.named.edges
 
-    def need_names(self, names):
-        """Refuses a line that names a node which the graph does not have."""
-        if not names_in(self.different) <= names:
-            self.refuse(next(line for line in self.all[1:] if not names_in(line) <= names), "UnknownName")
-
-    def need_order(self):
-        """Refuses a line that may not come after the one before, by their first words: these differ in their first three bytes."""
-        begins = [line[:3] for line in self.all]
-        if not set(zip(begins, begins[1:])) <= PAIRS:
-            wrong = next(place for place, pair in enumerate(zip(begins, begins[1:])) if pair not in PAIRS)
-            raise Fault(wrong + 2, "BadReport")
-
-
-def need_reasons(text, lines):
-    """Refuses a cycle that has not as many reasons as it says."""
-    counts = sorted({int(line[6:]) for line in lines.different.split(b"\n") if line.startswith(b"cycle ")})
-    wanted = "|".join(rf"{count}\n(?:why .*\n){{{count}}}(?!why)" for count in counts if count < 10000)
-    wrong = re.search(rf"^cycle (?!{wanted})".encode() if wanted else b"^cycle ", text, re.MULTILINE)
-    if wrong:
-        raise Fault(line_at(text, wrong.start()), "BadReport")
+    def is_value(self, word, kind):
+        if kind in GREATEST:
+            return is_number(word, kind)
+        if kind == "<share>":
+            return is_share(word)
+        if kind == "<set>":
+            return self.named.is_set(word)
+        return word in self.named.number_of if kind == "<node>" else re.fullmatch(NAME, word) is not None
 
 
-def with_end(text):
-    return text if text.endswith(b"\n") else text + b"\n"
+class ReportLines:
+    """Takes the lines of a report one by one, and refuses the first with which no report goes on."""
+
+    def __init__(self, shapes):
+        self.shapes, self.last, self.owed, self.number = shapes, None, 0, 0
+
+    def take(self, line_number, line):
+        kind = self.shapes.kind(line)
+        if kind is None or not self.goes_on(kind):
+            raise Fault(line_number, "BadReport")
+        if kind in ("at", "panel"):
+            self.need_rising(kind, line_number, line)
+        self.owed = int(line[6:]) if kind == "cycle" else self.owed - (kind == "why")
+        self.last = kind
+
+    def goes_on(self, kind):
+        if self.last is None:
+            return kind == "report"
+        return (kind == "why") == (self.owed > 0) and kind in NEXT[self.last]
+
+    def need_rising(self, kind, line_number, line):
+        """Refuses a node or a panel whose number is not greater than that of such a line directly before."""
+        word = line.split(b" ")[1]
+        number = self.shapes.named.number_of[word] if kind == "at" else int(word)
+        if self.last == kind and number <= self.number:
+            raise Fault(line_number, "BadReport")
+        self.number = number
+
+    def end(self, line_number):
+        if self.owed or self.last not in ENDS:
+            raise Fault(line_number, "EndsEarly")
 
 
-def check_report(text, names):
-    """Refuses a text that is no report of whole blocks about nodes of these names."""
-    lines = Lines(text)
-    lines.need_head(HEAD, "BadReport")
-    lines.need_shapes(BLOCKS, "BadReport")
-    lines.need_order()
-    need_reasons(with_end(text), lines)
-    lines.need_names(names)
-    if lines.all[-1].split(b" ")[0] not in (b"report", b"refused", b"counts", b"panel"):
-        raise Fault(len(lines.all) + 1, "EndsEarly")
+def need_report(numbered, shapes, end):
+    """Refuses numbered lines that are no report of whole blocks. `end` is the number of the line after the last."""
+    lines = ReportLines(shapes)
+    for number, line in numbered:
+        lines.take(number, line)
+    lines.end(end)
 
 
-def probe_name(names):
-    """The name of the node that the steps of a forecast add to the graph."""
-    number = 0
-    while b"probe.%d" % number in names:
-        number += 1
-    return b"probe.%d" % number
+def check_report(text, named):
+    """Refuses a text that is no report of whole blocks, with the line and the cause of `tfpg check`."""
+    lines = lines_of(text)
+    need_report(enumerate(lines, 1), Shapes(REPORT, named), len(lines) + 1)
 
 
-def check_ask(text, names):
-    lines = Lines(text)
-    lines.need_head(shape("questions now N ranked N open N"), "BadAnswer")
-    lines.need_shapes([shape("ask M silent N alarm N unknown N"), b"refused LogFull"], "BadAnswer")
-    lines.need_names(names)
+def need_answer(lines, shapes, named):
+    """Refuses lines of which the first has not the first shape, or another one has none of the others. Answers the kinds."""
+    if not lines or Shapes(shapes[:1], named).kind(lines[0]) is None:
+        raise Fault(1, "BadAnswer")
+    rest = Shapes(shapes[1:], named)
+    kinds = [rest.kind(line) for line in lines[1:]]
+    if None in kinds:
+        raise Fault(kinds.index(None) + 2, "BadAnswer")
+    return kinds
 
 
-def check_predict(text, names):
-    lines = Lines(text)
-    lines.need_head(shape("predict M now N to N"), "BadAnswer")
-    forecast = shape("forecast N set S") + b" (?:%s|never|%s)" % (shape("earliest N"), shape("unsettled N"))
-    lines.need_shapes([forecast, *TRACE, *STEPS], "BadAnswer")
-    if lines.all[0].split(b" ")[1] not in names:
-        raise Fault(1, "UnknownName")
-    if lines.all[1:] and not lines.all[1].startswith(b"forecast "):
-        raise Fault(2, "BadAnswer")
-    need_reasons(with_end(text), lines)
-    lines.need_names(names | {probe_name(names)})
+def check_ask(text, named):
+    need_answer(lines_of(text), ASK, named)
 
 
-def check_fleet(text, names):
-    lines = Lines(text)
-    lines.need_head(shape("vehicle M"), "BadAnswer")
-    lines.need_shapes([shape("vehicle M"), shape("stray N"), shape("mode M vehicles N"), HEAD, *BLOCKS], "BadAnswer")
-    lines.need_names(names)
-    for report in reports_in(lines.all).values():
-        try:
-            check_report(b"".join(line + b"\n" for _, line in report), names)
-        except Fault as fault:
-            raise Fault(report[min(fault.line, len(report)) - 1][0], fault.cause) from None
+def check_predict(text, named):
+    """Refuses a text that is no prediction. Its steps may name the probe."""
+    lines = lines_of(text)
+    words = lines[0].split(b" ") if lines else []
+    need_answer(lines[:1], PREDICT[:1], named)
+    kinds = need_answer(lines, PREDICT, named.with_probe(words[1]))
+    owed, before = 0, None
+    for number, (kind, line) in enumerate(zip(kinds, lines[1:]), 2):
+        if before is None and kind != "forecast" or (kind == "why") != (owed > 0):
+            raise Fault(number, "BadAnswer")
+        owed = int(line[6:]) if kind == "cycle" else owed - (kind == "why")
+        before = kind
+    if owed:
+        raise Fault(len(lines) + 1, "BadAnswer")
+
+
+def check_fleet(text, named):
+    """Refuses a text that is no output of a fleet: some line is none, or what it says of a vehicle is no report."""
+    lines, shapes = lines_of(text), Shapes([*FLEET, *REPORT], named)
+    if not lines or Shapes(FLEET[:1], named).kind(lines[0]) is None:
+        raise Fault(1, "BadAnswer")
+    for number, line in enumerate(lines, 1):
+        if shapes.kind(line) is None:
+            raise Fault(number, "BadAnswer")
+    for report in reports_in(lines).values():
+        need_report(report, shapes, report[-1][0] if report else 1)
 
 
 CHECKS = {"report": check_report, "ask": check_ask, "predict": check_predict, "fleet": check_fleet}

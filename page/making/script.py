@@ -1,18 +1,27 @@
 """Puts the modules of the script after one another, each after those that it imports, and each as a function that returns what it exports."""
 
+import json
 import re
 from pathlib import Path
 
+from .shapes import table
+
 IMPORT = re.compile(r'^import \{[^}]*\} from "([^"]+)";\n', re.MULTILINE)
 EXPORT = re.compile(r"^export ((?:async )?(?:function|const|class) (\w+))", re.MULTILINE)
+TABLE = "table.mjs"  # the one module that is no file
 D3 = Path("/usr/share/nodejs/d3/dist/d3.min.js")
+
+
+def table_module():
+    """The table of the lines of reports, as a module."""
+    return f"export const TABLE = {json.dumps(table())};\n"
 
 
 def in_order(module, done):
     """Adds the text of a module to those that are done, after those that it imports."""
     if module in done:
         return
-    text = module.read_text()
+    text = table_module() if module.name == TABLE else module.read_text()
     for name in IMPORT.findall(text):
         in_order((module.parent / name).resolve(), done)
     done[module] = text

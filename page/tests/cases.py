@@ -5,7 +5,7 @@ import random
 import re
 import sys
 
-from making import TOP
+from pages import TOP
 from slow_forecasts import Forecaster
 from slow_judge import Graph
 from slow_search import Diagnosis

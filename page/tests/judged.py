@@ -2,7 +2,7 @@
 
 import sys
 
-from making import TOP
+from pages import TOP
 
 sys.path.insert(0, str(TOP / "bench"))
 from slow_judge import Graph, Judge, Tree, fact  # noqa: E402

@@ -1,6 +1,6 @@
 """What the page says of the check: only what the checker said, and only of the very bytes that it was given."""
 
-from making import CHECK, PUMP
+from pages import CHECK, PUMP
 
 RIGHT = b"why unreached LowFlow 2715000\nhyp 1"
 FORGED = b"why unreached LowFlow 2714998\nhyp 1"  # the empty set is refuted at an instant that the alarm leaves free
@@ -73,19 +73,64 @@ def a_check_that_did_not_run_says_nothing(view):
     for command in (silent, view.maker.folder / "absent"):
         view.show(*PUMP, "--check", command)
         view.same(view.verdict(), "failed", f"the badge after a check by {command.name}")
-        view.has(view.text("#badge"), "did not run", "the badge")
+        view.has(view.text("#badge"), "not checked: the check did not run", "the badge")
         view.lacks(view.text("#badge"), "accepted", "the badge")
 
 
+def checker(maker, name, status, output, errors=""):
+    """A command that answers a check with these texts, whatever it reads."""
+    path = maker.write(name, f"#!/bin/sh\ncat > /dev/null\nprintf '%s' '{output}'\nprintf '%s' '{errors}' >&2\nexit {status}\n")
+    path.chmod(0o755)
+    return path
+
+
 def a_checker_that_answers_nonsense_accepts_nothing(view):
-    """Status 0 alone is no acceptance: the answer must be `accepted N`."""
-    mute = view.maker.write("mute", "#!/bin/sh\nexit 0\n")
-    mute.chmod(0o755)
-    view.show(*PUMP, "--check", mute)
-    view.same(view.verdict() == "accepted", False, "the badge after an empty answer")
+    """Status 0 alone is no acceptance: the answer must be `accepted N`, alone, with its status, and of as many rounds as there are."""
+    answers = {
+        "mute": (0, ""), "other-count": (0, "accepted 7\n"), "other-status": (1, "accepted 6\n"), "more": (0, "accepted 6\nor not\n"),
+        "on-errors": (0, "", "accepted 6\n"), "in-a-line": (0, "not quite accepted 6\n"),
+    }  # fmt: skip
+    for name, answer in answers.items():
+        view.show(*PUMP, "--check", checker(view.maker, name, *answer))
+        view.same(view.verdict(), "failed", f"the badge after the answer {answer}")
+        view.lacks(view.text("#badge"), "accepted", f"the badge after the answer {answer}")
+
+
+TRIAL_BEFORE = "tfpg: the program is not built here, so a trial answers: the same sources, checked while they run and not proved\n"
+TRIAL_AFTER = "tfpg: this answer is of a trial, whose proofs were not checked here. ./build proves and builds the program\n"
+
+
+def a_trial_that_refuses_is_shown_in_red(view):
+    """Its lines stand around the verdict."""
+    said = TRIAL_BEFORE + "not accepted 10 NotNegative\n" + TRIAL_AFTER
+    view.show(*PUMP[:2], forged(view.maker), "--check", checker(view.maker, "trial-refuses", 1, "", said))
+    view.same(view.verdict(), "refused", "the badge")
+    view.has(view.text("#badge"), ["not accepted 10 NotNegative", "by an unproved trial"], "the badge")
+    view.has(view.text("#problems"), ["tfpg check refuses this report: not accepted 10 NotNegative"], "the red bar")
+    view.click("#badge")
+    view.has(view.text("#badge-words"), ["so a trial answers", "status 1", "not proved"], "what the checker said on standard error")
+
+
+def a_trial_that_accepts_is_said_to_be_unproved(view):
+    view.show(*PUMP, "--check", checker(view.maker, "trial-accepts", 0, "accepted 6\n", TRIAL_BEFORE + TRIAL_AFTER))
+    view.same((view.verdict(), view.values("#badge", "checker")), ("accepted", ["trial"]), "the badge")
+    view.has(view.text("#badge"), ["accepted 6", "by an unproved trial of tfpg check"], "the badge")
+    view.show(*PUMP, "--check", checker(view.maker, "program-accepts", 0, "accepted 6\n"))
+    view.lacks(view.text("#badge"), "trial", "the badge by a program")
+
+
+def a_refused_report_is_red_whatever_else_was_said(view):
+    answers = {
+        "also-accepted": (0, "accepted 6\n", "not accepted 10 NotNegative\n"), "killed": (137, "", "not accepted 10 NotNegative\nKilled\n"),
+        "on-output": (1, "not accepted 10 NotNegative\n"),
+    }  # fmt: skip
+    for name, answer in answers.items():
+        view.show(*PUMP, "--check", checker(view.maker, name, *answer))
+        view.same(view.verdict(), "refused", f"the badge after the answer {answer}")
 
 
 def the_page_says_that_a_badge_can_be_forged(view):
     view.show(*PUMP, "--check", CHECK)
-    said = view.run("return document.body.innerText + [...document.querySelectorAll('[title]')].map(e => e.title).join(' ')")
-    view.has(said, ["forged", "tfpg check", "pump.tfpg", "pump.log", "pump.report"], "how to check for oneself")
+    view.has(view.text("footer"), ["A badge in a file can be forged", "./tfpg check pump.tfpg pump.log < pump.report"], "how to check for oneself")
+    view.click("#badge")
+    view.has(view.text("#badge-words"), ["A file can be forged, and its badge too", "tfpg check"], "what the badge says of itself")

@@ -1,6 +1,6 @@
 """Texts at the edge of what is one: empty, cut off, without a last line feed, of the first version, and with the largest times."""
 
-from making import PUMP
+from pages import PUMP
 from test_words import EACH_TAB
 
 HEAD = b"report 2 k 2 doubt 0 budget 1000\n"

@@ -1,6 +1,6 @@
 """Texts that are opened and dropped on a page, and saved from it byte for byte."""
 
-from making import ARRAY, DATA, EXAMPLES, GAUGE, PUMP, RELAY
+from pages import ARRAY, DATA, EXAMPLES, GAUGE, PUMP, RELAY
 
 
 def another_log_and_report_of_the_graph_are_opened(view):

@@ -2,7 +2,7 @@
 
 import time
 
-from making import RELAY
+from pages import RELAY
 from tools import FIREFOX, FIREFOX_DRIVER
 
 

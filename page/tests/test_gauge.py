@@ -1,6 +1,6 @@
 """A gauge that lies: facts of the pump's second log, with one monitor that may be doubted, worked out by hand."""
 
-from making import GAUGE
+from pages import GAUGE
 
 
 def two_hypotheses_each_doubt_one_monitor(view):

@@ -2,7 +2,7 @@
 
 import base64
 
-from making import DATA, PUMP
+from pages import DATA, PUMP
 
 MARKUP = b"</script><script>document.title = 'hit'</script><img src=x onerror=\"document.title = 'hit'\"><svg onload=alert(1)>"
 LINES = [

@@ -1,6 +1,6 @@
 """Facts of one `ask`, one `predict` and one `fleet`, worked out by hand for the pump."""
 
-from making import CHECK, DATA, EXAMPLES
+from pages import CHECK, DATA, EXAMPLES
 from probed import constraints_of_forecasts
 from test_reading import FORECASTS, read
 

@@ -1,6 +1,6 @@
 """Facts of the pump, worked out by hand from its graph, its log and its report."""
 
-from making import PUMP
+from pages import PUMP
 
 # Members by rising positions: the filter 0, the valve 1, the bearing 2, the wiring 3. So the six pairs have the numbers 5 to 10.
 SINGLES = ["FilterClogged", "ValveStuck", "MotorBearing"]

@@ -5,7 +5,7 @@ import base64
 from ages import arrivals_by_instants
 from cases import many_cases
 from judged import judged
-from making import ARRAY, PUMP, RELAY
+from pages import ARRAY, PUMP, RELAY
 from probed import constraints_of_forecasts
 
 EXAMPLES = [PUMP, RELAY, ARRAY]

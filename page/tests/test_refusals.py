@@ -1,6 +1,6 @@
 """Bad input of the script: one line with the file and the line, status 1, and no page."""
 
-from making import EXAMPLES, PUMP, RELAY
+from pages import EXAMPLES, PUMP, RELAY
 
 
 def refused(view, words, pieces, what):
@@ -36,7 +36,7 @@ def a_report_that_is_none(view):
     cases = [
         (b"report 2 k", b"repor 2 k", 1), (b"ranked 1 cost 2", b"ranked 1 cots 2", 79), (b"why upto 3", b"why until 3", 11),
         (b"at FilterClogged", b"at Filter", 80), (b"counts ranked 1", b"panel 1 lost\ncounts ranked 1", 4),
-        (b"split ormust ValveStuck HighPressure", b"split ormust ValveStuck High", 123), (b"cycle 2", b"cycle 3", 10),
+        (b"split ormust ValveStuck HighPressure", b"split ormust ValveStuck High", 123), (b"cycle 2", b"cycle 3", 13),
     ]  # fmt: skip
     for old, new, line in cases:
         refused(view, [*PUMP[:2], with_change(view, PUMP[2], old, new)], ["changed.report", f"line {line}"], f"a report with {new!r}")

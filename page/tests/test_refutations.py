@@ -44,7 +44,7 @@ def a_reused_case_is_said_in_words(view):
     view.same(judged(*(path.read_bytes() for path in files)).statuses, [["rejected"]], "what the judge says")
     view.show(*files)
     view.why_not("-")
-    view.has(view.text("#panel"), ["Why not no failure?", "3 steps, 1 contradiction."], "how large it is")
+    view.has(view.text("#panel"), ["Why must something have failed?", "3 steps, 1 contradiction."], "how large it is")
     view.same(view.values("#refutation .reused", "case"), ["2", "3", "4"], "the cases that are closed by the first one")
     for said in view.texts("#refutation .reused"):
         view.has(said, "closed as case 1 is", "a reused case")

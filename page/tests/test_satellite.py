@@ -1,6 +1,6 @@
 """Facts of the two mornings of the satellite, worked out by hand from the graph, the logs and the reports."""
 
-from making import ARRAY, RELAY
+from pages import ARRAY, RELAY
 
 NOT_IN_SAVING = ["ArrayLow ChargeLow", "ArrayLow SourcesLow", "BatteryLow BusLow", "BatteryLow SourcesLow", "BusLow PayloadOff",
                  "ChargeLow BatteryLow", "HeaterOn ChargeLow", "RelayStuck BusLow", "SourcesLow BusLow"]  # fmt: skip

@@ -3,7 +3,7 @@
 import base64
 import re
 
-from making import DATA, PUMP, RELAY
+from pages import DATA, PUMP, RELAY
 OUT_OF_REACH = """
 const clicked = [...document.querySelectorAll(".link, #panel tr[data-hypothesis], #panel button")];
 return clicked.filter(one => one.tabIndex < 0).map(one => one.textContent);

@@ -1,7 +1,7 @@
 """Every tab, round and set of three examples and of the random reports, without a word or a fault that no text means."""
 
 from cases import written_cases
-from making import ARRAY, GAUGE, PUMP, RELAY
+from pages import ARRAY, GAUGE, PUMP, RELAY
 
 # Collects what stands on the page, in titles and for those who do not see it, whenever `look` is called.
 LOOKING = r"""

@@ -8,7 +8,7 @@ from selenium.webdriver.common.keys import Keys
 
 from browser import Browser
 from expecting import Expecting
-from making import Maker
+from pages import Maker
 
 KEYS = {
     "left": Keys.ARROW_LEFT, "right": Keys.ARROW_RIGHT, "up": Keys.ARROW_UP, "down": Keys.ARROW_DOWN, "Home": Keys.HOME, "End": Keys.END,

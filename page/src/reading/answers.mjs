@@ -1,16 +1,15 @@
 // What `ask`, `predict` and `fleet` write.
 import { BadText, linesOf } from "./texts.mjs";
-import { FLEETS, FORECASTS, needHead, needMembers, needNames, needShapes, shape } from "./shapes.mjs";
+import { fleetShapes, needAnswer } from "./lines.mjs";
+import { withProbe } from "./graph.mjs";
 
 const CAUSE = "BadAnswer"; // of a line that none of them writes
 
 // The questions, the most useful first: how many sets each answer rules out.
 export function readAsk(graph, text) {
-  const end = needHead(text, [shape("questions now N ranked N open N")], CAUSE);
-  needShapes(text, end, [shape("ask M silent N alarm N unknown N"), "refused LogFull"], CAUSE);
-  needNames(graph, text);
-  const [first, ...lines] = linesOf(text), words = first.split(" ");
-  const isFull = lines.includes("refused LogFull");
+  const [first, ...lines] = linesOf(text);
+  needAnswer(graph, linesOf(text), "ask");
+  const words = first.split(" "), isFull = lines.includes("refused LogFull");
   const questions = lines.filter(line => line.startsWith("ask ")).map(line => {
     const [, name, , silent, , alarm, , unknown] = line.split(" ");
     return { node: graph.numberOf.get(name), silent: Number(silent), alarm: Number(alarm), unknown: Number(unknown) };
@@ -18,24 +17,26 @@ export function readAsk(graph, text) {
   return { now: Number(words[2]), ranked: Number(words[4]), open: Number(words[6]), isFull, questions };
 }
 
-// The forecasts for a node, each with the lines of its steps, which are read when they are asked for.
+// The forecasts for a node, each with the lines of its steps, which are read when they are asked for. Their steps may name the probe.
 export function readPredict(graph, text) {
-  needShapes(text, needHead(text, [shape("predict M now N to N")], CAUSE), FORECASTS, CAUSE);
-  const [first, ...lines] = linesOf(text), [, name, , now, , to] = first.split(" ");
-  if (!graph.numberOf.has(name)) throw new BadText(1, "UnknownName");
+  const lines = linesOf(text), [, name, , now, , to] = (lines[0] || "").split(" "), isKnown = graph.numberOf.has(name);
+  const kinds = needAnswer(isKnown ? withProbe(graph, graph.numberOf.get(name), [0, 0]) : graph, lines, "predict");
   const prediction = { node: graph.numberOf.get(name), now: Number(now), to: Number(to), forecasts: [], text };
-  lines.forEach((line, index) => takeForecastLine(graph, prediction, line, index + 2));
+  let owed = 0;
+  kinds.forEach((kind, index) => {
+    const line = lines[index + 1];
+    if ((!index && kind !== "forecast") || (kind === "why") !== owed > 0) throw new BadText(index + 2, CAUSE);
+    owed = kind === "cycle" ? Number(line.slice(6)) : kind === "why" ? owed - 1 : owed;
+    takeForecastLine(graph, prediction, kind, line, index + 2);
+  });
+  if (owed) throw new BadText(lines.length + 1, CAUSE);
   return prediction;
 }
 
-function takeForecastLine(graph, prediction, line, at) {
+function takeForecastLine(graph, prediction, kind, line, at) {
   const words = line.split(" "), { forecasts } = prediction, last = forecasts[forecasts.length - 1];
-  if (words[0] === "forecast") {
-    needMembers(graph, line, words[3], 0);
-    forecasts.push(forecastOf(prediction, words, at));
-  } else if (!last) throw new BadText(at, CAUSE);
-  else if (words[0] === "at") {
-    if (!graph.numberOf.has(words[1])) throw new BadText(at, "UnknownName");
+  if (kind === "forecast") forecasts.push(forecastOf(prediction, words, at));
+  else if (kind === "at") {
     last.trace.set(graph.numberOf.get(words[1]), Number(words[2]));
     last.stepsAt = at + 1;
   } else last.steps.push(line);
@@ -48,16 +49,17 @@ function forecastOf({ node, now, to }, [, hypothesis, , set, outlook, time], at)
 
 // The report of each vehicle, as a text, and for each failure mode how many vehicles may have it.
 export function readFleet(graph, text) {
-  needShapes(text, needHead(text, [shape("vehicle M")], CAUSE), FLEETS, CAUSE);
-  const fleet = { vehicles: new Map(), strays: [], modes: [] };
+  const lines = linesOf(text), shapes = fleetShapes(graph), fleet = { vehicles: new Map(), strays: [], modes: [] };
   let taking = null;
-  linesOf(text).forEach(line => {
-    const words = line.split(" ");
-    if (words[0] === "vehicle") {
+  if (!lines.length || shapes.kind(lines[0]) !== "vehicle") throw new BadText(1, CAUSE);
+  lines.forEach((line, index) => {
+    const words = line.split(" "), kind = shapes.kind(line);
+    if (kind === null) throw new BadText(index + 1, CAUSE);
+    if (kind === "vehicle") {
       if (!fleet.vehicles.has(words[1])) fleet.vehicles.set(words[1], []);
       taking = fleet.vehicles.get(words[1]);
-    } else if (words[0] === "stray") fleet.strays.push(Number(words[1]));
-    else if (words[0] === "mode") fleet.modes.push({ node: graph.numberOf.get(words[1]), vehicles: Number(words[3]) });
+    } else if (kind === "stray") fleet.strays.push(Number(words[1]));
+    else if (kind === "mode") fleet.modes.push({ node: graph.numberOf.get(words[1]), vehicles: Number(words[3]) });
     else taking.push(line);
   });
   return fleet;

@@ -1,42 +1,24 @@
 // A report. One pass over its text keeps where its rounds and its steps stand. What a round says is read when it is asked for, since a
 // report may have 65,536 rounds.
-import { BadText, lineAt } from "./texts.mjs";
-import { BLOCKS, HEADS, needHead, needNames, needOrder, needShapes } from "./shapes.mjs";
+import { ReportLines, reportShapes } from "./lines.mjs";
 import { Runs } from "./runs.mjs";
 
 // What a text says, if it is a report of whole blocks. `at` is the line of the report in which a thing begins. `parts` are the steps of
-// each hypothesis, `rejections` the round in which each rejected one was rejected, and `runs` its places in the rankings.
+// each hypothesis, `steps` all parts in their order, `rejections` the round in which each rejected one was rejected, `runs` its places in
+// the rankings, and `changes` the indexes of the rounds that say something else than the round before.
 export function readReport(graph, text) {
-  needShapes(text, needHead(text, HEADS, "BadReport"), BLOCKS, "BadReport");
-  needOrder(text);
-  needNames(graph, text);
   return new Pass(graph, text).run();
 }
 
 // ---- the pass
 
-// The first word of a line of a report, by its first letters.
-function kindAt(text, from) {
-  const first = text[from], second = text[from + 1];
-  if (first === "w") return "why";
-  if (first === "s") return "split";
-  if (first === "c") return second === "y" ? "cycle" : "counts";
-  if (first === "a") return second === "g" ? "again" : "at";
-  if (first === "h") return "hyp";
-  if (first === "o") return "open";
-  if (first === "p") return "panel";
-  if (second === "o") return "round";
-  if (second === "a") return "ranked";
-  return { p: "report", f: "refused", j: "rejected" }[text[from + 2]];
-}
-
 const STEP_KINDS = new Set(["split", "again", "cycle", "why"]);
 
 class Pass {
   constructor(graph, text) {
-    Object.assign(this, { graph, text, owed: 0, round: null, part: null, last: null, runs: new Runs() });
-    this.report = { text, terms: null, blocks: [], rounds: [], parts: new Map(), rejections: new Map(), runs: null, sets: new Map(),
-      misnamed: [], lineCount: 0 };
+    Object.assign(this, { text, lines: new ReportLines(reportShapes(graph)), round: null, part: null, runs: new Runs() });
+    this.report = { text, terms: null, blocks: [], rounds: [], parts: new Map(), steps: [], rejections: new Map(), runs: null,
+      changes: null, lineCount: 0 };
   }
 
   run() {
@@ -47,25 +29,23 @@ class Pass {
       this.take(from, to, report.lineCount);
       from = to + 1;
     }
-    if (this.owed || !["report", "refused", "counts", "panel"].includes(this.last)) throw new BadText(report.lineCount + 1, "EndsEarly");
+    this.lines.end(report.lineCount + 1);
     report.runs = this.runs.rows();
+    report.changes = this.runs.changes;
     return report;
   }
 
   take(from, to, line) {
-    const kind = kindAt(this.text, from);
-    if ((kind === "why") !== this.owed > 0) throw new BadText(line, "BadReport");
-    if (kind === "why") this.owed--;
-    else if (kind === "cycle") this.owed = Number(this.text.slice(from + 6, to));
+    const text = this.text.slice(from, to), kind = this.lines.take(text, line);
     if (STEP_KINDS.has(kind)) this.part.to = to;
-    else if (kind === "hyp") this.beginPart(Number(this.text.slice(from + 4, to)), to, line);
-    else if (kind !== "at" && kind !== "panel") this.takeWords(kind, this.text.slice(from, to).split(" "), from, line);
+    else if (kind === "hyp") this.beginPart(Number(text.slice(4)), to, line);
+    else if (kind !== "at" && kind !== "panel") this.takeWords(kind, text.split(" "), from, line);
     if (this.round) this.round.to = to;
-    this.last = kind;
   }
 
   beginPart(hypothesis, to, line) {
-    this.part = { round: this.round, at: line + 1, from: to + 1, to: to + 1 };
+    this.part = { hypothesis, round: this.round, at: line + 1, from: to + 1, to: to + 1 };
+    this.report.steps.push(this.part);
     if (!this.report.parts.has(hypothesis)) this.report.parts.set(hypothesis, []);
     this.report.parts.get(hypothesis).push(this.part);
   }
@@ -79,7 +59,8 @@ class Pass {
     } else if (kind === "round") this.begin(words.map(Number), line, from);
     else {
       if (round.listsFrom === null) Object.assign(round, { listsFrom: from, listsAt: line });
-      if (kind !== "counts") this.takeSet(kind, words, from, line);
+      if (kind === "counts") this.runs.endRound();
+      else this.takeSet(kind, words);
     }
   }
 
@@ -90,15 +71,13 @@ class Pass {
     this.runs.nextRound();
   }
 
-  takeSet(kind, words, from, line) {
-    const hypothesis = Number(words[1]), set = words[words.length - 1], { sets } = this.report;
-    if (!sets.has(hypothesis)) sets.set(hypothesis, set);
-    if (sets.get(hypothesis) !== set) this.report.misnamed.push({ at: line, hypothesis, set });
+  takeSet(kind, words) {
+    const hypothesis = Number(words[1]), set = words[words.length - 1];
     if (kind === "ranked") this.runs.ranked(hypothesis, set, words[5]);
     else if (kind === "open") this.runs.open(hypothesis, set);
-    else this.report.rejections.set(hypothesis, this.round);
-    for (const member of set === "-" ? [] : set.split(",")) {
-      if (!this.graph.numberOf.has(member.replace("!", ""))) throw new BadText(lineAt(this.text, from), "UnknownName");
+    else {
+      this.runs.rejected(hypothesis);
+      if (!this.report.rejections.has(hypothesis)) this.report.rejections.set(hypothesis, this.round);
     }
   }
 }

@@ -3,20 +3,33 @@
 // Collects, for each set that is ranked or open in some round, its runs: the rounds, by index, in which the same is said of it.
 export class Runs {
   constructor() {
-    Object.assign(this, { byHypothesis: new Map(), round: -1, place: 0 });
+    Object.assign(this, { byHypothesis: new Map(), round: -1, place: 0, now: [], before: null, rejects: false, changes: [] });
   }
 
   nextRound() {
     this.round++;
-    this.place = 0;
+    Object.assign(this, { place: 0, now: [], rejects: false });
+  }
+
+  // A round is a change if it ranks or leaves open other sets than the round before, or ranks them in another order, or rejects some.
+  endRound() {
+    const said = this.now.join(" ");
+    if (said !== this.before || this.rejects) this.changes.push(this.round);
+    this.before = said;
   }
 
   ranked(hypothesis, set, share) {
     this.place++;
+    this.now.push(hypothesis);
     this.extend(hypothesis, set, "ranked", this.place, share);
   }
 
+  rejected() {
+    this.rejects = true;
+  }
+
   open(hypothesis, set) {
+    this.now.push("open", hypothesis);
     this.extend(hypothesis, set, "open", null, null);
   }
 

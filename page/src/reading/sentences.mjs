@@ -10,6 +10,11 @@ export function setWords(set) {
   return set.split(",").map(member => member[0] === "!" ? "wrong monitor of " + member.slice(1) : member).join(" + ");
 }
 
+// The title of a refutation.
+export function whyNotWords(set) {
+  return set === "-" ? "Why must something have failed?" : "Why not " + setWords(set) + "?";
+}
+
 // The title of a history: what failed, and which monitors are wrong.
 export function historyTitle(set) {
   const words = set === "-" ? [] : set.split(","), failures = words.filter(member => member[0] !== "!"),
@@ -164,7 +169,8 @@ export function activationSentence(speech, { node, time, arrivals, alarms }) {
   const raised = alarms.slice(0, MOST_ALARMS).flatMap((alarm, index) =>
     [index ? ", " : "; alarm by ", { logLine: alarm.line }, laterWords(alarm.time - time, units)]);
   const more = alarms.length > MOST_ALARMS ? [" and " + (alarms.length - MOST_ALARMS) + " more"] : [];
-  return [{ node }, kind === "failure" ? " fails" : " active", ...over, ...raised, ...more];
+  const alone = kind !== "failure" && !arrivals.length ? [{ warning: ", and nothing had arrived over an edge by then" }] : [];
+  return [{ node }, kind === "failure" ? " fails" : " active", ...over, ...alone, ...raised, ...more];
 }
 
 function laterWords(milliseconds, units) {

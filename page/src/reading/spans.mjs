@@ -16,7 +16,7 @@ function allSpans(log) {
   return spans;
 }
 
-function numberAt(spans, instant) {
+export function numberAt(spans, instant) {
   let low = 0, high = spans.length - 1;
   while (low < high) {
     const middle = Math.ceil((low + high) / 2);

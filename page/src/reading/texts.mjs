@@ -48,9 +48,3 @@ export function kindOf(text) {
   const found = KINDS.find(([, shape]) => shape.test(text.slice(0, 200)));
   return found ? found[0] : "log";
 }
-
-export function lineAt(text, place) {
-  let line = 1;
-  for (let at = text.indexOf("\n"); at >= 0 && at < place; at = text.indexOf("\n", at + 1)) line++;
-  return line;
-}

@@ -14,9 +14,11 @@ export function treeOf(graph, log, hypothesis, steps) {
   return { root: walk.root, state, complaint: walk.complaint, stepCount: steps.length };
 }
 
-class Walk {
-  constructor(graph, log, { failures, doubts }) {
-    Object.assign(this, { graph, log, doubts, reach: reachOf(graph, failures), path: [], root: null, closed: false, complaint: null });
+// The walk of the steps of a hypothesis over its tree. It keeps the nodes of the tree, but for one that is lean.
+export class Walk {
+  constructor(graph, log, { failures, doubts }, isLean = false) {
+    Object.assign(this, { graph, log, doubts, isLean, reach: reachOf(graph, failures), path: [], root: null, closed: false,
+      complaint: null });
   }
 
   take(step) {
@@ -31,6 +33,7 @@ class Walk {
   }
 
   put(node) {
+    if (this.isLean) return;
     const top = this.path[this.path.length - 1];
     if (top) top.split.cases[top.taken].child = node;
     else this.root = node;
@@ -67,7 +70,7 @@ class Walk {
   }
 
   constraintOf(step, reason) {
-    if (reason.event > step.round.number) return null;
+    if (reason.event > step.round.number || (reason.kind === "unreached" && reason.horizon > step.round.now)) return null;
     if (reason.kind !== "pick") return factOf(this.graph, this.log, this.reach, this.doubts, reason);
     const place = this.path[reason.split - 1], taken = place && place.split.cases[place.taken];
     return taken && taken.constraints[reason.place - 1] ? { ...taken.constraints[reason.place - 1], split: place.split, of: taken } : null;

@@ -39,12 +39,14 @@ function read(texts, names) {
   const table = report ? hypothesesOf(graph, report.terms) : [], rounds = report ? report.rounds : [];
   const found = { log: log || (report ? readLog(graph, "") : null), report, table, ask, predictions };
   const roundOfLine = new Map(rounds.map((round, index) => [round.line, index]));
-  return { ...found, roundOfLine, problems: problemsOf(table, log, report) };
+  return { ...found, roundOfLine, ...problemsOf(table, log, report) };
 }
 
 function problemsOf(table, log, report) {
-  if (!report) return [];
-  return log ? mismatchesOf(state.graph, table, log, report) : ["The report is about a log that is not here. Open the log too."];
+  if (!report) return { problems: [], comparedTo: null };
+  if (!log) return { problems: [{ at: null, words: ["The report is about a log that is not here. Open the log too."] }], comparedTo: null };
+  const { found, comparedTo } = mismatchesOf(state.graph, table, log, report);
+  return { problems: found, comparedTo };
 }
 
 function named(name, reader) {
@@ -58,7 +60,8 @@ function named(name, reader) {
 async function showTexts(texts, names, more) {
   const found = read(texts, names), digests = await digestsOf(texts);
   const round = found.report ? Math.max(0, found.report.rounds.length - 1) : 0;
-  change({ ...found, texts, names, digests, round, chosen: null, forecast: null, marked: null, logLine: null, reportLine: null, ...more });
+  const fresh = { round, chosen: null, forecast: null, marked: null, logLine: null, reportLine: null, notOpened: [] };
+  change({ ...found, texts, names, digests, ...fresh, ...more });
 }
 
 // ---- carried texts
@@ -89,8 +92,7 @@ async function showFleet(texts, names) {
     return [name, { rounds: rounds.length, last: rounds[rounds.length - 1] || null }];
   }));
   const streamed = from => ({ graph: from.graph, stream: from.log, fleet: from.fleet });
-  Object.assign(state, { fleet, texts: streamed(texts), names: streamed(names) });
-  await openVehicle(fleet.vehicles.keys().next().value, "fleet");
+  await showVehicle({ fleet, texts: streamed(texts), names: streamed(names) }, fleet.vehicles.keys().next().value, "fleet");
 }
 
 function ownText(lines) {
@@ -102,10 +104,15 @@ function bytesOf(text) {
 }
 
 export async function openVehicle(name, tab) {
-  const lines = { log: ownLines(textOf(state.texts.stream), name), report: state.fleet.vehicles.get(name) };
+  await showVehicle(state, name, tab);
+}
+
+// Shows a vehicle of a fleet, with the texts that the whole fleet has.
+async function showVehicle({ fleet, texts, names }, name, tab) {
+  const lines = { log: ownLines(textOf(texts.stream), name), report: fleet.vehicles.get(name) };
   const own = { log: bytesOf(ownText(lines.log)), report: bytesOf(ownText(lines.report)) };
-  const names = { log: name + ".log", report: name + ".report" };
-  await showTexts({ ...state.texts, ...own }, { ...state.names, ...names }, { vehicle: name, tab });
+  const ownNames = { log: name + ".log", report: name + ".report" };
+  await showTexts({ ...texts, ...own }, { ...names, ...ownNames }, { fleet, vehicle: name, tab });
 }
 
 // ---- opened and saved texts
@@ -120,7 +127,7 @@ export async function openFiles(files) {
     }));
     await takeOpened(opened);
   } catch (fault) {
-    change({ problems: ["Not opened: " + fault.message] });
+    change({ notOpened: [fault.message] });
   }
   document.documentElement.dataset.ready = "yes";
 }

@@ -1,6 +1,7 @@
 // Links: to a node, an edge, a line of the log, a line of the report, or a set. One listener of the document follows them all.
 import { element } from "./elements.mjs";
 import { setWords } from "../reading/sentences.mjs";
+import { timeWords } from "../reading/times.mjs";
 import { change, choose, markNode, state } from "./state.mjs";
 
 function link(attributes, ...words) {
@@ -39,8 +40,11 @@ export function setLink(hypothesis, set, tab) {
 // The words and references of a sentence, as words and links.
 export function linked(sentence) {
   return sentence.map(piece => {
-    if (typeof piece === "string") return piece;
+    if (typeof piece !== "object") return piece;
     if (piece.node !== undefined) return nodeLink(piece.node);
+    if (piece.warning !== undefined) return element("span", { class: "refused" }, piece.warning);
+    if (piece.time !== undefined) return timeWords(piece.time, state.units);
+    if (piece.set !== undefined) return setLink(piece.hypothesis, piece.set, piece.to || "ranking");
     return piece.edge ? edgeLink(piece.edge) : logLink(piece.logLine);
   });
 }

@@ -1,25 +1,21 @@
 // Reads the texts that the page carries, and shows them. Tests find the calls of reading in `Tfpg`, and those of the page in `Page`.
-import { alternativesOf, factOf } from "../reading/clauses.mjs";
-import { ZERO, NEVER } from "../reading/constraints.mjs";
-import { readAsk, readFleet, readPredict, ownLines } from "../reading/answers.mjs";
-import { reachOf, readGraph } from "../reading/graph.mjs";
-import { arrivalsAt, historyOf } from "../reading/histories.mjs";
-import { coveringOf, hypothesesOf, setOf, setText, statusesOf, statusOf } from "../reading/hypotheses.mjs";
-import { isSilence, readLog } from "../reading/log.mjs";
+import { readPredict } from "../reading/answers.mjs";
+import { readGraph } from "../reading/graph.mjs";
+import { historyOf } from "../reading/histories.mjs";
+import { hypothesesOf, setOf, statusesOf, statusOf } from "../reading/hypotheses.mjs";
+import { readLog } from "../reading/log.mjs";
 import { mismatchesOf } from "../reading/mismatches.mjs";
-import { intervalOf, monitorsAt } from "../reading/monitors.mjs";
 import { probedFor } from "../reading/probe.mjs";
 import { readReport, traceOf } from "../reading/report.mjs";
-import { edgeWindow, modeAt, spansAt, windowOf } from "../reading/spans.mjs";
 import { readSteps, stepsOf } from "../reading/steps.mjs";
-import { BadText, kindOf, linesOf, textOf } from "../reading/texts.mjs";
-import { durationWords, rangeWords, timeWords } from "../reading/times.mjs";
-import { chainOf, contradictionsIn, restsOn, treeOf } from "../reading/trees.mjs";
-import { prepareBadge, verdictOf } from "./badge.mjs";
+import { textOf } from "../reading/texts.mjs";
+import { treeOf } from "../reading/trees.mjs";
+import { prepareBadge } from "./badge.mjs";
 import { prepareDrawings } from "./drawing.mjs";
 import { byId } from "./elements.mjs";
 import { openFiles, openVehicle, readCarried, showCarried } from "./files.mjs";
 import { prepareHead } from "./head.mjs";
+import { prepareHeadline } from "./headline.mjs";
 import { prepareKeys } from "./keys.mjs";
 import { followLinks } from "./links.mjs";
 import { prepareSheets } from "./sheet.mjs";
@@ -27,11 +23,8 @@ import { choose, goTo, markNode, show, state, view } from "./state.mjs";
 import { prepareTracks } from "./tracks.mjs";
 
 globalThis.Tfpg = {
-  BadText, NEVER, ZERO, alternativesOf, arrivalsAt, chainOf, contradictionsIn, coveringOf, durationWords, edgeWindow, factOf, historyOf,
-    hypothesesOf, intervalOf, isSilence, kindOf,
-  linesOf, mismatchesOf, modeAt, monitorsAt, ownLines, probedFor, rangeWords, reachOf, readAsk, readFleet, readGraph, readLog, readPredict,
-    readReport, readSteps,
-  restsOn, setOf, setText, spansAt, statusOf, statusesOf, stepsOf, textOf, timeWords, traceOf, treeOf, verdictOf, windowOf
+  historyOf, hypothesesOf, mismatchesOf, probedFor, readGraph, readLog, readPredict, readReport, readSteps,
+  setOf, statusOf, statusesOf, stepsOf, textOf, traceOf, treeOf
 };
 globalThis.Page = { choose, goTo, mark: markNode, open: openFiles, openVehicle, show, state, view };
 
@@ -42,6 +35,7 @@ async function begin() {
     prepareDrawings();
     prepareHead();
     prepareBadge();
+    prepareHeadline();
     prepareTracks();
     prepareKeys();
     prepareSheets();

@@ -3,6 +3,7 @@ import { bar, cell, element, table } from "./elements.mjs";
 import { believedIn, setOf } from "../reading/hypotheses.mjs";
 import { timeWords } from "../reading/times.mjs";
 import { activationSentence, historyTitle, setWords } from "../reading/sentences.mjs";
+import { headline } from "../reading/headlines.mjs";
 import { linked, nodeLink, reportLink, setLink } from "./links.mjs";
 import { choose, speechOf, state, statusNow, view, waitingNow } from "./state.mjs";
 
@@ -13,7 +14,8 @@ export function rankingPanel() {
   if (!round) return [element("p", {}, "The log has no accepted line, so there is no round and no ranking.")];
   const head = ["#", "explains all that was seen", "cost", "alarms raised", ""];
   return [
-    table({ id: "ranking" }, head, round.ranked.slice(0, MOST_ROWS).map(rankingRow)),
+    round.ranked.length ? table({ id: "ranking" }, head, round.ranked.slice(0, MOST_ROWS).map(rankingRow))
+      : element("p", { id: "no-ranking" }, linked(headline(state.report.terms, round))),
     more(round.ranked.length - MOST_ROWS, "The tab sets has them all."),
     listOf(round.open, "open", "open: the budget was spent, so nobody knows"),
     listOf(round.rejected, "rejected", "rejected in this round"),
@@ -39,13 +41,19 @@ function rankingRow(line, index) {
   const attributes = { "data-set": set, "data-hypothesis": hypothesis, "aria-selected": String(isChosen), tabindex: "0" };
   return element("tr", { ...attributes, click: () => choose(hypothesis) },
     cell("number", index + 1), cell(null, setWords(set)), cell("number cost", cost),
-    cell("alarms", canAlarm(line) ? bar(alarmed / monitored) : null, alarmsWords(line)), cell(null, reportLink(line.at)));
+    cell("alarms", canAlarm(line) ? bar(alarmed / monitored) : null, alarmsWords(line)), cell(null, reportLink(line.at), againstPart(line)));
+}
+
+// What speaks against a line of the ranking.
+function againstPart({ at }) {
+  const found = state.problems.filter(problem => problem.at === at);
+  return found.length ? element("span", { class: "refused" }, " ✗ does not fit: ", found.map(({ words }) => [linked(words), ". "])) : null;
 }
 
 function listOf(lines, status, words) {
   if (!lines.length) return null;
   const links = lines.slice(0, MOST_SETS).map(({ hypothesis, set }, index) => [index ? "; " : "", setLink(hypothesis, set, "why")]);
-  const left = lines.length > MOST_SETS ? "; and " + (lines.length - MOST_SETS) + " more" : "";
+  const left = lines.length > MOST_SETS ? "; and " + (lines.length - MOST_SETS) + " more, which the tab sets has" : "";
   return element("p", { class: "list", "data-status": status }, element("span", { class: "status " + status }, words), ": ", links, left);
 }
 
@@ -66,8 +74,8 @@ function historyPart() {
 }
 
 function notRankedPart(set) {
-  const words = " is " + statusNow(state.chosen).status + " in this round, so it has no history here.";
-  return element("p", { id: "not-ranked" }, setLink(state.chosen, set, "why"), words);
+  const { status } = statusNow(state.chosen), is = status === "missing" ? " has no status in this round" : " is " + status + " in this round";
+  return element("p", { id: "not-ranked" }, setLink(state.chosen, set, "why"), is + ", so it has no history here.");
 }
 
 export function activationPart(set, entry) {

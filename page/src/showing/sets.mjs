@@ -6,7 +6,7 @@ import { setWords } from "../reading/sentences.mjs";
 import { choose, coveringNow, state, statusNow, view } from "./state.mjs";
 import { more } from "./ranking.mjs";
 
-const MOST_LISTED = 400, STATUSES = ["ranked", "open", "rejected", "covered"];
+const MOST_LISTED = 400, STATUSES = ["ranked", "open", "rejected", "covered", "missing"];
 
 export function setsPanel() {
   const filter = element("input", { id: "set-filter", placeholder: "part of a name", value: state.filter, input: takeFilter });
@@ -55,6 +55,7 @@ function statusWords(hypothesis, { status, place, since }) {
   if (status === "ranked") return "#" + place;
   if (status === "rejected") return "since round " + since.number + ", " + timeWords(since.now, state.units);
   if (status === "open") return "the budget was spent";
+  if (status === "missing") return "no line says what it is, and no part of it is ranked";
   const [first] = coveringNow(hypothesis);
   return first ? "by " + setWords(first.set) : "";
 }

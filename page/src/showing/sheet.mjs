@@ -5,6 +5,7 @@ import { activationSentence, historyTitle, setWords } from "../reading/sentences
 import { shown } from "../reading/texts.mjs";
 import { copyOfDrawing } from "./drawing.mjs";
 import { roundWords } from "./head.mjs";
+import { headSentences } from "./headline.mjs";
 import { linked, nodeName } from "./links.mjs";
 import { alarmsWords } from "./ranking.mjs";
 import { goTo, speechOf, state, view, waitingNow } from "./state.mjs";
@@ -36,9 +37,14 @@ function sheet() {
   const { names } = state, { round } = view, files = [names.graph, names.log, names.report].filter(Boolean).join(", ");
   const head = [element("h1", {}, byId("title").textContent),
     element("p", {}, files + ". " + byId("badge").textContent + ". This sheet judges nothing.")];
-  const parts = round ? [element("p", {}, roundWords(round)), copyOfDrawing(), rankingPart(round), historySheet(), logPart(round)]
+  const parts = round ? [element("p", {}, roundWords(round)), headPart(round), copyOfDrawing(), rankingPart(round), historySheet(), logPart(round)]
     : copyOfDrawing();
   return element("section", { class: "sheet", "data-round": round ? round.number : "" }, head, parts);
+}
+
+function headPart(round) {
+  const { lead, rest } = headSentences(round);
+  return [element("p", {}, element("b", {}, linked(lead))), element("p", {}, linked(rest))];
 }
 
 function rankingPart({ ranked, open }) {
@@ -47,10 +53,9 @@ function rankingPart({ ranked, open }) {
       cell(null, alarmsWords(line))));
   const sets = open.slice(0, MOST_SETS).map(({ set }) => setWords(set)).join("; ");
   return [
-    element("h2", {}, "What explains all that was seen"),
-    table({}, [], rows),
-    leftOut(ranked.length - MOST_SETS),
-    open.length ? element("p", {}, "Open, since the budget was spent: " + sets + (open.length > MOST_SETS ? " …" : "")) : null
+    rows.length ? [element("h2", {}, "What explains all that was seen"), table({}, [], rows), leftOut(ranked.length - MOST_SETS)] : null,
+    open.length ? [element("h2", {}, "What is not known"), element("p", {}, "Open, since the budget was spent: " + sets + "."),
+      leftOut(open.length - MOST_SETS)] : null
   ];
 }
 

@@ -10,7 +10,7 @@ import { traceOf } from "../reading/report.mjs";
 // place.
 export const state = {
   texts: {}, names: {}, digests: {}, about: null, graph: null, log: null, report: null, table: [],
-  ask: null, predictions: [], fleet: null, vehicle: null, problems: [],
+  ask: null, predictions: [], fleet: null, vehicle: null, problems: [], comparedTo: null, notOpened: [],
   round: 0, chosen: null, forecast: null, tab: "ranking", marked: null, logLine: null, reportLine: null, graphLine: null,
   units: { unit: "clock", start: 0 }, filter: "", statusFilter: "", isEven: true, widening: 1
 };
@@ -82,8 +82,10 @@ export function speechOf(set) {
   return { graph: state.graph, log: state.log, units: state.units, set };
 }
 
+// The status of a set in this round, with what is known of it. One that no line names is covered if a part of it is ranked, and else missing.
 export function statusNow(hypothesis) {
-  return statusOf(view.statuses, hypothesis);
+  const found = statusOf(view.statuses, hypothesis);
+  return found.status === "covered" && !coveringNow(hypothesis).length ? { status: "missing" } : found;
 }
 
 export function coveringNow(hypothesis) {

@@ -3,7 +3,7 @@ import { byId, element } from "./elements.mjs";
 import { timeWords } from "../reading/times.mjs";
 import { chainOf, contradictionsIn, restsOn, treeOf } from "../reading/trees.mjs";
 import { caseSentence, contradictionSentences, excludedSentence, reasonSentence, reusedSentence, setWords, splitSentence,
-  trivialReason } from "../reading/sentences.mjs";
+  trivialReason, whyNotWords } from "../reading/sentences.mjs";
 import { stepsOf } from "../reading/steps.mjs";
 import { linked, logLink, reportLink, setLink } from "./links.mjs";
 import { coveringNow, speechOf, state, statusNow, view } from "./state.mjs";
@@ -21,22 +21,41 @@ function hypothesisShown() {
 export function whyPanel() {
   const hypothesis = hypothesisShown();
   if (!view.round || !state.table[hypothesis]) return [element("p", {}, "No set is rejected in this round. Choose one in the tab sets.")];
-  const set = setText(state.graph, state.table[hypothesis]), found = statusNow(hypothesis), { status } = found;
-  const title = status === "rejected" ? "Why not " + setWords(set) + "?" : setWords(set) + " is " + status;
-  const head = [element("h2", { "data-set": set, "data-status": status }, title), element("p", {}, meaningWords(hypothesis, found))];
+  const set = setText(state.graph, state.table[hypothesis]), found = statusNow(hypothesis);
   const steps = stepsOf(state.graph, state.report, hypothesis, view.round.number);
-  if (!steps.length) return [...head, element("p", { class: "dim" }, "No step was needed for it up to this round.")];
-  const tree = treeOf(state.graph, state.log, state.table[hypothesis], steps);
+  const tree = steps.length ? treeOf(state.graph, state.log, state.table[hypothesis], steps) : null;
+  const head = [element("h2", { "data-set": set, "data-status": found.status }, titleWords(set, found, tree)), meaningPart(hypothesis, found, tree)];
+  if (!tree) return [...head, element("p", { class: "dim" }, "No step of it stands in the report up to this round.")];
   return [...head, ...treePart(tree, speechOf(set), reportLink)];
 }
 
-// What the status of the set means.
-function meaningWords(hypothesis, { status, since }) {
+// Only a tree without a case left shows that a set is rejected.
+function isShown(tree) {
+  return tree !== null && tree.state === "closed";
+}
+
+function titleWords(set, { status }, tree) {
+  if (status === "missing") return setWords(set) + " has no status";
+  if (status !== "rejected") return setWords(set) + " is " + status;
+  return isShown(tree) ? whyNotWords(set) : setWords(set) + " is said to be rejected";
+}
+
+// What the status of the set means, and whether the report shows it.
+function meaningPart(hypothesis, found, tree) {
+  const { status } = found, isWrong = status === "missing" || (status === "rejected" && !isShown(tree));
+  return element("p", { id: "meaning", class: isWrong ? "refused" : null }, meaningWords(hypothesis, found, tree));
+}
+
+function meaningWords(hypothesis, { status, since }, tree) {
   if (status === "open") return "The budget of this round was spent, so nobody knows whether a history of it explains the log.";
   if (status === "ranked") return "It is in the ranking of this round. These steps were taken on the way to its history.";
+  if (status === "missing") return "The report says nothing of it in this round, and ranks no part of it. So the report is wrong.";
   if (status === "covered") return ["A part of it is ranked: ", coveringLinks(hypothesis),
     ". So nothing was to be done for it in this round."];
-  return "Rejected since round " + since.number + ", at " + timeWords(since.now, state.units) + ": no history of it explains the log.";
+  const rejected = "Rejected since round " + since.number + ", at " + timeWords(since.now, state.units);
+  if (isShown(tree)) return rejected + ": no history of it explains the log.";
+  const lack = !tree ? "it has no step" : tree.state === "partial" ? "some case is left" : "a step does not fit";
+  return rejected + ", the report says. It does not show it: " + lack + ". So nobody knows whether a history of it explains the log.";
 }
 
 function coveringLinks(hypothesis) {

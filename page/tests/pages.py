@@ -1,6 +1,8 @@
 """Makes pages by the script `tfpg-page`, each once for the same words."""
 
+import importlib
 import subprocess
+import sys
 import threading
 from pathlib import Path
 
@@ -22,6 +24,13 @@ class Maker:
         """The status, the page and what was said, of a run of the script."""
         ran = subprocess.run([self.script, *map(str, words)], capture_output=True, cwd=self.folder)
         return ran.returncode, ran.stdout, ran.stderr.decode(errors="replace")
+
+    def module(self, name):
+        """A module of the maker that is tested."""
+        folder = str(Path(self.script).parent)
+        if folder not in sys.path:
+            sys.path.insert(0, folder)
+        return importlib.import_module(f"making.{name}")
 
     def page(self, *words):
         """The file of the page that the script makes of these words."""
