@@ -2,13 +2,15 @@
 # needs the library, as python/README.md says.
 
 # %% The pump, and a test: its filter is clogged, and what the monitors then say has times of the world, in Unix milliseconds.
+import warnings
 from pathlib import Path
+from typing import List, Tuple
 
 import tfpg
 
 HERE = Path(__file__).resolve().parent
 START = 1764468000000
-SAID = [
+SAID: List[Tuple[int, tfpg.Kind, str]] = [
     (600000, "tick", ""),
     (1800000, "sweep", ""),
     (2715000, "alarm", "LowFlow"),
@@ -30,16 +32,19 @@ with tfpg.Session(graph, origin=START) as session:
             print(f"line {answer.line}: ranked", ", ".join(f"{one.set} at cost {one.cost}" for one in answer.ranked))
 
 # %% The test passes if what was done to the pump is ranked first, with a history that begins when it was done.
-best = answer.best
+last = session.last
+assert isinstance(last, tfpg.Round) and last.best is not None
+best = last.best
 print(f"best: {best.set}, {best.alarmed} of {best.monitored} alarms")
 for node, time in best.trace.items():
     print(f"  {(time - START) / 1000:6.0f} s {node}")
 assert best.failures == ("FilterClogged",) and 2000000 <= best.trace["FilterClogged"] - START <= 2700000
 
-# %% The report of a whole log is kept as evidence, and judged.
+# %% The report of a whole log is kept as evidence, and judged. Each answer says which lines are refused, so no warning is needed.
+warnings.simplefilter("ignore", tfpg.RefusedLines)
 log = HERE / "pump.log"
 report = tfpg.report(graph, log)
-print(f"a report of {len(report.splitlines())} lines, {tfpg.check(graph, log, report)} rounds accepted")
+print(f"a report of {len(report.splitlines())} lines, {tfpg.check(graph, log, report)} rounds accepted, line {report.refused[0].line} refused")
 try:
     tfpg.check(graph, log, report.replace("ranked 1 cost 2", "ranked 1 cost 1"))
 except tfpg.NotAccepted as fault:

@@ -8,11 +8,11 @@ from support import TOP
 PACKAGE = TOP / "python" / "tfpg"
 # The parts from below. A part is a folder with its modules, or a module beside the folders.
 LAYERS = [
-    {"limits"},
+    {"limits", "portable"},
     {"faults", "reading"},
     {"program", "explaining", "saying"},
     {"inputs", "calls"},
-    {"records", "stream"},
+    {"recording", "stream"},
     {"fleet"},
     {"lint", "brief", "plot"},
     {"__main__", "__init__"},

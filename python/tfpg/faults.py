@@ -1,17 +1,18 @@
-"""The errors of the package. Each is an `Error`, and has as attributes what its message says."""
+"""The errors of the package, and its warning. Each error is an `Error`, and has as attributes what its message says."""
 
 from __future__ import annotations
 
-from typing import TYPE_CHECKING
+from typing import TYPE_CHECKING, Optional
 
 from .limits import MOST_HYPOTHESES, spoken
+from .portable import Portable
 
 if TYPE_CHECKING:
     from .calls.answers import Refused
 
 
-class Error(Exception):
-    """What all errors of the package are."""
+class Error(Portable):
+    """What all errors of the package are. They go whole from one process to another."""
 
 
 class NoLibrary(Error):
@@ -74,8 +75,22 @@ class SessionClosed(Error):
     """The session is closed, by a call or since memory ran out before."""
 
 
+class SessionBusy(Error):
+    """A call of the session came between another one of the same thread, as in a signal handler. It changed nothing, and waited for
+    nothing: the other one goes on only after it."""
+
+
+class OtherProcess(Error):
+    """The session was opened by the process `opened`, and this one, `here`, was forked from it. It has to open a session of its own."""
+
+    def __init__(self, opened: int, here: int) -> None:
+        super().__init__(f"the session was opened by process {opened}, and this is process {here}, which was forked from it: "
+                         "open a session here")
+        self.opened, self.here = opened, here
+
+
 class LineRefused(Error):
-    """A strict session was given a line that the log refuses: `refused` says why."""
+    """A strict call was given a line that the log refuses: `refused` says why."""
 
     def __init__(self, refused: "Refused") -> None:
         super().__init__(f"line {refused.line}: {refused.cause}: {refused.text}\n{refused.sentence}")
@@ -91,7 +106,12 @@ class NotAccepted(Error):
 
 
 class LogFull(Error):
-    """The log has as many events as a log can have, so no further one can be asked for."""
+    """The log takes no further event, or no further change of the mode. A strict session says by `refused` which line it did not take;
+    `ask` has no such line, and says that no further event can be asked for."""
+
+    def __init__(self, said: str, refused: Optional["Refused"] = None) -> None:
+        super().__init__(said)
+        self.refused = refused
 
 
 class UnknownNode(Error, LookupError):
@@ -100,3 +120,13 @@ class UnknownNode(Error, LookupError):
     def __init__(self, name: str) -> None:
         super().__init__(f"the graph has no node {name!r}")
         self.name = name
+
+
+class RefusedLines(Portable, UserWarning):
+    """The log refused lines, and the answer is without them: `count` of `lines` lines, of which `first` is the first."""
+
+    def __init__(self, count: int, lines: int, first: "Refused") -> None:
+        are = "line is" if count == 1 else "lines are"
+        super().__init__(f"{count:,} of {lines:,} {are} refused, and the answer is without what they say. The first is line {first.line}: "
+                         f"{first.cause}: {first.text}: {first.sentence}")
+        self.count, self.lines, self.first = count, lines, first

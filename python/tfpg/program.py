@@ -10,13 +10,14 @@ from pathlib import Path
 from typing import List, Optional, Sequence, Tuple
 
 from .faults import NoProgram
+from .portable import Portable
 
 VARIABLE = "TFPG_PROGRAM"
 OWN_LINE = b"tfpg: "  # begins what the script `tfpg` itself says beside the program
 NO_TRIAL = 70
 
 
-class NoReport(Exception):
+class NoReport(Portable):
     """The program ended without a report, with this status and line."""
 
     def __init__(self, status: int, line: str) -> None:

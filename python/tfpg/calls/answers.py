@@ -4,13 +4,15 @@ from __future__ import annotations
 
 from dataclasses import dataclass, field
 from struct import Struct
-from typing import Dict, List, NamedTuple, Optional, Tuple, Union
+from typing import Any, Dict, List, NamedTuple, Optional, Tuple, Union
 
 from ..explaining.explanations import Explanation
 from ..explaining.refusals import line_explanation
+from ..faults import LineRefused, LogFull
 from ..limits import MOST_TIME, NEVER, spoken
 from ..reading.graphs import DeclaredGraph
 from ..reading.texts import is_number, text_of
+from .notebook import round_table
 
 
 @dataclass(frozen=True)
@@ -54,6 +56,11 @@ class Ranked:
         origin = self.names.origin
         return f"set {self.set}\n" + "".join(f"at {name} {time - origin}\n" for name, time in self.trace.items())
 
+    def to_dict(self) -> Dict[str, Any]:
+        """It as JSON has it, by the names of its attributes."""
+        return {"hypothesis": self.hypothesis, "set": self.set, "failures": list(self.failures), "doubts": list(self.doubts),
+                "cost": self.cost, "alarmed": self.alarmed, "monitored": self.monitored, "trace": self.trace}
+
 
 class Round(NamedTuple):
     """What an accepted line brought: the number of the round, that of the line, the time, whether other hypotheses are ranked than in the
@@ -73,6 +80,14 @@ class Round(NamedTuple):
         """The first of the ranked hypotheses."""
         return self.ranked[0] if self.ranked else None
 
+    def to_dict(self) -> Dict[str, Any]:
+        """It as JSON has it, by the names of its fields."""
+        return {**self._asdict(), "ranked": [one.to_dict() for one in self.ranked]}
+
+    def _repr_html_(self) -> str:
+        """It as a notebook shows it."""
+        return round_table(self)
+
 
 class Why(NamedTuple):
     """Why a line was refused: its number, the cause, and with TimeBack the time of the last event."""
@@ -90,8 +105,13 @@ class Refused:
     cause: str
     text: str
     last: Optional[int]
-    graph: DeclaredGraph = field(repr=False, compare=False)
+    graph: Optional[DeclaredGraph] = field(repr=False, compare=False)
     origin: int = field(repr=False, compare=False)
+    known: Optional[Explanation] = field(default=None, repr=False, compare=False)  # in place of the graph, once it was pickled
+
+    def __getstate__(self) -> Dict[str, Any]:
+        """What `pickle` keeps: the explanation, and not the graph that it needs."""
+        return {**vars(self), "graph": None, "known": self.explanation}
 
     @property
     def sentence(self) -> str:
@@ -106,12 +126,29 @@ class Refused:
     @property
     def explanation(self) -> Explanation:
         """What `lint` says of the line."""
+        if self.graph is None:
+            return self.known or Explanation("")
         line = text_of(self.text.encode("utf-8", "surrogateescape"))
         said = line_explanation(self.graph, [line], 1, self.cause, self.last)
         return by_origin(said, self.cause, self.origin)
 
+    def to_dict(self) -> Dict[str, Any]:
+        """It as JSON has it: `line`, `cause`, `sentence` and `text`."""
+        return {"line": self.line, "cause": self.cause, "sentence": self.sentence, "text": self.text}
+
+    def fault(self) -> Union[LineRefused, LogFull]:
+        """The error of a strict call."""
+        if self.cause in ("LogFull", "ModesFull"):
+            return LogFull(f"line {self.line}: {self.cause}: {self.text}\n{self.sentence}", self)
+        return LineRefused(self)
+
 
 Answered = Union[Round, Refused]
+
+
+def refused_dicts(refused: Tuple[Refused, ...]) -> List[Dict[str, Any]]:
+    """Refused lines as JSON has them."""
+    return [one.to_dict() for one in refused]
 
 
 def by_origin(said: Explanation, cause: str, origin: int) -> Explanation:

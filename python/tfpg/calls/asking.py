@@ -3,15 +3,17 @@
 from __future__ import annotations
 
 from dataclasses import dataclass
-from typing import Tuple
+from typing import Any, Dict, SupportsIndex, Tuple
 
 from ..faults import LogFull
 from ..reading.texts import lines_of
+from .answers import Refused, refused_dicts
 from .endings import About, Terms
 from .graph import Graph
 from .library import library
-from .rooms import text_written
-from .texts import Log, counted, log_bytes
+from .rooms import text_written_apart
+from .texts import Log, counted
+from .whole_logs import WholeLog
 
 
 @dataclass(frozen=True)
@@ -24,23 +26,36 @@ class Question:
     alarm: int
     unknown: int
 
+    def to_dict(self) -> Dict[str, Any]:
+        """It as JSON has it, by the names of its attributes."""
+        return {"node": self.node, "silent": self.silent, "alarm": self.alarm, "unknown": self.unknown}
+
 
 @dataclass(frozen=True)
 class Questions:
-    """The time of the last event, how many hypotheses are ranked and open, and the questions, the most useful one first."""
+    """The time of the last event, how many hypotheses are ranked and open, the questions, the most useful one first, and the lines that the
+    log refused."""
 
     now: int
     ranked: int
     open: int
     questions: Tuple[Question, ...]
+    refused: Tuple[Refused, ...] = ()
+
+    def to_dict(self) -> Dict[str, Any]:
+        """It as JSON has it, by the names of its attributes."""
+        return {"now": self.now, "ranked": self.ranked, "open": self.open, "questions": [one.to_dict() for one in self.questions],
+                "refused": refused_dicts(self.refused)}
 
 
-def ask(graph: Graph, log: Log, k: int = 2, doubt: int = 0, budget: int = 1000) -> Questions:
+def ask(graph: Graph, log: Log, k: SupportsIndex = 2, doubt: SupportsIndex = 0, budget: SupportsIndex = 1000, origin: SupportsIndex = 0,
+        strict: bool = False) -> Questions:
     """Which observation would tell most after a log, as the program's `ask` says it."""
-    lines, terms = log_bytes(log), Terms(k, doubt, budget)
-    text = text_written(library().ask, (*counted(graph.text), *counted(lines), *terms.numbers()), About(graph, terms))
-    head, *asked = [line.split(" ") for line in lines_of(text)]
+    given, terms = WholeLog(graph, log, origin, strict), Terms.of(k, doubt, budget)
+    words = *counted(graph.text), *counted(given.content), *terms.numbers()
+    head, *asked = [line.split(" ") for line in lines_of(text_written_apart(library().ask, words, About(graph, terms)))]
     if asked and asked[0][0] == "refused":
-        raise LogFull("the log has as many events as a log can have")
+        raise LogFull("the log has as many events as a log can have, so no further one can be asked for")
+    given.warn()
     questions = tuple(Question(words[1], int(words[3]), int(words[5]), int(words[7])) for words in asked)
-    return Questions(int(head[2]), int(head[4]), int(head[6]), questions)
+    return Questions(int(head[2]) + given.origin, int(head[4]), int(head[6]), questions, given.refused)

@@ -4,7 +4,7 @@ from __future__ import annotations
 
 from dataclasses import asdict, dataclass
 from operator import index as whole
-from typing import Tuple
+from typing import SupportsIndex, Tuple
 
 from ..explaining.refusals import NO_ROOM
 from ..faults import Error, FullGraph, NoMemory, NotAccepted, OutOfRange, SessionClosed, TooManyHypotheses, TooMuchInput, UnknownNode
@@ -23,6 +23,11 @@ class Terms:
     k: int = 2
     doubt: int = 0
     budget: int = 1000
+
+    @classmethod
+    def of(cls, *numbers: SupportsIndex) -> "Terms":
+        """The terms of these numbers, which are whole ones of any kind, or TypeError."""
+        return cls(*map(whole, numbers))
 
     def numbers(self) -> Tuple[int, ...]:
         """The same as C has them. A number that C cannot have becomes the greatest that it can, which is outside the limits too."""
@@ -48,7 +53,7 @@ class PredictionTerms(Terms):
 
 def fitting(number: int, bits: int) -> int:
     """A number as one of so many bits."""
-    return whole(number) if 0 <= number < 1 << bits else (1 << bits) - 1
+    return number if 0 <= number < 1 << bits else (1 << bits) - 1
 
 
 @dataclass(frozen=True)

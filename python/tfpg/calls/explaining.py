@@ -3,14 +3,16 @@
 from __future__ import annotations
 
 from dataclasses import dataclass
-from typing import Optional
+from typing import Any, Dict, Literal, Optional, SupportsIndex, Tuple
 
 from ..reading.texts import lines_of
+from .answers import Refused, refused_dicts
 from .endings import About
 from .graph import Graph
 from .library import library
-from .rooms import text_written
-from .texts import Log, Text, counted, log_bytes, text_bytes
+from .rooms import text_written_apart
+from .texts import Log, Text, counted, text_bytes
+from .whole_logs import WholeLog
 
 SENTENCES = {
     "late": "It gives {node} the time {time}, which is after the last event.",
@@ -22,26 +24,44 @@ SENTENCES = {
 }
 
 
+Fault = Literal["", "late", "stranger", "may", "must", "alarm", "silence"]
+
+
 @dataclass(frozen=True)
 class Verdict:
-    """Whether a history explains a log, and if not, its first fault: late, stranger, may, must, alarm or silence, at a node and a time."""
+    """Whether a history explains a log, and if not, its first fault: late, stranger, may, must, alarm or silence, at a node and a time. It
+    is of the lines that the log accepts: `refused` has the others."""
 
     explains: bool
     fault: str = ""
     node: str = ""
     time: Optional[int] = None
+    refused: Tuple[Refused, ...] = ()
 
     @property
     def sentence(self) -> str:
         """The verdict in a sentence."""
-        if self.explains:
-            return "The history explains the log."
-        return SENTENCES[self.fault].format(node=self.node, time=self.time)
+        if not self.explains:
+            return SENTENCES[self.fault].format(node=self.node, time=self.time)
+        return f"The history explains the accepted lines alone: {lines_words(self.refused)}." if self.refused else "The history explains the log."
+
+    def to_dict(self) -> Dict[str, Any]:
+        """It as JSON has it, by the names of its attributes, with its sentence."""
+        return {"explains": self.explains, "fault": self.fault, "node": self.node, "time": self.time, "sentence": self.sentence,
+                "refused": refused_dicts(self.refused)}
 
 
-def explain(graph: Graph, log: Log, history: Text) -> Verdict:
+def lines_words(refused: Tuple[Refused, ...]) -> str:
+    """How many lines are refused, and which is the first."""
+    return f"line {refused[0].line} is refused" if len(refused) == 1 else f"{len(refused):,} are refused, first line {refused[0].line}"
+
+
+def explain(graph: Graph, log: Log, history: Text, origin: SupportsIndex = 0, strict: bool = False) -> Verdict:
     """Judges a history, which is a map as docs/formats.md has it, as the program's `explain` does."""
-    lines, given = log_bytes(log), text_bytes(history)
-    text = text_written(library().explain, (*counted(graph.text), *counted(lines), *counted(given)), About(graph, judged=given))
-    words = lines_of(text)[0].split(" ")
-    return Verdict(True) if words == ["yes"] else Verdict(False, words[1], words[2], int(words[3]))
+    given, text = WholeLog(graph, log, origin, strict), text_bytes(history)
+    words = *counted(graph.text), *counted(given.content), *counted(text)
+    said = lines_of(text_written_apart(library().explain, words, About(graph, judged=text)))[0].split(" ")
+    given.warn()
+    if said == ["yes"]:
+        return Verdict(True, refused=given.refused)
+    return Verdict(False, said[1], said[2], int(said[3]) + given.origin, given.refused)

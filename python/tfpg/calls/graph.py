@@ -3,7 +3,7 @@
 from __future__ import annotations
 
 import os
-from typing import List, Tuple, Union
+from typing import Any, List, Tuple, Union
 
 from ..faults import BadGraph
 from ..explaining.refusals import graph_explanation
@@ -43,6 +43,16 @@ class Graph:
         with open(name, "rb") as file:
             content = file.read()
         return cls(graph_text(name, content) if content.lstrip(b" \t\r\n").startswith(b"{") else content)
+
+    def __eq__(self, other: object) -> bool:
+        return isinstance(other, Graph) and self.text == other.text
+
+    def __hash__(self) -> int:
+        return hash(self.text)
+
+    def __reduce__(self) -> Tuple[Any, ...]:
+        """What `pickle` keeps: the text, which is read again."""
+        return type(self), (self.text,)
 
     def __repr__(self) -> str:
         return f"<tfpg.Graph of {len(self.nodes)} nodes and {len(self.edges)} edges>"

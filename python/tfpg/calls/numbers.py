@@ -26,8 +26,7 @@ class Numbers:
         self.result, self.room = ResultNumbers(), ctypes.create_string_buffer(RANKED_SIZE + 8 * len(self.names.nodes))
         self.result_room = ctypes.byref(self.result)
         self.rooms = ctypes.byref(self.room), ctypes.byref(self.room, RANKED_SIZE), ctypes.c_size_t(len(self.names.nodes))
-        self.contents: List[bytes] = []
-        self.ranking: Tuple[Ranked, ...] = ()
+        self.known: Tuple[List[bytes], Tuple[Ranked, ...]] = ([], ())
 
     def names_of(self, kind: NameKind) -> Tuple[str, ...]:
         """All names of a kind, by their numbers."""
@@ -45,7 +44,7 @@ class Numbers:
         return index.value if answer.status == Status.DONE else None
 
     def brought(self) -> Union[Round, Why]:
-        """What the last line brought."""
+        """What the last line brought. Before the first line that is a round of line 0."""
         answer = self.result_of(self.session, self.result_room)
         if answer.status:
             raise unread(answer)
@@ -65,11 +64,12 @@ class Numbers:
             if answer.status:
                 raise unread(answer)
             contents.append(room.raw)
-        if contents != self.contents:
-            known = dict(zip(self.contents, self.ranking))
-            self.ranking = tuple(known.get(content) or self.one(content) for content in contents)
-            self.contents = contents
-        return self.ranking
+        known_contents, ranking = self.known
+        if contents != known_contents:
+            known = dict(zip(known_contents, ranking))
+            ranking = tuple(known.get(content) or self.one(content) for content in contents)
+            self.known = contents, ranking
+        return ranking
 
     def one(self, content: bytes) -> Ranked:
         """A ranked hypothesis of its numbers and times."""

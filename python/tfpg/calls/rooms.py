@@ -3,8 +3,10 @@
 from __future__ import annotations
 
 import ctypes
+from functools import partial
 from typing import Any, Sequence
 
+from .apart import apart
 from .endings import About, fault_of
 from .layouts import Answer, Status
 from .library import Call
@@ -22,3 +24,8 @@ def text_written(call: Call, words: Sequence[Any], about: About, size: int = FIR
     if answer.status != Status.DONE:
         raise fault_of(answer, about)
     return ctypes.string_at(room, answer.count).decode("ascii")
+
+
+def text_written_apart(call: Call, words: Sequence[Any], about: About) -> str:
+    """The same of a call that may take long: an interrupt does not wait for its end."""
+    return text_written(partial(apart, call), words, about)

@@ -8,12 +8,13 @@ from pathlib import Path
 from typing import List
 
 from ..limits import LONGEST_NAME
+from ..portable import Portable
 
 NAME = re.compile(rf"[A-Za-z][A-Za-z0-9_.-]{{0,{LONGEST_NAME - 1}}}")
 NUMBER = re.compile(r"0|[1-9][0-9]*")
 
 
-class BadText(Exception):
+class BadText(Portable):
     """A text is not what it should be, with the line and a cause. The line is 0 if it is none."""
 
     def __init__(self, line: int, cause: str) -> None:

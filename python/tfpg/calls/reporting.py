@@ -1,0 +1,70 @@
+"""Reports of whole logs, and whether a report is accepted."""
+
+from __future__ import annotations
+
+from typing import Any, Dict, List, SupportsIndex, Tuple
+
+from ..faults import TooMuchInput
+from ..limits import INPUT_BYTES
+from .answers import Refused, refused_dicts
+from .apart import apart
+from .endings import TOO_LONG, About, fault_of
+from .graph import Graph
+from .layouts import Status
+from .library import library
+from .session import Session
+from .texts import Log, Text, counted, log_bytes, text_bytes
+from .whole_logs import WholeLog, lines_in, warn_of
+
+
+class Report(str):
+    """A report, which is a text, and the lines that its log refused."""
+
+    refused: Tuple[Refused, ...] = ()
+
+    def to_dict(self) -> Dict[str, Any]:
+        """It as JSON has it: `report`, the text, and `refused`, the lines."""
+        return {"report": str(self), "refused": refused_dicts(self.refused)}
+
+
+class Accepted(int):
+    """The number of the rounds of a report that is accepted, and the lines that its log refused."""
+
+    refused: Tuple[Refused, ...] = ()
+
+    def to_dict(self) -> Dict[str, Any]:
+        """It as JSON has it: `rounds`, the number, and `refused`, the lines."""
+        return {"rounds": int(self), "refused": refused_dicts(self.refused)}
+
+
+def report(graph: Graph, log: Log, k: SupportsIndex = 2, doubt: SupportsIndex = 0, budget: SupportsIndex = 1000, origin: SupportsIndex = 0,
+           strict: bool = False) -> Report:
+    """The report of a log, byte for byte as `diagnose` writes it."""
+    blocks: List[str] = []
+    refused: List[Refused] = []
+    with Session(graph, k, doubt, budget, origin, strict) as session:
+        content = log_bytes(log)
+        if len(content) > INPUT_BYTES:
+            raise TooMuchInput(TOO_LONG)
+        lines = lines_in(content)
+        blocks.append(session.head)
+        for answer in session.rounds(lines):
+            blocks.append(session.block)
+            if isinstance(answer, Refused):
+                refused.append(answer)
+    written = Report("".join(blocks))
+    written.refused = tuple(refused)
+    warn_of(written.refused, len(lines), 3)
+    return written
+
+
+def check(graph: Graph, log: Log, report: Text, origin: SupportsIndex = 0, strict: bool = False) -> Accepted:
+    """Judges a report by the graph and the log, whoever wrote it, and returns the number of its rounds. NotAccepted says what is wrong."""
+    given, text = WholeLog(graph, log, origin, strict), text_bytes(report)
+    answer = apart(library().check, *counted(graph.text), *counted(given.content), *counted(text))
+    if answer.status != Status.DONE:
+        raise fault_of(answer, About(graph, judged=text))
+    accepted = Accepted(answer.count)
+    accepted.refused = given.refused
+    given.warn()
+    return accepted
