@@ -105,7 +105,7 @@ class LogCauses(unittest.TestCase):
         self.assertIn("… and 13 more lines (BadLine 10, BadNumber 3). --all tells each.", unwrapped(said))
 
     def test_a_log_that_is_accepted(self):
-        self.assertEqual(lint(TINY_GRAPH, "5 alarm Wet\n6 sweep\n"), (0,
+        self.assertEqual(lint(TINY_GRAPH, "50 alarm Wet\n60 sweep\n"), (0,
             "graph: the program accepts this graph.\nlog: the program accepts all 2 lines.\n"))
 
 

@@ -371,7 +371,7 @@ right.jsonl,2,right,3.25,door,open,unknown-name,,
                     (["good", "--before", "8"], 2, "`8` is no duration"),
                     (["good", "--before", "8h", "--origin", "5"], 2, "not allowed with"),
                     (["good", "--offset", "good:5"], 2, "`good:5` is no offset"),
-                    (["good", "--offset", "good=5", "--offset", "good=6"], 2, "there are two offsets for the box good")):
+                    (["good", "--offset", "good=5", "--offset", "good=6"], 2, "each box has one offset, and one has two")):
                 with self.subTest(words=words):
                     found, told = run("records", "graph", *words)
                     self.assertEqual(found, status)

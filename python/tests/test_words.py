@@ -5,6 +5,7 @@ import stat
 import subprocess
 import sys
 import unittest
+from pathlib import Path
 from unittest import mock
 
 from support import EXAMPLES, TOP, files, run
@@ -87,7 +88,7 @@ class Words(unittest.TestCase):
 
     def test_a_graph_that_is_absent(self):
         status, said = run("lint", "no-such-graph")
-        self.assertEqual((status, said.split("\n")[0]), (5, "no-such-graph: read fault"))
+        self.assertEqual((status, said.split("\n")[0]), (5, "no-such-graph: No such file or directory"))
 
     def test_a_log_that_is_absent(self):
         status, said = run("lint", str(EXAMPLES / "pump.tfpg"), "no-such-log")
@@ -96,6 +97,18 @@ class Words(unittest.TestCase):
     def test_a_file_whose_name_begins_like_an_option(self):
         with files(**{"-graph": (EXAMPLES / "pump.tfpg").read_bytes()}):
             self.assertEqual(run("lint", "--", "-graph"), (0, "-graph: the program accepts this graph.\n"))
+
+    def test_words_of_files_that_cannot_be_read(self):
+        """The sentence is what the system says of the first file that it cannot read, in the order of the words."""
+        with files(graph=(EXAMPLES / "pump.tfpg").read_bytes()) as here:
+            Path(here, "folder").mkdir()
+            for words, said in ((["ask", "no-graph", "no-log"], "no-graph: No such file or directory"),
+                                (["ask", "graph", "folder"], "folder: Is a directory"),
+                                (["simulate", "graph", "no-script"], "no-script: No such file or directory"),
+                                (["predict", "graph", "no-log", "LowFlow"], "no-log: No such file or directory")):
+                with self.subTest(words=words):
+                    status, told = run("lint", "--words", *words)
+                    self.assertEqual((status, told.split("\n")[-2].strip()), (5, said))
 
     def test_a_report_has_its_terms(self):
         names = [str(EXAMPLES / name) for name in ("pump.tfpg", "pump.log", "pump.report")]

@@ -5,18 +5,14 @@ from __future__ import annotations
 import os
 from typing import Any, List, Tuple, Union
 
-from ..faults import BadGraph
+from ..explaining.graph_json import json_sentence
 from ..explaining.refusals import graph_explanation
+from ..faults import BadGraph
 from ..program import file_words, run_program
 from ..reading.graph_json import json_lines
 from ..reading.graphs import DeclaredGraph, Edge, Node, graph_of
 from ..reading.texts import lines_of, shown, text_of
 from .texts import Text, text_bytes
-
-JSON_FAULTS = {
-    "BadLine": "It is no JSON, or has not the shape of a graph: docs/formats.md has it under \"Graph as JSON\".",
-    "BadName": "A name of a mode, of a node or in an edge has not the form of a name.",
-}
 
 
 class Graph:
@@ -80,4 +76,4 @@ def graph_text(name: str, content: bytes) -> bytes:
     line, cause = ended.cause
     if ended.line.startswith("graph ") and line:
         raise bad_graph(json_lines(content), line, cause)
-    raise BadGraph(0, cause, "", JSON_FAULTS.get(cause, f"The program says: {ended.line}"))
+    raise BadGraph(0, cause, "", json_sentence(content) if ended.line.startswith("graph ") else f"The program says: {ended.line}")

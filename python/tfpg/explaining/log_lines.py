@@ -6,7 +6,7 @@ import re
 from typing import Callable, Dict, List, Optional, Sequence, Tuple
 
 from ..limits import LONGEST_LINE, MOST_CHANGES, MOST_EVENTS, MOST_TIME, spoken
-from ..reading.graphs import DeclaredGraph
+from ..reading.graphs import HEADERS, DeclaredGraph
 from ..reading.texts import Word, is_number, number_of, words_of
 from .explanations import Explanation, listed
 from .forms import empty_word, line_hints, number_hints, quoted, size_hints
@@ -47,6 +47,9 @@ def _bad_line(here: RefusedLine) -> Explanation:
         return Explanation("The line is empty, and a log has no empty lines.", None, [RIGHT])
     if here.line.startswith("#"):
         return Explanation("A log has no comments.", words[0], [RIGHT])
+    if here.line in HEADERS:
+        order = "Are the files in their order, GRAPH and then LOG?"
+        return Explanation("A graph begins so, and no line of a log.", words[0], [order, RIGHT])
     if any(word.text == "" for word in words):
         return Explanation("Each space separates two words, so a space too many makes an empty word.", empty_word(here.line))
     return Explanation(*_shape_fault(words), [RIGHT])
@@ -76,13 +79,14 @@ def _bad_number(here: RefusedLine) -> Explanation:
 def _time_too_large(here: RefusedLine) -> Explanation:
     word = here.words[0]
     return Explanation(f"A time is at most {spoken(MOST_TIME)} milliseconds, some 31 years, and {quoted(word.text)} is above it.",
-                       word, size_hints(word.text))
+                       word, [*size_hints(word.text), "`python3 -m tfpg records` takes an origin from each time."])
 
 
 def _time_back(here: RefusedLine) -> Explanation:
     word = here.words[0]
     return Explanation(f"The time {word.text} is before {here.time}, that of the last accepted line.", word,
-                       ["Times never fall. A line that comes too late is left out, and changes nothing."] + _seconds_hints(here))
+                       ["Times never fall. A line that comes too late is left out, and changes nothing.",
+                        "`python3 -m tfpg records` sorts the records of several boxes."] + _seconds_hints(here))
 
 
 def _seconds_hints(here: RefusedLine) -> List[str]:

@@ -12,6 +12,7 @@ from .explanations import Explanation, listed
 from .forms import name_hints, number_hints, quoted
 
 PANELS = ("top:", "count:", "json:")
+FILES = ("GRAPH", "LOG", "SCRIPT")
 
 
 def explain_words(words: Sequence[str], cause: str) -> Explanation:
@@ -37,9 +38,16 @@ def explain_node(words: Sequence[str], graph: DeclaredGraph) -> Explanation:
 
 def graph_file(words: Sequence[str]) -> str:
     """The word that names the graph, if there is one."""
+    return next(iter(files_of(words)), "")
+
+
+def files_of(words: Sequence[str]) -> List[str]:
+    """The words that name files which are read before the input, in their order."""
+    if not words or words[0] not in COMMANDS:
+        return []
     _, places = words_in_line(words)
-    some = parts_of(words[0], places[1:]).positional if words and words[0] in COMMANDS else []
-    return some[0].text if some else ""
+    names = zip(COMMANDS[words[0]].positional, parts_of(words[0], places[1:]).positional)
+    return [word.text for name, word in names if name in FILES]
 
 
 def _commands() -> str:

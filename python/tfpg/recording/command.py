@@ -6,7 +6,7 @@ import argparse
 import json
 import re
 import sys
-from typing import Callable, Dict, Sequence, Tuple, TypeVar
+from typing import Callable, Sequence, Tuple, TypeVar
 
 from ..calls.graph import Graph
 from .account import summary_of, write_account
@@ -30,10 +30,14 @@ What became of the records is counted on standard error."""
 
 def records(words: Sequence[str]) -> int:
     """Runs the command on these words, and returns its status."""
-    said = _parser().parse_args(words)
+    parser = _parser()
+    said = parser.parse_args(words)
+    boxes = [box for box, _ in said.offset]
+    if len(set(boxes)) < len(boxes):
+        parser.error("each box has one offset, and one has two")
     graph = Graph.load(said.graph).declared
     table = table_of(said.names) if said.names is not None else []
-    choices = Choices(_offsets(said.offset), said.origin, said.before, said.seconds, said.mode, said.leave_out)
+    choices = Choices(dict(said.offset), said.origin, said.before, said.seconds, said.mode, said.leave_out)
     log = log_of_records(graph, Words(graph, table), files_source(said.records), choices)
     if said.account is not None:
         write_account(log, said.account)
@@ -82,12 +86,3 @@ def _offset(text: str) -> Tuple[str, int]:
     if said is None:
         raise ValueError(f"`{text}` is no offset: it is the name of a box, = and milliseconds, such as engine=-1500")
     return said[1], int(said[2])
-
-
-def _offsets(said: Sequence[Tuple[str, int]]) -> Dict[str, int]:
-    """The offsets by their boxes. One box has one."""
-    boxes = [box for box, _ in said]
-    twice = next((box for box in boxes if boxes.count(box) > 1), None)
-    if twice is not None:
-        raise SystemExit(f"tfpg records: there are two offsets for the box {twice}")
-    return dict(said)
