@@ -3,12 +3,17 @@
 
     bench/gate_minutes.py
 
-Start it beside `rt ci`, which it outlives; stop it by Ctrl-C, and it prints the table. It looks at all processes of the prover
+Start it before `rt ci`, which it outlives; stop it by Ctrl-C, and it prints the table. It looks at all processes of the prover
 once a second, by whatever command they were started, so nothing else should be proved meanwhile. What a process takes
 between the last look and its end is not counted.
+
+Processors differ, and so do the minutes. So it runs `rt selftest` first and last, which proves and builds one small crate of the
+toolchain. The mean of what both took is the unit, in which it gives each figure too: these compare on any two days and machines.
 """
 
 import os
+import resource
+import subprocess
 import sys
 import time
 from collections import defaultdict
@@ -43,25 +48,36 @@ def look(seconds):
             seconds[process.name, begun] = (work, sum(map(int, fields[11:15])) / TICKS)
 
 
-def show(seconds):
-    """Prints the minutes of each crate, and their sum."""
+def selftest_seconds():
+    """How many processor seconds the toolchain takes for its own small crate."""
+    before = resource.getrusage(resource.RUSAGE_CHILDREN)
+    subprocess.run(["rt", "selftest"], stdout=subprocess.DEVNULL, check=True)
+    after = resource.getrusage(resource.RUSAGE_CHILDREN)
+    return after.ru_utime - before.ru_utime + after.ru_stime - before.ru_stime
+
+
+def show(seconds, unit):
+    """Prints the minutes of each crate, their sum, and all in units of so many seconds."""
     minutes = defaultdict(lambda: defaultdict(float))
     for (crate, purpose), taken in seconds.values():
         minutes[crate][purpose] += taken / 60
-    print(f"{'crate':20} {'proof':>7} {'tests':>7} {'edits':>7}")
+    print(f"{'minutes':20} {'proof':>7} {'tests':>7} {'edits':>7} {'units':>7}   a unit is {unit / 60:.2f} minutes")
     for crate, by_purpose in sorted(minutes.items()):
-        print(f"{crate:20} {by_purpose['proof']:7.1f} {by_purpose['tests']:7.1f} {by_purpose['edits']:7.1f}")
-    print(f"{'all':20} {sum(taken for _, taken in seconds.values()) / 60:7.1f}")
+        taken = [by_purpose[purpose] for purpose in ("proof", "tests", "edits")]
+        print(f"{crate:20} {taken[0]:7.1f} {taken[1]:7.1f} {taken[2]:7.1f} {60 * sum(taken) / unit:7.1f}")
+    every = sum(taken for _, taken in seconds.values())
+    print(f"{'all':20} {every / 60:23.1f} {every / unit:7.1f}")
 
 
 def main():
-    seconds = {}
+    seconds, first = {}, selftest_seconds()
+    print("gate_minutes: begin the gate now", file=sys.stderr, flush=True)
     try:
         while True:
             look(seconds)
             time.sleep(1)
     except KeyboardInterrupt:
-        show(seconds)
+        show(seconds, (first + selftest_seconds()) / 2)
     return 0
 
 
