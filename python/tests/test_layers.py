@@ -11,6 +11,7 @@ LAYERS = [
     {"limits", "portable"},
     {"faults", "reading"},
     {"program", "explaining", "saying"},
+    {"warning"},
     {"inputs", "calls"},
     {"recording", "stream"},
     {"fleet"},
