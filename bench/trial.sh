@@ -145,7 +145,7 @@ both pump.log file predict pump.tfpg pump.log HighPressure
 both pump.log file predict pump.tfpg pump.log Nothing
 both pump.log file
 both pump.log file judge pump.tfpg
-both pump.log file --help
+both pump.log file --help me
 both pump.log file diagnose
 both pump.log file diagnose pump.tfpg pump.log
 both pump.log file diagnose pump.tfpg top:

@@ -1,12 +1,14 @@
-# What `tfpg` and `build` share: which sources something is made of, whether it is as they stand, and who may make it. Both read this file,
-# with the top of the repository in `top`.
+# What the scripts around the program share: which sources something is made of, whether it is as they stand, and who may make it. Who reads
+# this file has the top of the repository in `top`. `name` is what the script is called in what it says.
 
+name=${name-$(basename "$0")}
 program=$top/crates/tfpg/out/tfpg
+archive=$top/crates/tfpg_embed/out/libtfpg_embed.a
 build_time='half an hour to an hour on four processors'
 
 # Says this on standard error, which is all that the scripts themselves write to. Where that fails nothing more can be said.
 say() {
-    printf '%s: %s\n' "$(basename "$0")" "$1" >&2 || true
+    printf '%s: %s\n' "$name" "$1" >&2 || true
 }
 
 # Ends with the status of the scripts' own, and says why.
@@ -15,14 +17,19 @@ give_up() {
     exit 70
 }
 
+need_linux() {
+    [[ $OSTYPE == linux* ]] || give_up "this needs Linux, and here is $OSTYPE"
+}
+
 need_rt() {
     command -v rt > /dev/null ||
         give_up 'rt, the command of the Rattle toolchain, is not on the PATH: "What is trusted" in README.md names the kit that has it'
 }
 
-# The lines of `crates.txt` of a crate and of the crates of the repository that it stands on, lowest first.
+# The lines of `crates.txt` of a crate and of the crates of the repository that it stands on, lowest first. The first word is the top of
+# the repository, or of a copy of it, as in what follows.
 crates_up_to() {
-    awk -F '[: ]+' -v highest="$1" '
+    awk -F '[: ]+' -v highest="$2" '
         { line[NR] = $0 }
         END {
             needed[highest]
@@ -34,33 +41,54 @@ crates_up_to() {
                 split(line[number], words)
                 if (words[1] in needed) print line[number]
             }
-        }' "$top/crates.txt"
+        }' "$1/crates.txt"
 }
 
 # The same by their names alone.
 names_up_to() {
-    crates_up_to "$1" | sed 's/[: ].*//'
+    crates_up_to "$1" "$2" | sed 's/[: ].*//'
 }
 
-# Looks through the sources of these crates, and not through what was made there nor through edits that must fail. The other words are those
-# of `find`.
+# Looks through the sources of these crates, and not through what was made there nor through edits that must fail. Of `code` it leaves
+# proofs out, which neither run nor promise anything. The other words are those of `find`.
 find_sources() {
-    local names=$1
-    shift
-    (cd "$top/crates" && find $names \( -name out -o -name must-fail \) -prune -o "$@")
+    local names=$2 what=$3 proofs=()
+    [ "$what" = all ] || proofs=(-o -name proofs)
+    (cd "$1/crates" && shift 3 && find $names \( -name out -o -name must-fail "${proofs[@]}" \) -prune -o "$@")
 }
 
-# Whether this file is there, and nothing of this crate or of those below it is newer: no file, and no folder, from which one may be gone.
+# The sum of the contents of what a crate and those below it are made of: of `all` of it, or of `code` and definitions.
+sum_of() {
+    {
+        crates_up_to "$1" "$2"
+        find_sources "$1" "$(names_up_to "$1" "$2")" "$3" -type f -print0 | LC_ALL=C sort -z | (cd "$1/crates" && xargs -0 sha256sum)
+    } | sha256sum | cut -c -64
+}
+
+# Whether something changed since this file was made: a file, or a folder, from which one may be gone. The time of a change counts, which
+# also a copy with an older time has; or with `modified` the time that the file bears.
+has_changed_since() {
+    local newer=-newercm
+    [ "${4-}" != modified ] || newer=-newer
+    [ -n "$(find "$top/crates.txt" "$newer" "$1")" ] ||
+        [ -n "$(find_sources "$top" "$(names_up_to "$top" "$2")" "$3" -path '*/*' "$newer" "$1" -print -quit)" ]
+}
+
+# Whether this file is there, and made of `all` sources of the crate and those below it as they stand, or of their `code`. Where something
+# changed since, the sums of the contents tell, which were noted when it was made. If none were, times of modification tell.
 is_current() {
-    [ -s "$1" ] && [ ! "$top/crates.txt" -nt "$1" ] &&
-        [ -z "$(find_sources "$(names_up_to "$2")" -path '*/*' -newer "$1" -print -quit)" ]
+    [ -s "$1" ] || return 1
+    has_changed_since "$1" "$2" "$3" || return 0
+    if [ -e "$1.sums" ]; then
+        grep -q "^$3 $(sum_of "$top" "$2" "$3")$" "$1.sums"
+    else
+        ! has_changed_since "$1" "$2" "$3" modified
+    fi
 }
 
-# Puts what was made in its place, as old as the moment before its sources were read.
+# Puts what was made in its place, at once and whole, as old as the moment before its sources were read, for whoever can read the checkout.
 put_in_place() {
-    touch -r "$3" "$1"
-    mkdir -p "$(dirname "$2")"
-    mv "$1" "$2"
+    mkdir -p "$(dirname "$2")" && cp "$1" "$2.new" && touch -r "$3" "$2.new" && chmod a+rX "$2.new" && rm -f "$2.sums" && mv "$2.new" "$2"
 }
 
 # Waits until no other process of this checkout does what this file stands for, and says so where one does. The lock ends with the
