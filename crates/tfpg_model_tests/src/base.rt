@@ -1,6 +1,5 @@
-//! The public calls of `tfpg_base`: the outside, lines, words and texts, and values such as sets, traces and counters.
+//! The public calls of `tfpg_base`: the outside, lines, and values such as lists and traces.
 
 mod lines;
 mod outside;
 mod values;
-mod words;

@@ -1,72 +1,13 @@
-//! The public calls of `tfpg_log`: which event a line is, and what the look-ups and copies of logs are.
+//! The public calls of `tfpg_log`: what the look-ups and copies of logs say, and their spans and windows.
 
-ghost use Rattle.tfpg_log.specs.Log.{IsLogOf};
-
-use crate::given::{compare, on_graph, on_log};
-use std::alloc::Global;
+use crate::given::{compare, on_log};
 use std::test::Fail;
-use tfpg_base::Doubts;
 use tfpg_graph::Graph;
-use tfpg_log::{Event, Log, Offered, Span, Window, append_event};
+use tfpg_log::{Log, Span, Window};
 
 /// A failure mode, two monitored discrepancies and a hidden one, in two modes.
 const GRAPH: &[u8] =
     b"tfpg 1\nmode N\nmode D\nfailure F 1\nor A watch 0\nor B hidden\nor C watch 7\nedge F A 1 3 *\nedge F B 2 inf *\nedge B C 9 9 *\nend\n";
-
-/// Lines that a log accepts whose last event is an alarm of A at 10.
-const ACCEPTED: [(&str, &str, Event); 5] = [
-    (
-        "a tick at the last time",
-        "10 tick",
-        Event::Tick { time: 10 },
-    ),
-    (
-        "an alarm at the last time",
-        "10 alarm C",
-        Event::Alarm { time: 10, node: 3 },
-    ),
-    (
-        "a silence of another node",
-        "11 silent C",
-        Event::Silent { time: 11, node: 3 },
-    ),
-    ("a sweep", "11 sweep", Event::Sweep { time: 11 }),
-    (
-        "a change of mode at the greatest time",
-        "1000000000000 mode N",
-        Event::Mode {
-            time: 1_000_000_000_000,
-            mode: 0,
-        },
-    ),
-];
-
-/// What becomes of the line that is offered to a copy of the log.
-fn offered_to_copy(log: &Log, graph: &Graph, line: &[u8]) -> Result<Offered, Fail>
-    requires { IsLogOf graph.now log.now }
-{
-    let mut copy = log.copy()?;
-    Ok(copy.offer(graph, line)?)
-}
-
-/// Offers the line of each row to a copy of the log.
-fn offer_each(graph: &Graph, log: &Log) -> Result<(), Fail>
-    requires { IsLogOf graph.now log.now }
-{
-    for (row, line, event) in &ACCEPTED {
-        if offered_to_copy(log, graph, line.as_bytes())? != Offered::Accepted(*event) {
-            return Err(Fail::new(*row));
-        }
-    }
-    Ok(())
-}
-
-#[test]
-fn accepts_each_kind_of_line(rt: HostRuntime) -> Result<(), Fail> {
-    on_log(rt.alloc(), GRAPH, &[b"10 alarm A"], |graph, log| {
-        offer_each(graph, log)
-    })
-}
 
 /// Lines of which each is accepted.
 const LINES: [&[u8]; 8] = [
@@ -78,21 +19,6 @@ const LINES: [&[u8]; 8] = [
     b"20 mode N",
     b"20 mode D",
     b"25 mode N",
-];
-
-/// Numbers, also of no event, with the silences of the five first nodes, of which the last is none.
-const SILENCES: [(&str, u32, [Option<u64>; 5]); 7] = [
-    ("event 0", 0, [None; 5]),
-    ("a sweep", 1, [None, Some(5), None, Some(5), None]),
-    ("an alarm", 2, [None; 5]),
-    (
-        "a sweep after an alarm",
-        3,
-        [None, Some(10), None, None, None],
-    ),
-    ("a silence", 4, [None, Some(12), None, None, None]),
-    ("a change of mode", 5, [None; 5]),
-    ("an event past the end", 9, [None; 5]),
 ];
 
 /// Instants with their modes.
@@ -107,35 +33,13 @@ const MODES: [(&str, u64, u32); 8] = [
     ("at the greatest number", u64::MAX, 0),
 ];
 
-/// The silences of the five first nodes by the event of this number.
-fn silences_of(graph: &Graph, log: &Log, number: u32) -> [Option<u64>; 5] {
-    [
-        log.quiet_at(graph, number, 0),
-        log.quiet_at(graph, number, 1),
-        log.quiet_at(graph, number, 2),
-        log.quiet_at(graph, number, 3),
-        log.quiet_at(graph, number, 4),
-    ]
-}
-
-/// Compares the silences and the modes of a log of these lines.
-fn compare_rows(graph: &Graph, log: &Log) -> Result<(), Fail> {
-    for (row, number, wanted) in &SILENCES {
-        if silences_of(graph, log, *number) != *wanted {
-            return Err(Fail::new(*row));
-        }
-    }
+/// Compares what the look-ups of a log of these lines say.
+fn compare_look_ups(graph: &Graph, log: &Log) -> Result<(), Fail> {
     for (row, instant, mode) in &MODES {
         if log.mode_at(*instant) != *mode {
             return Err(Fail::new(*row));
         }
     }
-    Ok(())
-}
-
-/// Compares what the look-ups of a log of these lines say.
-fn compare_look_ups(graph: &Graph, log: &Log) -> Result<(), Fail> {
-    compare_rows(graph, log)?;
     compare(&[
         ("now", Some(log.now()), Some(25)),
         ("how many events", Some(u64::from(log.len())), Some(8)),
@@ -166,115 +70,6 @@ fn compare_look_ups(graph: &Graph, log: &Log) -> Result<(), Fail> {
             Some(12),
         ),
     ])
-}
-
-/// The ends of the interval that an alarm of the node at this time leaves, where there is the node.
-fn interval_at(graph: &Graph, log: &Log, node: u32, time: u64) -> Option<(u64, u64)> {
-    if node >= graph.node_count() {
-        return None;
-    }
-    let interval = log.alarm_interval(graph, node, time)?;
-    Some((interval.earliest, interval.latest))
-}
-
-#[test]
-fn an_alarm_leaves_an_interval(rt: HostRuntime) -> Result<(), Fail> {
-    on_log(rt.alloc(), GRAPH, &[], |graph, log| {
-        compare_interval(interval_at(graph, log, 3, 100), Some((93, 100)))
-    })
-}
-
-/// Compares an interval with what is wanted.
-fn compare_interval(found: Option<(u64, u64)>, wanted: Option<(u64, u64)>) -> Result<(), Fail> {
-    if found != wanted {
-        return Err(Fail::new("the interval of an alarm"));
-    }
-    Ok(())
-}
-
-/// A monitored discrepancy with a least lag.
-const LAGS: &[u8] = b"tfpg 2\nmode N\nfailure F 1\nor A watch 2 7\nedge F A 1 3 *\nend\n";
-
-/// Two alarms of one monitor, and a silence between them.
-const TWO_ALARMS: [&[u8]; 3] = [b"10 alarm A", b"12 silent A", b"20 alarm A"];
-
-/// Compares what a log says of a monitor with two alarms.
-fn compare_alarms(graph: &Graph, log: &Log) -> Result<(), Fail> {
-    compare_interval(interval_at(graph, log, 1, 20), Some((13, 18)))?;
-    compare(&[
-        (
-            "the event of the first alarm",
-            log.alarm_event(1).map(u64::from),
-            Some(1),
-        ),
-        (
-            "the event of the last alarm",
-            log.last_alarm(1).map(u64::from),
-            Some(3),
-        ),
-        ("a silence", log.quiet_at(graph, 2, 1), Some(10)),
-        (
-            "until when it is inactive",
-            log.inactive_until(graph, 1, 1),
-            None,
-        ),
-    ])
-}
-
-#[test]
-fn a_monitor_has_a_first_and_a_last_alarm(rt: HostRuntime) -> Result<(), Fail> {
-    on_log(rt.alloc(), LAGS, &TWO_ALARMS, |graph, log| {
-        compare_alarms(graph, log)
-    })
-}
-
-/// Compares what a log says of a monitor that it ignores.
-fn compare_ignoring(graph: &Graph, log: &mut Log) -> Result<(), Fail> {
-    log.ignore(Doubts::empty().with(1));
-    if !log.ignored().has(1) {
-        return Err(Fail::new("the monitor is ignored"));
-    }
-    compare_interval(interval_at(graph, log, 1, 20), None)?;
-    compare(&[
-        (
-            "the last silence",
-            log.last_quiet(graph, 1).map(u64::from),
-            None,
-        ),
-        ("the alarm", log.alarm_of(1), Some(10)),
-    ])
-}
-
-/// Compares what a copy of the log says of a monitor that it ignores.
-fn compare_copy_ignoring(graph: &Graph, log: &Log) -> Result<(), Fail> {
-    let mut copy = log.copy()?;
-    compare_ignoring(graph, &mut copy)
-}
-
-#[test]
-fn a_log_ignores_monitors(rt: HostRuntime) -> Result<(), Fail> {
-    on_log(rt.alloc(), LAGS, &TWO_ALARMS, |graph, log| {
-        compare_copy_ignoring(graph, log)
-    })
-}
-
-/// Whether the lines of two events are written.
-fn has_lines(alloc: Global, graph: &Graph) -> Result<bool, Fail> {
-    let mut text = Vec::new(alloc);
-    append_event(graph, Event::Sweep { time: 5 }, &mut text)?;
-    append_event(graph, Event::Tick { time: 7 }, &mut text)?;
-    Ok(text.as_slice() == b"5 sweep\n7 tick\n".as_slice())
-}
-
-#[test]
-fn writes_the_line_of_an_event(rt: HostRuntime) -> Result<(), Fail> {
-    let alloc = rt.alloc();
-    on_graph(alloc, GRAPH, |graph| {
-        if !has_lines(alloc, graph)? {
-            return Err(Fail::new("the lines of two events"));
-        }
-        Ok(())
-    })
 }
 
 #[test]
@@ -392,37 +187,6 @@ fn joint_at(graph: &Graph, log: &Log, node: u32, number: u32, horizon: u64) -> O
         return None;
     }
     log.joint_of(graph, node, number, horizon)
-}
-
-/// Events of a log of these lines by their numbers, and none.
-const EVENTS: [(&str, u32, Option<Event>); 4] = [
-    ("event 0", 0, None),
-    ("an alarm", 2, Some(Event::Alarm { time: 10, node: 3 })),
-    ("the last", 8, Some(Event::Mode { time: 25, mode: 0 })),
-    ("an event past the end", 9, None),
-];
-
-/// The event of the number, where there is one.
-fn event_at(log: &Log, number: u32) -> Option<Event> {
-    if number == 0 || number > log.len() {
-        return None;
-    }
-    Some(log.event(number))
-}
-
-/// Finds the event of each row in both ways.
-fn find_each(log: &Log) -> Result<(), Fail> {
-    for (row, number, wanted) in &EVENTS {
-        if log.find_event(*number) != *wanted || event_at(log, *number) != *wanted {
-            return Err(Fail::new(*row));
-        }
-    }
-    Ok(())
-}
-
-#[test]
-fn an_event_is_found_by_its_number(rt: HostRuntime) -> Result<(), Fail> {
-    on_log(rt.alloc(), GRAPH, &LINES, |_graph, log| find_each(log))
 }
 
 #[test]

@@ -59,33 +59,6 @@ fn short_lines(rt: HostRuntime) -> Result<(), Fail> {
 }
 
 #[test]
-fn long_lines(rt: HostRuntime) -> Result<(), Fail> {
-    for (row, count, last) in [
-        ("as long as a line may be", 4_096, b'|'),
-        ("a byte too long", 4_097, b'x'),
-        ("as long as the buffer", 65_536, b'x'),
-        ("longer than three buffers", 200_000, b'x'),
-    ] {
-        let mut text = vec![in rt.alloc(); b'a'; count]?;
-        let bare = returned(rt.alloc(), text.as_slice(), 1_000, &[])?;
-        assert_eq!(rt; bare.first().copied(), Some(last), "{row}, at the end");
-        assert_eq!(rt; bare.last().copied(), Some(b'.'), "{row}, at the end");
-        text.extend_from_slice(b"\nb\n")?;
-        let followed = returned(rt.alloc(), text.as_slice(), 70_000, &[])?;
-        assert_eq!(rt;
-            followed.first().copied(),
-            Some(last),
-            "{row}, and a line end"
-        );
-        assert!(rt;
-            followed.as_slice().ends_with(b"|b...."),
-            "{row}, and another line"
-        );
-    }
-    Ok(())
-}
-
-#[test]
 fn numbers_count_every_line(rt: HostRuntime) -> Result<(), Fail> {
     let mut source = SteadySource::new(b"a\n\nb");
     let mut lines = Lines::new(rt.alloc())?;

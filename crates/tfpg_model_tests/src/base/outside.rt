@@ -102,23 +102,6 @@ fn a_memory_shelf_gives_its_files(rt: HostRuntime) -> Result<(), Fail> {
     Ok(())
 }
 
-#[test]
-fn a_file_may_be_too_long(rt: HostRuntime) -> Result<(), Fail> {
-    let long = vec![in rt.alloc(); 7_u8; LONGEST_FILE + 1]?;
-    let files: [(&str, &[u8]); 2] = [("long", &long), ("longest", &long[1..])];
-    let mut shelf = MemoryShelf::new(rt.alloc(), &files, &[]);
-    let mut file = Vec::new(rt.alloc());
-    for (name, fetched) in [("long", Err(ShelfFault::TooLong)), ("longest", Ok(()))] {
-        assert_eq!(rt;
-            fetch(rt.alloc(), &mut shelf, name, &mut file),
-            fetched,
-            "{name}"
-        );
-        assert_eq!(rt; file.len(), LONGEST_FILE, "{name}");
-    }
-    Ok(())
-}
-
 /// A row by its name: how many bytes a file has, what is appended, whether that fits, how many bytes the file has then, and
 /// how it ends.
 const APPENDED: [(&str, usize, &[u8], bool, usize, &[u8]); 4] = [
@@ -168,12 +151,4 @@ fn a_file_grows_up_to_its_limit(rt: HostRuntime) -> Result<(), Fail> {
         assert!(rt; file.as_slice().ends_with(*end), "{row}");
     }
     Ok(())
-}
-
-#[test]
-fn a_fault_is_counted(rt: HostRuntime) {
-    let mut faults = FaultCount::new();
-    assert_eq!(rt; faults.count, 0);
-    faults.raise();
-    assert_eq!(rt; faults.count, 1);
 }

@@ -1,9 +1,5 @@
-//! Lists, sets, traces, times, and a counter of steps.
+//! Lists, sets and traces.
 
-ghost use Rattle.std.specs.Prelude.{◌≡◌, ◌<◌};
-
-use std::marker::Brand;
-use std::sync::ledger::{Blank, Ledger};
 use std::test::Fail;
 use tfpg_base::*;
 
@@ -77,32 +73,4 @@ fn a_trace_keeps_the_last_time_by_rising_nodes(rt: HostRuntime) -> Result<(), Fa
     assert_eq!(rt; trace.clone()?.as_slice(), trace.as_slice());
     assert_eq!(rt; trace.copy()?.as_slice(), expected.as_slice());
     Ok(())
-}
-
-#[test]
-fn the_earlier_of_two_times_is_found(rt: HostRuntime) {
-    for (row, one, other, found) in &[
-        ("the first", Some(3), Some(5), Some(3)),
-        ("the second", Some(5), Some(3), Some(3)),
-        ("the one that is", None, Some(7), Some(7)),
-        ("none", None, None, None),
-    ] {
-        assert_eq!(rt; earlier(*one, *other), *found, "{row}");
-    }
-}
-
-/// Counts two steps in a ledger.
-fn count_two<L: Ledger>(blank: Blank)
-    requires name { blank.name ≡ L.name }
-    requires parts { blank.parts ≡ L.parts }
-    requires some { 0 < blank.parts }
-{
-    let mut steps = Steps::<L>::new(blank);
-    steps.tick();
-    steps.tick();
-}
-
-#[test]
-fn a_counter_counts() {
-    count_two::<Brand>(Blank::new(1));
 }
