@@ -8,11 +8,11 @@ from typing import Sequence
 
 from ..inputs import add_files, add_terms, subject_of, terms_words
 
-NO_MATPLOTLIB = 4
+NOTHING, NO_MATPLOTLIB = 1, 4
 
 DESCRIPTION = """\
 Writes a picture of the ranking over time as SVG: the places and the costs of the ranked
-sets, the modes, and the alarms. Without REPORT the program is run."""
+sets, the modes, and the alarms. Without REPORT one is made."""
 
 
 def plot(words: Sequence[str]) -> int:
@@ -27,6 +27,9 @@ def plot(words: Sequence[str]) -> int:
     except ImportError:
         print("tfpg plot: matplotlib is missing; on Debian it is the package python3-matplotlib, for /usr/bin/python3", file=sys.stderr)
         return NO_MATPLOTLIB
-    content = picture(subject_of(said.graph, said.log, said.report, terms))
-    sys.stdout.buffer.write(content)
+    subject = subject_of(said.graph, said.log, said.report, terms)
+    if not subject.rounds:
+        print(f"tfpg plot: {said.log} has no line that is accepted, so there is nothing to draw", file=sys.stderr)
+        return NOTHING
+    sys.stdout.buffer.write(picture(subject))
     return 0
