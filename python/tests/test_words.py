@@ -38,7 +38,7 @@ class Program(unittest.TestCase):
 
     def test_no_program(self):
         with mock.patch.dict(os.environ, {"TFPG_PROGRAM": "/nowhere/tfpg"}):
-            status, said = run("lint", str(EXAMPLES / "pump.tfpg"))
+            status, said = run("lint", "--words", "convert", str(EXAMPLES / "pump.tfpg"))
         self.assertEqual((status, said), (70, "tfpg lint: /nowhere/tfpg does not run: No such file or directory\n"))
 
     def test_lines_of_a_trial_are_no_lines_of_the_program(self):
@@ -53,7 +53,7 @@ class Program(unittest.TestCase):
         with files(program="#!/bin/sh\necho 'tfpg: there is no trial' >&2\nexit 70\n") as folder:
             os.chmod("program", stat.S_IRWXU)
             with mock.patch.dict(os.environ, {"TFPG_PROGRAM": str(folder / "program")}):
-                status, said = run("lint", str(EXAMPLES / "pump.tfpg"))
+                status, said = run("lint", "--words", "convert", str(EXAMPLES / "pump.tfpg"))
         self.assertEqual(status, 70)
         self.assertIn("did not answer, and ended with 70: tfpg: there is no trial", said)
 

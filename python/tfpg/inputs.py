@@ -6,7 +6,8 @@ import argparse
 from pathlib import Path
 from typing import List, Optional, Sequence
 
-from .program import NoReport, file_words, run_program
+from .calls.program_ends import diagnose_end
+from .program import NoReport
 from .reading.graphs import graph_of
 from .reading.reports import read_report
 from .reading.subjects import Subject
@@ -40,15 +41,15 @@ def terms_words(parser: argparse.ArgumentParser, said: argparse.Namespace) -> Li
 
 
 def subject_of(graph: str, log: str, report: Optional[str], terms: Sequence[str] = (), start: int = 0) -> Subject:
-    """Reads the files. Without a report it runs the program on them, with these words for its terms."""
+    """Reads the files. Without a report the library makes one, or the program, with these words for its terms."""
     declared, lines = graph_of(read_text(graph)), lines_of(read_text(log))
     said = diagnosed(graph, log, terms) if report is None else read_text(report)
     return Subject(declared, lines, read_report(said, declared), start)
 
 
 def diagnosed(graph: str, log: str, terms: Sequence[str]) -> str:
-    """The report of the program, or NoReport with the line by which it ended."""
-    ended = run_program(["diagnose", *terms, *file_words(graph)], Path(log).read_bytes())
+    """The report of the library or the program, or NoReport with the line by which it ended."""
+    ended = diagnose_end(graph, Path(log).read_bytes(), terms)
     if ended.status != 0:
         raise NoReport(ended.status, ended.line)
     return text_of(ended.output)

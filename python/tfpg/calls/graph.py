@@ -24,7 +24,11 @@ class Graph:
     monitor."""
 
     def __init__(self, text: Text) -> None:
-        self.text = text_bytes(text)
+        self._read(text_bytes(text))
+
+    def _read(self, content: bytes) -> None:
+        """Reads what the lines of a text declare."""
+        self.text = content
         self.declared: DeclaredGraph = graph_of(text_of(self.text))
         self.modes: Tuple[str, ...] = tuple(self.declared.modes)
         self.nodes: Tuple[Node, ...] = tuple(self.declared.nodes)
@@ -33,12 +37,19 @@ class Graph:
         self.monitored: Tuple[str, ...] = tuple(map(self.declared.name, self.declared.monitored))
 
     @classmethod
+    def of_bytes(cls, content: bytes) -> "Graph":
+        """The graph of a text that is known to be one, as that of a file."""
+        graph = cls.__new__(cls)
+        graph._read(content)
+        return graph
+
+    @classmethod
     def load(cls, path: Union[str, "os.PathLike[str]"]) -> "Graph":
         """The graph of a file, which has its text, or JSON. Of JSON the program makes a text, or says why it is no graph."""
         name = os.fspath(path)
         with open(name, "rb") as file:
             content = file.read()
-        return cls(graph_text(name, content) if content.lstrip(b" \t\r\n").startswith(b"{") else content)
+        return cls.of_bytes(graph_text(name, content) if content.lstrip(b" \t\r\n").startswith(b"{") else content)
 
     def __eq__(self, other: object) -> bool:
         return isinstance(other, Graph) and self.text == other.text
@@ -48,7 +59,7 @@ class Graph:
 
     def __reduce__(self) -> Tuple[Any, ...]:
         """What `pickle` keeps: the text, which is read again."""
-        return type(self), (self.text,)
+        return type(self).of_bytes, (self.text,)
 
     def __repr__(self) -> str:
         return f"<tfpg.Graph of {len(self.nodes)} nodes and {len(self.edges)} edges>"

@@ -2,7 +2,7 @@
 
 from __future__ import annotations
 
-from typing import Any, Dict, List, SupportsIndex, Tuple
+from typing import Any, Dict, SupportsIndex, Tuple
 
 from ..faults import TooMuchInput
 from ..limits import INPUT_BYTES
@@ -40,22 +40,26 @@ class Accepted(int):
 def report(graph: Graph, log: Log, k: SupportsIndex = 2, doubt: SupportsIndex = 0, budget: SupportsIndex = 1000, origin: SupportsIndex = 0,
            strict: bool = False) -> Report:
     """The report of a log, byte for byte as `diagnose` writes it."""
-    blocks: List[str] = []
-    refused: List[Refused] = []
+    said, lines = written(graph, log, k, doubt, budget, origin, strict)
+    warn_of(said.refused, lines, 3)
+    return said
+
+
+def written(graph: Graph, log: Log, k: SupportsIndex = 2, doubt: SupportsIndex = 0, budget: SupportsIndex = 1000,
+            origin: SupportsIndex = 0, strict: bool = False) -> Tuple[Report, int]:
+    """The report of a log, block by block as a session has them, and the number of its lines."""
     with Session(graph, k, doubt, budget, origin, strict) as session:
         content = log_bytes(log)
         if len(content) > INPUT_BYTES:
             raise TooMuchInput(TOO_LONG)
-        lines = lines_in(content)
-        blocks.append(session.head)
+        lines, blocks, refused = lines_in(content), [session.head], []
         for answer in session.rounds(lines):
             blocks.append(session.block)
             if isinstance(answer, Refused):
                 refused.append(answer)
-    written = Report("".join(blocks))
-    written.refused = tuple(refused)
-    warn_of(written.refused, len(lines), 3)
-    return written
+    said = Report("".join(blocks))
+    said.refused = tuple(refused)
+    return said, len(lines)
 
 
 def check(graph: Graph, log: Log, report: Text, origin: SupportsIndex = 0, strict: bool = False) -> Accepted:

@@ -8,6 +8,7 @@ import os
 from pathlib import Path
 from typing import List, Optional, Sequence, Tuple
 
+from ..calls.program_ends import convert_end, diagnose_end
 from ..explaining.command_words import words_in_line
 from ..explaining.explanations import Explanation
 from ..explaining.graph_json import json_sentence
@@ -61,7 +62,7 @@ def _parser() -> argparse.ArgumentParser:
 
 def lint_graph(graph: str) -> Findings:
     """What the program says of a graph."""
-    ended = run_program(["convert", *file_words(graph)])
+    ended = convert_end(graph)
     return Findings(0, graph) if ended.status == 0 else _graph_findings(graph, None, ended)
 
 
@@ -90,7 +91,7 @@ def lint_log(graph: str, log: str) -> Findings:
         content = Path(log).read_bytes()
     except OSError:
         return Findings(NOT_READ, graph, log, end=_unread(log))
-    ended = run_program(["diagnose", "--k", "0", "--budget", "1", *file_words(graph)], content)
+    ended = diagnose_end(graph, content, ["--k=0", "--budget=1"])
     if ended.status != 0:
         return _graph_findings(graph, log, ended)
     declared, lines = graph_of(read_text(graph)), lines_of(text_of(content))
