@@ -1,0 +1,121 @@
+"""What lines, texts, times and terms may be, and that anything else is a TypeError."""
+
+import os
+import unittest
+
+import tfpg
+from support import files, library_words, tiny
+
+
+class Whole:
+    """A whole number that is no int, as NumPy's are."""
+
+    def __init__(self, number):
+        self.number = number
+
+    def __index__(self):
+        return self.number
+
+
+class Place:
+    """A path that is no pathlib.Path."""
+
+    def __init__(self, name):
+        self.name = name
+
+    def __fspath__(self):
+        return self.name
+
+
+WRONG_LINES = [5, None, 5.0, ["5 tick"], object()]
+
+
+@unittest.skipIf(library_words(), library_words())
+class Types(unittest.TestCase):
+    def setUp(self):
+        self.graph = tfpg.Graph(tiny())
+
+    def test_lines(self):
+        with tfpg.Session(self.graph) as session:
+            for line in ("5 tick", b"5 tick", bytearray(b"5 tick"), memoryview(b"5 tick"), memoryview(b"x5 tick")[1:], "5 tick\n", b"5 tick\n"):
+                with self.subTest(line=line):
+                    self.assertEqual(session.line(line).now, 5)
+            self.assertEqual([one.now for one in session.rounds([bytearray(b"6 tick\n"), memoryview(b"7 tick")])], [6, 7])
+            for line in WRONG_LINES:
+                with self.subTest(line=line), self.assertRaisesRegex(TypeError, "is str, bytes, bytearray or memoryview"):
+                    session.line(line)
+                with self.subTest(lines=line), self.assertRaises(TypeError):
+                    list(session.rounds([line]))
+            count = session.count
+            self.assertEqual(session.line("8 tick").line, count + 1)
+
+    def test_one_line_end_is_left_out(self):
+        with tfpg.Session(self.graph) as session:
+            self.assertEqual([one.cause for one in session.rounds(["5 tick\n\n", b"5 tick\n\n"])], ["BadLine", "BadLine"])
+
+    def test_texts(self):
+        given = tiny().encode()
+        for one in (given.decode(), given, bytearray(given), memoryview(given)):
+            self.assertEqual(tfpg.Graph(one), self.graph)
+        with files(graph=given):
+            for place in (Place("graph"), Place(b"graph")):
+                self.assertEqual((tfpg.Graph(place), tfpg.Graph.load(place)), (self.graph, self.graph))
+        for log in ("5 tick\n", b"5 tick\n", bytearray(b"5 tick\n"), memoryview(b"5 tick\n"), (line for line in ["5 tick"])):
+            self.assertEqual(tfpg.ask(self.graph, log, k=1).now, 5)
+        for wrong in (5, None, 5.0):
+            with self.subTest(wrong=wrong):
+                self.assertRaises(TypeError, tfpg.Graph, wrong)
+                self.assertRaises(TypeError, tfpg.ask, self.graph, wrong, k=1)
+                self.assertRaises(TypeError, tfpg.explain, self.graph, "5 tick\n", wrong)
+                self.assertRaises(TypeError, tfpg.check, self.graph, "5 tick\n", wrong)
+                self.assertRaises(TypeError, tfpg.report, self.graph, wrong)
+
+    def test_times(self):
+        with tfpg.Session(self.graph, origin=Whole(3)) as session:
+            self.assertEqual([session.event(time, "tick").now for time in (5, Whole(6), True + 6)], [5, 6, 7])
+            self.assertEqual(session.event(Whole(9), "alarm", "Nobody").text, "9 alarm Nobody")
+            for time in (5.0, "5", None, b"5"):
+                self.assertRaises(TypeError, session.event, time, "tick")
+        with self.assertRaises(TypeError):
+            tfpg.Session(self.graph, origin="5")
+
+    def test_kinds_and_names(self):
+        for kind in (tfpg.Session, tfpg.RenewingSession):
+            with kind(self.graph) as session:
+                for words in ((None,), (5,), (b"tick",), ("alarm", None), ("alarm", 5), ("alarm", b"Wet"), ("tick", None)):
+                    with self.subTest(kind=kind.__name__, words=words), self.assertRaises(TypeError):
+                        session.event(5, *words)
+                self.assertEqual((session.count, session.event(5, "alrm", "Wet").cause), (0, "BadLine"))
+        self.assertRaises(TypeError, tfpg.predict, self.graph, "5 tick\n", b"Wet")
+        self.assertRaises(TypeError, tfpg.predict, self.graph, "5 tick\n", None)
+
+    def test_terms(self):
+        with tfpg.Session(self.graph, Whole(1), Whole(0), Whole(9)) as session:
+            self.assertEqual(session.head, "report 2 k 1 doubt 0 budget 9\n")
+        self.assertEqual(tfpg.predict(self.graph, "5 tick\n", "Wet", Whole(7), Whole(1)).until, 12)
+        self.assertEqual(tfpg.report(self.graph, "", k=Whole(1)), "report 2 k 1 doubt 0 budget 1000\n")
+        for call in (tfpg.Session, tfpg.RenewingSession, lambda graph, **terms: tfpg.ask(graph, "5 tick\n", **terms)):
+            for terms in ({"k": 1.0}, {"doubt": "0"}, {"budget": None}):
+                with self.subTest(terms=terms), self.assertRaises(TypeError):
+                    call(self.graph, **terms)
+
+    def test_numpy(self):
+        try:
+            import numpy
+        except ImportError:
+            self.skipTest("numpy is missing")
+        with tfpg.Session(self.graph, numpy.int64(1), origin=numpy.uint32(2)) as session:
+            said = [session.event(time, "tick") for time in numpy.array([5, 6, 7], dtype="int64")]
+        self.assertEqual([(one.now, type(one.now)) for one in said], [(5, int), (6, int), (7, int)])
+        with self.assertRaises(TypeError), tfpg.Session(self.graph) as session:
+            session.event(numpy.float64(5), "tick")
+
+    def test_what_is_exported(self):
+        for name in tfpg.__all__:
+            self.assertTrue(hasattr(tfpg, name), name)
+        self.assertLessEqual({"Answered", "Kind", "RefusedLines", "RenewingSession", "SessionBusy", "OtherProcess", "rows"}, set(tfpg.__all__))
+        self.assertEqual(os.path.basename(os.path.dirname(tfpg.__file__)), "tfpg")
+
+
+if __name__ == "__main__":
+    unittest.main()
