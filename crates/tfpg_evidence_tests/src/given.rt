@@ -43,33 +43,6 @@ pub(crate) fn accept(log: &mut Log, graph: &Graph, line: &[u8]) -> Result<(), Fa
     }
 }
 
-/// Makes the rest of a test on the graph of the text and the log of the lines. No test owns them itself: each way out of a
-/// function that owns a graph is dear to prove.
-pub(crate) fn on_log<F: FnOnce(&Graph, &Log) -> Result<(), Fail>>(
-    alloc: Global,
-    text: &[u8],
-    lines: &[&[u8]],
-    test: F,
-) -> Result<(), Fail>
-    requires { (graph : _) (log : _) → IsLogOf graph.now log.now → F.pre test graph log }
-{
-    let graph = read(alloc, text)?;
-    on_log_of(alloc, &graph, lines, test)
-}
-
-/// Makes the rest of a test on the log of the lines.
-pub(crate) fn on_log_of<F: FnOnce(&Graph, &Log) -> Result<(), Fail>>(
-    alloc: Global,
-    graph: &Graph,
-    lines: &[&[u8]],
-    test: F,
-) -> Result<(), Fail>
-    requires { (graph : _) (log : _) → IsLogOf graph.now log.now → F.pre test graph log }
-{
-    let log = log_of(alloc, graph, lines)?;
-    test(graph, &log)
-}
-
 /// The set of one failure mode of the graph, or of none.
 pub(crate) fn set_of(graph: &Graph, member: Option<u32>) -> Option<Set>
     ensures { IfSome result (All (λ position. position < length (failures graph.now))) }

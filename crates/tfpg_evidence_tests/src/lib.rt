@@ -8,8 +8,6 @@
 #[cfg(test)]
 mod check;
 #[cfg(test)]
-mod clause;
-#[cfg(test)]
 mod evidence;
 #[cfg(test)]
 mod fleet;

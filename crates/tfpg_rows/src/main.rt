@@ -8,6 +8,7 @@
 mod answer;
 mod answers;
 mod bytes;
+mod evidence;
 mod made;
 mod panels;
 mod reader;

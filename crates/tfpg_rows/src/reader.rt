@@ -2,6 +2,7 @@
 
 use crate::answers::{append_asked, append_explained, append_predicted};
 use crate::bytes::{append_spelled, number_of, numbers_of, text_of, texts_of, words_of};
+use crate::evidence::append_evidence;
 use crate::panels::PanelFaults;
 use crate::row::{Change, InTurn, NamedFile, Row};
 use crate::runs::append_runs;
@@ -108,6 +109,9 @@ impl RowReader {
         } else if keyword == b"explain-texts".as_slice() {
             self.append_line(line)?;
             append_explained(self.alloc, others, &self.files, &self.row, &mut self.answer)
+        } else if keyword == b"evidence".as_slice() {
+            self.append_line(line)?;
+            append_evidence(self.alloc, others, &self.files, &self.row, &mut self.answer)
         } else {
             self.set(line, keyword, others)
         }
