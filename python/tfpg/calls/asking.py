@@ -50,7 +50,22 @@ class Questions:
 
 def ask(graph: Graph, log: Log, k: SupportsIndex = 2, doubt: SupportsIndex = 0, budget: SupportsIndex = 1000, origin: SupportsIndex = 0,
         strict: bool = False) -> Questions:
-    """Which observation would tell most after a log, as the program's `ask` says it."""
+    """Which observation would tell most after a log, as the program's `ask` says it.
+
+    graph, log: what is diagnosed. The log is a text, the path of a file, or lines one after the other.
+    k: how many members a hypothesis may have, failure modes and monitors that it doubts: 0 to 64.
+    doubt: how many of these may be monitors: 0 to 4.
+    budget: how many splits a hypothesis may have at a line, and at each question: 1 to 10^12.
+    origin: milliseconds that are subtracted from the time of each line, and added to the times of the answer.
+    strict: a refused line raises LineRefused or LogFull. Else there is a RefusedLines warning if any is.
+
+    LogFull, if the log takes no further event, so that there is nothing to ask; the other errors are those of `tfpg_ask` in tfpg.h, by
+    their names. An interrupt acts at once: the library then goes on by itself to its end, and its answer is dropped.
+
+    >>> questions = tfpg.ask(tfpg.Graph.load("examples/pump.tfpg"), ["2715000 alarm LowFlow"], k=1)
+    >>> questions.ranked, [question.node for question in questions.questions][:1]
+    (3, ['HighPressure'])
+    """
     given, terms = WholeLog(graph, log, origin, strict), Terms.of(k, doubt, budget)
     words = *counted(graph.text), *counted(given.content), *terms.numbers()
     head, *asked = [line.split(" ") for line in lines_of(text_written_apart(library().ask, words, About(graph, terms)))]

@@ -57,7 +57,21 @@ def lines_words(refused: Tuple[Refused, ...]) -> str:
 
 
 def explain(graph: Graph, log: Log, history: Text, origin: SupportsIndex = 0, strict: bool = False) -> Verdict:
-    """Judges a history, which is a map as docs/formats.md has it, as the program's `explain` does."""
+    """Judges a history, as the program's `explain` does.
+
+    graph, log: what has to be explained. The log is a text, the path of a file, or lines one after the other.
+    history: a map as docs/formats.md has it, as a text or the path of a file. A ranked set has its own as `map`.
+    origin: milliseconds that are subtracted from the time of each line of the log, and added to that of the verdict. The times of the
+    history are less it already.
+    strict: a refused line raises LineRefused or LogFull. Else there is a RefusedLines warning if any is.
+
+    NotAccepted says which line of the map is none; BadGraph, TooMuchInput and NoMemory are as of `tfpg_explain` in tfpg.h.
+
+    >>> graph = tfpg.Graph.load("examples/pump.tfpg")
+    >>> verdict = tfpg.explain(graph, ["2715000 alarm LowFlow"], "set -\\n")
+    >>> verdict.explains, verdict.sentence
+    (False, 'It does not show the alarm of LowFlow at 2715000.')
+    """
     given, text = WholeLog(graph, log, origin, strict), text_bytes(history)
     words = *counted(graph.text), *counted(given.content), *counted(text)
     said = lines_of(text_written_apart(library().explain, words, About(graph, judged=text)))[0].split(" ")

@@ -21,7 +21,14 @@ class Graph:
 
     `modes` are the names of the modes, `nodes` the failure modes and discrepancies, and `edges` the edges, whose ends and modes are
     numbers: `graph.nodes[edge.source].name`. `failures` and `monitored` are the names of the failure modes, and of the nodes with a
-    monitor."""
+    monitor. Graphs are equal if their texts are.
+
+    `text` is a text, or the path of a file. ValueError, if it looks like the name of a file; OSError, if a file cannot be read.
+
+    >>> graph = tfpg.Graph("tfpg 1\\nmode Run\\nfailure Leak 2\\nor Wet watch 5000\\nedge Leak Wet 10 20 *\\nend\\n")
+    >>> graph.failures, graph.monitored
+    (('Leak',), ('Wet',))
+    """
 
     def __init__(self, text: Text) -> None:
         self._read(text_bytes(text))
@@ -38,14 +45,20 @@ class Graph:
 
     @classmethod
     def of_bytes(cls, content: bytes) -> "Graph":
-        """The graph of a text that is known to be one, as that of a file."""
+        """The graph of a text that is known to be one, as the `content` of a file."""
         graph = cls.__new__(cls)
         graph._read(content)
         return graph
 
     @classmethod
     def load(cls, path: Union[str, "os.PathLike[str]"]) -> "Graph":
-        """The graph of a file, which has its text, or JSON. Of JSON the program makes a text, or says why it is no graph."""
+        """The graph of a file, which has its text, or JSON. Of JSON the program makes a text, or BadGraph says why it is no graph.
+
+        `path` is the name of the file. OSError, if it cannot be read; NoProgram, if it is JSON and there is no program.
+
+        >>> tfpg.Graph.load("examples/pump.tfpg")
+        <tfpg.Graph of 10 nodes and 11 edges>
+        """
         name = os.fspath(path)
         with open(name, "rb") as file:
             content = file.read()
@@ -65,11 +78,15 @@ class Graph:
         return f"<tfpg.Graph of {len(self.nodes)} nodes and {len(self.edges)} edges>"
 
     def node(self, name: str) -> Node:
-        """The node of this name, or KeyError."""
+        """The node of this `name`, or KeyError. Its lags are in milliseconds.
+
+        >>> tfpg.Graph.load("examples/pump.tfpg").node("LowFlow").lags
+        (0, 5000)
+        """
         return self.declared.node(name)
 
     def fault(self, line: int, cause: str) -> BadGraph:
-        """Why this graph is refused."""
+        """Why this graph is refused, by the number of the `line` and the `cause`, as the library says them."""
         return bad_graph(lines_of(text_of(self.text)), line, cause)
 
 

@@ -54,7 +54,25 @@ class Prediction:
 
 def predict(graph: Graph, log: Log, node: str, ahead: SupportsIndex = 1000, k: SupportsIndex = 2, doubt: SupportsIndex = 0,
             budget: SupportsIndex = 1000, origin: SupportsIndex = 0, strict: bool = False) -> Prediction:
-    """When a node becomes active at the earliest, as the program's `predict` says it."""
+    """When a node becomes active at the earliest, by each ranked hypothesis, as the program's `predict` says it.
+
+    graph, log: what is diagnosed. The log is a text, the path of a file, or lines one after the other.
+    node: the name of the node.
+    ahead: up to how many milliseconds after the last event is looked: 0 to 10^12.
+    k: how many members a hypothesis may have, failure modes and monitors that it doubts: 0 to 64.
+    doubt: how many of these may be monitors: 0 to 4.
+    budget: how many splits a hypothesis may have at a line, and each search for a time: 1 to 10^12.
+    origin: milliseconds that are subtracted from the time of each line, and added to the times of the answer.
+    strict: a refused line raises LineRefused or LogFull. Else there is a RefusedLines warning if any is.
+
+    UnknownNode, if the graph has no such node; FullGraph, if it has no room for what is added; the other errors are those of
+    `tfpg_predict` in tfpg.h, by their names. An interrupt acts at once, as with `ask`.
+
+    >>> log = ["600000 tick", "1800000 tick", "2715000 alarm LowFlow"]
+    >>> prediction = tfpg.predict(tfpg.Graph.load("examples/pump.tfpg"), log, "MotorHot", ahead=3600000)
+    >>> [(forecast.set, forecast.outcome, forecast.time) for forecast in prediction.forecasts][:1]
+    [('FilterClogged', 'earliest', 2840000)]
+    """
     if not isinstance(node, str):
         raise TypeError(f"the name of a node is str, and {node!r} is not")
     if not is_name(node):

@@ -32,7 +32,25 @@ class RenewingSession(Taking):
 
     Where the log is full, or has as many `events`, a new session takes its place, and is first given the lines that still matter: at most
     3,074, which say all that the lines so far said (docs/c.md, "A full log"). The answers have the numbers of lines and rounds in that
-    session. If more than 1,024 changes of the mode matter, no session can take them: this line and each after it raises LogFull."""
+    session. If more than 1,024 changes of the mode matter, no session can take them: this line and each after it raises LogFull.
+
+    graph: what is diagnosed.
+    k: how many members a hypothesis may have, failure modes and monitors that it doubts: 0 to 64.
+    doubt: how many of these may be monitors: 0 to 4.
+    budget: how many splits a hypothesis may have at a line: 1 to 10^12.
+    origin: milliseconds that are subtracted from the time of each line, and added to the times of the answer.
+    strict: a refused line raises LineRefused.
+    events: how many events a session takes, 65,536 without it. If more lines matter than that, they are taken too.
+
+    The errors are those of `Session`.
+
+    >>> with tfpg.RenewingSession(tfpg.Graph.load("examples/pump.tfpg"), k=1, events=100) as session:
+    ...     for time in range(0, 2715000, 5000):
+    ...         answer = session.event(time, "tick")
+    ...     answer = session.event(2715000, "alarm", "LowFlow")
+    ...     session.count, session.renewals, answer.best.set, session.kept
+    (544, 5, 'FilterClogged', (b'2715000 alarm LowFlow',))
+    """
 
     def __init__(self, graph: Graph, k: SupportsIndex = 2, doubt: SupportsIndex = 0, budget: SupportsIndex = 1000,
                  origin: SupportsIndex = 0, strict: bool = False, events: Optional[SupportsIndex] = None) -> None:
@@ -78,7 +96,7 @@ class RenewingSession(Taking):
         return self._turns.take(self._kept_now)
 
     def event(self, time: SupportsIndex, kind: Kind, name: str = "") -> Answered:
-        """Takes an event, as the line `TIME KIND NAME`."""
+        """Takes an event as `Session.event` does, with `time` in milliseconds, `kind` and `name`, but as a line."""
         return self._line(event_text(time, kind, name).encode("utf-8", "surrogateescape"))
 
     def _line(self, content: bytes) -> Answered:

@@ -39,7 +39,26 @@ class Accepted(int):
 
 def report(graph: Graph, log: Log, k: SupportsIndex = 2, doubt: SupportsIndex = 0, budget: SupportsIndex = 1000, origin: SupportsIndex = 0,
            strict: bool = False) -> Report:
-    """The report of a log, byte for byte as `diagnose` writes it."""
+    """The report of a log, byte for byte as `diagnose` writes it, with the lines that were refused as `refused`.
+
+    graph, log: what is diagnosed. The log is a text, the path of a file, or lines one after the other.
+    k: how many members a hypothesis may have, failure modes and monitors that it doubts: 0 to 64.
+    doubt: how many of these may be monitors: 0 to 4.
+    budget: how many splits a hypothesis may have at a line: 1 to 10^12.
+    origin: milliseconds that are subtracted from the time of each line, and left out of the report.
+    strict: a refused line raises LineRefused or LogFull. Else there is a RefusedLines warning if any is.
+
+    The errors are those of `Session`, and TooMuchInput for a log of more than 2^32 bytes. An interrupt acts after the line that is taken.
+
+    >>> report = tfpg.report(tfpg.Graph.load("examples/pump.tfpg"), ["600000 tick"], k=0)
+    >>> print(report, end="")
+    report 2 k 0 doubt 0 budget 1000
+    round 1 1 600000
+    ranked 0 cost 0 robust 1/1 set -
+    counts ranked 1 covered 0 rejected 0 open 0
+    >>> report.refused
+    ()
+    """
     said, lines = written(graph, log, k, doubt, budget, origin, strict)
     warn_of(said.refused, lines, 3)
     return said
@@ -63,7 +82,24 @@ def written(graph: Graph, log: Log, k: SupportsIndex = 2, doubt: SupportsIndex =
 
 
 def check(graph: Graph, log: Log, report: Text, origin: SupportsIndex = 0, strict: bool = False) -> Accepted:
-    """Judges a report by the graph and the log, whoever wrote it, and returns the number of its rounds. NotAccepted says what is wrong."""
+    """Judges a report by the graph and the log, whoever wrote it, and returns the number of its rounds, with the lines that were refused
+    as `refused`.
+
+    graph, log: what the report is of. The log is a text, the path of a file, or lines one after the other.
+    report: a text, or the path of a file.
+    origin: milliseconds that are subtracted from the time of each line of the log, as where the report was made.
+    strict: a refused line raises LineRefused or LogFull. Else there is a RefusedLines warning if any is.
+
+    NotAccepted says which line of the report is wrong first, and why; BadGraph, TooManyHypotheses, TooMuchInput and NoMemory are as of
+    `tfpg_check` in tfpg.h.
+
+    >>> graph, log = tfpg.Graph.load("examples/pump.tfpg"), ["600000 tick"]
+    >>> tfpg.check(graph, log, tfpg.report(graph, log))
+    1
+    >>> tfpg.check(graph, log, "report 2 k 2 doubt 0 budget 1000\\n")
+    Traceback (most recent call last):
+    tfpg.faults.NotAccepted: line 2: EndsEarly
+    """
     given, text = WholeLog(graph, log, origin, strict), text_bytes(report)
     answer = apart(library().check, *counted(graph.text), *counted(given.content), *counted(text))
     if answer.status != Status.DONE:

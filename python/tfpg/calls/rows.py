@@ -11,8 +11,16 @@ COLUMNS = ("line", "now", "number", "changed", "place", "set", "cost", "alarmed"
 
 
 def rows(answers: Iterable[Answered]) -> List[Dict[str, Any]]:
-    """The rows of these answers, each with the same columns. A round has a row for each ranked set, and one row if it ranks nothing. A
-    refused line has a row with its cause. What a row does not say is None."""
+    """The rows of these answers, each with the same columns, as `pandas.DataFrame(tfpg.rows(answers))` takes them.
+
+    `answers` are those of a session. A round has a row for each ranked set, with its `place` from 1, and one row if it ranks nothing. A
+    refused line has a row with its `cause`. Times are in milliseconds. What a row does not say is None.
+
+    >>> with tfpg.Session(tfpg.Graph.load("examples/pump.tfpg"), k=1) as session:
+    ...     table = tfpg.rows(session.rounds(["2715000 alarm LowFlow", "5 tick"]))
+    >>> [(row["line"], row["place"], row["set"], row["cause"]) for row in table]
+    [(1, 1, 'FilterClogged', None), (1, 2, 'ValveStuck', None), (1, 3, 'MotorBearing', None), (2, None, None, 'TimeBack')]
+    """
     nothing: Dict[str, Any] = dict.fromkeys(COLUMNS)
     return [{**nothing, **row} for answer in answers for row in rows_of(answer)]
 

@@ -30,9 +30,27 @@ Said = Union[bytes, Tuple[int, str, str]]  # a line, or an event
 class Session(Taking):
     """A diagnosis of a graph that takes one line of a log after the other, on terms as `diagnose` has them.
 
-    Each line has an answer: a `Round`, or a `Refused` if the log refuses it. A strict session raises LineRefused instead. The origin is
-    subtracted from the time of each line, and added to the times of the answers. Threads may share a session: a line and its answer go
-    together. Its memory is given back at the end of `with`, by `close`, or with the object."""
+    Each line has an answer: a `Round`, or a `Refused` if the log refuses it, which changes nothing.
+
+    graph: what is diagnosed.
+    k: how many members a hypothesis may have, failure modes and monitors that it doubts: 0 to 64.
+    doubt: how many of these may be monitors: 0 to 4.
+    budget: how many splits a hypothesis may have at a line: 1 to 10^12.
+    origin: milliseconds that are subtracted from the time of each line, and added to the times of the answer.
+    strict: a refused line raises LineRefused, or LogFull once the log takes no more.
+
+    OutOfRange, BadGraph, TooManyHypotheses and NoMemory say why a session is not opened, and NoLibrary that there is no library.
+
+    Threads may share a session: a line and its answer go together. What an interrupt ends, as Ctrl-C, is either taken or not, and `count`
+    and `last` say which. A signal handler that comes between a call gets SessionBusy, and a fork of the process OtherProcess. The memory is
+    given back at the end of `with`, by `close`, or with the object.
+
+    >>> graph = tfpg.Graph.load("examples/pump.tfpg")
+    >>> with tfpg.Session(graph, k=1) as session:
+    ...     answer = session.line("2715000 alarm LowFlow")
+    >>> [(ranked.set, ranked.cost) for ranked in answer.ranked]
+    [('FilterClogged', 2), ('ValveStuck', 3), ('MotorBearing', 4)]
+    """
 
     def __init__(self, graph: Graph, k: SupportsIndex = 2, doubt: SupportsIndex = 0, budget: SupportsIndex = 1000,
                  origin: SupportsIndex = 0, strict: bool = False) -> None:
@@ -49,7 +67,15 @@ class Session(Taking):
             ("sweep", ""): (c_uint32(EventKind.SWEEP), c_uint32()), ("tick", ""): (c_uint32(EventKind.TICK), c_uint32())}
 
     def close(self) -> None:
-        """Closes the session. A closed one stays closed. In a fork of the process that opened it this does nothing."""
+        """Closes the session, and gives its memory back. A closed one stays closed. In a fork of the process that opened it this does
+        nothing. SessionBusy, if it is called in a signal handler while a call of the session goes on below.
+
+        >>> session = tfpg.Session(tfpg.Graph.load("examples/pump.tfpg"))
+        >>> session.close()
+        >>> session.line("600000 tick")
+        Traceback (most recent call last):
+        tfpg.faults.SessionClosed: the session is closed
+        """
         if os.getpid() == self._turns.process:
             self._turns.take(self._close)
 
@@ -60,23 +86,50 @@ class Session(Taking):
 
     @property
     def block(self) -> str:
-        """What the report says of the last line, and before any line its first line. Times in it are less the origin."""
+        """What the report says of the last line, and before any line its first line. Times in it are less the origin, in milliseconds. The
+        errors are those of `line`.
+
+        >>> with tfpg.Session(tfpg.Graph.load("examples/pump.tfpg")) as session:
+        ...     answer = session.line("600000 tock")
+        ...     session.block
+        'refused 1 BadLine\\n'
+        """
         return self._turns.take(self._text)
 
     @property
     def last(self) -> Optional[Answered]:
         """The answer of the last line that was taken, or None before the first. It is there also if an interrupt came before the call that
-        took the line could return it, and once the session is closed."""
+        took the line could return it, and once the session is closed.
+
+        >>> with tfpg.Session(tfpg.Graph.load("examples/pump.tfpg")) as session:
+        ...     answers = list(session.rounds(["600000 tick", "600001 tick"]))
+        >>> session.last == answers[-1], session.count
+        (True, 2)
+        """
         return self._turns.take(self._settled)
 
     @property
     def count(self) -> int:
-        """How many lines were taken, refused ones too. After an interrupt it says whether the line that was given was taken."""
+        """How many lines were taken, refused ones too. After an interrupt it says whether the line that was given was taken.
+
+        >>> with tfpg.Session(tfpg.Graph.load("examples/pump.tfpg")) as session:
+        ...     session.count
+        0
+        """
         last = self.last
         return last.line if last is not None else 0
 
     def event(self, time: SupportsIndex, kind: Kind, name: str = "") -> Answered:
-        """Takes an event, as if it were the line `TIME KIND NAME`, or `TIME KIND` without a name."""
+        """Takes an event, as if it were the line `TIME KIND NAME`, or `TIME KIND` without a name, and returns its answer.
+
+        `time` is in milliseconds, `kind` as the log has it, and `name` that of a node for an alarm or a silence, and that of a mode for a
+        change of the mode. It takes half the time of a line, since no text is made. TypeError, if the time is no whole number, or the
+        others are no str; the other errors are those of `line`.
+
+        >>> with tfpg.Session(tfpg.Graph.load("examples/pump.tfpg"), origin=1764468000000) as session:
+        ...     session.event(1764470715000, "alarm", "LowFlow").now
+        1764470715000
+        """
         at = whole(time)
         since, event = at - self.origin, self._events.get((kind, name)) or self._found(kind, name)
         if event is None or not 0 <= since <= MOST_OF_C:
