@@ -1,7 +1,7 @@
 #!/usr/bin/env python3
 """Times `ask`: ten hypotheses over 512 nodes, some 300 monitors without an alarm, a log of 300 events.
 
-    bench/ask.py
+    bench/ask.py [--program FILE]
 
 Ten failure modes lead to one root alike, so each of the ten that explains the log alone is ranked. From the root on the graph is
 random, each edge to a later node. The log is that of a script: one failure mode starts, and ticks and sweeps follow; of its lines the
@@ -16,14 +16,13 @@ the same log.
 """
 
 import random
-import subprocess
 import tempfile
-import time
 from pathlib import Path
 
-from diagnose import built_program
+from lib.graphs import later_edges
+from lib.program import built_program, word_reader
+from lib.timing import shortest
 
-TFPG = Path(__file__).resolve().parent.parent / "crates" / "tfpg" / "out" / "tfpg"
 FAILURES, NODES, EDGES, EVENTS = 10, 512, 2048, 300
 
 
@@ -36,17 +35,10 @@ def graph_text(draws, least, spread, and_share, in_both):
         monitor = f"watch {draws.randint(0, 20)}" if draws.random() < 0.75 else "hidden"
         lines.append(f"{kind} D{node} {monitor}")
     lines += [f"edge F{number} D0 1 60 *" for number in range(FAILURES)]
-    seen, incoming = set(), [0] * count
-    for node in [*range(1, count), *[None] * EDGES]:
-        target = node or draws.randint(1, count - 1)
-        source = draws.randint(max(0, target - 40), target - 1)
-        if len(seen) == EDGES - FAILURES or (source, target) in seen or incoming[target] == 32:
-            continue
-        seen.add((source, target))
-        incoming[target] += 1
-        shortest = draws.randint(least, 2 * least)
+    for source, target in later_edges(draws, 1, count, EDGES - FAILURES, EDGES):
+        delay = draws.randint(least, 2 * least)
         modes = "*" if draws.random() < in_both else "N"
-        lines.append(f"edge D{source} D{target} {shortest} {shortest + draws.randint(0, spread)} {modes}")
+        lines.append(f"edge D{source} D{target} {delay} {delay + draws.randint(0, spread)} {modes}")
     return "\n".join([*lines, "end"]) + "\n"
 
 
@@ -59,21 +51,8 @@ def script_text(draws):
     return "\n".join([*lines, f"{now} stop"]) + "\n"
 
 
-def run(words, given=b""):
-    """What the program writes, and how long it took."""
-    start = time.perf_counter()
-    done = subprocess.run([TFPG, *words], input=given, stdout=subprocess.PIPE, check=True)
-    return done.stdout, time.perf_counter() - start
-
-
-def shortest(words, given=b""):
-    """What the program writes, and the shortest of three times."""
-    runs = [run(words, given) for _ in range(3)]
-    return runs[0][0], min(seconds for _, seconds in runs)
-
-
 def main():
-    built_program()
+    program = built_program(word_reader(__doc__).parse_args().program)
     shapes = {"far": (400, 100, 0.0, 1.0), "near": (10, 60, 0.0, 1.0), "and": (10, 60, 0.2, 0.9)}
     with tempfile.TemporaryDirectory() as folder:
         graph, script, log = (Path(folder) / name for name in ("graph", "script", "log"))
@@ -81,14 +60,14 @@ def main():
             draws = random.Random(7)
             graph.write_text(graph_text(draws, *shape))
             script.write_text(script_text(draws))
-            lines = run(["simulate", graph, script])[0].splitlines(keepends=True)[:EVENTS]
+            lines = shortest([program, "simulate", graph, script], runs=1).output.splitlines(keepends=True)[:EVENTS]
             log.write_bytes(b"".join(lines))
-            _, diagnosed = shortest(["diagnose", "--k", "1", graph], log.read_bytes())
-            text, asked = shortest(["ask", "--k", "1", graph, log])
-            head, *questions = text.decode().splitlines()
+            diagnosed = shortest([program, "diagnose", "--k", "1", graph], log).seconds
+            asked = shortest([program, "ask", "--k", "1", graph, log])
+            head, *questions = asked.output.decode().splitlines()
             hypotheses = sum(int(head.split()[place]) for place in (4, 6))
             print(f"{name}: {head}; {len(questions)} questions, {2 * len(questions) * hypotheses} outcomes; "
-                  f"{asked - diagnosed:.2f} s and {diagnosed:.2f} s for the diagnosis")
+                  f"{asked.seconds - diagnosed:.2f} s and {diagnosed:.2f} s for the diagnosis")
 
 
 if __name__ == "__main__":

@@ -1,7 +1,7 @@
 #!/usr/bin/env python3
 """Draws banded graphs and the logs of simulated runs on them.
 
-    banded.py FOLDER [DRAWS]
+    bench/banded.py FOLDER [DRAWS]
 
 For 40, 60 and 150 nodes and each draw from 0 on (24 without the second word) it writes NODES-DRAW.tfpg and NODES-DRAW.log into the
 folder, in the formats of docs/formats.md, and NODES-DRAW.true with the failure modes that started in the run. Equal words give equal
@@ -15,6 +15,7 @@ bytes, with any Python 3 whose `random.Random` is that of 3.2 or later.
   last line is a tick.
 """
 
+import argparse
 import random
 import sys
 from pathlib import Path
@@ -123,10 +124,14 @@ def drawn(count, draw):
 
 
 def main():
-    folder = Path(sys.argv[1])
+    reader = argparse.ArgumentParser(description=__doc__, formatter_class=argparse.RawDescriptionHelpFormatter)
+    reader.add_argument("folder", type=Path, metavar="FOLDER")
+    reader.add_argument("draws", nargs="?", type=int, default=24, metavar="DRAWS")
+    words = reader.parse_args()
+    folder = words.folder
     folder.mkdir(parents=True, exist_ok=True)
     for count in SIZES:
-        for draw in range(int(sys.argv[2]) if len(sys.argv) > 2 else 24):
+        for draw in range(words.draws):
             graph, log, true = drawn(count, draw)
             (folder / f"{count}-{draw}.tfpg").write_text(graph)
             (folder / f"{count}-{draw}.log").write_text(log)

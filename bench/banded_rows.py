@@ -10,50 +10,40 @@ not fit, or are not known, z3's seconds, and how often z3 and the program contra
 """
 
 import argparse
-import resource
 import subprocess
 import sys
 import tempfile
 from collections import Counter
 from pathlib import Path
 
+from lib.reading import report_read
+from lib.timing import shortest
+
 HERE = Path(__file__).resolve().parent
 CONTRADICTIONS = {("ranked", "unsat"), ("rejected", "sat")}
 
 
 def diagnosed(program, graph, log, k, budget):
-    """The lines of a report, and the processor seconds of the run."""
-    before = resource.getrusage(resource.RUSAGE_CHILDREN)
-    words = [program, "diagnose", "--k", str(k), "--budget", str(budget), graph]
-    ran = subprocess.run(words, stdin=log.open("rb"), stdout=subprocess.PIPE, check=True)
-    after = resource.getrusage(resource.RUSAGE_CHILDREN)
-    seconds = after.ru_utime + after.ru_stime - before.ru_utime - before.ru_stime
-    return ran.stdout.decode().splitlines(), seconds
+    """The bytes of a report, and the processor seconds of the run."""
+    ran = shortest([program, "diagnose", "--k", str(k), "--budget", str(budget), graph], log, runs=1)
+    return ran.output, ran.seconds
 
 
-def last_statuses(lines):
-    """The status of each hypothesis that the last round does not cover, by its failure modes."""
-    statuses = {}
-    for line in lines:
-        words = line.split(" ")
-        if words[0] == "round":
-            # A rejected hypothesis is listed in the round that rejects it, and stays rejected.
-            statuses = {members: status for members, status in statuses.items() if status == "rejected"}
-        elif words[0] in ("ranked", "open", "rejected"):
-            statuses[words[-1]] = words[0]
-    return statuses
+def last_statuses(report):
+    """The status of each set that the last round does not cover. A rejected one is listed in the round that rejects it, and stays so."""
+    here = report.rounds[-1]
+    statuses = {text: "rejected" for earlier in report.rounds for text in earlier.rejected.values()}
+    return {**statuses, **dict.fromkeys(here.open.values(), "open"), **{one.set: "ranked" for one in here.ranked}}
 
 
 def said_by_z3(graph, log, statuses, seconds):
     """How often z3 says what of which status, and how long it took."""
-    from banded_z3 import Case
+    from lib.z3_answers import Case
 
-    case = Case(graph.read_text(), log.read_text())
-    names = [line.split(" ")[1] for line in graph.read_text().splitlines() if line.startswith("failure ")]
+    case = Case(graph.read_bytes(), log.read_bytes())
     said, total = Counter(), 0.0
-    for members, status in statuses.items():
-        positions = [] if members == "-" else [names.index(name) for name in members.split(",")]
-        answer, took = case.ask([case.failures[position] for position in positions], seconds)
+    for text, status in statuses.items():
+        answer, took = case.ask([] if text == "-" else text.encode().split(b","), seconds)
         said[status, answer] += 1
         total += took
     return said, total
@@ -66,13 +56,13 @@ def show_row(words, folder, size, k, budget):
     said = Counter()
     for draw in range(words.draws):
         graph, log = folder / f"{size}-{draw}.tfpg", folder / f"{size}-{draw}.log"
-        lines, took = diagnosed(words.program, graph, log, k, budget)
-        kinds = Counter(line.split(" ")[0] for line in lines)
-        counts = [line for line in lines if line.startswith("counts ")]
-        splits, open_findings, seconds = splits + kinds["split"], open_findings + kinds["open"], seconds + took
-        open_at_end += int(counts[-1].split(" ")[-1])
+        text, took = diagnosed(words.program, graph, log, k, budget)
+        report = report_read(text, graph.read_bytes())
+        splits, seconds = splits + text.count(b"\nsplit "), seconds + took
+        open_findings += sum(len(here.open) for here in report.rounds)
+        open_at_end += len(report.rounds[-1].open)
         if words.z3:
-            more, took = said_by_z3(graph, log, last_statuses(lines), words.z3)
+            more, took = said_by_z3(graph, log, last_statuses(report), words.z3)
             said, of_z3 = said + more, of_z3 + took
     row = f"{size} nodes, k {k}, budget {budget}: {splits} splits, {open_findings} open, {open_at_end} at the end, {seconds:.2f} s"
     wrong = sum(said[pair] for pair in CONTRADICTIONS)

@@ -17,8 +17,6 @@ Most reports are those of `diagnose`, for a log that is long enough for N megaby
 "check" judges the report. "reader" is `check` of the same lines in one round that never ends: all of them are read, and none is judged.
 """
 
-import argparse
-import os
 import random
 import subprocess
 import sys
@@ -26,26 +24,19 @@ import tempfile
 from pathlib import Path
 
 from compare import HARD, hard_row
-from diagnose import TWO_MODES, built_program, kept_searches, large_graph, large_script, many_pairs
+from diagnose import TWO_MODES, kept_searches, large_graph, large_script, many_pairs
+from lib.program import built_program, word_reader
+from lib.timing import run
 
 READER = "import sys; print(sum(len(line.split()) for line in sys.stdin.buffer))"
 RUNS = 3
 
 
 def shortest(words, text):
-    """What was said, the processor seconds of the shortest of some runs, and the peak memory in KB, as GNU time reports it."""
-    best = None
-    for _ in range(RUNS):
-        with open(text, "rb") as stream:
-            process = subprocess.Popen(
-                ["/usr/bin/time", "-f", "%M", *words], stdin=stream, stdout=subprocess.PIPE, stderr=subprocess.STDOUT, text=True
-            )
-            said = process.stdout.read().split("\n")
-            _, status, usage = os.wait4(process.pid, 0)
-        process.returncode = os.waitstatus_to_exitcode(status)
-        took = usage.ru_utime + usage.ru_stime
-        best = took if best is None else min(best, took)
-    return said[0], max(best, 1e-6), int(said[-2])
+    """What was said first, on either stream, the processor seconds of the shortest of some runs, and the peak memory in KB."""
+    runs = [run(words, text, peak=True) for _ in range(RUNS)]
+    said = (runs[0].output + runs[0].said).decode().split("\n")[0]
+    return said, max(min(one.seconds for one in runs), 1e-6), runs[0].peak
 
 
 def report_of(program, top, name, words, graph, log, limit):
@@ -179,10 +170,9 @@ def cases(program, top, limit):
 
 
 def main():
-    arguments = argparse.ArgumentParser(description=__doc__, formatter_class=argparse.RawDescriptionHelpFormatter)
+    arguments = word_reader(__doc__)
     arguments.add_argument("--megabytes", type=int, default=50)
     arguments.add_argument("--only", action="append", metavar="WORD", help="only the cases whose names begin so")
-    arguments.add_argument("--program", type=Path, metavar="FILE", help="a built program")
     arguments.add_argument("--keep", type=Path, help="the folder for graphs, logs and reports, which stay there")
     words = arguments.parse_args()
     program = built_program(words.program)

@@ -14,6 +14,7 @@ It looks at links, and at what stands between backquotes outside blocks of code.
 
 It goes by words, so it is a guide and no proof. FOREIGN has what is not of this repository, or an example of a name.
 """
+import argparse
 import re
 import sys
 from collections import defaultdict
@@ -179,6 +180,7 @@ def faults(text, repository):
 
 
 def main():
+    argparse.ArgumentParser(description=__doc__, formatter_class=argparse.RawDescriptionHelpFormatter).parse_args()
     repository = Repository()
     missing = 0
     for document in sorted(path for pattern in DOCUMENTS for path in TOP.glob(pattern)):

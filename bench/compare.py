@@ -14,7 +14,6 @@ turns. The two must write the same bytes, or the row says that they differ.
 - "ticks": a log of 65,536 ticks over 512 nodes.
 - "modes": 64 failure modes, 512 nodes, 2,048 edges and k 2, and the log of a script that starts two of them.
 - "kept": as in `bench/diagnose.py`, the searches of 2,081 and of 4,096 hypotheses over 512 nodes, which stay open and are kept.
-  Peak memory is at least that of Python's own start, some 10 MB.
 - "latency": 10,000 lines, given one by one, each once the block of the one before has come: of the pump, and of the graph of "modes" with
   k 1 and 2. Of each line the processor time of the program until its block is there, the least of three runs; of the lines the median,
   the 99th of 100 and the worst.
@@ -23,7 +22,6 @@ turns. The two must write the same bytes, or the row says that they differ.
 """
 
 import argparse
-import os
 import random
 import subprocess
 import sys
@@ -32,7 +30,9 @@ import time
 from dataclasses import dataclass
 from pathlib import Path
 
-from diagnose import TOP, kept_searches, large_graph, large_script
+import lib.timing
+from diagnose import kept_searches, large_graph, large_script
+from lib.program import TOP
 
 MODES = ["M0", "M1", "M2"]
 LATENCY_LINES, LATENCY_RUNS = 10_000, 3
@@ -47,14 +47,6 @@ class Row:
     words: list
     log: Path
     memory: bool = False
-
-
-@dataclass
-class Cost:
-    """What a run took: processor seconds, and peak memory in KB."""
-
-    seconds: float
-    peak: int
 
 
 def hard_graph(draws):
@@ -145,19 +137,16 @@ def other_rows(program, top):
 
 def run(program, row):
     """What one run of a row cost."""
-    with open(row.log, "rb") as log:
-        process = subprocess.Popen([program, *row.words], stdin=log, stdout=subprocess.DEVNULL)
-        _, status, usage = os.wait4(process.pid, 0)
-    process.returncode = os.waitstatus_to_exitcode(status)
-    if process.returncode:
-        sys.exit(f"{program} {' '.join(row.words)}: status {process.returncode}")
-    return Cost(usage.ru_utime + usage.ru_stime, usage.ru_maxrss)
+    ran = lib.timing.run([program, *row.words], row.log, row.memory, stdout=subprocess.DEVNULL)
+    if ran.status:
+        sys.exit(f"{program} {' '.join(row.words)}: status {ran.status}")
+    return ran
 
 
 def costs(programs, row, runs):
-    """The least cost of each program, whose runs take turns."""
+    """The shortest run of each program. They take turns."""
     found = [[run(program, row) for program in programs] for _ in range(runs)]
-    return [Cost(min(cost.seconds for cost in each), min(cost.peak for cost in each)) for each in zip(*found)]
+    return [min(each, key=lambda one: one.seconds) for each in zip(*found)]
 
 
 def output(program, row):

@@ -3,9 +3,10 @@
 # clang, where they are there. Each warning counts as an error. Then tries `examples/pool.c` by itself, under the sanitizers, which lines
 # `examples/renew.c` keeps, and whether the names that the header says are those of its numbers and of `docs/formats.md`. It needs no library
 # and no toolchain but these compilers. Ends with status 1 where something differs.
-set -eu
+set -eu -o pipefail
 
 top=$(dirname "$(dirname "$(readlink -f "${BASH_SOURCE[0]}")")")
+. "$top/tools/help.sh"
 made=$(mktemp -d)
 trap 'rm -r "$made"' EXIT
 status=0

@@ -1,7 +1,7 @@
 #!/usr/bin/env python3
 """Times whole diagnoses: seconds, milliseconds an event, and peak memory, the shortest of three runs each.
 
-    bench/diagnose.py
+    bench/diagnose.py [--program FILE]
 
 - "two faults": 64 failure modes, 512 nodes, 2,048 edges, two modes, and the log of a script that starts two failure modes.
 - "many pairs": 64 failure modes, of which 1,020 pairs explain the log and none alone; so each round writes 1,020 traces.
@@ -13,14 +13,13 @@
 """
 
 import random
-import subprocess
 import sys
 import tempfile
-import time
 from pathlib import Path
 
-TOP = Path(__file__).resolve().parent.parent
-TFPG = TOP / "crates" / "tfpg" / "out" / "tfpg"
+from lib.program import built_program, word_reader
+from lib.timing import shortest
+
 TWO_MODES = """tfpg 1
 mode N
 mode D
@@ -36,14 +35,6 @@ edge A C 0 10 *
 edge B C 0 10 *
 end
 """
-
-
-def built_program(named=None):
-    """The program of this file, or else that of this checkout, which `./build` proves and builds where it is not built yet."""
-    if named is None:
-        subprocess.run([TOP / "build"], check=True)
-        named = TFPG
-    return named.resolve()
 
 
 def large_graph(draws, failures=64, nodes=512, edges=2048):
@@ -107,24 +98,15 @@ def kept_searches(failures=64, nodes=512, hubs=20, monitors=31):
     return "\n".join([*lines, "end"]) + "\n"
 
 
-def run(words, log=b""):
-    """The output, the seconds of the shortest of three runs, and the peak memory in KB, as GNU time reports it."""
-    best = None
-    for _ in range(3):
-        began = time.perf_counter()
-        done = subprocess.run(["/usr/bin/time", "-f", "%M", TFPG, *words], input=log, capture_output=True, check=True)
-        took = time.perf_counter() - began
-        best = took if best is None else min(best, took)
-    return done.stdout, best, int(done.stderr.split()[-1])
-
-
-def show(name, events, seconds, peak, report):
-    counts = report.decode().rstrip("\n").split("\n")[-1]
-    print(f"{name:22} {events:6} events {seconds:8.3f} s {1000 * seconds / max(events, 1):8.4f} ms an event {peak / 1024:6.1f} MB  {counts}")
+def show(name, events, ran):
+    counts = ran.output.decode().rstrip("\n").split("\n")[-1]
+    each = 1000 * ran.seconds / max(events, 1)
+    print(f"{name:22} {events:6} events {ran.seconds:8.3f} s {each:8.4f} ms an event {ran.peak / 1024:6.1f} MB  {counts}")
 
 
 def main():
-    built_program()
+    program = built_program(word_reader(__doc__).parse_args().program)
+    run = lambda words, log=b"": shortest([program, *words], log, peak=True)
     with tempfile.TemporaryDirectory() as folder:
         top = Path(folder)
         draws = random.Random(7)
@@ -134,29 +116,24 @@ def main():
         (top / "pairs").write_text(many_pairs())
         for size in (10, 30, 100):
             for number in range(10):
-                text, seconds, peak = run(["generate", "--draw", str(number), "--size", str(size)])
-                lines = int(text.split(b"\n", 1)[0].rsplit(b" ", 1)[1])
-                show(f"generated {size} {number}", lines, seconds, peak, text)
-        log, _, _ = run(["simulate", "--draw", "5", str(top / "large"), str(top / "script")])
+                ran = run(["generate", "--draw", str(number), "--size", str(size)])
+                show(f"generated {size} {number}", int(ran.output.split(b"\n", 1)[0].rsplit(b" ", 1)[1]), ran)
+        log = run(["simulate", "--draw", "5", top / "large", top / "script"]).output
         for k in (1, 2):
-            report, seconds, peak = run(["diagnose", "--k", str(k), str(top / "large")], log)
-            show(f"two faults, k {k}", log.count(b"\n"), seconds, peak, report)
+            show(f"two faults, k {k}", log.count(b"\n"), run(["diagnose", "--k", str(k), top / "large"], log))
         ticks = "".join(f"{at} tick\n" for at in range(6, 65541)).encode()
         for name, first in (("no alarm", b"5 tick\n"), ("an alarm", b"5 alarm A\n")):
-            report, seconds, peak = run(["diagnose", str(top / "small")], first + ticks)
-            show(f"long log, {name}", 65536, seconds, peak, report)
+            show(f"long log, {name}", 65536, run(["diagnose", top / "small"], first + ticks))
         (top / "chatter").write_text(TWO_MODES.replace("or A watch 0", "or A watch 100000"))
         for name, what in (("ticks", "tick"), ("alarms", "alarm A")):
             events = "".join(f"{at} {what}\n" for at in range(6, 16389)).encode()
-            report, seconds, peak = run(["diagnose", str(top / "chatter")], b"5 alarm A\n" + events)
-            show(f"chatter, {name}", 16384, seconds, peak, report)
+            show(f"chatter, {name}", 16384, run(["diagnose", top / "chatter"], b"5 alarm A\n" + events))
         pairs = "100 alarm A\n110 alarm B\n" + "".join(f"{at} tick\n" for at in range(111, 409))
-        report, seconds, peak = run(["diagnose", str(top / "pairs")], pairs.encode())
-        show("many pairs", 300, seconds, peak, report)
+        show("many pairs", 300, run(["diagnose", top / "pairs"], pairs.encode()))
         (top / "kept").write_text(kept_searches())
         for doubt in (0, 1):
-            report, seconds, peak = run(["diagnose", "--doubt", str(doubt), "--budget", "1", str(top / "kept")], b"100 alarm A\n")
-            show(f"kept searches, doubt {doubt}", 1, seconds, peak, report)
+            words = ["diagnose", "--doubt", str(doubt), "--budget", "1", top / "kept"]
+            show(f"kept searches, doubt {doubt}", 1, run(words, b"100 alarm A\n"))
     return 0
 
 

@@ -6,6 +6,7 @@ small ceiling, keeps those that meet all constraints, and takes the greatest tim
 the table of `crates/tfpg_model_tests/src/diff.rt`.
 """
 
+import argparse
 import itertools
 import random
 
@@ -26,6 +27,7 @@ def latest(count, floors, picks):
 
 
 def main():
+    argparse.ArgumentParser(description=__doc__, formatter_class=argparse.RawDescriptionHelpFormatter).parse_args()
     random.seed(7)
     wanted = {"some": 8, "none": 6}
     while any(wanted.values()):
@@ -47,4 +49,5 @@ def main():
         print(f"    Case {{ count: {count}, floors: &{floors}, picks: &{picks}, latest: {shown} }},")
 
 
-main()
+if __name__ == "__main__":
+    main()

@@ -9,6 +9,7 @@ took on average, over 20 rounds for each system. Proving takes a minute or more.
 bounds that are a little tighter, and a push that conflicts is left out.
 """
 
+import argparse
 import pathlib
 import random
 import shutil
@@ -118,6 +119,7 @@ def system(count, slack):
 
 
 def main():
+    argparse.ArgumentParser(description=__doc__, formatter_class=argparse.RawDescriptionHelpFormatter).parse_args()
     random.seed(1)
     lines = []
     for count in (10, 100, 512):
@@ -143,4 +145,5 @@ def main():
         subprocess.run([program], input="\n".join(lines) + "\n", text=True, check=True)
 
 
-main()
+if __name__ == "__main__":
+    main()

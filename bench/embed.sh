@@ -16,15 +16,18 @@
 #
 # Ends with status 1 where something differs. With the word `alone` the program is not built: the one C program is compared with the other, and
 # each cause only with its name in the header. `bench/compile.sh` says whether the C programs can be compiled at all.
-set -eu
+set -eu -o pipefail
 
 top=$(dirname "$(dirname "$(readlink -f "${BASH_SOURCE[0]}")")")
+. "$top/tools/help.sh"
 heap=$(dirname "$(dirname "$(readlink -f "$(command -v rt)")")")/c/liblibc_c.a
 library=$top/crates/tfpg_embed/out/libtfpg_embed.a
-alone=$([ "${1-}" = alone ] && echo yes || true)
+alone=
+if [ "${1-}" = alone ]; then alone=yes; fi
 made=$(mktemp -d)
 trap 'rm -r "$made"' EXIT
 status=0
+sanitized=(-g '-fsanitize=address,undefined' -fno-sanitize-recover=all)
 
 differs() {
     printf 'differs: %s\n' "$1"
@@ -38,7 +41,7 @@ link_with() {
 
 # The same with a pool of 2^N bytes in place of `malloc`, for this N.
 link_with_pool() {
-    cc -std=c99 -Wall -Wextra -Werror -g -fsanitize=address,undefined -DPOOL_BITS="$3" -I "$top/include" -o "$made/$2" "$top/$1" \
+    cc -std=c99 -Wall -Wextra -Werror "${sanitized[@]}" -DPOOL_BITS="$3" -I "$top/include" -o "$made/$2" "$top/$1" \
         "$top/examples/pool.c" "$library"
 }
 
@@ -52,18 +55,18 @@ wanted() {
 }
 
 "$top/build" library
-link_with examples/report.c report -g -fsanitize=address,undefined
-link_with examples/embed.c embed -g -fsanitize=address,undefined
-link_with examples/renew.c renew -g -fsanitize=address,undefined
-link_with examples/monitor.c monitor -g -fsanitize=address,undefined
-link_with examples/answers.c answers -g -fsanitize=address,undefined
-link_with bench/numbers.c numbers -g -fsanitize=address,undefined
+link_with examples/report.c report "${sanitized[@]}"
+link_with examples/embed.c embed "${sanitized[@]}"
+link_with examples/renew.c renew "${sanitized[@]}"
+link_with examples/monitor.c monitor "${sanitized[@]}"
+link_with examples/answers.c answers "${sanitized[@]}"
+link_with bench/numbers.c numbers "${sanitized[@]}"
 link_with_pool examples/report.c report_pool 24
 link_with_pool examples/embed.c embed_pool 24
 link_with_pool examples/answers.c answers_pool 24
 link_with_pool bench/statuses.c statuses_pool 24
-link_with bench/statuses.c statuses -g -fsanitize=address,undefined
-link_with bench/causes.c causes -g -fsanitize=address,undefined
+link_with bench/statuses.c statuses "${sanitized[@]}"
+link_with bench/causes.c causes "${sanitized[@]}"
 link_with examples/report.c plain -O2
 link_with bench/measure.c measure -O2 -pthread
 
@@ -147,7 +150,7 @@ try_monitor() {
 
 # Compares an answer with what the program writes, where they end well, and their statuses.
 try_answer() {
-    local name=$1 ended=0 wanted=0
+    local name=$1 ended=0 wanted=0 pooled=0
     "$made/answers" "${@:2:4}" > "$made/text" || ended=$?
     case $2 in
         ask) "$top/tfpg" ask "$3" "$4" > "$made/written" || wanted=$? ;;
@@ -156,7 +159,9 @@ try_answer() {
     esac
     [ "$ended" = "$wanted" ] || differs "$name: status $ended"
     cmp -s "$made/text" "$made/written" || differs "$name"
-    "$made/answers_pool" "${@:2:4}" | cmp -s - "$made/text" || differs "$name, by a pool"
+    "$made/answers_pool" "${@:2:4}" > "$made/pooled" || pooled=$?
+    [ "$pooled" = "$wanted" ] || differs "$name, by a pool: status $pooled"
+    cmp -s "$made/pooled" "$made/text" || differs "$name, by a pool"
 }
 
 # The graph of this log.

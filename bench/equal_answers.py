@@ -25,13 +25,15 @@ import re
 import sys
 import tempfile
 from collections import Counter
-from dataclasses import dataclass, field
+from dataclasses import dataclass
 from math import comb
 from pathlib import Path
 
 from banded import draw_graph, draw_log, graph_text
 from compare import HARD, hard_graph, hard_row, hard_script, with_silences
-from forge import TOP, Program, drawn_graph, random_log, random_script, small_graph
+from forge import Program, drawn_graph, random_log, random_script, small_graph
+from lib.program import TOP
+from lib.reading import Refused, report_read
 from slow_judge import Graph
 
 MOST_HYPOTHESES = 250
@@ -156,50 +158,34 @@ def diagnosed(program, case):
 # ---- what reports say
 
 
-@dataclass
-class Round:
-    """What a report says in one round: its first line, and of hypotheses by their numbers the status, and the rest of a `ranked` line."""
+class Told:
+    """What a report says in one round: of hypotheses by their numbers the status, what is said of the ranked ones, and the sets. Those that
+    are covered are missing."""
 
-    line: bytes
-    statuses: dict  # those that are covered are missing
-    ranked: dict = field(default_factory=dict)
-    members: dict = field(default_factory=dict)
-    count: int = 0
+    def __init__(self, here, rejected):
+        self.line, self.count = (here.number, here.line, here.now), sum(here.counts)
+        self.ranked = {one.hypothesis: (one.cost, one.alarmed, one.monitored, one.set) for one in here.ranked}
+        sets = {**{one.hypothesis: one.set for one in here.ranked}, **here.open, **here.rejected}
+        self.members = {number: frozenset(text.split(",")) - {"-"} for number, text in sets.items()}
+        self.statuses = dict.fromkeys([*rejected, *here.rejected], "rejected")
+        self.statuses |= {**dict.fromkeys(here.open, "open"), **dict.fromkeys(self.ranked, "ranked")}
 
     def status(self, hypothesis):
         return self.statuses.get(hypothesis, "covered")
 
 
-def read_round(line, rejected):
-    """A round that begins with this line, with what earlier rounds rejected."""
-    return Round(line, dict.fromkeys(rejected, "rejected"))
-
-
-def take_line(told, words):
-    """Notes in the round what this line of it says."""
-    if words[0] in (b"ranked", b"open", b"rejected"):
-        number = int(words[1])
-        told.statuses[number] = words[0].decode()
-        told.members[number] = frozenset(words[-1].split(b",")) - {b"-"}
-        if words[0] == b"ranked":
-            told.ranked[number] = words[2:]
-    elif words[0] == b"counts":
-        told.count = sum(int(word) for word in words[2::2])
-
-
-def blocks_of(report):
-    """The lines that are not of a round, as they are, and the rounds, in their order."""
-    blocks, rejected = [], set()
-    for line in report.split(b"\n"):
-        words = line.split(b" ")
-        if words[0] == b"round":
-            blocks.append(read_round(line, rejected))
-        elif words[0] in (b"report", b"refused", b"status"):
-            blocks.append(line)
-        elif blocks and isinstance(blocks[-1], Round):
-            take_line(blocks[-1], words)
-            if words[0] == b"rejected":
-                rejected.add(int(words[1]))
+def blocks_of(report, graph):
+    """The terms of a report and its blocks, or how a run without one ended."""
+    if not report.startswith(b"report "):
+        return [report]
+    read, rejected = report_read(report, graph), set()
+    blocks = [read.terms]
+    for block in read.blocks:
+        if isinstance(block, Refused):
+            blocks.append(block)
+        else:
+            blocks.append(Told(block, rejected))
+            rejected |= block.rejected.keys()
     return blocks
 
 
@@ -212,20 +198,20 @@ class Comparison:
     def __init__(self):
         self.counts, self.wrong = Counter(), []
 
-    def compare(self, before, after):
-        """Compares two reports."""
+    def compare(self, before, after, graph):
+        """Compares two reports about a graph."""
         self.counts["reports"] += 1
         self.counts["the same bytes"] += before == after
         self.counts["splits before"] += before.count(b"\nsplit ")
         self.counts["splits after"] += after.count(b"\nsplit ")
-        one, other = blocks_of(before), blocks_of(after)
+        one, other = blocks_of(before, graph), blocks_of(after, graph)
         if len(one) != len(other):
             self.wrong.append(f"{len(one)} blocks and {len(other)}")
         for left, right in zip(one, other):
-            if isinstance(left, Round) and isinstance(right, Round):
+            if isinstance(left, Told) and isinstance(right, Told):
                 self.compare_rounds(left, right)
             else:
-                self.counts["refused lines"] += isinstance(left, bytes) and left.startswith(b"refused")
+                self.counts["refused lines"] += isinstance(left, Refused)
                 self.need(left == right, f"{left} and {right}")
 
     def need(self, holds, what):
@@ -285,7 +271,7 @@ def try_case(comparison, before, after, case, keep):
     """Compares what both say of one case. Answers whether all is right."""
     reports = [diagnosed(program, case) for program in (before, after)]
     comparison.wrong = []
-    comparison.compare(*reports)
+    comparison.compare(*reports, case.graph)
     if reports[0].startswith(b"report "):
         for who, program, report in (("before", before, reports[1]), ("after", after, reports[0])):
             refusal = judged(program, case, report)
@@ -308,7 +294,7 @@ def read_words():
     reader.add_argument("--splits", type=int, default=0, help="draw cases in which AFTER makes so many for a hypothesis in a round")
     reader.add_argument("--only", type=int, metavar="SEED", help="only the drawn case of this seed")
     reader.add_argument("--no-examples", action="store_true", help="leave the logs of the examples out")
-    reader.add_argument("--keep", type=Path, default=Path(tempfile.gettempdir()) / "unequal", help="where cases that differ are kept")
+    reader.add_argument("--keep", type=Path, metavar="FOLDER", help="where cases that differ are kept")
     reader.add_argument("before", type=Path, metavar="BEFORE")
     reader.add_argument("after", type=Path, metavar="AFTER")
     return reader.parse_args()
@@ -316,6 +302,7 @@ def read_words():
 
 def main():
     words = read_words()
+    words.keep = words.keep or Path(tempfile.gettempdir()) / "unequal"
     words.keep.mkdir(parents=True, exist_ok=True)
     comparison, tried, wrong = Comparison(), 0, 0
     with tempfile.TemporaryDirectory() as folder:

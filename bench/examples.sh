@@ -1,9 +1,10 @@
 #!/usr/bin/env bash
 # Compares what the program writes on each example with the report or the verdict beside it, byte for byte, and lets it judge each of
 # these reports. Ends with status 1 where something differs.
-set -u
+set -u -o pipefail
 
 top=$(dirname "$(dirname "$(readlink -f "${BASH_SOURCE[0]}")")")
+. "$top/tools/help.sh"
 status=0
 
 differs() {

@@ -1,7 +1,7 @@
 #!/usr/bin/env python3
 """Times `explain` on the largest log.
 
-    bench/explain.py [FOLDER]
+    bench/explain.py [--program FILE] [FOLDER]
 
 It writes a graph of 512 nodes and 2,048 edges, a log of 65,536 events of which 1,024 change the mode, and a map of all nodes
 into the folder, or into a temporary one, and prints the shortest of five runs.
@@ -10,18 +10,15 @@ The verdict is yes, so that nothing is left out: each edge is active in one of t
 is due, so that the must rule looks at each span; and the other events are sweeps before anything is active, so that each asks
 for each node.
 
-The program is that of `./build`, which is run first; where it is not built yet, that takes half an hour.
+Without --program it is that of `./build`, which is run first; where it is not built yet, that takes half an hour.
 """
 
-import pathlib
-import subprocess
 import sys
 import tempfile
-import time
+from pathlib import Path
 
-from diagnose import built_program
-
-PROGRAM = pathlib.Path(__file__).resolve().parent.parent / "crates" / "tfpg" / "out" / "tfpg"
+from lib.program import built_program, word_reader
+from lib.timing import shortest
 
 FAILURES = 64
 EFFECTS = 448
@@ -61,29 +58,24 @@ def all_nodes():
     return lines + [f"at E{number} {STEP * CHANGES + 6}" for number in range(EFFECTS)]
 
 
-def run(folder):
+def time_verdict(program, folder):
+    """Prints the shortest of the runs."""
     texts = {"graph": graph(), "log": log(), "map": all_nodes()}
     for name, lines in texts.items():
         (folder / name).write_text("".join(line + "\n" for line in lines))
-    shortest = None
-    for _ in range(RUNS + 1):  # the first one may build the program
-        with open(folder / "map", "rb") as text:
-            begin = time.monotonic()
-            done = subprocess.run([PROGRAM, "explain", folder / "graph", folder / "log"], stdin=text, capture_output=True)
-            took = time.monotonic() - begin
-        if done.returncode != 0 or done.stdout != b"yes\n":
-            sys.exit(f"status {done.returncode}: {done.stdout!r} {done.stderr!r}")
-        shortest = took if shortest is None else min(shortest, took)
-    print(f"{len(texts['log'])} events, {CHANGES} changes of mode, {FAILURES + EFFECTS} nodes, {EDGES} edges: {shortest:.3f} s")
+    ran = shortest([program, "explain", folder / "graph", folder / "log"], folder / "map", RUNS)
+    if ran.output != b"yes\n":
+        sys.exit(f"the verdict is {ran.output!r}")
+    print(f"{len(texts['log'])} events, {CHANGES} changes of mode, {FAILURES + EFFECTS} nodes, {EDGES} edges: {ran.seconds:.3f} s")
 
 
 def main():
-    built_program()
-    if len(sys.argv) > 1:
-        run(pathlib.Path(sys.argv[1]))
-    else:
-        with tempfile.TemporaryDirectory() as folder:
-            run(pathlib.Path(folder))
+    reader = word_reader(__doc__)
+    reader.add_argument("folder", nargs="?", type=Path, metavar="FOLDER")
+    words = reader.parse_args()
+    program = built_program(words.program)
+    with tempfile.TemporaryDirectory() as folder:
+        time_verdict(program, words.folder or Path(folder))
 
 
 if __name__ == "__main__":

@@ -10,16 +10,15 @@ one failure mode, another one for each vehicle, with sweeps and ticks up to 1,00
 of its own diagnosis.
 """
 
-import argparse
 import filecmp
-import os
 import random
-import subprocess
 import sys
 import tempfile
 from pathlib import Path
 
-from diagnose import built_program, kept_searches
+import lib.timing
+from diagnose import kept_searches
+from lib.program import built_program, word_reader
 
 VEHICLES = 64
 LINES = 1000
@@ -38,13 +37,11 @@ def script(draws, failure):
 
 def run(program, words, given, written):
     """The processor seconds of a run over these files, and its peak memory in KB."""
-    with open(given) as lines, open(written, "w") as output:
-        process = subprocess.Popen([program, *words], stdin=lines, stdout=output)
-        _, status, usage = os.wait4(process.pid, 0)
-        process.returncode = os.waitstatus_to_exitcode(status)
-    if process.returncode != 0:
-        raise SystemExit(f"{words[0]}: status {process.returncode}")
-    return usage.ru_utime + usage.ru_stime, usage.ru_maxrss
+    with open(written, "w") as output:
+        ran = lib.timing.run([program, *words], given, peak=True, stdout=output)
+    if ran.status != 0:
+        raise SystemExit(f"{words[0]}: status {ran.status}")
+    return ran.seconds, ran.peak
 
 
 def part_by_vehicle(output, files):
@@ -61,8 +58,7 @@ def part_by_vehicle(output, files):
 
 
 def main():
-    arguments = argparse.ArgumentParser(description=__doc__, formatter_class=argparse.RawDescriptionHelpFormatter)
-    arguments.add_argument("--program", type=Path, metavar="FILE", help="a built program")
+    arguments = word_reader(__doc__)
     arguments.add_argument("--lines", type=int, default=LINES, help="lines of each vehicle")
     arguments.add_argument("--folder", type=Path, help="where the files lie meanwhile")
     words = arguments.parse_args()
@@ -76,8 +72,8 @@ def main():
         logs = {}
         for number, name in enumerate(names):
             (top / "script").write_text(script(draws, number))
-            log = subprocess.run([program, "simulate", "--draw", str(number), graph, top / "script"], stdout=subprocess.PIPE, check=True)
-            logs[name] = log.stdout.decode().split("\n")[:words.lines]
+            log = lib.timing.shortest([program, "simulate", "--draw", str(number), graph, top / "script"], runs=1).output
+            logs[name] = log.decode().split("\n")[:words.lines]
             (top / f"{name}.log").write_text("\n".join(logs[name]) + "\n")
         (top / "stream").write_text("".join(f"{name} {logs[name][place]}\n" for place in range(words.lines) for name in names))
         seconds, peak = run(program, ["fleet", *TERMS, graph, ",".join(names)], top / "stream", top / "output")

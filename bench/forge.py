@@ -17,7 +17,6 @@ time the slowest run took. Ends with status 1 where something differs.
 import argparse
 import random
 import re
-import resource
 import subprocess
 import sys
 import tempfile
@@ -26,10 +25,10 @@ from collections import Counter
 from dataclasses import dataclass
 from pathlib import Path
 
-from diagnose import built_program
+from lib.program import TOP, built_program
+from lib.timing import spent
 from slow_judge import LONG, MOST_TIME, NUMBER, REFUSALS, SMALL, Graph, Judge, Log, NotSo, line_said
 
-TOP = Path(__file__).resolve().parent.parent
 WITHIN = (b"hyp", b"split", b"cycle", b"why", b"again", b"ranked", b"at", b"open", b"rejected", b"counts")  # the lines of a round
 
 
@@ -572,12 +571,6 @@ def forge(seed, index, source):
 STATUS = {"accepted": 0, "not": 1, "too": 4}
 
 
-def spent():
-    """The processor time of all runs so far."""
-    usage = resource.getrusage(resource.RUSAGE_CHILDREN)
-    return usage.ru_utime + usage.ru_stime
-
-
 def answer(program, log, report):
     """What the program says, and its processor time."""
     program.write("log", log)
@@ -613,10 +606,11 @@ def main():
     arguments.add_argument("--seconds", type=int, default=60)
     arguments.add_argument("--seed", type=int, default=1, help="the first seed of a right report")
     arguments.add_argument("--one", metavar="SEED", help="only this forgery, as SEED.INDEX")
-    arguments.add_argument("--keep", type=Path, default=Path(tempfile.gettempdir()) / "forged", help="where forgeries that differ are kept")
+    arguments.add_argument("--keep", type=Path, metavar="FOLDER", help="where forgeries that differ are kept")
     arguments.add_argument("--each", type=int, default=40, help="forgeries of each right report")
     arguments.add_argument("--program", type=Path, metavar="FILE", help="a built program")
     words = arguments.parse_args()
+    words.keep = words.keep or Path(tempfile.gettempdir()) / "forged"
     words.keep.mkdir(parents=True, exist_ok=True)
     sys.set_int_max_str_digits(0)  # a line may have thousands of digits
     with tempfile.TemporaryDirectory() as folder:

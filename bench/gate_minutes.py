@@ -11,6 +11,7 @@ Processors differ, and so do the minutes. So it runs `rt selftest` first and las
 toolchain. The mean of what both took is the unit, in which it gives each figure too: these compare on any two days and machines.
 """
 
+import argparse
 import os
 import resource
 import subprocess
@@ -70,6 +71,7 @@ def show(seconds, unit):
 
 
 def main():
+    argparse.ArgumentParser(description=__doc__, formatter_class=argparse.RawDescriptionHelpFormatter).parse_args()
     seconds, first = {}, selftest_seconds()
     print("gate_minutes: begin the gate now", file=sys.stderr, flush=True)
     try:

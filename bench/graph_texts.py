@@ -1,7 +1,7 @@
 #!/usr/bin/env python3
 """Times the reading of the largest graph texts.
 
-    bench/graph_texts.py [FOLDER]
+    bench/graph_texts.py [--program FILE] [FOLDER]
 
 It writes three texts into the folder, or into a temporary one: as many nodes, edges and modes as a graph may have, with
 names of 32 bytes; 16 MiB of comments; and 16 MiB of empty lines. For each it prints the shortest of five runs of
@@ -11,19 +11,16 @@ names of 32 bytes; 16 MiB of comments; and 16 MiB of empty lines. For each it pr
 - `wc -l`, which only goes through the bytes,
 - Python splitting the same text into lines and words.
 
-The program is that of `./build`, which is run first; where it is not built yet, that takes half an hour.
+Without --program it is that of `./build`, which is run first; where it is not built yet, that takes half an hour.
 """
 
-import pathlib
 import random
-import subprocess
 import sys
 import tempfile
-import time
+from pathlib import Path
 
-from diagnose import built_program
-
-PROGRAM = pathlib.Path(__file__).resolve().parent.parent / "crates" / "tfpg" / "out" / "tfpg"
+from lib.program import built_program, word_reader
+from lib.timing import shortest
 
 MOST_BYTES = 2**24
 RUNS = 5
@@ -75,20 +72,8 @@ def repeated(line):
     return front + (line + "\n") * count + back
 
 
-def shortest(command):
-    """The seconds that the command took in the shortest run, and what it wrote."""
-    best, put = None, b""
-    for _ in range(RUNS):
-        begin = time.perf_counter()
-        run = subprocess.run(command, stdin=subprocess.DEVNULL, capture_output=True)
-        took = time.perf_counter() - begin
-        if run.returncode != 0:
-            raise SystemExit(f"{command[0]} ended with {run.returncode}: {run.stderr.decode()}")
-        best, put = (took, run.stdout) if best is None or took < best else (best, put)
-    return best, put
-
-
-def timed(folder):
+def timed(program, folder):
+    """Prints how long each text takes."""
     random.seed(1)
     texts = {
         "largest": largest_graph(),
@@ -99,24 +84,23 @@ def timed(folder):
     for name, text in texts.items():
         path = folder / f"{name}.tfpg"
         path.write_text(text)
-        program, put = shortest([PROGRAM, "diagnose", "--k", "0", path])
-        if put != b"report 2 k 0 doubt 0 budget 1000\n":
-            raise SystemExit(f"{name} was not read: {put!r}")
-        counted, _ = shortest(["wc", "-l", path])
-        split, _ = shortest([sys.executable, "-c", SPLIT, path])
+        read = shortest([program, "diagnose", "--k", "0", path], runs=RUNS)
+        if read.output != b"report 2 k 0 doubt 0 budget 1000\n":
+            raise SystemExit(f"{name} was not read: {read.output!r}")
+        counted, split = (shortest([*words, path], runs=RUNS) for words in (["wc", "-l"], [sys.executable, "-c", SPLIT]))
         count = text.count("\n")
-        print(f"{name:12} {len(text):10} {count:10} {program:8.3f}s {counted:8.3f}s {split:8.3f}s")
+        print(f"{name:12} {len(text):10} {count:10} {read.seconds:8.3f}s {counted.seconds:8.3f}s {split.seconds:8.3f}s")
 
 
 def main():
-    built_program()
-    if len(sys.argv) > 1:
-        folder = pathlib.Path(sys.argv[1])
-        folder.mkdir(parents=True, exist_ok=True)
-        timed(folder)
-        return
+    reader = word_reader(__doc__)
+    reader.add_argument("folder", nargs="?", type=Path, metavar="FOLDER")
+    words = reader.parse_args()
+    program = built_program(words.program)
     with tempfile.TemporaryDirectory() as folder:
-        timed(pathlib.Path(folder))
+        top = words.folder or Path(folder)
+        top.mkdir(parents=True, exist_ok=True)
+        timed(program, top)
 
 
 if __name__ == "__main__":

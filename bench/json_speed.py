@@ -12,16 +12,14 @@
 A line has the processor time beyond the start of the program on the smallest graph, the shortest of some runs, and the peak memory.
 """
 
-import argparse
-import os
 import random
-import subprocess
 import sys
 import tempfile
 from pathlib import Path
 
-from diagnose import built_program
 from graph_texts import MOST_BYTES, largest_graph
+from lib.program import built_program, word_reader
+from lib.timing import shortest
 
 SMALLEST = "tfpg 1\nmode N\nend\n"
 BAD_GRAPH = 3
@@ -73,36 +71,12 @@ def hostile_texts():
     yield "a graph that is cut short", lambda: filled('{"modes":["N"],"edges":[],"nodes":[', '{"kind":"or","name":"A"}', "")
 
 
-def run(program, words):
-    """The status, what was written, the processor seconds, and the peak memory in KB, as GNU time reports it."""
-    process = subprocess.Popen(
-        ["/usr/bin/time", "-q", "-f", "%M", program, *words], stdin=subprocess.DEVNULL, stdout=subprocess.PIPE, stderr=subprocess.PIPE
-    )
-    out = process.stdout.read()
-    said = process.stderr.read().decode().split("\n")
-    _, status, usage = os.wait4(process.pid, 0)
-    process.returncode = os.waitstatus_to_exitcode(status)
-    return process.returncode, out, said[0], usage.ru_utime + usage.ru_stime, int(said[-2])
-
-
-def shortest(program, words, runs, status, said=None):
-    """What was written, the seconds of the shortest of some runs, and the peak memory."""
-    best = None
-    for _ in range(runs):
-        came, out, line, took, peak = run(program, words)
-        if came != status or (said and line != said):
-            raise SystemExit(f"{words}: status {came}, {line}")
-        best = took if best is None else min(best, took)
-    return out, best, peak
-
-
 def show(name, size, seconds, peak):
     print(f"{name:26} {size / 1e6:5.1f} MB {1000 * seconds:7.1f} ms {peak / 1024:7.1f} MB resident", flush=True)
 
 
 def main():
-    arguments = argparse.ArgumentParser(description=__doc__, formatter_class=argparse.RawDescriptionHelpFormatter)
-    arguments.add_argument("--program", type=Path, metavar="FILE", help="a built program")
+    arguments = word_reader(__doc__)
     arguments.add_argument("--only", action="append", metavar="WORD", help="only the texts whose names begin so")
     arguments.add_argument("--runs", type=int, default=7)
     arguments.add_argument("--keep", type=Path, help="the folder for the texts, which stay there")
@@ -113,27 +87,31 @@ def main():
         top = words.keep or Path(folder)
         top.mkdir(exist_ok=True)
         (top / "smallest").write_text(SMALLEST)
-        _, start, _ = shortest(program, ["convert", top / "smallest"], 3 * words.runs, 0)
+        convert = lambda *names, runs=words.runs, **how: shortest([program, "convert", *names], runs=runs, peak=True, **how)
+        start = convert(top / "smallest", runs=3 * words.runs).seconds
         random.seed(1)
         text, json = top / "largest", top / "largest.json"
         text.write_text(largest_graph())
-        written, to_json, peak = shortest(program, ["convert", text], words.runs, 0)
+        to_json = convert(text)
+        written = to_json.output
         json.write_bytes(written)
         if wanted("to JSON"):
-            show("to JSON", len(written), to_json - start, peak)
+            show("to JSON", len(written), to_json.seconds - start, to_json.peak)
         if wanted("from JSON"):
-            again, from_json, peak = shortest(program, ["convert", "--json", json], words.runs, 0)
-            show("from JSON", len(written), from_json - start, peak)
-            (top / "again").write_bytes(again)
-            if shortest(program, ["convert", top / "again"], 1, 0)[0] != written:
+            from_json = convert("--json", json)
+            show("from JSON", len(written), from_json.seconds - start, from_json.peak)
+            (top / "again").write_bytes(from_json.output)
+            if convert(top / "again", runs=1).output != written:
                 raise SystemExit("the graph that is read back is another one")
         for number, (name, make) in enumerate(hostile_texts()):
             if wanted(name):
                 made = make()
                 hostile = top / f"hostile-{number}.json"
                 hostile.write_bytes(made if isinstance(made, bytes) else made.encode())
-                _, seconds, peak = shortest(program, ["convert", "--json", hostile], words.runs, BAD_GRAPH, "graph 0 BadLine")
-                show(name, hostile.stat().st_size, seconds - start, peak)
+                refused = convert("--json", hostile, status=BAD_GRAPH)
+                if refused.said != b"graph 0 BadLine\n":
+                    raise SystemExit(f"{name}: {refused.said!r}")
+                show(name, hostile.stat().st_size, refused.seconds - start, refused.peak)
     return 0
 
 

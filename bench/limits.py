@@ -11,20 +11,20 @@
 
 Each line says what was tried, how the run ended, its seconds, and its peak memory. The exit status is 1 if one did not end as it should.
 
-The program is that of `./build`, which is run first; where it is not built yet, that takes half an hour.
+Without --program it is that of `./build`, which is run first; where it is not built yet, that takes half an hour.
 """
 
-import argparse
 import resource
 import subprocess
 import sys
 import tempfile
-import time
 from pathlib import Path
 
 import explain
 from check import nested
-from diagnose import TWO_MODES, built_program
+from diagnose import TWO_MODES
+from lib.program import built_program, word_reader
+from lib.timing import spent
 
 SMALL = "tfpg 1\nmode N\nfailure F 1\nor A watch 5\nedge F A 1 3 *\nend\n"
 MEGABYTE = b"a" * 2**20
@@ -40,7 +40,7 @@ def fed(words, pieces, folder, stack=None):
     out, said, size = folder / "out", folder / "said", folder / "size"
     words = ["/usr/bin/time", "-q", "-f", "%M", "-o", size, *words]
     with open(out, "wb") as written, open(said, "wb") as line:
-        begun = time.monotonic()
+        begun = spent()
         process = subprocess.Popen(words, stdin=subprocess.PIPE, stdout=written, stderr=line, preexec_fn=with_stack)
         try:
             for piece in pieces:
@@ -49,7 +49,7 @@ def fed(words, pieces, folder, stack=None):
         except BrokenPipeError:
             pass
         status = process.wait()
-        seconds = time.monotonic() - begun
+        seconds = spent() - begun
     return out.read_bytes(), said.read_bytes().decode(), status, seconds, int(size.read_text()) / 1024
 
 
@@ -82,8 +82,7 @@ def deep_json():
 
 
 def main():
-    parser = argparse.ArgumentParser(description=__doc__, formatter_class=argparse.RawDescriptionHelpFormatter)
-    parser.add_argument("--program", type=Path)
+    parser = word_reader(__doc__)
     parser.add_argument("--stack", type=int, default=96)
     given = parser.parse_args()
     program = built_program(given.program)

@@ -10,9 +10,10 @@
 #
 # The logs begin with the one of the examples, or with the alarms of two failure modes. Ticks follow, and in one log 900 changes of mode
 # before them. "64 failure modes" has 512 nodes and 2,048 edges.
-set -eu
+set -eu -o pipefail
 
 top=$(dirname "$(dirname "$(readlink -f "${BASH_SOURCE[0]}")")")
+. "$top/tools/help.sh"
 lines=${1-65600}
 library=${2-$top/crates/tfpg_embed/out/libtfpg_embed.a}
 made=$(mktemp -d)

@@ -1,10 +1,11 @@
 #!/usr/bin/env python3
 """Names that two notions share: definitions of specs/ that stand in two files, types that do, and a type and a definition of two crates.
 
-usage: bench/names.py [--inside]
+    bench/names.py [--inside]
 
 Prints a line for each, with the files. Those of `specs/inside/` are left out but with --inside. Exits with 1 if it printed one.
 """
+import argparse
 import collections
 import pathlib
 import re
@@ -29,7 +30,9 @@ def names(pattern, files):
 
 
 def main():
-    inside = "--inside" in sys.argv[1:]
+    reader = argparse.ArgumentParser(description=__doc__, formatter_class=argparse.RawDescriptionHelpFormatter)
+    reader.add_argument("--inside", action="store_true", help="also those of specs/inside/")
+    inside = reader.parse_args().inside
     specs = [it for it in CRATES.glob("*/specs/**/*.antt") if inside or "inside" not in it.parts]
     sources = [it for it in CRATES.glob("*/src/**/*.rt") if it.relative_to(CRATES).parts[0] not in TESTS]
     definitions, types = names(DEFINITION, specs), names(TYPE, sources)

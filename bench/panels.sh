@@ -1,9 +1,10 @@
 #!/usr/bin/env bash
 # Runs the example of the pump with panels over real files: one of each kind, two of one kind over one file, and one whose file cannot be
 # made. Compares what they write with the report. Ends with status 1 where something differs.
-set -u
+set -u -o pipefail
 
 top=$(dirname "$(dirname "$(readlink -f "${BASH_SOURCE[0]}")")")
+. "$top/tools/help.sh"
 files=$(mktemp -d)
 trap 'rm -r "$files"' EXIT
 status=0

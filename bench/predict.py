@@ -1,7 +1,7 @@
 #!/usr/bin/env python3
 """Times `predict` on the largest graph that takes a probe.
 
-    bench/predict.py [FOLDER]
+    bench/predict.py [--program FILE] [FOLDER]
 
 It writes a graph of 511 nodes and 2,047 edges with two modes, and a log of 300 events into the folder, or into a temporary one. Then it
 asks for the last effect, 1,000 ms ahead, with `--k 1` and the budget 1,000, and for the same log without the last line, which ranks the
@@ -10,18 +10,14 @@ empty set alone. It prints the shortest of five runs of each, and what a ranked 
 Each of the 16 failure modes explains the alarm of the first effect. Of the edges every third one is active in one mode alone, and the mode
 changes a hundred times, so that there are windows to look at. The silences come before anything need be active.
 
-The program is that of `./build`, which is run first; where it is not built yet, that takes half an hour.
+Without --program it is that of `./build`, which is run first; where it is not built yet, that takes half an hour.
 """
 
-import pathlib
-import subprocess
-import sys
 import tempfile
-import time
+from pathlib import Path
 
-from diagnose import built_program
-
-PROGRAM = pathlib.Path(__file__).resolve().parent.parent / "crates" / "tfpg" / "out" / "tfpg"
+from lib.program import built_program, word_reader
+from lib.timing import shortest
 
 FAILURES = 16
 EFFECTS = 495
@@ -57,40 +53,34 @@ def log():
     return lines + [f"{STEP * CHANGES + 20} alarm E0", f"{STEP * CHANGES + 30} tick"]
 
 
-def shortest(folder, name):
-    best, forecasts = None, None
+def forecasts(program, folder, name):
+    """The forecasts after this log, and the seconds of the shortest run."""
     words = ["predict", "--k", "1", "--ahead", str(AHEAD), folder / "graph", folder / name, f"E{EFFECTS - 1}"]
-    for _ in range(RUNS + 1):  # the first one may build the program
-        begin = time.monotonic()
-        done = subprocess.run([PROGRAM, *words], stdin=subprocess.DEVNULL, capture_output=True)
-        took = time.monotonic() - begin
-        if done.returncode != 0:
-            sys.exit(f"status {done.returncode}: {done.stderr!r}")
-        forecasts = [line for line in done.stdout.decode().splitlines() if line.startswith("forecast ")]
-        best = took if best is None else min(best, took)
-    return best, forecasts
+    ran = shortest([program, *words], runs=RUNS)
+    return [line for line in ran.output.decode().splitlines() if line.startswith("forecast ")], ran.seconds
 
 
-def run(folder):
+def time_forecasts(program, folder):
+    """Prints what the forecasts cost."""
     texts = {"graph": graph(), "log": log(), "quiet": log()[:-2]}
     for name, lines in texts.items():
         (folder / name).write_text("".join(line + "\n" for line in lines))
-    took, forecasts = shortest(folder, "log")
-    quiet, _ = shortest(folder, "quiet")
+    lines, took = forecasts(program, folder, "log")
+    _, quiet = forecasts(program, folder, "quiet")
     print(f"{FAILURES + EFFECTS} nodes, {EDGES} edges, {len(texts['log'])} events, {AHEAD} ms ahead")
     print(f"without an alarm: {quiet:.3f} s")
-    print(f"{len(forecasts)} ranked: {took:.3f} s, {(took - quiet) / max(len(forecasts), 1):.3f} s each")
+    print(f"{len(lines)} ranked: {took:.3f} s, {(took - quiet) / max(len(lines), 1):.3f} s each")
     for outlook in ("earliest", "never", "unsettled"):
-        print(f"{outlook}: {sum(outlook in line.split() for line in forecasts)}")
+        print(f"{outlook}: {sum(outlook in line.split() for line in lines)}")
 
 
 def main():
-    built_program()
-    if len(sys.argv) > 1:
-        run(pathlib.Path(sys.argv[1]))
-    else:
-        with tempfile.TemporaryDirectory() as folder:
-            run(pathlib.Path(folder))
+    reader = word_reader(__doc__)
+    reader.add_argument("folder", nargs="?", type=Path, metavar="FOLDER")
+    words = reader.parse_args()
+    program = built_program(words.program)
+    with tempfile.TemporaryDirectory() as folder:
+        time_forecasts(program, words.folder or Path(folder))
 
 
 if __name__ == "__main__":

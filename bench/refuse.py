@@ -33,7 +33,8 @@ from collections import Counter
 from dataclasses import dataclass
 from pathlib import Path
 
-from diagnose import TWO_MODES, built_program
+from diagnose import TWO_MODES
+from lib.program import built_program
 
 HERE = Path(__file__).resolve().parent
 EXAMPLES = HERE.parent / "examples"

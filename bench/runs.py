@@ -9,6 +9,7 @@ that begins with `tfpg ` is a graph: the file that its second line, a comment, n
 
 Lines of `./tfpg` itself, which say that a trial answers, are left out. Runs from C are compared by `embed.sh`. It needs `jq` and Graphviz.
 """
+import argparse
 import os
 import re
 import subprocess
@@ -61,6 +62,7 @@ def differences(document, folder):
 
 
 def main():
+    argparse.ArgumentParser(description=__doc__, formatter_class=argparse.RawDescriptionHelpFormatter).parse_args()
     status = 0
     for document in DOCUMENTS:
         with tempfile.TemporaryDirectory() as name:

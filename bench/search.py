@@ -2,7 +2,7 @@
 """Times the search of one hypothesis, and counts its steps. The one failure mode is its only member; the empty set costs next to
 nothing beside it.
 
-    bench/search.py
+    bench/search.py [--program FILE]
 
 - "wide": 512 nodes, 2,048 edges, the log of a script with 300 sweeps and ticks and the alarms that come of them.
 - "spans": the same graph, 1,024 changes of mode and then ticks, without an alarm: no node is overdue, so no event looks at the 1,024
@@ -13,15 +13,13 @@ Seconds are the shortest of three runs of `diagnose --k 1`, with the start of th
 """
 
 import random
-import subprocess
 import sys
 import tempfile
-import time
 from pathlib import Path
 
-from diagnose import built_program
-
-TFPG = Path(__file__).resolve().parent.parent / "crates" / "tfpg" / "out" / "tfpg"
+from lib.graphs import later_edges
+from lib.program import built_program, word_reader
+from lib.timing import run, shortest
 
 
 def wide_graph(draws, nodes=512, edges=2048):
@@ -32,14 +30,7 @@ def wide_graph(draws, nodes=512, edges=2048):
         kind = "and" if draws.random() < 0.2 else "or"
         monitor = f"watch {draws.randint(0, 20)}" if draws.random() < 0.6 else "hidden"
         lines.append(f"{kind} D{node} {monitor}")
-    seen, incoming = set(), dict.fromkeys(range(nodes), 0)
-    for node in [*range(1, nodes), *[None] * edges]:
-        target = node or draws.randint(1, nodes - 1)
-        source = draws.randint(max(0, target - 40), target - 1)
-        if len(seen) == edges or (source, target) in seen or incoming[target] == 32:
-            continue
-        seen.add((source, target))
-        incoming[target] += 1
+    for source, target in later_edges(draws, 1, nodes, edges, edges):
         least = draws.randint(1, 50)
         modes = "*" if draws.random() < 0.9 else "N"
         lines.append(f"edge {name(source)} {name(target)} {least} {least + draws.randint(0, 60)} {modes}")
@@ -94,46 +85,39 @@ def dense_script(draws, events, modes):
     return "\n".join([*lines, f"{now + 5} stop"]) + "\n"
 
 
-def simulated(folder, draw, graph, script):
+def simulated(program, folder, draw, graph, script):
     """The log of the script on the graph."""
     (folder / "graph").write_text(graph)
     (folder / "script").write_text(script)
-    words = [TFPG, "simulate", "--draw", str(draw), str(folder / "graph"), str(folder / "script")]
-    return subprocess.run(words, stdout=subprocess.PIPE, check=True).stdout
+    return run([program, "simulate", "--draw", str(draw), folder / "graph", folder / "script"]).output
 
 
-def show(name, folder, log):
+def show(name, program, folder, log):
     """Diagnoses the log, and says what it cost."""
-    best = None
-    for _ in range(3):
-        began = time.perf_counter()
-        words = [TFPG, "diagnose", "--k", "1", "--budget", "1000000", str(folder / "graph")]
-        report = subprocess.run(words, input=log, stdout=subprocess.PIPE, check=True).stdout
-        took = time.perf_counter() - began
-        best = took if best is None else min(best, took)
-    lines = report.decode().split("\n")
+    ran = shortest([program, "diagnose", "--k", "1", "--budget", "1000000", folder / "graph"], log)
+    lines = ran.output.decode().split("\n")
     splits = sum(line.startswith("split ") for line in lines)
     cycles = sum(line.startswith("cycle ") for line in lines)
     events = log.count(b"\n")
     alarms = log.count(b" alarm ")
-    print(f"{name:10} {events:5} events, {alarms:3} alarms: {splits:6} splits {cycles:6} cycles {best:8.3f} s  {lines[-2]}")
+    print(f"{name:10} {events:5} events, {alarms:3} alarms: {splits:6} splits {cycles:6} cycles {ran.seconds:8.3f} s  {lines[-2]}")
 
 
 def main():
-    built_program()
+    program = built_program(word_reader(__doc__).parse_args().program)
     with tempfile.TemporaryDirectory() as top:
         folder = Path(top)
         draws = random.Random(11)
         graph = wide_graph(draws)
-        show("wide", folder, simulated(folder, 1, graph, wide_script(draws)))
-        show("spans", folder, simulated(folder, 1, graph, span_script()))
+        show("wide", program, folder, simulated(program, folder, 1, graph, wide_script(draws)))
+        show("spans", program, folder, simulated(program, folder, 1, graph, span_script()))
         for seed in SEEDS:
             draws = random.Random(seed)
             layers, width, modes = draws.randint(2, 6), draws.randint(2, 5), draws.randint(2, 3)
             graph = dense_graph(draws, layers, width, modes)
-            log = simulated(folder, seed, graph, dense_script(draws, draws.randint(10, 40), modes))
+            log = simulated(program, folder, seed, graph, dense_script(draws, draws.randint(10, 40), modes))
             # Without the sweeps less is known, and more has to be searched.
-            show(f"dense {seed}", folder, b"".join(line for line in log.splitlines(True) if b"sweep" not in line))
+            show(f"dense {seed}", program, folder, b"".join(line for line in log.splitlines(True) if b"sweep" not in line))
     return 0
 
 

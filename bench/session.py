@@ -8,17 +8,19 @@ word: of `tfpg_event` alone, with words that are made before and no look at what
 over lines as bytes. The logs are those of the examples, or none, and then ticks. "64 failure modes" has 512 nodes and 2,048 edges, two
 alarms, and `k` 1. It needs the library, which python/build-library makes.
 """
+import argparse
 import ctypes
 import random
 import sys
-import time
-from pathlib import Path
+from resource import RUSAGE_SELF
 
-TOP = Path(__file__).resolve().parent.parent
-sys.path[:0] = [str(TOP / "python"), str(TOP / "bench")]
+from diagnose import large_graph
+from lib.program import TOP
+from lib.timing import spent
+
+sys.path.insert(0, str(TOP / "python"))
 
 import tfpg  # noqa: E402
-from diagnose import large_graph  # noqa: E402
 from tfpg.calls.layouts import EventKind  # noqa: E402
 
 RUNS = 5
@@ -41,14 +43,16 @@ def least(graph, terms, begun, take):
         with tfpg.Session(graph, **terms) as session:
             last = max([answer.now for answer in session.rounds(begun) if isinstance(answer, tfpg.Round)], default=0)
             run, count = take(session, last)
-            start = time.process_time()
+            start = spent(RUSAGE_SELF)
             run()
-            times.append((time.process_time() - start) / count)
+            times.append((spent(RUSAGE_SELF) - start) / count)
     return min(times) * 1e6
 
 
 def main():
-    count = int(sys.argv[1]) if len(sys.argv) > 1 else 10000
+    reader = argparse.ArgumentParser(description=__doc__, formatter_class=argparse.RawDescriptionHelpFormatter)
+    reader.add_argument("lines", nargs="?", type=int, default=10000, metavar="LINES")
+    count = reader.parse_args().lines
 
     def by_call(session, last):
         call, handle = session._calls.event, session._session

@@ -1,7 +1,7 @@
 #!/usr/bin/env python3
 """Times the simulator on a graph of 512 nodes and 2,048 edges: seconds, the shortest of three runs each.
 
-    bench/simulate.py
+    bench/simulate.py [--program FILE]
 
 - "no change": one failure mode starts, and the mode stays as it is.
 - "1,024 changes": the same with a change of mode at every 4th millisecond, which cuts the edges of half of the graph and lets
@@ -12,15 +12,13 @@ Seconds count the start of the program and the reading of the graph.
 """
 
 import random
-import subprocess
 import sys
 import tempfile
-import time
 from pathlib import Path
 
-from diagnose import built_program
-
-TFPG = Path(__file__).resolve().parent.parent / "crates" / "tfpg" / "out" / "tfpg"
+from lib.graphs import later_edges
+from lib.program import built_program, word_reader
+from lib.timing import shortest
 
 
 def large_graph(draws, failures, nodes=512, edges=2048):
@@ -31,18 +29,12 @@ def large_graph(draws, failures, nodes=512, edges=2048):
         kind = "and" if draws.random() < 0.2 else "or"
         monitor = f"watch {draws.randint(0, 20)}" if draws.random() < 0.6 else "hidden"
         lines.append(f"{kind} D{node} {monitor}")
-    seen, incoming = set(), dict.fromkeys(range(nodes), 0)
-    for node in [*range(failures, nodes), *[None] * (20 * edges)]:
-        target = node or draws.randint(failures, nodes - 1)
-        source = draws.randint(max(0, target - 40), target - 1)
-        if len(seen) == edges or (source, target) in seen or incoming[target] == 32:
-            continue
-        seen.add((source, target))
-        incoming[target] += 1
+    count = len(lines) + edges
+    for source, target in later_edges(draws, failures, nodes, edges):
         least = draws.randint(1, 6)
         modes = "*" if draws.random() < 0.5 else draws.choice("ND")
         lines.append(f"edge {name(source)} {name(target)} {least} {least + draws.randint(0, 20)} {modes}")
-    assert len(seen) == edges
+    assert len(lines) == count
     return "\n".join([*lines, "end"]) + "\n"
 
 
@@ -55,28 +47,22 @@ def script(failures, changes, events):
     return "\n".join([*lines, "4200 stop"]) + "\n"
 
 
-def show(name, folder, failures, changes, events):
+def show(name, program, folder, failures, changes, events):
     """Simulates the script, and says what it cost."""
     (folder / "graph").write_text(large_graph(random.Random(7), failures))
     (folder / "script").write_text(script(failures, changes, events))
-    best = None
-    for _ in range(3):
-        began = time.perf_counter()
-        words = [TFPG, "simulate", str(folder / "graph"), str(folder / "script")]
-        log = subprocess.run(words, stdout=subprocess.PIPE, check=True).stdout
-        took = time.perf_counter() - began
-        best = took if best is None else min(best, took)
-    lines, alarms = log.count(b"\n"), log.count(b" alarm ")
-    print(f"{name:14} {lines:5} lines, {alarms:3} alarms {best:8.3f} s")
+    ran = shortest([program, "simulate", folder / "graph", folder / "script"])
+    lines, alarms = ran.output.count(b"\n"), ran.output.count(b" alarm ")
+    print(f"{name:14} {lines:5} lines, {alarms:3} alarms {ran.seconds:8.3f} s")
 
 
 def main():
-    built_program()
+    program = built_program(word_reader(__doc__).parse_args().program)
     with tempfile.TemporaryDirectory() as name:
         folder = Path(name)
-        show("no change", folder, 1, 0, 100)
-        show("1,024 changes", folder, 1, 1024, 100)
-        show("64 starts", folder, 64, 1024, 6000)
+        show("no change", program, folder, 1, 0, 100)
+        show("1,024 changes", program, folder, 1, 1024, 100)
+        show("64 starts", program, folder, 64, 1024, 6000)
 
 
 if __name__ == "__main__":

@@ -447,62 +447,83 @@ def clause_said(graph, words):
     return kind, about, number(place, SMALL), number(horizon, MOST_TIME)
 
 
-def reason_said(graph, words):
-    node = lambda word: known(graph.number_of, word)
-    match words:
-        case [b"zero" | b"top" as kind, name]:
-            return kind, node(name)
-        case [b"unreached", name, horizon]:
-            return b"unreached", node(name), number(horizon, MOST_TIME)
-        case [b"from" | b"upto" as kind, event]:
-            return kind, number(event, SMALL)
-        case [b"quiet", event, name]:
-            return b"quiet", number(event, SMALL), node(name)
-        case [b"pick", split, place]:
-            return b"pick", number(split, LONG), number(place, SMALL)
+def fits(words, shape):
+    """Whether words have this shape, in which `_` is any word."""
+    return len(words) == len(shape) and all(asked in (b"_", word) for asked, word in zip(shape, words))
+
+
+def said_by(shapes, graph, words):
+    """What words say by the first of the shapes that they fit: their first word, and the values."""
+    for shape, values in shapes.get(words[0], []):
+        if fits(words, shape):
+            return (words[0], *values(graph, words))
     raise NotSo
+
+
+def by_first_word(shapes):
+    """Shapes with what they say, by their first words."""
+    found = {}
+    for shape, values in shapes.items():
+        words = shape.split(b" ")
+        found.setdefault(words[0], []).append((words, values))
+    return found
+
+
+def node_said(graph, word):
+    return known(graph.number_of, word)
+
+
+def counts_said(word):
+    alarmed, slash, monitored = word.partition(b"/")
+    if not slash:
+        raise NotSo
+    return number(alarmed, SMALL), number(monitored, SMALL)
+
+
+def cause_said(word):
+    if word not in REFUSALS:
+        raise NotSo
+    return word
+
+
+REASONS = by_first_word({
+    b"zero _": lambda graph, words: (node_said(graph, words[1]),),
+    b"top _": lambda graph, words: (node_said(graph, words[1]),),
+    b"unreached _ _": lambda graph, words: (node_said(graph, words[1]), number(words[2], MOST_TIME)),
+    b"from _": lambda graph, words: (number(words[1], SMALL),),
+    b"upto _": lambda graph, words: (number(words[1], SMALL),),
+    b"quiet _ _": lambda graph, words: (number(words[1], SMALL), node_said(graph, words[2])),
+    b"pick _ _": lambda graph, words: (number(words[1], LONG), number(words[2], SMALL)),
+})
+LINES = by_first_word({
+    b"report 1 k _ budget _": lambda graph, words: (number(words[3], 64), 0, budget_said(words[5])),
+    b"report 2 k _ doubt _ budget _": lambda graph, words: (number(words[3], 64), number(words[5], 4), budget_said(words[7])),
+    b"refused _ TimeBack _": lambda graph, words: (number(words[1], LONG), b"TimeBack %d" % number(words[3], MOST_TIME)),
+    b"refused _ _": lambda graph, words: (number(words[1], LONG), cause_said(words[2])),
+    b"round _ _ _": lambda graph, words: (number(words[1], SMALL), number(words[2], LONG), number(words[3], MOST_TIME)),
+    b"hyp _": lambda graph, words: (number(words[1], SMALL),),
+    b"split _ _ _ _": lambda graph, words: (clause_said(graph, words[1:]),),
+    b"split _ _ _ _ _": lambda graph, words: (clause_said(graph, words[1:]),),
+    b"again": lambda graph, words: (),
+    b"cycle _": lambda graph, words: (number(words[1], SMALL),),
+    b"why _ _": lambda graph, words: (said_by(REASONS, graph, words[1:]),),
+    b"why _ _ _": lambda graph, words: (said_by(REASONS, graph, words[1:]),),
+    b"ranked _ cost _ robust _ set _": lambda graph, words: (
+        number(words[1], SMALL), number(words[3], SMALL), counts_said(words[5]), set_said(graph, words[7])),
+    b"at _ _": lambda graph, words: (node_said(graph, words[1]), number(words[2], MOST_TIME)),
+    b"open _ set _": lambda graph, words: (number(words[1], SMALL), set_said(graph, words[3])),
+    b"rejected _ set _": lambda graph, words: (number(words[1], SMALL), set_said(graph, words[3])),
+    b"counts ranked _ covered _ rejected _ open _": lambda graph, words: tuple(number(word, SMALL) for word in words[2::2]),
+    b"panel _ lost": lambda graph, words: (number(words[1], LONG),),
+    b"panel _ memory": lambda graph, words: (number(words[1], LONG),),
+})
 
 
 def line_said(graph, line):
     """What a line of a report says: its first word, and its values."""
     if len(line) > LONGEST_LINE:
         raise NotSo
-    match line.split(b" "):
-        case [b"report", b"1", b"k", k, b"budget", budget]:
-            return b"report", number(k, 64), 0, budget_said(budget)
-        case [b"report", b"2", b"k", k, b"doubt", doubt, b"budget", budget]:
-            return b"report", number(k, 64), number(doubt, 4), budget_said(budget)
-        case [b"refused", at, b"TimeBack", time]:
-            return b"refused", number(at, LONG), b"TimeBack %d" % number(time, MOST_TIME)
-        case [b"refused", at, cause] if cause in REFUSALS:
-            return b"refused", number(at, LONG), cause
-        case [b"round", event, at, now]:
-            return b"round", number(event, SMALL), number(at, LONG), number(now, MOST_TIME)
-        case [b"hyp", hypothesis]:
-            return b"hyp", number(hypothesis, SMALL)
-        case [b"split", _, _, _, _, *_] as words:
-            return b"split", clause_said(graph, words[1:])
-        case [b"again"]:
-            return (b"again",)
-        case [b"cycle", count]:
-            return b"cycle", number(count, SMALL)
-        case [b"why", *words]:
-            return b"why", reason_said(graph, words)
-        case [b"ranked", hypothesis, b"cost", cost, b"robust", robust, b"set", members]:
-            alarmed, slash, monitored = robust.partition(b"/")
-            if not slash:
-                raise NotSo
-            counts = number(alarmed, SMALL), number(monitored, SMALL)
-            return b"ranked", number(hypothesis, SMALL), number(cost, SMALL), counts, set_said(graph, members)
-        case [b"at", name, time]:
-            return b"at", known(graph.number_of, name), number(time, MOST_TIME)
-        case [b"open" | b"rejected" as kind, hypothesis, b"set", members]:
-            return kind, number(hypothesis, SMALL), set_said(graph, members)
-        case [b"counts", b"ranked", ranked, b"covered", covered, b"rejected", rejected, b"open", left_open]:
-            return b"counts", *[number(count, SMALL) for count in (ranked, covered, rejected, left_open)]
-        case [b"panel", panel, b"lost" | b"memory"]:
-            return b"panel", number(panel, LONG)
-    raise NotSo
+    return said_by(LINES, graph, line.split(b" "))
 
 
 # ---- the judge

@@ -2,9 +2,10 @@
 # Runs worked command lines both ways: by the built program, and by `tfpg` of a copy of this checkout in which nothing is built, so that a
 # trial answers. Each runs in a folder of its own with the same files. Compares standard output, the rest of the input, the files that
 # panels write, the status, and the last line of standard error that is not the script's. Ends with status 1 where something differs.
-set -u
+set -u -o pipefail
 
 top=$(dirname "$(dirname "$(readlink -f "${BASH_SOURCE[0]}")")")
+. "$top/tools/help.sh"
 built=$top/crates/tfpg/out/tfpg
 [ -x "$built" ] || { echo 'the program is not built: ./build'; exit 1; }
 made=$(mktemp -d)
