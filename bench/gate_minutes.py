@@ -13,12 +13,12 @@ toolchain. The mean of what both took is the unit, in which it gives each figure
 
 import argparse
 import os
-import resource
-import subprocess
 import sys
 import time
 from collections import defaultdict
 from pathlib import Path
+
+from lib.timing import shortest
 
 TICKS = os.sysconf("SC_CLK_TCK")
 
@@ -51,10 +51,7 @@ def look(seconds):
 
 def selftest_seconds():
     """How many processor seconds the toolchain takes for its own small crate."""
-    before = resource.getrusage(resource.RUSAGE_CHILDREN)
-    subprocess.run(["rt", "selftest"], stdout=subprocess.DEVNULL, check=True)
-    after = resource.getrusage(resource.RUSAGE_CHILDREN)
-    return after.ru_utime - before.ru_utime + after.ru_stime - before.ru_stime
+    return shortest(["rt", "selftest"], runs=1).seconds
 
 
 def show(seconds, unit):

@@ -1,13 +1,13 @@
 #!/usr/bin/env python3
-"""Tries whether each script of `bench` and `tools` is one: it can be run, and with --help it says what it does and starts nothing.
+"""Tries whether each script of `bench` is one: it can be run, and with --help it says what it does and starts nothing.
 
     bench/scripts.py
 
-- What has a first line for an interpreter can be run, and nothing else of these folders can.
-- With --help a script in Python says what stands at its top, with status 0. It starts no process, opens no file to write, and makes no
+- What has a first line for an interpreter can be run, and nothing else can.
+- With --help a script of `bench` in Python says what stands at its top, with status 0. It starts no process, opens no file to write, and makes no
   folder. One of the shell says so too, where no command is there but those that find its own folder.
 - Each script in Python, and each module beside the crates, can be read by Python 3.9, which is the oldest.
-- Each script of the shell that joins commands by a pipe fails where one of them does, and each sanitizer ends what it finds wrong.
+- Each script of the shell in `bench` that joins commands by a pipe fails where one of them does, and each sanitizer ends what it finds wrong.
 
 Prints what is not so, and ends with status 1 if there is anything.
 """
@@ -101,16 +101,16 @@ def faults(path, commands):
             ast.parse(text, feature_version=OLDEST)
         except SyntaxError as fault:
             yield f"Python {OLDEST[0]}.{OLDEST[1]} does not read line {fault.lineno}: {fault.msg}"
-    elif is_script:
-        yield from shell_faults(text)
-    if is_script and path.parent.name in ("bench", "tools"):
+    if path.parent.name == "bench" and is_script:
+        if not is_python:
+            yield from shell_faults(text)
         wrong = help_fault(path, text, commands)
         if wrong:
             yield wrong
 
 
 def files():
-    """The scripts of `bench` and `tools`, and all scripts and modules in Python beside the crates."""
+    """The scripts and the modules beside the crates."""
     for folder in ("bench", "tools", "page", "python", "examples"):
         for path in sorted((TOP / folder).rglob("*")):
             is_made = {"__pycache__", ".mypy_cache", "build", "data"} & set(path.parts)
