@@ -8,7 +8,7 @@ from tfpg.reading.causes import LOG_CAUSES
 PUMP = """\
 pump.log by pump.tfpg: sets of at most 2 members
 
-7 lines, 1 refused
+7 lines, 1 refused: what follows is without it
   line 5, TimeBack: 3290000 tick
     The time 3290000 is before 3300000, that of the last accepted line.
 
@@ -63,7 +63,7 @@ This brief judges nothing; tfpg check judges a report.
 ARRAY = """\
 satellite-array.log by satellite.tfpg: sets of at most 2 members
 
-14 lines, 2 refused
+14 lines, 2 refused: what follows is without them
   line 7, TimeBack: 4190000 silent BatteryLow
     The time 4190000 is before 4203000, that of the last accepted line.
   line 12, NotAMode: 9900000 mode Safe
@@ -93,7 +93,7 @@ This brief judges nothing; tfpg check judges a report.
 RELAY = """\
 satellite-relay.log by satellite.tfpg: sets of at most 2 members
 
-11 lines, 1 refused
+11 lines, 1 refused: what follows is without it
   line 8, NotMonitored: 2400000 silent ChargeLow
     `ChargeLow` has no monitor: line 19 of the graph declares it as hidden.
 

@@ -35,13 +35,15 @@ CASES = [
     (changed(["nodes", 1], "A"), "At `.nodes[1]` there has to be an object."),
     (changed(["nodes", 0, "kind"], "fault"), "At `.nodes[0].kind` there has to be `failure`, `or` or `and`, a text."),
     (changed(["nodes", 0, "rarity"]), "At `.nodes[0].rarity` there has to be a whole number without a sign, a point or an exponent."),
-    (changed(["nodes", 1, "lag"], 1.5), "At `.nodes[1].lag` stands 1.5, and has to be a whole number without a sign, a point or an exponent, or "
+    (changed(["nodes", 1, "lag"], 1.5), "At `.nodes[1].lag` stands 1.5, and has to be a whole number without a sign, a point or an "
+                                        "exponent, or "
                                         "null if the node has no monitor."),
     (changed(["nodes", 1, "least"], None), "At `.nodes[1].least` there has to be a whole number"),
     (changed(["nodes", 1, "name"], "A b"), "At `.nodes[1].name` the name \"A b\" has not the form of one. A name has 1 to 32 bytes"),
     (changed(["edges", 0, "from"]), "At `.edges[0].from` there has to be a name, a text."),
     (changed(["edges", 0, "min"], -1), "At `.edges[0].min` there has to be a whole number"),
-    (changed(["edges", 0, "max"]), "At `.edges[0].max` there has to be a whole number without a sign, a point or an exponent, or null if there is "
+    (changed(["edges", 0, "max"]), "At `.edges[0].max` there has to be a whole number without a sign, a point or an exponent, or null if "
+                                   "there is "
                                    "no greatest delay."),
     (changed(["edges", 0, "modes"]), "At `.edges[0].modes` there has to be a list of names, or null for all modes."),
     (changed(["edges", 0, "modes"], ["Run", "2"]), "At `.edges[0].modes[1]` the name \"2\" has not the form of one."),

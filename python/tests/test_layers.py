@@ -14,7 +14,7 @@ LAYERS = [
     {"calls", "warning"},
     {"inputs", "recording", "stream"},
     {"fleet"},
-    {"lint", "brief", "plot"},
+    {"lint", "brief", "plot", "answers"},
     {"__main__", "__init__"},
 ]
 HEIGHTS = {part: height for height, parts in enumerate(LAYERS) for part in parts}

@@ -43,6 +43,7 @@ class Readme(unittest.TestCase):
             folder = Path(top, "python")
             folder.mkdir()
             Path(top, "examples").symlink_to(EXAMPLES)
+            Path(top, "tfpg").symlink_to(find_program())
             count = 0
             for command, shown in runs():
                 shape = "".join(".*" if part == "...\n" else re.escape(part) for part in re.split(r"^(\.\.\.\n)", shown, flags=re.M))

@@ -22,7 +22,8 @@ LATE = 100000000  # ms, after which nothing is too early
 CONTRADICTIONS = [
     ("an alarm that is repeated", ["0 alarm Low", "60000 alarm Low"], 2, "SecondAlarm", "Low",
      "`Low` has its first alarm in line 1, 1 min before. An alarm comes at most 5 s and at least 1 s after its node became active, so no "
-     "activation is shown by both. So no set that believes this monitor explains the log. A node once active stays so, and a repeated alarm "
+     "activation is shown by both. So no set that believes this monitor explains the log. A node once active stays so, and a repeated "
+     "alarm "
      "is no line: `python3 -m tfpg records` leaves it out."),
     ("an alarm that no lag holds with the first", ["0 alarm High", "2000 alarm High", "2001 alarm High"], 3, "SecondAlarm", "High",
      "`High` has its first alarm in line 1, 2.001 s before. An alarm comes at most 2 s after its node became active,"),
@@ -33,7 +34,8 @@ CONTRADICTIONS = [
     ("a silence before an alarm at one time", ["0 silent Low", "0 alarm High", "0 alarm Low"], 3, "AlarmAndSilence", "Low",
      "Line 1 says that `Low` is silent at the same time."),
     ("a sweep before an alarm at one time", ["0 sweep", "0 alarm Low"], 2, "AlarmAndSilence", "Low",
-     "The sweep of line 1 says that `Low` is silent at the same time. So no set that believes this monitor explains the log. Write the sweep "
+     "The sweep of line 1 says that `Low` is silent at the same time. So no set that believes this monitor explains the log. Write the "
+     "sweep "
      "after the alarms of its time."),
 ]
 RIGHT = [
@@ -145,9 +147,11 @@ class Times(unittest.TestCase):
         self.assertEqual(causes(["10000 alarm High", "28800999 alarm Low", "28801000 sweep"]), [(2, "EarlyAlarm")])
         said = log_warnings(logged(["60000 alarm Low", "60000 sweep"]))[0].explanation
         self.assertEqual((said.sentence, said.hints), (
-            "This alarm comes 1 min after 0, and nothing is active before. So these are ruled out as causes of `Low`: `Worn`, which takes at "
+            "This alarm comes 1 min after 0, and nothing is active before. So these are ruled out as causes of `Low`: `Worn`, which "
+            "takes at "
             "least 8 h; `Jam`, which takes at least 1 min.",
-            ["If the system ran before, begin the log at least 7 h 59 min 1 s earlier: `python3 -m tfpg records` with --before takes its 0 so "
+            ["If the system ran before, begin the log at least 7 h 59 min 1 s earlier: `python3 -m tfpg records` with --before takes its "
+             "0 so "
              "long before the first record."]))
 
     def test_the_same_alarms_later(self):
@@ -235,7 +239,8 @@ class Told(unittest.TestCase):
     def test_the_status(self):
         log = text(late(["0 alarm High", "60000 alarm High", "60000 sweep"]))
         with files(graph=text(GRAPH), log=log, right=text(late(["0 sweep"]))):
-            self.assertEqual([run("lint", *words)[0] for words in (["graph", "log"], ["--strict", "graph", "log"], ["--strict", "graph", "right"],
+            self.assertEqual([run("lint", *words)[0] for words in (["graph", "log"], ["--strict", "graph", "log"], ["--strict", "graph",
+                                                                                                                    "right"],
                                                                    ["--strict", "graph"])], [0, 1, 0, 0])
 
     def test_many_warnings(self):
@@ -254,19 +259,23 @@ class Told(unittest.TestCase):
             "refused": [{"line": 4, "cause": "BadLine", "sentence": "There is one word, and no event after it.", "text": "ALARM", "hints": [
                 "The shapes are `T alarm NODE`, `T silent NODE`, `T sweep`, `T tick`, `T mode MODE`."]}],
             "warnings": [{"line": 2, "cause": "AlarmAndSilence", "text": "100000000 silent High",
-                          "sentence": "Line 1 says that `High` alarms at the same time. So no set that believes this monitor explains the log.",
+                          "sentence": "Line 1 says that `High` alarms at the same time. So no set that believes this monitor explains "
+                                      "the log.",
                           "hints": ["Leave the silence out, as `python3 -m tfpg records` does."]}]})
 
     def test_json_of_graphs_and_ends(self):
         with files(graph="tfpg 1\nmood M\n", right=text(GRAPH)):
             wrong, absent, right = (json.loads(run("lint", "--json", *words)[1]) for words in (["graph"], ["right", "none"], ["right"]))
-        self.assertEqual((wrong["status"], wrong["fault"]["line"], wrong["fault"]["cause"], wrong["fault"]["text"]), (3, 2, "BadLine", "mood M"))
+        self.assertEqual((wrong["status"], wrong["fault"]["line"], wrong["fault"]["cause"], wrong["fault"]["text"]), (3, 2, "BadLine",
+                                                                                                                      "mood M"))
         self.assertEqual((absent["status"], absent["end"][0]), (5, "none: No such file or directory"))
-        self.assertEqual(right, {"status": 0, "graph": "right", "fault": None, "end": None, "log": None, "lines": 0, "refused": [], "warnings": []})
+        self.assertEqual(right, {"status": 0, "graph": "right", "fault": None, "end": None, "log": None, "lines": 0, "refused": [],
+                                 "warnings": []})
 
     def test_a_graph_as_the_log(self):
         said = unwrapped(lint(text(GRAPH), text(GRAPH))[1])
-        self.assertIn("log line 1: BadLine | tfpg 2 | ^^^^ A graph begins so, and no line of a log. Are the files in their order, GRAPH and then "
+        self.assertIn("log line 1: BadLine | tfpg 2 | ^^^^ A graph begins so, and no line of a log. Are the files in their order, GRAPH "
+                      "and then "
                       "LOG?", said)
 
 

@@ -14,6 +14,10 @@ from tfpg.saying.speech import speech_of
 NOTHING = """\
 pump.log by pump.tfpg: sets of at most 2 members
 
+7 lines, 1 refused: what follows is without it
+  line 5, TimeBack: 3290000 tick
+    The time 3290000 is before 3300000, that of the last accepted line.
+
 Why not no failure?
 Rejected since round 3, at 0:45:15: no history of it explains the log.
 1 step, 1 contradiction. It rests on line 3 alarm LowFlow (1×). ¶ is a line of

@@ -1,4 +1,4 @@
-"""Runs a command: `python3 -m tfpg records`, `lint`, `brief` or `plot`."""
+"""Runs a command: `python3 -m tfpg records`, `lint`, `brief`, `plot`, `ask`, `explain` or `predict`."""
 
 from __future__ import annotations
 
@@ -6,6 +6,7 @@ import io
 import sys
 from typing import Callable, Dict, List, Sequence
 
+from .answers.command import ask, explain, predict
 from .brief.command import brief
 from .faults import BadGraph, BadRecord, NoProgram
 from .lint.command import lint
@@ -14,13 +15,15 @@ from .program import NO_TRIAL, NoReport
 from .reading.texts import BadText
 from .recording.command import records
 
-COMMANDS: Dict[str, Callable[[Sequence[str]], int]] = {"records": records, "lint": lint, "brief": brief, "plot": plot}
+COMMANDS: Dict[str, Callable[[Sequence[str]], int]] = {
+    "records": records, "lint": lint, "brief": brief, "plot": plot, "ask": ask, "explain": explain, "predict": predict}
 USAGE = """\
 python3 -m tfpg records GRAPH RECORDS..     the log of the records of a system
 python3 -m tfpg lint GRAPH [LOG]            what the program refuses, and why
 python3 -m tfpg lint --words WORD..         the same of the words of a command line
 python3 -m tfpg brief GRAPH LOG [REPORT]    what a crew reads of a report
-python3 -m tfpg plot GRAPH LOG [REPORT]     a picture of the ranking over time, as SVG"""
+python3 -m tfpg plot GRAPH LOG [REPORT]     a picture of the ranking over time, as SVG
+python3 -m tfpg ask|explain|predict WORD..  as the program has them; refused lines are said first"""
 BAD_TEXT, NOT_READ = 1, 5
 
 

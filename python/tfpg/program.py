@@ -15,6 +15,7 @@ from .portable import Portable
 VARIABLE = "TFPG_PROGRAM"
 OWN_LINE = b"tfpg: "  # begins what the script `tfpg` itself says beside the program
 NO_TRIAL = 70
+LOST_LINES = 9  # no status of the program: that of a strict command of this package, if the log refused lines
 
 
 class NoReport(Portable):

@@ -1,12 +1,14 @@
-"""What changed at the last line of the log."""
+"""What changed in the ranking: at the last line of the log, or at each line at which it changed."""
 
 from __future__ import annotations
 
-from typing import Dict, List, Optional, Tuple
+from dataclasses import dataclass
+from typing import Any, Dict, Iterator, List, Optional, Tuple
 
 from ..reading.reports import Ranked, Refused, Round
 from ..reading.sets import is_proper_part, set_words
 from ..reading.subjects import Subject
+from ..saying.speech import speech_of
 from .paper import Paper
 from .ranking import alarms_words, sets_words
 
@@ -68,3 +70,51 @@ def _moved(subject: Subject, text: str, old: Tuple[int, Ranked], new: Tuple[int,
     if ranked.alarmed != new_ranked.alarmed:
         parts.append(f"{alarms_words(subject, new_ranked)}, before {ranked.alarmed}")
     return f"{set_words(text)}: {'; '.join(parts)}." if parts else ""
+
+
+@dataclass(frozen=True)
+class Change:
+    """A round that ranks other sets than the one before, or in another order: which came, each with what it was before, which went, each
+    with what it is now, and whether those that stayed have another order."""
+
+    here: Round
+    came: Dict[str, str]
+    went: Dict[str, str]
+    is_reordered: bool
+
+    def to_dict(self, subject: Subject) -> Dict[str, Any]:
+        """It as JSON has it."""
+        return {"time": self.here.now, "line": self.here.line, "round": self.here.number, "text": subject.line(self.here.line),
+                "came": self.came, "went": self.went, "ranked": [one.set for one in self.here.ranked], "open": len(self.here.open)}
+
+    def line(self, subject: Subject) -> str:
+        """It in one line: when, by which line, what came and went, and why."""
+        parts = [f"{how} {_grouped(sets)}" for how, sets in (("came", self.came), ("went", self.went)) if sets]
+        if self.is_reordered:
+            parts.append(f"the order is {sets_words([one.set for one in self.here.ranked])}")
+        if not self.here.ranked:
+            parts.append("nothing is ranked" if self.here.open else "nothing explains the log")
+        return f"{speech_of(subject, '-').time(self.here.now)} line {self.here.line}, {subject.line(self.here.line)}: {'; '.join(parts)}"
+
+
+def _grouped(sets: Dict[str, str]) -> str:
+    """Sets with what they were or are, once for all of which it is the same."""
+    groups: Dict[str, List[str]] = {}
+    for text, status in sets.items():
+        groups.setdefault(status, []).append(text)
+    return ", ".join(f"{sets_words(texts).replace('; ', ', ')} ({status})" for status, texts in groups.items())
+
+
+def changes_of(subject: Subject) -> Iterator[Change]:
+    """The rounds at which the ranking changed, the first one too."""
+    before: Optional[Round] = None
+    for here in subject.rounds:
+        old = [] if before is None else [one.set for one in before.ranked]
+        new = [one.set for one in here.ranked]
+        if before is None or old != new:
+            rejected = set(here.rejected.values())
+            came = {text: "at the first line" if before is None else f"{_status(before, text)} before" for text in new if text not in old}
+            went = {text: "rejected" if text in rejected else _status(here, text) for text in old if text not in new}
+            stayed = [text for text in old if text in new]
+            yield Change(here, came, went, stayed != [text for text in new if text in old])
+        before = here

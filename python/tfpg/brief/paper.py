@@ -39,6 +39,10 @@ class Paper:
         """A paragraph in red."""
         self._add(text, indent, hang, RED)
 
+    def line(self, text: str) -> None:
+        """A line that is never broken."""
+        self.lines.append(text)
+
     def _add(self, text: str, indent: int, hang: int, style: str) -> None:
         first = min(indent, WIDTH - LEAST_ROOM)
         wrapped = textwrap.wrap(UNITS.sub("\xa0", text), WIDTH, initial_indent=" " * first, subsequent_indent=" " * (first + hang),

@@ -16,10 +16,10 @@ from .paper import Paper
 MOST_K, MOST_DOUBT, MOST_BUDGET = (OPTIONS[name].greatest for name in ("--k", "--doubt", "--budget"))
 
 
-def put_ranking(paper: Paper, subject: Subject, here: Round, told: int) -> None:
-    """The ranking of a round, with the histories of the first sets of it."""
+def put_ranking(paper: Paper, subject: Subject, here: Round, told: int, is_warned: bool = False) -> None:
+    """The ranking of a round, with the histories of the first sets of it. If it is empty, warnings above are named before doubts."""
     if not here.ranked:
-        return _put_nothing(paper, subject, here)
+        return _put_nothing(paper, subject, here, is_warned)
     paper.title("What explains all that was seen")
     for place, ranked in enumerate(here.ranked, 1):
         paper.put(f"{place}. {set_words(ranked.set)}: cost {ranked.cost}, {alarms_words(subject, ranked)}")
@@ -65,13 +65,9 @@ def sets_words(sets: List[str], most: int = 12) -> str:
     return "; ".join(set_words(text) for text in sets[:most]) + more
 
 
-def _put_nothing(paper: Paper, subject: Subject, here: Round) -> None:
+def _put_nothing(paper: Paper, subject: Subject, here: Round, is_warned: bool) -> None:
     """That nothing is ranked, since which line, and what may be so, in the order of docs/modelling.md."""
-    since = here
-    for earlier in reversed(subject.rounds):
-        if earlier.ranked:
-            break
-        since = earlier
+    since = empty_since(subject, here)
     at = f"since line {since.line}, at {speech_of(subject, '-').time(since.now)}: {subject.line(since.line)}"
     if here.open:
         paper.title(f"Nothing is ranked, {at}")
@@ -79,7 +75,19 @@ def _put_nothing(paper: Paper, subject: Subject, here: Round) -> None:
     else:
         paper.title(f"Nothing explains the log, {at}")
         paper.put(f"All {here.counts[2]:,} sets are rejected.")
+        if is_warned:
+            paper.put("See first to the lines above that are surely not meant: a doubt would only hide them.")
         _put_wider(paper, subject)
+
+
+def empty_since(subject: Subject, here: Round) -> Round:
+    """The first of the rounds up to the last one that rank nothing."""
+    since = here
+    for earlier in reversed(subject.rounds):
+        if earlier.ranked:
+            break
+        since = earlier
+    return since
 
 
 def _put_open(paper: Paper, subject: Subject, here: Round) -> None:
