@@ -8,7 +8,7 @@ ghost use Rattle.tfpg_log.specs.Log.{IsLogOf, with_event};
 use std::alloc::Global;
 use std::test::Fail;
 use tfpg_base::{MAX_MEMBERS, Set};
-use tfpg_graph::{Graph, NodeSet, read};
+use tfpg_graph::{Graph, NodeSet};
 use tfpg_log::{Log, Offered};
 
 /// Two failure modes with an edge each to A, of which the second is active in mode N alone. The first also has an edge to B,
