@@ -7,6 +7,8 @@ import io
 import os
 import sys
 import tempfile
+import unittest
+import warnings
 from functools import lru_cache
 from pathlib import Path
 from typing import List, Sequence, Tuple
@@ -17,12 +19,22 @@ sys.path.insert(0, str(TOP / "python"))
 
 from tfpg.__main__ import main  # noqa: E402
 from tfpg.calls.library import library  # noqa: E402
-from tfpg.faults import NoLibrary, NoProgram  # noqa: E402
+from tfpg.faults import NoLibrary, NoProgram, RefusedLines  # noqa: E402
 from tfpg.program import find_program  # noqa: E402
 
 TINY = ["tfpg 1", "mode Run", "mode Stop", "failure Leak 2", "failure Jam 3", "or Hidden hidden", "or Wet watch 5000",
     "edge Leak Hidden 10 20 *",
         "edge Hidden Wet 0 inf Run", "end"]
+
+
+class Unwarned(unittest.TestCase):
+    """Tests of calls over logs that have refused lines, as the examples do. What warns of these has tests of its own."""
+
+    def setUp(self) -> None:
+        kept = warnings.catch_warnings()
+        kept.__enter__()
+        self.addCleanup(kept.__exit__, None, None, None)
+        warnings.simplefilter("ignore", RefusedLines)
 
 
 def text(lines: Sequence[str]) -> str:

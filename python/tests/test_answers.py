@@ -4,7 +4,7 @@ import unittest
 from unittest import mock
 
 import tfpg
-from support import EXAMPLES, files, library_words, text, tiny
+from support import EXAMPLES, Unwarned, files, library_words, text, tiny
 from tfpg.calls.rooms import FIRST_ROOM
 from tfpg.program import run_program
 from tfpg.reading.texts import lines_of, text_of
@@ -45,7 +45,7 @@ def lines_predicted(said):
 
 
 @unittest.skipIf(library_words(), library_words())
-class Asked(unittest.TestCase):
+class Asked(Unwarned):
     def test_questions(self):
         for system, name in SYSTEMS:
             with self.subTest(name=name):
@@ -59,7 +59,7 @@ class Asked(unittest.TestCase):
 
 
 @unittest.skipIf(library_words(), library_words())
-class Predicted(unittest.TestCase):
+class Predicted(Unwarned):
     def test_forecasts(self):
         for system, name in SYSTEMS:
             graph, log = EXAMPLES / f"{system}.tfpg", EXAMPLES / f"{name}.log"
@@ -107,7 +107,7 @@ class Predicted(unittest.TestCase):
 
 
 @unittest.skipIf(library_words(), library_words())
-class Explained(unittest.TestCase):
+class Explained(Unwarned):
     def test_what_is_ranked_explains_the_log(self):
         for system, name in SYSTEMS:
             graph, log = tfpg.Graph.load(EXAMPLES / f"{system}.tfpg"), EXAMPLES / f"{name}.log"
@@ -119,7 +119,10 @@ class Explained(unittest.TestCase):
 
     def test_verdicts(self):
         graph = tfpg.Graph.load(PUMP)
-        self.assertEqual(tfpg.explain(graph, LOG, EXAMPLES / "pump-filter.map").sentence, "The history explains the log.")
+        verdict = tfpg.explain(graph, LOG, EXAMPLES / "pump-filter.map")
+        self.assertEqual((verdict.explains, verdict.sentence), (True, "The history explains the accepted lines alone: line 5 is refused."))
+        accepted = [line for line in LOG.read_text(encoding="ascii").splitlines() if not line.startswith("3290000 ")]
+        self.assertEqual(tfpg.explain(graph, accepted, EXAMPLES / "pump-filter.map").sentence, "The history explains the log.")
         early = tfpg.explain(graph, LOG, EXAMPLES / "pump-early.map")
         self.assertEqual((early.explains, early.fault, early.node, early.time), (False, "must", "WeakSuction", 2600000))
         self.assertEqual(early.sentence, "By 2600000 WeakSuction had to be active.")
@@ -143,7 +146,7 @@ class Explained(unittest.TestCase):
 
 
 @unittest.skipIf(library_words(), library_words())
-class Alone(unittest.TestCase):
+class Alone(Unwarned):
     def test_no_program_is_run(self):
         with mock.patch("subprocess.run", side_effect=AssertionError("the program is run")):
             graph = tfpg.Graph.load(PUMP)

@@ -9,7 +9,7 @@ from pathlib import Path
 from types import SimpleNamespace
 
 import tfpg
-from support import EXAMPLES, files, library_words, text, tiny
+from support import EXAMPLES, Unwarned, files, library_words, text, tiny
 from tfpg.calls.layouts import Answer, Handle, Status
 from tfpg.calls.library import CALLS, FILE, Library, find_library
 from tfpg.calls.numbers import Numbers
@@ -100,7 +100,7 @@ class Loading(unittest.TestCase):
 
 
 @unittest.skipIf(library_words(), library_words())
-class Whole(unittest.TestCase):
+class Whole(Unwarned):
     def test_reports(self):
         for system, name in REPORTS:
             with self.subTest(name=name):

@@ -126,7 +126,7 @@ class RefusedLines(Portable, UserWarning):
     """The log refused lines, and the answer is without them: `count` of `lines` lines, of which `first` is the first."""
 
     def __init__(self, count: int, lines: int, first: "Refused") -> None:
-        are = "line is" if count == 1 else "lines are"
-        super().__init__(f"{count:,} of {lines:,} {are} refused, and the answer is without what they say. The first is line {first.line}: "
+        are, they = ("is", "it says") if count == 1 else ("are", "they say")
+        super().__init__(f"{count:,} of {lines:,} lines {are} refused, and the answer is without what {they}. The first is line {first.line}, "
                          f"{first.cause}: {first.text}: {first.sentence}")
         self.count, self.lines, self.first = count, lines, first

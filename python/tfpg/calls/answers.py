@@ -11,7 +11,7 @@ from ..explaining.refusals import line_explanation
 from ..faults import LineRefused, LogFull
 from ..limits import MOST_TIME, NEVER, spoken
 from ..reading.graphs import DeclaredGraph
-from ..reading.texts import is_number, text_of
+from ..reading.texts import Word, is_number, text_of, words_of
 from .notebook import round_table
 
 
@@ -129,8 +129,8 @@ class Refused:
         if self.graph is None:
             return self.known or Explanation("")
         line = text_of(self.text.encode("utf-8", "surrogateescape"))
-        said = line_explanation(self.graph, [line], 1, self.cause, self.last)
-        return by_origin(said, self.cause, self.origin)
+        known = by_origin(words_of(line)[0], self.cause, self.origin)
+        return known or with_hint(line_explanation(self.graph, [line], 1, self.cause, self.last), self.cause)
 
     def to_dict(self) -> Dict[str, Any]:
         """It as JSON has it: `line`, `cause`, `sentence` and `text`."""
@@ -151,16 +151,20 @@ def refused_dicts(refused: Tuple[Refused, ...]) -> List[Dict[str, Any]]:
     return [one.to_dict() for one in refused]
 
 
-def by_origin(said: Explanation, cause: str, origin: int) -> Explanation:
-    """An explanation of a line whose time is taken less an origin."""
-    word = said.word
-    if word is None or not is_number(word.text):
-        return said
+def by_origin(word: Word, cause: str, origin: int) -> Optional[Explanation]:
+    """An explanation of a line with this first word, if it is refused since its time is taken less an origin."""
+    if not is_number(word.text) or cause not in ("BadNumber", "TimeTooLarge"):
+        return None
     if cause == "BadNumber":
         return Explanation(f"The time {word.text} is before the origin {origin}.", word)
-    if cause == "TimeTooLarge" and origin:
+    if origin:
         limit = f"{spoken(MOST_TIME)} milliseconds after the origin {origin}"
         return Explanation(f"A time is at most {limit}, and {word.text} is above it.", word)
-    if cause == "TimeTooLarge":
-        return Explanation(said.sentence, word, said.hints + ["A session subtracts its `origin` from each time."])
-    return said
+    return None
+
+
+def with_hint(said: Explanation, cause: str) -> Explanation:
+    """An explanation with what a session can do about it."""
+    if cause != "TimeTooLarge":
+        return said
+    return Explanation(said.sentence, said.word, [*said.hints, "A session subtracts its `origin` from each time."])
