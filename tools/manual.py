@@ -4,8 +4,8 @@
     tools/manual.py help FOLDER     the texts of help: tfpg.txt and tfpg-COMMAND.txt
     tools/manual.py pages FOLDER    the manual pages, in man1, man3 and man5 of this folder
 
-The pages are Markdown, since `pandoc` makes manual pages of that, also of docs/formats.md, which is tfpg(5) as it stands; the other tools of
-Debian each want a language of their own. tfpg(3) is a beginning and what include/tfpg.h says. A text of help needs no tool: it is what
+The pages are Markdown, since `pandoc` makes manual pages of that, also of docs/formats.md, which is tfpg(5) as it stands; the other tools
+of Debian each want a language of their own. tfpg(3) is a beginning and what include/tfpg.h says. A text of help needs no tool: it is what
 docs/man says in NAME to SEE ALSO, without what only a page has, on one screen. docs/man/help has them, and a test compares.
 """
 
@@ -150,13 +150,13 @@ def page_names() -> List[str]:
 
 
 def write_page(name: str, folder: Path) -> None:
-    """Has `pandoc` make a manual page. Links are left out, since a terminal follows none."""
+    """Has `pandoc` make a manual page. tools/manual.lua leaves out what a terminal does not bear."""
     title, section = name.rsplit(".", 1)
     there = folder / f"man{section}" / name
     there.parent.mkdir(parents=True, exist_ok=True)
     form = ["-f", "gfm", "--shift-heading-level-by=-1"] if section == "5" else ["-f", "markdown-smart"]
     about = {"title": title, "section": section, "header": "tfpg", "footer": f"tfpg {version()}"}
-    words = ["pandoc", "-s", *form, "-t", "man", "--lua-filter", str(TOP / "tools" / "links.lua"), "-o", str(there)]
+    words = ["pandoc", "-s", *form, "-t", "man", "--lua-filter", str(TOP / "tools" / "manual.lua"), "-o", str(there)]
     for key, value in about.items():
         words += ["-M", f"{key}={value}"]
     subprocess.run(words, input=page_text(name), encoding="utf-8", check=True)

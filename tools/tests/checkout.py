@@ -10,7 +10,7 @@ import subprocess
 import tempfile
 import time
 from pathlib import Path
-from typing import Dict, List, Optional, Tuple
+from typing import Dict, List, Optional, Sequence, Tuple
 
 TOP = Path(__file__).resolve().parents[2]
 COPIED = ["tfpg", "build", "tools", "VERSION", "docs/man", "crates.txt", "examples"]
@@ -46,15 +46,15 @@ esac
 class Checkout:
     """A copy of the scripts, with a crate for each line of `crates.txt`, in a folder of its own that `close` removes."""
 
-    def __init__(self) -> None:
+    def __init__(self, more: Sequence[str] = ()) -> None:
         self.folder = Path(tempfile.mkdtemp(prefix="tfpg-tools-"))
         self.top = self.folder / "a checkout"
         self.says = self.folder / "says"
-        for name in COPIED:
+        for name in [*COPIED, *more]:
             there = self.top / name
             there.parent.mkdir(parents=True, exist_ok=True)
             if (TOP / name).is_dir():
-                shutil.copytree(TOP / name, there, ignore=shutil.ignore_patterns("__pycache__"))
+                shutil.copytree(TOP / name, there, ignore=shutil.ignore_patterns("__pycache__", ".mypy_cache"), dirs_exist_ok=True)
             else:
                 shutil.copy(TOP / name, there)
         for line in (self.top / "crates.txt").read_text().splitlines():

@@ -127,7 +127,8 @@ class Help(unittest.TestCase):
             self.assertIn("Read on: tfpg(1)", flat)
 
     def test_the_script_answers_with_them(self):
-        for words, name in [(["--help"], "tfpg"), (["-h"], "tfpg"), (["help"], "tfpg"), *((["help", one], f"tfpg-{one}") for one in COMMANDS)]:
+        answers = {("--help",): "tfpg", ("-h",): "tfpg", ("help",): "tfpg", **{("help", one): f"tfpg-{one}" for one in COMMANDS}}
+        for words, name in answers.items():
             ran = subprocess.run([TOP / "tfpg", *words], capture_output=True, stdin=subprocess.DEVNULL, check=False)
             self.assertEqual((ran.returncode, ran.stderr), (0, b""), words)
             self.assertEqual(ran.stdout, (TOP / "docs/man/help" / f"{name}.txt").read_bytes())
@@ -188,8 +189,9 @@ class Pages(unittest.TestCase):
 
     @unittest.skipUnless(shutil.which("groff"), "there is no groff")
     def test_groff_has_nothing_to_say_against_them(self):
-        for path in Path(self.folder.name).rglob("*.1"):
-            ran = subprocess.run(["groff", "-man", "-t", "-K", "utf8", "-Tutf8", "-ww", "-z", path], capture_output=True, text=True, check=True)
+        for path in Path(self.folder.name).rglob("*.[135]"):
+            words = ["groff", "-man", "-t", "-K", "utf8", "-Tutf8", "-ww", "-z", str(path)]
+            ran = subprocess.run(words, capture_output=True, text=True, check=True)
             self.assertEqual(ran.stderr, "", path.name)
 
 
@@ -283,7 +285,8 @@ class Program(unittest.TestCase):
         for command, words in COMMANDS.items():
             for name in names:
                 if name.split("=")[0] not in words:
-                    self.assertEqual(self.ran(command, name, *self.WORDS.get(command, ["pump", "early"]))[2], "usage BadWords", (command, name))
+                    line = self.ran(command, name, *self.WORDS.get(command, ["pump", "early"]))[2]
+                    self.assertEqual(line, "usage BadWords", (command, name))
 
     ENDS = {
         "diagnose": {2: "pump top:", 3: "bad", 4: "--k=3 wide", 5: "absent", 7: "long"},

@@ -1,4 +1,0 @@
--- What `pandoc` makes of a link in a manual page: its words alone.
-function Link(link)
-    return link.content
-end
