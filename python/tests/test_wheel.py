@@ -46,7 +46,7 @@ class Wheel(unittest.TestCase):
         self.assertTrue(made.name.endswith("-py3-none-any.whl"), made.name)
         names = set(zipfile.ZipFile(made).namelist())
         modules = {str(path.relative_to(TOP / "python")) for path in (TOP / "python" / "tfpg").rglob("*.py")}
-        self.assertEqual({name for name in names if ".dist-info/" not in name}, modules | {"tfpg/py.typed"})
+        self.assertEqual({name for name in names if ".dist-info/" not in name}, modules | {"tfpg/py.typed", "tfpg/VERSION"})
 
     def test_nothing_of_an_older_build(self):
         stale = self.copy / "build" / "lib" / "tfpg"

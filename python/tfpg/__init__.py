@@ -4,6 +4,8 @@ ranking.
 This package is no part of the proved program. It calls the library, or runs the program, and judges nothing itself.
 """
 
+from pathlib import Path
+
 from .calls.answers import Answered, Ranked, Refused, Round
 from .calls.asking import Question, Questions, ask
 from .calls.explaining import Verdict, explain
@@ -20,7 +22,7 @@ from .reading.graphs import Edge, Node
 from .recording.calling import records
 from .recording.making import RecordedLog
 
-__version__ = "0.1.0"
+__version__ = (Path(__file__).parent / "VERSION").read_text(encoding="ascii").strip()
 
 __all__ = [
     "Accepted", "Answered", "BadGraph", "BadRecord", "Edge", "Error", "Forecast", "FullGraph", "Graph", "Kind", "LineRefused", "LogFull",
