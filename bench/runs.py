@@ -3,11 +3,12 @@
 
     bench/runs.py
 
-A run is a block of code whose first line begins with `$ `. Each such line is a command, and what follows is what it writes, where `...`
-stands for any lines. All runs of a document are made in one folder, one after the other, with the examples and the page in it. A block
-that begins with `tfpg ` is a graph: the file that its second line, a comment, names.
+A run is a block of code whose first line begins with `$ `. Each such line is a command, which goes on after a backslash at its end, and
+what follows is what it writes, where `...` stands for any lines. All runs of a document are made in one folder, one after the other, with
+the examples and the page in it. A block that begins with `tfpg ` is a graph: the file that its second line, a comment, names.
 
-Lines of `./tfpg` itself, which say that a trial answers, are left out. Runs from C are compared by `embed.sh`. It needs `jq` and Graphviz.
+Lines of `./tfpg` itself, which say that a trial answers, are left out. Runs from C are compared by `embed.sh`. It needs `jq`, Graphviz and
+d3.
 """
 import argparse
 import os
@@ -18,8 +19,9 @@ import tempfile
 from pathlib import Path
 
 TOP = Path(__file__).resolve().parent.parent
-DOCUMENTS = ["README.md", "docs/commands.md", "docs/modelling.md", "examples/README.md"]
+DOCUMENTS = ["README.md", "docs/commands.md", "docs/modelling.md", "examples/README.md", "examples/car/README.md"]
 BLOCK = re.compile(r"^( *)```\w*\n(.*?)^ *```$", re.M | re.S)
+COMMAND = re.compile(r"((?:.*\\\n)*.*)\n?")  # with the lines on which it goes on
 GRAPH = re.compile(r"tfpg \d\n# ([\w-]+\.tfpg)\n")
 
 
@@ -32,14 +34,14 @@ def blocks_of(document):
 def runs_of(block):
     """The commands of a block, each with what it has to write."""
     for run in re.split(r"^\$ ", block, flags=re.M)[1:]:
-        command, _, shown = run.partition("\n")
-        yield command, shown
+        command = COMMAND.match(run)
+        yield command[1], run[command.end():]
 
 
 def written(command, folder):
     """What a command writes in this folder, on both streams, without the lines of `./tfpg` itself."""
-    path = f"{TOP}:{os.environ['PATH']}"
-    done = subprocess.run(["bash", "-c", command], cwd=folder, env={**os.environ, "PATH": path}, capture_output=True, text=True)
+    names = {**os.environ, "PATH": f"{TOP}:{os.environ['PATH']}", "PYTHONPATH": f"{TOP}/python", "PYTHONDONTWRITEBYTECODE": "1"}
+    done = subprocess.run(["bash", "-c", command], cwd=folder, env=names, capture_output=True, text=True)
     return done.stdout + re.sub(r"^tfpg: .*\n", "", done.stderr, flags=re.M)
 
 
