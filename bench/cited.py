@@ -21,8 +21,8 @@ from collections import defaultdict
 from pathlib import Path
 
 TOP = Path(__file__).resolve().parent.parent
-DOCUMENTS = ["README.md", "CONTRIBUTING.md", "docs/*.md", "bench/README.md", "examples/README.md", "page/README.md",
-             "python/README.md"]
+DOCUMENTS = ["README.md", "CONTRIBUTING.md", "docs/*.md", "bench/README.md", "examples/README.md", "examples/car/README.md",
+             "page/README.md", "python/README.md"]
 TOPS = ("bench/", "crates/", "docs/", "examples/", "include/", "python/")
 FOREIGN = {
     "CONTRACTS.md", "Ord::max", "Snapshot::of", "at_exit", "put_at", "out/",
@@ -98,7 +98,7 @@ class Repository:
 
     def headed(self, path):
         """The headings of the documents whose path ends with this one."""
-        return set().union(*(self.headings[found] for found in self.at(path.removeprefix("../"), set())))
+        return set().union(*(self.headings[found] for found in self.at(re.sub(r"^(?:\.\./)+", "", path), set())))
 
     def has(self, name):
         """Whether the name is known, and each type in it has what stands after it."""
@@ -165,7 +165,7 @@ def faults(text, repository):
         elif NAME.fullmatch(said) and is_item(said) and not repository.has(said):
             yield span.start(), said
     for link in re.finditer(r"\]\(([^)#:]+)(?:#[^)]*)?\)", text):
-        if not repository.at(link[1].removeprefix("../"), set()):
+        if not repository.at(re.sub(r"^(?:\.\./)+", "", link[1]), set()):
             yield link.start(), link[1]
     for link in TO_HEADING.finditer(text):
         if link[2] not in map(anchor_of, repository.headed(link[1])):
