@@ -1,4 +1,4 @@
-"""Runs a command: `python3 -m tfpg records`, `lint`, `brief`, `plot`, `ask`, `explain` or `predict`."""
+"""Runs a command: `python3 -m tfpg records`, `lint`, `brief`, `plot`, `ask`, `explain`, `predict`, `fleet` or `stream`."""
 
 from __future__ import annotations
 
@@ -15,15 +15,39 @@ from .program import NO_TRIAL, NoReport
 from .reading.texts import BadText
 from .recording.command import records
 
+
+def fleet(words: Sequence[str]) -> int:
+    """Diagnoses the logs of a fleet. Its modules are loaded for it alone."""
+    from .fleet.command import fleet as run
+
+    return run(words)
+
+
+def stream(words: Sequence[str]) -> int:
+    """Diagnoses the growing logs of a part of a fleet, with the module redis, which is loaded for it alone."""
+    try:
+        import redis  # noqa: F401
+    except ImportError:
+        print("tfpg stream: the module redis is missing; on Debian it is the package python3-redis, for /usr/bin/python3", file=sys.stderr)
+        return NO_TRIAL
+    from .stream.command import stream as run
+
+    return run(words)
+
+
 COMMANDS: Dict[str, Callable[[Sequence[str]], int]] = {
-    "records": records, "lint": lint, "brief": brief, "plot": plot, "ask": ask, "explain": explain, "predict": predict}
+    "records": records, "lint": lint, "brief": brief, "plot": plot, "ask": ask, "explain": explain, "predict": predict, "fleet": fleet,
+    "stream": stream}
 USAGE = """\
 python3 -m tfpg records GRAPH RECORDS..     the log of the records of a system
 python3 -m tfpg lint GRAPH [LOG]            what the program refuses, and why
 python3 -m tfpg lint --words WORD..         the same of the words of a command line
 python3 -m tfpg brief GRAPH LOG [REPORT]    what a crew reads of a report
 python3 -m tfpg plot GRAPH LOG [REPORT]     a picture of the ranking over time, as SVG
-python3 -m tfpg ask|explain|predict WORD..  as the program has them; refused lines are said first"""
+python3 -m tfpg ask|explain|predict WORD..  as the program has them; refused lines are said first
+python3 -m tfpg fleet GRAPH LOGS..          diagnoses the logs of many vehicles
+python3 -m tfpg stream GRAPH --redis URL --part I/N
+                                            diagnoses the growing logs of a part of a fleet"""
 BAD_TEXT, NOT_READ = 1, 5
 
 

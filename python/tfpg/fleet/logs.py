@@ -1,0 +1,46 @@
+"""Which logs the words of the command name: files, folders, and lists of both."""
+
+from __future__ import annotations
+
+import sys
+from pathlib import Path
+from typing import Dict, Iterator, List, Sequence
+
+SUFFIX = ".log"
+
+
+class BadLogs(Exception):
+    """The words name no logs, or two of one vehicle."""
+
+
+def logs_of(words: Sequence[str]) -> Dict[str, Path]:
+    """The logs by the names of their vehicles. A vehicle has the name of its file without `.log`."""
+    found: Dict[str, Path] = {}
+    for path in files_of(words):
+        vehicle = path.name[:-len(SUFFIX)] if path.name.endswith(SUFFIX) and path.name != SUFFIX else path.name
+        if vehicle.encode("utf-8", "replace") != vehicle.encode("utf-8", "surrogateescape"):
+            raise BadLogs(f"the name of this file is no UTF-8, so that no vehicle can have it: {vehicle!r}")
+        if vehicle in found and found[vehicle] != path:
+            raise BadLogs(f"two logs are of the vehicle {vehicle}: {found[vehicle]} and {path}")
+        found[vehicle] = path
+    if not found:
+        raise BadLogs(f"no log is named: a folder has none whose name ends in {SUFFIX}")
+    return found
+
+
+def files_of(words: Sequence[str]) -> Iterator[Path]:
+    """The files that words name: a file itself, of a folder all below it that end in `.log`, and of `@FILE`, or `-` for the standard input,
+    what its lines name."""
+    for word in words:
+        if word == "-" or word.startswith("@"):
+            yield from files_of(["./" + line if line.startswith(("@", "-")) else line for line in lines_of_list(word)])
+        elif Path(word).is_dir():
+            yield from sorted(path for path in Path(word).rglob("*" + SUFFIX) if path.is_file())
+        else:
+            yield Path(word)
+
+
+def lines_of_list(word: str) -> List[str]:
+    """The lines of a list that are not empty."""
+    text = sys.stdin.read() if word == "-" else Path(word[1:]).read_text(encoding="utf-8", errors="surrogateescape")
+    return [line for line in text.split("\n") if line]
