@@ -1,4 +1,5 @@
-"""The runs that README.md shows, beside what the commands write, and its programs, beside what they print. `...` stands for any lines."""
+"""The runs that README.md and docs/fleets.md show, beside what the commands write, and their programs, beside what they print. `...` stands
+for any lines."""
 
 import os
 import re
@@ -15,9 +16,9 @@ PROGRAM = re.compile(r"^```python\n(.*?)^```\n(?:\n[^`\n][^`]*?)?\n```\n(.*?)^``
 BLOCK = re.compile(r"^```\n(\$ .*?)^```$", re.M | re.S)
 
 
-def runs():
-    """The commands of the blocks, each with what it has to write."""
-    for block in BLOCK.findall((TOP / "python" / "README.md").read_text(encoding="utf-8")):
+def runs(document):
+    """The commands of the blocks of a document, each with what it has to write."""
+    for block in BLOCK.findall((TOP / document).read_text(encoding="utf-8")):
         for run in re.split(r"^\$ ", block, flags=re.M)[1:]:
             command, _, shown = run.partition("\n")
             yield command, shown
@@ -39,22 +40,30 @@ def printed(*words, folder=TOP):
 
 class Readme(unittest.TestCase):
     def test_each_run(self):
+        self.assertGreaterEqual(self.hold("python/README.md"), 3)
+
+    @unittest.skipIf(library_words(), library_words())
+    def test_each_run_of_fleets(self):
+        self.assertGreaterEqual(self.hold("docs/fleets.md"), 3)
+
+    def hold(self, document):
+        """Holds each run of a document against what it writes, and returns how many there are."""
         with tempfile.TemporaryDirectory(prefix="tfpg-python-") as top:
             folder = Path(top, "python")
             folder.mkdir()
             Path(top, "examples").symlink_to(EXAMPLES)
             Path(top, "tfpg").symlink_to(find_program())
             count = 0
-            for command, shown in runs():
+            for command, shown in runs(document):
                 shape = "".join(".*" if part == "...\n" else re.escape(part) for part in re.split(r"^(\.\.\.\n)", shown, flags=re.M))
                 with self.subTest(command=command):
                     self.assertRegex(written(command, folder), re.compile(rf"\A{shape}\Z", re.S))
                 count += 1
-        self.assertGreaterEqual(count, 3)
+        return count
 
     @unittest.skipIf(library_words(), library_words())
     def test_each_program(self):
-        for name, folder in (("python/README.md", "python"), ("README.md", "")):
+        for name, folder in (("python/README.md", "python"), ("README.md", ""), ("docs/fleets.md", "")):
             programs = PROGRAM.findall((TOP / name).read_text(encoding="utf-8"))
             self.assertEqual(len(programs), 1)
             for program, shown in programs:
