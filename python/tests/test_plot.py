@@ -10,6 +10,7 @@ from unittest import mock
 from xml.etree import ElementTree
 
 from support import EXAMPLES, TOP, files, run, text
+from tfpg.inputs import subject_of
 from tfpg.plot.thinning import COLUMNS, MOST_MARKS, drawn_rounds, thinned, thinned_rows
 
 HAS_MATPLOTLIB = importlib.util.find_spec("matplotlib") is not None
@@ -35,6 +36,21 @@ class Plot(unittest.TestCase):
         ElementTree.fromstring(content)
         for words in ("RelayStuck", "StringOpen + CellShort", "no failure", "Eclipse", "Saving", "BusLow", "place in the ranking", "cost"):
             self.assertIn(f">{words}<", content.decode())
+
+    @unittest.skipUnless(HAS_MATPLOTLIB, "matplotlib is missing")
+    def test_places_and_costs_of_the_pump(self):
+        """By its story: nothing failed at first, and from the alarm on three sets are ranked, by their rarities."""
+        from tfpg.plot.picture import _draw
+
+        axes = [mock.MagicMock() for _ in range(3)]
+        _draw(subject_of(*(str(EXAMPLES / f"pump.{kind}") for kind in ("tfpg", "log", "report"))), axes)
+        lines = [[call for call in axis.plot.call_args_list if call.args[2] == "-"] for axis in axes[:2]]
+        names = [call.kwargs["label"] for call in lines[0]]
+        places, costs = ([{value for value in call.args[1] if value == value} for call in some] for some in lines)
+        self.assertEqual({name: (place, cost) for name, place, cost in zip(names, places, costs)}, {
+            "no failure": ({1}, {0}), "FilterClogged": ({1}, {2}), "ValveStuck": ({2}, {3}), "MotorBearing": ({3}, {4})})
+        alarms = {tuple(call.args[0]): call.args[1][0] for call in axes[2].plot.call_args_list if call.args[2] == "v" and call.args[0]}
+        self.assertEqual(alarms, {(2715000,): 1, (3300000,): 2, (4500000,): 3})
 
     @unittest.skipUnless(HAS_MATPLOTLIB, "matplotlib is missing")
     def test_the_same_report_gives_the_same_bytes(self):

@@ -6,6 +6,7 @@ TFPG_SLIPS says how many random logs are tried, 200 if it says nothing. They are
 import gc
 import os
 import random
+import sys
 import threading
 import unittest
 
@@ -204,15 +205,27 @@ class Memory(unittest.TestCase):
         self.assertFalse(handle.is_open)
 
     def test_threads(self):
+        """They begin at once, and Python goes from one to the next all the time. The lines of each thread are its own, and so are the
+        answers: its texts, and numbers that no other thread has."""
+        threads, lines = 4, 200
+        barrier, before = threading.Barrier(threads), sys.getswitchinterval()
+        answers = [[] for _ in range(threads)]
+
+        def take(number):
+            barrier.wait()
+            for _ in range(lines):
+                answers[number].append(session.line(f"{number} tock"))
+
+        sys.setswitchinterval(1e-6)
+        self.addCleanup(sys.setswitchinterval, before)
         with tfpg.Session(tfpg.Graph(tiny())) as session:
-            answers = []
-            threads = [threading.Thread(target=lambda: answers.extend(session.line("5 tick") for _ in range(5))) for _ in range(4)]
-            for one in threads:
+            running = [threading.Thread(target=take, args=(number,)) for number in range(threads)]
+            for one in running:
                 one.start()
-            for one in threads:
+            for one in running:
                 one.join()
-        self.assertEqual(sorted(answer.line for answer in answers), list(range(1, 21)))
-        self.assertTrue(all(answer.line == answer.number for answer in answers))
+        self.assertEqual([{answer.text for answer in some} for some in answers], [{f"{number} tock"} for number in range(threads)])
+        self.assertEqual(sorted(answer.line for some in answers for answer in some), list(range(1, threads * lines + 1)))
 
 
 if __name__ == "__main__":
