@@ -114,7 +114,7 @@ class Checkout:
     def run(self, *words: str, cwd: Optional[Path] = None, **more: str) -> "subprocess.CompletedProcess[str]":
         """Runs a script of the checkout, as `tfpg` or `build`, by its words, in the top or another folder."""
         return subprocess.run([str(self.top / words[0]), *words[1:]], cwd=cwd or self.top, env=self.environment(**more), text=True,
-                              stdin=subprocess.DEVNULL, capture_output=True, timeout=120)
+                              stdin=subprocess.DEVNULL, capture_output=True, timeout=900)
 
     def bash(self, text: str, **more: str) -> "subprocess.CompletedProcess[str]":
         """Runs lines of bash at the top of the checkout."""
