@@ -114,6 +114,20 @@ class Reports(unittest.TestCase):
                 with self.subTest(line=line[:40]):
                     self.assertEqual(read(report, graph), wanted)
 
+    def test_panels_rise(self):
+        report = ("report 2 k 0 doubt 0 budget 1000\nround 1 1 5\nranked 0 cost 0 robust 1/1 set -\n"
+                  "counts ranked 1 covered 0 rejected 0 open 0\n")
+        self.assertEqual(read(report + "panel 1 lost\npanel 2 memory\n", graph_of("")), "read")
+        for last in ("panel 1 memory", "panel 0 lost"):
+            self.assertEqual(read(report + f"panel 1 lost\n{last}\n", graph_of("")), (6, "BadReport"))
+
+    def test_nodes_of_a_trace_rise(self):
+        graph = graph_of(read_text(EXAMPLES / "pump.tfpg"))
+        ranked = "report 2 k 1 doubt 0 budget 1000\nround 1 1 5\nranked 1 cost 2 robust 0/3 set FilterClogged\nat FilterClogged 0\n"
+        counts = "counts ranked 1 covered 0 rejected 0 open 0\n"
+        self.assertEqual(read(ranked + "at WeakSuction 5\n" + counts, graph), "read")
+        self.assertEqual(read(ranked + "at FilterClogged 5\n" + counts, graph), (5, "BadReport"))
+
     def test_an_empty_text(self):
         with files(graph=(EXAMPLES / "pump.tfpg").read_bytes(), log=b""):
             self.assertEqual(self.hold(run_program(["check", "graph", "log"]), (1, "EndsEarly")), "EndsEarly")
