@@ -65,7 +65,7 @@ def until_interrupted(delay, step):
 class Interrupts(Signalled):
     def test_no_answer_is_lost(self):
         """Of two sessions one is interrupted. It goes on by `count`, and has the same answers."""
-        graph, draw, answers, taken = tfpg.Graph(tiny()), random.Random(1), {}, 0
+        graph, draw, answers = tfpg.Graph(tiny()), random.Random(1), {}
         with tfpg.Session(graph, k=1) as session:
             for _ in range(INTERRUPTS):
                 def step():
@@ -74,7 +74,6 @@ class Interrupts(Signalled):
                 until_interrupted(draw.choice((2e-5, 5e-5, 1e-4, 4e-4)) * (1 + draw.random()), step)
                 if session.count:
                     answers[session.count] = session.last
-                    taken += session.count
             count = session.count
             self.assertEqual(self.in_a_thread(lambda: session.count), count)
         self.assertGreater(count, INTERRUPTS // 2)
@@ -127,7 +126,52 @@ class Interrupts(Signalled):
 
         with mock.patch.object(reporting, "Session", Counted), self.assertRaises(Interrupted):
             tfpg.report(graph, log)
-        self.assertLess(len(taken), 110)
+        self.assertLess(self.at_rest(taken), 200)
+
+    def at_rest(self, items):
+        """How many items a list has once no more come."""
+        count = -1
+        while count != len(items):
+            count = len(items)
+            time.sleep(0.2)
+        return count
+
+    def test_an_interrupt_does_not_wait_for_a_long_line(self):
+        """Nor is the session closed before the line is taken."""
+        began, may_end, closed = threading.Event(), threading.Event(), []
+
+        class Slow(tfpg.Session):
+            def _line(self, content):
+                began.set()
+                may_end.wait(LONGEST)
+                return super()._line(content)
+
+            def close(self):
+                closed.append(self.count)
+                super().close()
+
+        def kill():
+            began.wait(LONGEST)
+            os.kill(os.getpid(), signal.SIGALRM)
+        threading.Thread(target=kill).start()
+        with mock.patch.object(reporting, "Session", Slow), self.assertRaises(Interrupted):
+            tfpg.report(tfpg.Graph(tiny()), "5 tick\n6 tick\n", k=1)
+        self.assertEqual((may_end.is_set(), closed), (False, []))
+        may_end.set()
+        deadline = time.monotonic() + LONGEST
+        while not closed and time.monotonic() < deadline:
+            time.sleep(0.01)
+        self.assertEqual(closed, [1])
+
+    def test_the_text_of_a_refused_line_stays_its_own(self):
+        """An interrupt comes after a line was taken and before its answer was read, and another one before the next line is taken."""
+        with tfpg.Session(tfpg.Graph(tiny()), k=1) as session:
+            with mock.patch.object(session._numbers, "brought", side_effect=Interrupted), self.assertRaises(Interrupted):
+                session.line("5 tock")
+            with mock.patch.object(session, "_calls", mock.Mock(line=interrupt)), self.assertRaises(Interrupted):
+                session.line("6 tick")
+            self.assertEqual((session.count, session.last.text), (1, "5 tock"))
+            self.assertEqual(session.line("7 tick").line, 2)
 
     def test_a_call_over_a_whole_log_ends_at_once(self):
         """The library goes on with it, in another thread."""

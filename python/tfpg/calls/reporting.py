@@ -2,7 +2,9 @@
 
 from __future__ import annotations
 
-from typing import Any, Dict, SupportsIndex, Tuple
+import itertools
+import threading
+from typing import Any, Dict, Iterable, SupportsIndex, Tuple
 
 from ..faults import TooMuchInput
 from ..limits import INPUT_BYTES
@@ -48,7 +50,8 @@ def report(graph: Graph, log: Log, k: SupportsIndex = 2, doubt: SupportsIndex = 
     origin: milliseconds that are subtracted from the time of each line, and left out of the report.
     strict: a refused line raises LineRefused or LogFull. Else there is a RefusedLines warning if any is.
 
-    The errors are those of `Session`, and TooMuchInput for a log of more than 2^32 bytes. An interrupt acts after the line that is taken.
+    The errors are those of `Session`, and TooMuchInput for a log of more than 2^32 bytes. An interrupt acts at once, and
+    the session then ends after the line that it takes.
 
     >>> report = tfpg.report(tfpg.Graph.load("examples/pump.tfpg"), ["600000 tick"], k=0)
     >>> print(report, end="")
@@ -66,19 +69,32 @@ def report(graph: Graph, log: Log, k: SupportsIndex = 2, doubt: SupportsIndex = 
 
 def written(graph: Graph, log: Log, k: SupportsIndex = 2, doubt: SupportsIndex = 0, budget: SupportsIndex = 1000,
             origin: SupportsIndex = 0, strict: bool = False) -> Tuple[Report, int]:
-    """The report of a log, block by block as a session has them, and the number of its lines."""
-    with Session(graph, k, doubt, budget, origin, strict) as session:
-        content = log_bytes(log)
-        if len(content) > INPUT_BYTES:
-            raise TooMuchInput(TOO_LONG)
-        lines, blocks, refused = lines_in(content), [session.head], []
-        for answer in session.rounds(lines):
-            blocks.append(session.block)
-            if isinstance(answer, Refused):
-                refused.append(answer)
+    """The report of a log, and the number of its lines. An interrupt ends it at once, and the session after the line that it takes."""
+    content, stopped = log_bytes(log), threading.Event()
+    lines = lines_in(content)
+
+    def blocks() -> Report:
+        with Session(graph, k, doubt, budget, origin, strict) as session:
+            if len(content) > INPUT_BYTES:
+                raise TooMuchInput(TOO_LONG)
+            return report_of(session, itertools.takewhile(lambda _: not stopped.is_set(), lines))
+
+    try:
+        return apart(blocks), len(lines)
+    finally:
+        stopped.set()
+
+
+def report_of(session: Session, lines: Iterable[bytes]) -> Report:
+    """The report of lines, block by block as a session has them."""
+    blocks, refused = [session.head], []
+    for answer in session.rounds(lines):
+        blocks.append(session.block)
+        if isinstance(answer, Refused):
+            refused.append(answer)
     said = Report("".join(blocks))
     said.refused = tuple(refused)
-    return said, len(lines)
+    return said
 
 
 def check(graph: Graph, log: Log, report: Text, origin: SupportsIndex = 0, strict: bool = False) -> Accepted:
