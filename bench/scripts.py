@@ -4,10 +4,11 @@
     bench/scripts.py
 
 - What has a first line for an interpreter can be run, and nothing else can.
-- With --help a script of `bench` in Python says what stands at its top, with status 0. It starts no process, opens no file to write, and makes no
-  folder. One of the shell says so too, where no command is there but those that find its own folder.
+- With --help a script of `bench` in Python says what stands at its top, with status 0. It starts no process, opens no file to write, and
+  makes no folder. One of the shell says so too, where no command is there but those that find its own folder.
 - Each script in Python, and each module beside the crates, can be read by Python 3.9, which is the oldest.
-- Each script of the shell in `bench` that joins commands by a pipe fails where one of them does, and each sanitizer ends what it finds wrong.
+- Each script of the shell in `bench` that joins commands by a pipe fails where one of them does, and each sanitizer ends what it finds
+  wrong.
 
 Prints what is not so, and ends with status 1 if there is anything.
 """
