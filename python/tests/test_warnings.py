@@ -43,6 +43,7 @@ RIGHT = [
     ("a sweep after an alarm", ["0 alarm Low", "0 sweep", "9 sweep"]),
     ("a silence and then an alarm", ["0 silent Low", "1 alarm Low", "0 silent High"]),
     ("a sweep between two alarms", ["0 alarm Low", "1 sweep", "2 alarm Low"]),
+    ("a sweep between two alarms of one time", ["0 alarm Low", "0 sweep", "0 alarm Low"]),
 ]
 
 
