@@ -137,7 +137,7 @@ class Times(unittest.TestCase):
                 self.assertEqual(moment_of(said)[::2], (time, True))
         self.assertEqual(moment_of("0.1230")[::2], (123, False))
         log = tfpg.records(graph(), rows("0.12345 Wet raised", "0.2 Cold raised"))
-        self.assertEqual(log.notes, ("1 times have digits below a millisecond, which are cut off.",))
+        self.assertEqual(log.notes, ("1 time has digits below a millisecond, which are cut off.",))
 
     def test_what_is_no_time(self):
         for said in ("", "5s", "1e3", "1,5", ".5", "5.", "+5", "0x5", "inf", "6:45", "2025-11-30", "2025-02-30T00:00:00Z",

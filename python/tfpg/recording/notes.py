@@ -16,7 +16,7 @@ def notes_of(graph: DeclaredGraph, said: Sequence[Said], done: Applied, cut: int
     """Sentences on samples from which nobody knows when an alarm was raised, on times that were cut, and on columns that are not read."""
     notes = _sample_notes(graph, said, done)
     if cut:
-        notes.append(f"{cut:,} times have digits below a millisecond, which are cut off.")
+        notes.append(f"{cut:,} {'time has' if cut == 1 else 'times have'} digits below a millisecond, which are cut off.")
     names = list(unread)
     if names:
         notes.append(f"Not read: {'column' if len(names) == 1 else 'columns'} {', '.join(names)}.")
