@@ -44,7 +44,8 @@ assert best.failures == ("FilterClogged",) and 2000000 <= best.trace["FilterClog
 warnings.simplefilter("ignore", tfpg.RefusedLines)
 log = HERE / "pump.log"
 report = tfpg.report(graph, log)
-print(f"a report of {len(report.splitlines())} lines, {tfpg.check(graph, log, report)} rounds accepted, line {report.refused[0].line} refused")
+accepted = tfpg.check(graph, log, report)
+print(f"a report of {len(report.splitlines())} lines, {accepted} rounds accepted, line {accepted.refused[0].line} refused")
 try:
     tfpg.check(graph, log, report.replace("ranked 1 cost 2", "ranked 1 cost 1"))
 except tfpg.NotAccepted as fault:

@@ -6,7 +6,7 @@ import warnings
 from html.parser import HTMLParser
 
 import tfpg
-from support import EXAMPLES, library_words, tiny
+from support import EXAMPLES, files, library_words, program_words, run, tiny
 from tfpg.calls.answers import Names, Ranked, Refused, Round
 from tfpg.calls.notebook import MOST_ROWS
 from tfpg.calls.rows import COLUMNS
@@ -30,7 +30,8 @@ def refused(text="6 alarm Nobody"):
 
 RANKED = {"hypothesis": 1, "set": "Leak,!Wet", "failures": ["Leak"], "doubts": ["Wet"], "cost": 2, "alarmed": 1, "monitored": 3,
           "trace": {"Leak": 5, "Wet": 9}}
-REFUSED = {"line": 8, "cause": "UnknownName", "sentence": "The graph declares no node `Nobody`.", "text": "6 alarm Nobody"}
+REFUSED = {"line": 8, "cause": "UnknownName", "sentence": "The graph declares no node `Nobody`.", "text": "6 alarm Nobody",
+           "hints": ["The nodes with a monitor: Wet."]}
 
 
 class Dicts(unittest.TestCase):
@@ -48,8 +49,16 @@ class Dicts(unittest.TestCase):
 
     def test_a_refused_line(self):
         self.same(refused(), REFUSED)
-        odd = refused(b"6 alarm \xff\xfe".decode("utf-8", "surrogateescape"))
-        self.assertEqual(json.loads(json.dumps(odd.to_dict()))["line"], 8)
+        odd = refused(b"6 alarm \xff\r".decode("utf-8", "surrogateescape"))
+        self.assertEqual(json.loads(json.dumps(odd.to_dict()))["text"], "6 alarm \ufffd\u240d")
+
+    @unittest.skipIf(program_words(), program_words())
+    def test_the_shape_is_that_of_lint(self):
+        with files(graph=tiny(), log="5 tick\n6 alarm Nobody\n7 tock\r\n3 tick\n"):
+            said = json.loads(run("lint", "--json", "graph", "log")[1])
+        lines = [(2, "UnknownName", "6 alarm Nobody", None), (3, "BadLine", "7 tock\r", None), (4, "TimeBack", "3 tick", 5)]
+        answers = [Refused(*line, graph_of(tiny()), 0) for line in lines]
+        self.assertEqual([one.to_dict() for one in answers], said["refused"])
 
     def test_other_answers(self):
         lines = {"refused": [REFUSED]}
@@ -75,8 +84,8 @@ class Dicts(unittest.TestCase):
         graph = tfpg.Graph.load(PUMP)
         with warnings.catch_warnings(), tfpg.Session(graph, origin=0) as session:
             warnings.simplefilter("ignore")
-            answers = [*session.rounds(LOG), tfpg.ask(graph, LOG, k=1), tfpg.predict(graph, LOG, "HighPressure", k=1), tfpg.report(graph, LOG),
-                       tfpg.explain(graph, LOG, EXAMPLES / "pump-filter.map")]
+            answers = [*session.rounds(LOG), tfpg.ask(graph, LOG, k=1), tfpg.predict(graph, LOG, "HighPressure", k=1),
+                       tfpg.report(graph, LOG), tfpg.explain(graph, LOG, EXAMPLES / "pump-filter.map")]
             answers.append(tfpg.check(graph, LOG, answers[-2]))
         for answer in answers:
             with self.subTest(kind=type(answer).__name__):
@@ -92,7 +101,8 @@ class Rows(unittest.TestCase):
     def test_rows(self):
         found = tfpg.rows(self.ANSWERS)
         self.assertTrue(all(tuple(row) == COLUMNS for row in found))
-        here = {"line": 7, "now": 100, "number": 4, "changed": True, "covered": 2, "rejected": 1, "open": 0, "cause": None, "sentence": None}
+        here = {"line": 7, "now": 100, "number": 4, "changed": True, "covered": 2, "rejected": 1, "open": 0, "cause": None,
+                "sentence": None}
         nothing = dict.fromkeys(("place", "set", "cost", "alarmed", "monitored"))
         self.assertEqual(found, [
             {**here, "place": 1, "set": "Leak,!Wet", "cost": 2, "alarmed": 1, "monitored": 3},
@@ -135,7 +145,8 @@ class Cells(HTMLParser):
 class Notebook(unittest.TestCase):
     def test_a_round(self):
         cells = Cells(round_of(ranked())._repr_html_())
-        self.assertEqual(cells.texts, ["round 4 at 100: 1 ranked, 2 covered, 1 rejected, 0 open", "1", "Leak,!Wet", "2", "1 of 3", "Leak 5"])
+        self.assertEqual(cells.texts, ["round 4 at 100: 1 ranked, 2 covered, 1 rejected, 0 open", "1", "Leak,!Wet", "2", "1 of 3",
+                                       "Leak 5"])
 
     def test_names_are_text(self):
         """No name of a graph has such signs. If one had, it would still be text."""

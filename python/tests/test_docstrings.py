@@ -61,9 +61,9 @@ class Docstrings(unittest.TestCase):
                 self.assertIn("milliseconds", inspect.getdoc(one))
 
     def test_those_that_have_to_have_an_example(self):
-        for name in ("Graph", "Graph.load", "Graph.node", "Session", "Session.line", "Session.event", "Session.rounds", "Session.rounds_async",
-                     "Session.block", "Session.last", "Session.count", "Session.close", "RenewingSession", "report", "check", "ask", "predict",
-                     "explain", "rows"):
+        of_sessions = ("line", "event", "rounds", "rounds_async", "block", "last", "count", "close")
+        for name in ("Graph", "Graph.load", "Graph.node", "Session", *(f"Session.{call}" for call in of_sessions), "RenewingSession",
+                     "report", "check", "ask", "predict", "explain", "records", "rows"):
             with self.subTest(call=name):
                 one = tfpg
                 for part in name.split("."):

@@ -58,15 +58,16 @@ class Plot(unittest.TestCase):
 
 
 MONITORS = 60
-WIDE = ["tfpg 1", "mode Day", "mode Night", "failure Left 1", "failure Right 1", *(f"or Monitor{number} watch 900000" for number in range(MONITORS)),
+WIDE = ["tfpg 1", "mode Day", "mode Night", "failure Left 1", "failure Right 1",
+        *(f"or Monitor{number} watch 900000" for number in range(MONITORS)),
         *(f"edge {'Left' if number % 2 else 'Right'} Monitor{number} 0 900000 *" for number in range(MONITORS)), "end"]
 
 
 def svg_of(graph, log, report):
     """The picture of these texts, read as XML."""
     with files(graph=text(graph), log=text(log), report=text(report)):
-        ran = subprocess.run([sys.executable, "-m", "tfpg", "plot", "graph", "log", "report"], env={**os.environ, "PYTHONPATH": str(TOP / "python")},
-                             stdout=subprocess.PIPE, check=True)
+        ran = subprocess.run([sys.executable, "-m", "tfpg", "plot", "graph", "log", "report"], stdout=subprocess.PIPE, check=True,
+                             env={**os.environ, "PYTHONPATH": str(TOP / "python")})
     return ran.stdout, ElementTree.fromstring(ran.stdout)
 
 
@@ -89,7 +90,8 @@ def rounds_of(count, ranked):
         report += [f"round {number} {number} {number * 1000}"]
         report += [line for place, (hypothesis, name) in enumerate(sets) for line in
                    (f"ranked {hypothesis} cost 1 robust 1/30 set {name}", f"at {name} 0")]
-        report += [f"rejected {hypothesis} set {name}" for hypothesis, name in ((0, "-"), (1, "Left"), (2, "Right")) if (hypothesis, name) not in sets]
+        others = [one for one in ((0, "-"), (1, "Left"), (2, "Right")) if one not in sets]
+        report += [f"rejected {hypothesis} set {name}" for hypothesis, name in others]
         report += [f"counts ranked {len(sets)} covered 0 rejected {3 - len(sets)} open 0"]
     return log, report
 

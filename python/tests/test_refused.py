@@ -111,8 +111,8 @@ class RefusedLines(unittest.TestCase):
 
 @unittest.skipIf(library_words(), library_words())
 class NamesOfFiles(unittest.TestCase):
-    NAMES = ["../my logs/pump.log", "pump.log", "my pump.log", "2026 logs/pump.log", "5 alarm/pump.log", "5 alarm a/b.log", "log of the pump",
-             "5", "tick", "C:\\logs\\5 tick.log", "5 ticks"]
+    NAMES = ["../my logs/pump.log", "pump.log", "my pump.log", "2026 logs/pump.log", "5 alarm/pump.log", "5 alarm a/b.log",
+             "log of the pump", "5", "tick", "C:\\logs\\5 tick.log", "5 ticks"]
 
     def test_none_is_taken_for_a_log(self):
         graph = tfpg.Graph(tiny())

@@ -164,7 +164,8 @@ class Kept(unittest.TestCase):
     """Which lines are kept, by the table of docs/c.md."""
 
     CASES = {
-        "the first alarm of a node and the last": (["1 alarm A", "2 alarm A", "3 alarm A", "4 alarm B"], ["1 alarm A", "3 alarm A", "4 alarm B"]),
+        "the first alarm of a node and the last": (["1 alarm A", "2 alarm A", "3 alarm A", "4 alarm B"],
+                                                   ["1 alarm A", "3 alarm A", "4 alarm B"]),
         "the last silence of a node": (["1 silent A", "2 silent B", "3 silent A"], ["2 silent B", "3 silent A"]),
         "the last sweep": (["1 sweep", "2 sweep"], ["2 sweep"]),
         "the last sweep before each first alarm": (["1 sweep", "2 sweep", "3 alarm A", "4 sweep", "5 alarm A", "6 sweep"],

@@ -37,7 +37,8 @@ class Types(unittest.TestCase):
 
     def test_lines(self):
         with tfpg.Session(self.graph) as session:
-            for line in ("5 tick", b"5 tick", bytearray(b"5 tick"), memoryview(b"5 tick"), memoryview(b"x5 tick")[1:], "5 tick\n", b"5 tick\n"):
+            for line in ("5 tick", b"5 tick", bytearray(b"5 tick"), memoryview(b"5 tick"), memoryview(b"x5 tick")[1:], "5 tick\n",
+                         b"5 tick\n"):
                 with self.subTest(line=line):
                     self.assertEqual(session.line(line).now, 5)
             self.assertEqual([one.now for one in session.rounds([bytearray(b"6 tick\n"), memoryview(b"7 tick")])], [6, 7])
@@ -113,7 +114,8 @@ class Types(unittest.TestCase):
     def test_what_is_exported(self):
         for name in tfpg.__all__:
             self.assertTrue(hasattr(tfpg, name), name)
-        self.assertLessEqual({"Answered", "Kind", "RefusedLines", "RenewingSession", "SessionBusy", "OtherProcess", "rows"}, set(tfpg.__all__))
+        wanted = {"Answered", "Kind", "RefusedLines", "RenewingSession", "SessionBusy", "OtherProcess", "rows"}
+        self.assertLessEqual(wanted, set(tfpg.__all__))
         self.assertEqual(os.path.basename(os.path.dirname(tfpg.__file__)), "tfpg")
 
 

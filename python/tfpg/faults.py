@@ -127,6 +127,6 @@ class RefusedLines(Portable, UserWarning):
 
     def __init__(self, count: int, lines: int, first: "Refused") -> None:
         are, they = ("is", "it says") if count == 1 else ("are", "they say")
-        super().__init__(f"{count:,} of {lines:,} lines {are} refused, and the answer is without what {they}. The first is line {first.line}, "
-                         f"{first.cause}: {first.text}: {first.sentence}")
+        super().__init__(f"{count:,} of {lines:,} lines {are} refused, and the answer is without what {they}. "
+                         f"The first is line {first.line}, {first.cause}: {first.text}: {first.sentence}")
         self.count, self.lines, self.first = count, lines, first

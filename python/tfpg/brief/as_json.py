@@ -4,7 +4,7 @@ from __future__ import annotations
 
 from typing import Any, Dict, Optional
 
-from ..explaining.explanations import Explanation
+from ..explaining.explanations import Explanation, line_dict
 from ..reading.reports import Ranked, Round
 from ..reading.sets import members_of
 from ..reading.spans import spans_at
@@ -23,7 +23,7 @@ def brief_dict(subject: Subject) -> Dict[str, Any]:
 
 
 def _line_dict(subject: Subject, line: Optional[int], cause: str, explanation: Explanation) -> Dict[str, Any]:
-    return {"line": line, "cause": cause, "sentence": explanation.sentence, "text": subject.line(line or 0), "hints": explanation.hints}
+    return line_dict(line, cause, subject.line(line or 0), explanation)
 
 
 def _round_dict(subject: Subject, here: Round) -> Dict[str, Any]:

@@ -6,12 +6,12 @@ from dataclasses import dataclass, field
 from struct import Struct
 from typing import Any, Dict, List, NamedTuple, Optional, Tuple, Union
 
-from ..explaining.explanations import Explanation
+from ..explaining.explanations import Explanation, line_dict
 from ..explaining.refusals import line_explanation
 from ..faults import LineRefused, LogFull
 from ..limits import MOST_TIME, NEVER, spoken
 from ..reading.graphs import DeclaredGraph
-from ..reading.texts import Word, is_number, text_of, words_of
+from ..reading.texts import Word, is_number, shown, text_of, words_of
 from .notebook import round_table
 
 
@@ -133,8 +133,8 @@ class Refused:
         return known or with_hint(line_explanation(self.graph, [line], 1, self.cause, self.last), self.cause)
 
     def to_dict(self) -> Dict[str, Any]:
-        """It as JSON has it: `line`, `cause`, `sentence` and `text`."""
-        return {"line": self.line, "cause": self.cause, "sentence": self.sentence, "text": self.text}
+        """It as JSON has it: `line`, `cause`, `sentence`, `text` as a reader sees it, and `hints`."""
+        return line_dict(self.line, self.cause, shown(text_of(self.text.encode("utf-8", "surrogateescape"))), self.explanation)
 
     def fault(self) -> Union[LineRefused, LogFull]:
         """The error of a strict call."""

@@ -43,7 +43,9 @@ class Verdict:
         """The verdict in a sentence."""
         if not self.explains:
             return SENTENCES[self.fault].format(node=self.node, time=self.time)
-        return f"The history explains the accepted lines alone: {lines_words(self.refused)}." if self.refused else "The history explains the log."
+        if self.refused:
+            return f"The history explains the accepted lines alone: {lines_words(self.refused)}."
+        return "The history explains the log."
 
     def to_dict(self) -> Dict[str, Any]:
         """It as JSON has it, by the names of its attributes, with its sentence."""

@@ -25,7 +25,8 @@ def row_of(place: int, ranked: "Ranked") -> List[str]:
     """A ranked set as the cells of a row."""
     trace = ranked.trace
     first = min(trace, key=lambda name: trace[name]) if trace else ""
-    return [str(place), ranked.set, str(ranked.cost), f"{ranked.alarmed} of {ranked.monitored}", f"{first} {trace[first]:,}" if trace else ""]
+    alarms = f"{ranked.alarmed} of {ranked.monitored}"
+    return [str(place), ranked.set, str(ranked.cost), alarms, f"{first} {trace[first]:,}" if trace else ""]
 
 
 def table_of(caption: str, rows: List[List[str]]) -> str:

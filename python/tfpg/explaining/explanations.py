@@ -3,7 +3,7 @@
 from __future__ import annotations
 
 from dataclasses import dataclass, field
-from typing import Iterable, List, Optional, Sequence
+from typing import Any, Dict, Iterable, List, Optional, Sequence
 
 from ..reading.texts import Word
 
@@ -17,6 +17,11 @@ class Explanation:
     sentence: str
     word: Optional[Word] = None
     hints: List[str] = field(default_factory=list)
+
+
+def line_dict(line: Optional[int], cause: str, text: Optional[str], said: Explanation) -> Dict[str, Any]:
+    """A line that is refused or warned of, as JSON has it in each answer and of each command. The text is as a reader sees it."""
+    return {"line": line, "cause": cause, "sentence": said.sentence, "text": text, "hints": said.hints}
 
 
 def listed(title: str, names: Sequence[str]) -> str:

@@ -6,7 +6,7 @@ from collections import Counter
 from dataclasses import dataclass, field
 from typing import Any, Dict, List, NamedTuple, Optional, Sequence
 
-from ..explaining.explanations import Explanation
+from ..explaining.explanations import Explanation, line_dict
 from ..reading.texts import shown
 from .refusals import Refusal, refusal_lines, wrapped
 
@@ -23,8 +23,7 @@ class Told(NamedTuple):
 
     def to_dict(self) -> Dict[str, Any]:
         """The same as JSON has it."""
-        return {"line": self.line, "cause": self.cause, "sentence": self.explanation.sentence,
-                "text": None if self.text is None else shown(self.text), "hints": self.explanation.hints}
+        return line_dict(self.line, self.cause, None if self.text is None else shown(self.text), self.explanation)
 
     def lines(self, file: str, kind: str = "") -> List[str]:
         """The same as a reader sees it, after the file as a compiler names it."""
