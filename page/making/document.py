@@ -33,7 +33,7 @@ def document(drawings, script, texts, about):
     title = about["names"].get("report") or about["names"].get("fleet") or about["names"].get("log") or about["names"]["graph"]
     parts = {
         "POLICY": policy(script, style),
-        "TITLE": escape(title),
+        "TITLE": escape(re.sub(r"[^\w .()-]", "\ufffd", title)),  # the script shows the name with its signs
         "STYLE": style,
         "DRAWINGS": drawings,
         "CARRIED": "\n".join(carried(kind, text) for kind, text in texts.items()),

@@ -1,25 +1,36 @@
-"""Lays the graph out by Graphviz: all of it, and of a large one also the part that the texts name."""
+"""Lays the graph out by Graphviz: all of it, and of a large one also the part that matters most by the texts."""
 
 import re
 import subprocess
 
-MOST_NODES = 80  # a graph with more of them is also drawn in part
-LAST_BYTES = 4000000  # of a report, in which the nodes for that are looked for
-MOST_BOTH_WAYS = 150  # a drawing with more nodes is tried from left to right alone
+from .part import part_of
+
+MOST_NODES = 80  # a graph with more of them is also drawn in part, with at most so many
+MOST_BOTH_WAYS = 150  # a drawing with more nodes is laid out from left to right alone
 MOST_LABELS = 160  # a drawing with more edges has no labels on them
-WIDTH = 2.4  # of the place on the page, for each unit of its height
-UNITS = (("h", 3600000), ("min", 60000), ("s", 1000))
-SHAPES = {b"failure": "box", b"or": "ellipse", b"and": "octagon"}
+NODE_FONT, EDGE_FONT = 12, 11  # sizes in points; the page never shows them smaller than in pixels
+DIGIT = 7.7  # the width of a digit of a node, in points
+SECOND, MINUTE, HOUR = 1000, 60000, 3600000
+STYLES = {b"failure": "shape=box", b"or": "shape=box", b"and": "shape=octagon"}
 MANY_EDGES = 400  # with more of them Graphviz is told to take less pains
-ATTRIBUTES = "bgcolor=transparent; nodesep=0.2; ranksep=0.3; pad=0.15;"
+ATTRIBUTES = "bgcolor=transparent; nodesep=0.18; ranksep=0.3; pad=0.15;"
 PAINS = {False: "nslimit=4; nslimit1=4; mclimit=1;", True: "nslimit=1; nslimit1=1; mclimit=0.25;"}  # by whether the edges are many
 
 
+def seconds_words(milliseconds):
+    return f"{milliseconds / SECOND:.3f}".rstrip("0").rstrip(".") + " s"
+
+
 def duration_words(milliseconds):
-    for unit, size in UNITS:
-        if milliseconds >= size and milliseconds * 10 % size == 0:
-            return f"{milliseconds / size:g} {unit}"
-    return f"{milliseconds} ms"
+    """A duration as the sentences of the page say it."""
+    if milliseconds < SECOND:
+        return f"{milliseconds} ms"
+    if milliseconds < MINUTE:
+        return seconds_words(milliseconds)
+    hours, rest = divmod(milliseconds, HOUR)
+    minutes, seconds = divmod(rest, MINUTE)
+    parts = [f"{hours} h" if hours else "", f"{minutes} min" if minutes else "", seconds_words(seconds) if seconds else ""]
+    return " ".join(filter(None, parts))
 
 
 def range_words(least, greatest):
@@ -38,10 +49,22 @@ def node_words(node):
     return f"{kind}, lag {range_words(*node.lags) if node.lags[0] else duration_words(node.lags[1])}"
 
 
+def last_time(log):
+    """The greatest time that a line of the log begins with."""
+    return max((int(time) for time in re.findall(rb"^(\d{1,13}) ", log, re.MULTILINE)), default=0)
+
+
+def least_width(time):
+    """How wide a node is at least, in inches, so that a time of the log stands in it, also as a time of day and in milliseconds."""
+    longest = max(len(f"{time // HOUR}:00:00.000"), len("23:59:59.999 d2"), len(f"{time:,} ms"))
+    return round((longest - 2) * DIGIT / 72 + 0.2, 2)
+
+
 def node_line(number, node, prefix):
-    style = "dashed" if node.kind != b"failure" and node.lags is None else "solid"
+    style = ["rounded"] * (node.kind == b"or") + ["dashed"] * (node.kind != b"failure" and node.lags is None)
     label = f"{node.name.decode()}\\n{node_words(node)}\\n "
-    return f'n{number} [id="{prefix}n{number}", class="{node.kind.decode()}", shape={SHAPES[node.kind]}, style={style}, label="{label}"];'
+    marks = f'id="{prefix}n{number}", class="{node.kind.decode()}"'
+    return f'n{number} [{marks}, {STYLES[node.kind]}, style="{",".join(style) or "solid"}", label="{label}"];'
 
 
 def edge_line(number, edge, ends, prefix, has_label):
@@ -51,7 +74,7 @@ def edge_line(number, edge, ends, prefix, has_label):
     return f'n{ends[0]} -> n{ends[1]} [id="{prefix}e{number}", style={style}{label}];'
 
 
-def picture_text(graph, direction, prefix, kept):
+def picture_text(graph, direction, prefix, kept, width):
     """What Graphviz lays out. The ids of nodes and edges are their numbers after the prefix."""
     number_of = {node.name: number for number, node in enumerate(graph.nodes)}
     edges = [(number, edge) for number, edge in enumerate(graph.edges) if edge.source in kept and edge.target in kept]
@@ -60,52 +83,44 @@ def picture_text(graph, direction, prefix, kept):
         edge_line(number, edge, (number_of[edge.source], number_of[edge.target]), prefix, len(edges) <= MOST_LABELS)
         for number, edge in edges
     ]
-    fonts = 'node [fontname="DejaVu Sans", fontsize=13, margin="0.1,0.05"]; edge [fontname="DejaVu Sans", fontsize=10, arrowsize=0.7];'
+    fonts = f'node [fontname="DejaVu Sans", fontsize={NODE_FONT}, margin="0.09,0.05", width={width}]; '
+    fonts += f'edge [fontname="DejaVu Sans", fontsize={EDGE_FONT}, arrowsize=0.7];'
     return "\n".join(["digraph tfpg {", f"rankdir={direction}; {ATTRIBUTES} {PAINS[len(edges) > MANY_EDGES]}", fonts, *nodes, *links, "}", ""])
 
 
-def start_layout(graph, direction, prefix, kept):
+def start_layout(text):
     try:
         running = subprocess.Popen(["dot", "-Tsvg"], stdin=subprocess.PIPE, stdout=subprocess.PIPE, stderr=subprocess.PIPE)
     except OSError:
         raise SystemExit("tfpg-page: Graphviz is not there: no command dot") from None
-    running.stdin.write(picture_text(graph, direction, prefix, kept).encode())
+    running.stdin.write(text.encode())
     running.stdin.close()
     running.stdin = None
     return running
 
 
 def finished(running):
-    """The drawing of a layout, without the comments, titles and links that Graphviz adds, and how large a place it needs."""
+    """The drawing of a layout, without the comments, titles and links that Graphviz adds."""
     output, errors = running.communicate()
     if running.returncode:
         raise SystemExit("tfpg-page: dot failed: " + errors.decode(errors="replace").strip())
     text = output.decode()
-    text = re.sub(r"<!--.*?-->\n?|<title>.*?</title>\n?|</?a\b[^>]*>\n?", "", text[text.index("<svg") :], flags=re.DOTALL)
-    width, height = (float(number) for number in re.search(r'viewBox="\S+ \S+ (\S+) (\S+)"', text).groups())
-    return max(width / WIDTH, height), text.strip()
-
-
-def named_nodes(graph, log, report):
-    """The nodes with an alarm, and those that the traces of the last rounds name, until there are as many as a drawing should have."""
-    found = dict.fromkeys(re.findall(rb"^\d+ alarm (\S+)$", log, re.MULTILINE))
-    for line in reversed(report[-LAST_BYTES:].split(b"\n")):
-        if len(found) >= MOST_NODES:
-            break
-        if line.startswith(b"at "):
-            found[line.split(b" ")[1]] = None
-    return {node.name for node in graph.nodes if node.name in found}
+    return re.sub(r"<!--.*?-->\n?|<title>.*?</title>\n?|</?a\b[^>]*>\n?", "", text[text.index("<svg") :], flags=re.DOTALL).strip()
 
 
 def drawings(graph, log, report):
-    """The drawings of the page: the whole graph, and of a large one the part that log and report name."""
+    """The drawings of the page: the whole graph, and of a large one the part that matters. Each has its layouts, from left to right and
+    from top to bottom, of which the page takes the one that fits its place. The others stand in templates, so that they are not there."""
     wanted = {"whole": {node.name for node in graph.nodes}}
-    part = named_nodes(graph, log, report) if len(graph.nodes) > MOST_NODES else set()
+    part = part_of(graph, log, report, MOST_NODES) if len(graph.nodes) > MOST_NODES else set()
     if part:
         wanted["part"] = part
-    running = {}
+    width, running = least_width(last_time(log)), {}
     for kind, kept in wanted.items():
         directions = ("LR", "TB") if len(kept) <= MOST_BOTH_WAYS else ("LR",)
-        running[kind] = [start_layout(graph, direction, kind[0], kept) for direction in directions]
-    best = {kind: min(map(finished, layouts))[1] for kind, layouts in running.items()}
-    return "\n".join(text.replace("<svg", f'<svg data-drawing="{kind}"', 1) for kind, text in best.items())
+        running[kind] = [start_layout(picture_text(graph, direction, kind[0], kept, width)) for direction in directions]
+    written = []
+    for kind, layouts in running.items():
+        first, *others = (finished(layout).replace("<svg", f'<svg data-drawing="{kind}"', 1) for layout in layouts)
+        written += [first, *(f'<template data-of="{kind}">{other}</template>' for other in others)]
+    return "\n".join(written)

@@ -8,6 +8,9 @@ from .report_text import CHECKS, Named
 from .texts import Fault, kind_of
 
 
+MARKS = (b"\xef\xbb\xbf", b"\xff\xfe", b"\xfe\xff")  # of UTF-8 and UTF-16
+
+
 def read_file(name):
     try:
         return Path(name).read_bytes()
@@ -25,6 +28,8 @@ def need_kind(kind, text, named):
         return CHECKS[kind](text, named)
     if kind_of(text) != "log":
         raise Fault(1, f"this is no log, but begins as {kind_of(text)}")
+    if text.startswith(MARKS):
+        raise Fault(1, "this is no log, but begins with a byte order mark")
 
 
 def read_texts(files):

@@ -181,4 +181,4 @@ def check_fleet(text, named):
         need_report(report, shapes, report[-1][0] if report else 1)
 
 
-CHECKS = {"report": check_report, "ask": check_ask, "predict": check_predict, "fleet": check_fleet}
+CHECKS = {"report": check_report, "compare": check_report, "ask": check_ask, "predict": check_predict, "fleet": check_fleet}

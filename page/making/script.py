@@ -2,16 +2,12 @@
 
 import json
 import re
-from pathlib import Path
 
 from .shapes import table
 
 IMPORT = re.compile(r'^import \{[^}]*\} from "([^"]+)";\n', re.MULTILINE)
 EXPORT = re.compile(r"^export ((?:async )?(?:function|const|class) (\w+))", re.MULTILINE)
 TABLE = "table.mjs"  # the one module that is no file
-D3 = Path("/usr/share/nodejs/d3/dist/d3.min.js")
-D3_VERSION = re.compile(r"// .* v(\d+)\.")
-FIRST_OTHER_D3 = 6  # which has no `d3.event`
 
 
 def table_module():
@@ -44,21 +40,9 @@ def joined(main):
     return '"use strict";\n(() => {\n' + "\n".join(map(as_function, modules.values())) + "})();\n"
 
 
-def d3():
-    """The text of d3, of a version that the page can use."""
-    if not D3.exists():
-        raise SystemExit(f"tfpg-page: d3 is not there: no file {D3} (Debian's package node-d3)")
-    text = D3.read_text()
-    version = D3_VERSION.match(text)
-    if version is None or int(version[1]) >= FIRST_OTHER_D3:
-        said = f"d3 {version[1]}" if version else "no d3 that says its version"
-        raise SystemExit(f"tfpg-page: {D3} is {said}, and the page needs one below {FIRST_OTHER_D3}")
-    return text
-
-
 def script(main):
-    """The whole script of the page: d3, and then what the modules say."""
-    text = d3() + "\n" + joined(main)
+    """The whole script of the page."""
+    text = joined(main)
     if "</script" in text.lower() or "<!--" in text:
         raise SystemExit("tfpg-page: a module has what ends a script")
     return text

@@ -52,7 +52,7 @@ def three_vehicles_and_a_stray_line(view):
     """East is left with the valve alone, north with three sets, and south with none failed; line 7 belongs to none."""
     view.show(*FLEET)
     view.open_tab("fleet")
-    view.same(view.values("#vehicles tr[data-vehicle]", "vehicle"), ["north", "south", "east"], "the vehicles")
+    view.same(view.values("#vehicles tr[data-vehicle]", "vehicle"), ["east", "north", "south"], "the vehicles, the one with the most alarms first")
     rows = dict(zip(view.values("#vehicles tr[data-vehicle]", "vehicle"), view.texts("#vehicles tr[data-vehicle]")))
     view.has(rows["north"], ["FilterClogged"], "the best set of the first")
     view.has(rows["east"], ["ValveStuck"], "the best set of the third")

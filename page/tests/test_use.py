@@ -4,8 +4,9 @@ import base64
 import re
 
 from pages import DATA, PUMP, RELAY
+
 OUT_OF_REACH = """
-const clicked = [...document.querySelectorAll(".link, #panel tr[data-hypothesis], #panel button")];
+const clicked = [...document.querySelectorAll(".link, #panel button")];
 return clicked.filter(one => one.tabIndex < 0).map(one => one.textContent);
 """
 SHAPE = """
@@ -48,6 +49,7 @@ def every_link_is_reached_by_the_keyboard(view):
     view.show(*PUMP)
     for tab in ("ranking", "why", "sets"):
         view.open_tab(tab)
+        view.same(view.run("return document.querySelectorAll('.link').length") > 0, True, f"links beside the tab {tab}")
         view.same(view.run(OUT_OF_REACH), [], f"what a click chooses in the tab {tab}, and no key reaches")
 
 
@@ -65,7 +67,7 @@ def times_of_day_from_a_start(view):
 
 def the_slider_and_its_buttons(view):
     view.show(*PUMP)
-    view.fill("#round", "2")
+    view.fill("#round", "3")
     view.same(view.main("round"), "3", "the round of the slider")
     view.click("#back")
     view.same(view.main("round"), "2", "the round before")
@@ -85,11 +87,10 @@ def the_list_of_sets_is_filtered(view):
 
 def signs_stand_beside_colours(view):
     view.show(*RELAY)
-    signs = lambda kind: view.run("return [...document.querySelectorAll(arguments[0])].map(e => e.textContent)", f"g.node.{kind}")
-    for kind, sign in (("alarm", "▲"), ("silent", "○")):
-        for said in signs(kind):
-            view.has(said, sign, f"the sign of a node with class {kind}")
-    view.same(any("▲" in said for said in signs("silent")), False, "signs of alarms at silent nodes")
+    signs = "return [...document.querySelectorAll(arguments[0])].map(e => [e.dataset.node, e.querySelector('.sign').textContent])"
+    by_kind = {kind: dict(view.run(signs, f"g.node.{kind}")) for kind in ("alarm", "silent")}
+    view.same(by_kind["alarm"], dict.fromkeys(["BusLow", "PayloadOff"], "▲"), "the signs of nodes with an alarm")
+    view.same(by_kind["silent"], dict.fromkeys(["ArrayLow", "BatteryLow", "RadioOff"], "○"), "the signs of nodes that are silent")
 
 
 def and_nodes_have_a_shape_of_their_own(view):

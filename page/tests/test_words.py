@@ -7,7 +7,7 @@ from pages import ARRAY, GAUGE, PUMP, RELAY
 LOOKING = r"""
 const wrong = /undefined|NaN|\[object|\bnull\b|Infinity/, found = [];
 const words = () => {
-  const beside = [...document.querySelectorAll("[title], [aria-label]")].map(one => one.title + " " + one.ariaLabel);
+  const beside = [...document.querySelectorAll("[title], [aria-label]")].map(one => (one.getAttribute("title") || "") + " " + one.ariaLabel);
   const drawn = [...document.querySelectorAll("svg title")].map(one => one.textContent);
   return [document.body.innerText, ...beside.map(said => said.replace(/ null$/, "")), ...drawn].join("\n");
 };

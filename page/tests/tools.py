@@ -2,16 +2,14 @@
 
 import importlib.util
 import shutil
-from pathlib import Path
 
 CHROMIUM, DRIVER = shutil.which("chromium"), shutil.which("chromedriver")
-FIREFOX, FIREFOX_DRIVER = shutil.which("firefox-esr") or shutil.which("firefox"), shutil.which("geckodriver")
+FIREFOX = shutil.which("firefox-esr") or shutil.which("firefox")
 
 
 def missing_packages():
     there = {
         "graphviz": shutil.which("dot"),
-        "node-d3": Path("/usr/share/nodejs/d3/dist/d3.min.js").exists(),
         "chromium": CHROMIUM,
         "chromium-driver": DRIVER,
         "python3-selenium": importlib.util.find_spec("selenium"),

@@ -102,6 +102,21 @@ class View(Browser, Expecting):
         """What the history of the chosen set says of each node."""
         return dict(zip(self.values("#history li[data-node]", "node"), self.texts("#history li[data-node]")))
 
+    def address(self):
+        """What stands after the # of the address."""
+        return self.run("return decodeURIComponent(location.hash)")
+
+    def ready(self):
+        """Waits until a page that is loaded anew has read its texts."""
+        self.wait("return document.documentElement.dataset.ready === 'yes'")
+
+    def accessible(self, role):
+        """The parts of this role, as the browser says them to a screen reader: the name and the properties of each."""
+        said = lambda node, key: node.get(key, {}).get("value", "")
+        properties = lambda node: {one["name"]: one["value"].get("value") for one in node.get("properties", [])}
+        nodes = self.command("Accessibility.getFullAXTree")["nodes"]
+        return [(said(node, "name"), properties(node)) for node in nodes if not node.get("ignored") and said(node, "role") == role]
+
     def verdict(self):
         return self.values("#badge", "verdict")[0]
 
@@ -127,6 +142,26 @@ class View(Browser, Expecting):
         body = self.driver.find_element("tag name", "body")
         for key in keys:
             body.send_keys(KEYS.get(key, key))
+
+    def press_there(self, *keys):
+        """Presses keys where the focus is."""
+        for key in keys:
+            self.driver.switch_to.active_element.send_keys(KEYS.get(key, key))
+
+    def focus(self, selector):
+        self.run("document.querySelector(arguments[0]).focus()", selector)
+
+    def at_size(self, width, height):
+        """Another size of the window, as that of a phone if it is narrow."""
+        self.command("Emulation.setDeviceMetricsOverride", width=width, height=height, deviceScaleFactor=1, mobile=width < 600)
+
+    def in_scheme(self, scheme, media=""):
+        self.command("Emulation.setEmulatedMedia", media=media, features=[{"name": "prefers-color-scheme", "value": scheme}])
+
+    def as_usual(self):
+        """The usual size and colours of the window."""
+        self.command("Emulation.setEmulatedMedia", media="", features=[])
+        self.command("Emulation.clearDeviceMetricsOverride")
 
     def go_to(self, number):
         """Goes to the round of this number."""
@@ -183,12 +218,16 @@ class View(Browser, Expecting):
         self.wait(CHANGED, before)
         self.wait("return document.documentElement.dataset.ready === 'yes'")
 
+    def until(self, holds, seconds=20):
+        """Waits until something holds, for so many seconds at most."""
+        begun = time.monotonic()
+        while not holds() and time.monotonic() < begun + seconds:
+            time.sleep(0.02)
+
     def saved_texts(self, names):
         """Saves all texts, and reads those of these names."""
         for path in self.saved.iterdir():
             path.unlink()
         self.click("#save")
-        begun = time.monotonic()
-        while {path.name for path in self.saved.iterdir()} != set(names) and time.monotonic() < begun + 10:
-            time.sleep(0.02)
+        self.until(lambda: {path.name for path in self.saved.iterdir()} == set(names))
         return [(self.saved / name).read_bytes() if (self.saved / name).exists() else None for name in names]

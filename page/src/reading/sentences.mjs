@@ -59,7 +59,7 @@ function beginWords(units) {
 }
 
 function byWords(time, units) {
-  if (time < 0) return " active before " + beginWords(units);
+  if (time < 0) return " active before time begins, at " + beginWords(units);
   return time >= NEVER ? " active at some time or never" : " active by " + timeWords(time, units);
 }
 
@@ -72,7 +72,7 @@ function eventReference({ log }, number) {
 export function reasonSentence(speech, reason, constraint) {
   const said = constraintSentence(speech, constraint);
   if (reason.kind === "top") return said;
-  if (reason.kind === "zero") return [...said, ": no time is"];
+  if (reason.kind === "zero") return [...said, ": time begins there"];
   if (reason.kind === "pick") return [...said, " (by case " + constraint.of.number + " of choice " + constraint.split.number + ")"];
   if (reason.kind === "from" || reason.kind === "upto") return [...said, ": the alarm of ", ...alarmWords(speech, reason, constraint)];
   const inactive = [{ node: constraint.node }, " not active by " + timeWords(constraint.value - 1, speech.units)];

@@ -11,7 +11,8 @@ function plain(milliseconds) {
   return milliseconds.toLocaleString("en-US") + " ms";
 }
 
-function clockWords(milliseconds) {
+// A time of day, or the time since 0.
+export function clockWords(milliseconds) {
   const seconds = Math.floor(milliseconds / SECOND), rest = milliseconds % SECOND;
   const clock = Math.floor(seconds / 3600) + ":" + padded(Math.floor(seconds / 60) % 60, 2) + ":" + padded(seconds % 60, 2);
   return rest ? clock + "." + padded(rest, 3) : clock;
@@ -24,6 +25,11 @@ export function timeWords(time, { unit, start }) {
   if (!start) return clockWords(time);
   const days = Math.floor((time + start) / DAY);
   return clockWords((time + start) % DAY) + (days ? " (day " + (days + 1) + ")" : "");
+}
+
+// A time for where there is little place.
+export function shortTime(time, units) {
+  return timeWords(time, units).replace(/ \(day (\d+)\)/, " d$1");
 }
 
 export function durationWords(milliseconds, { unit }) {

@@ -1,16 +1,19 @@
 // What `ask`, `predict` and `fleet` said.
-import { bar, cell, element, table } from "./elements.mjs";
+import { bar, cell, element, foreign, listBox, option, table } from "./elements.mjs";
 import { durationWords, timeWords } from "../reading/times.mjs";
 import { probedFor } from "../reading/probe.mjs";
 import { readSteps } from "../reading/steps.mjs";
 import { historyTitle, setWords } from "../reading/sentences.mjs";
 import { setOf } from "../reading/hypotheses.mjs";
 import { treeOf } from "../reading/trees.mjs";
-import { nodeLink, nodeName } from "./links.mjs";
+import { headline } from "../reading/headlines.mjs";
+import { lookAtPanel, nodeLink, nodeName, plainWords } from "./links.mjs";
 import { openVehicle } from "./files.mjs";
 import { activationPart } from "./ranking.mjs";
 import { treePart } from "./why.mjs";
 import { change, speechOf, state, view } from "./state.mjs";
+
+const MOST_STRAYS = 40;
 
 // ---- ask
 
@@ -46,14 +49,14 @@ export function predictPanel() {
 
 function forecastTable({ forecasts, node }, index) {
   const attributes = { id: index ? "forecasts-" + (index + 1) : "forecasts", class: "forecasts", "data-node": nodeName(node) };
-  return table(attributes, ["by the set", "earliest", "from now", "evidence"], forecasts.map(forecastRow));
+  return listBox(attributes, "forecasts for " + nodeName(node), ["by the set", "earliest", "from now", "evidence"], forecasts.map(forecastRow));
 }
 
 function forecastRow(forecast) {
-  const { set, hypothesis, outlook } = forecast, isChosen = String(forecast === state.forecast);
-  return element("tr", { "data-set": set, "data-hypothesis": hypothesis, "data-outlook": outlook, "aria-selected": isChosen, tabindex: "0",
-    click: () => change({ forecast, chosen: hypothesis }) },
-  cell(null, setWords(set)), cell("earliest", outlookWords(forecast)), cell(null, fromNow(forecast)), cell("dim", evidenceWords(forecast)));
+  const { set, hypothesis, outlook } = forecast, words = [setWords(set), outlookWords(forecast), fromNow(forecast), evidenceWords(forecast)];
+  const click = () => change({ forecast, chosen: hypothesis }), kinds = [null, "earliest", null, "dim"];
+  return option({ "data-set": set, "data-hypothesis": hypothesis, "data-outlook": outlook, click }, words.filter(Boolean).join(", "),
+    forecast === state.forecast, words.map((some, index) => cell(kinds[index], some)));
 }
 
 function outlookWords({ outlook, time, to }) {
@@ -96,23 +99,41 @@ function lineWords(at) {
 // ---- fleet
 
 export function fleetPanel() {
-  const { fleet } = state, rows = [...fleet.vehicles.keys()].map(name => vehicleRow(name, fleet.summaries.get(name)));
+  const { fleet } = state, head = ["vehicle", "what explains its log", "rounds", "last at", "alarms", "checked"];
+  const rows = worstFirst([...fleet.vehicles.keys()].map(name => ({ name, ...fleet.summaries.get(name) }))).map(vehicleRow);
+  const left = fleet.strays.length - MOST_STRAYS;
   return [
-    element("h2", {}, "Vehicles"),
-    table({ id: "vehicles" }, ["vehicle", "rounds", "last at", "best set", "ranked"], rows),
-    fleet.strays.length ? element("p", {}, "Stray lines of the stream: " + fleet.strays.slice(0, 40).join(", ") + ".") : null,
+    element("h2", {}, "Vehicles, the worst first"),
+    listBox({ id: "vehicles" }, "vehicles, the worst first", head, rows),
+    fleet.strays.length ? element("p", {}, "Stray lines of the stream: " + fleet.strays.slice(0, MOST_STRAYS).join(", ")
+      + (left > 0 ? " and " + left + " more" : "") + ".") : null,
     fleet.modes.length ? element("h2", {}, "How many vehicles may have a failure mode") : null,
     table({ id: "modes" }, [], fleet.modes.map(modeRow))
   ];
+}
+
+// Those whose texts are wrong come first, then those that no set explains, those with open sets, and those with a failure, the dearest
+// first; last those without a failure, and without a round.
+function worstFirst(vehicles) {
+  const rank = ({ last, verdict, problems }) => {
+    if (verdict.verdict === "refused" || problems) return 0;
+    if (!last) return 5;
+    if (!last.ranked.length) return last.open.length ? 2 : 1;
+    return last.ranked[0].set === "-" ? 4 : 3;
+  };
+  const cost = ({ last }) => last && last.ranked.length ? last.ranked[0].cost : 0;
+  return vehicles.sort((one, other) => rank(one) - rank(other) || other.alarms - one.alarms || cost(other) - cost(one));
 }
 
 function modeRow({ node, vehicles }) {
   return element("tr", { "data-mode": nodeName(node) }, cell(null, nodeLink(node)), cell("number", vehicles));
 }
 
-function vehicleRow(name, { rounds, last }) {
-  const best = last && last.ranked.length ? setWords(last.ranked[0].set) : "none", isOpen = String(state.vehicle === name);
-  return element("tr", { "data-vehicle": name, "aria-selected": isOpen, tabindex: "0", click: () => openVehicle(name, "ranking") },
-    cell(null, name), cell("number", rounds), cell(null, last ? timeWords(last.now, state.units) : "no round"), cell(null, best),
-    cell("number", last ? last.ranked.length : ""));
+function vehicleRow({ name, rounds, last, alarms, terms, verdict, problems }) {
+  const says = last ? plainWords(headline(terms, last)) : "no round", wrong = problems ? "Its texts do not fit together. " : "";
+  const click = () => openVehicle(name, "ranking").then(lookAtPanel);
+  return option({ "data-vehicle": name, click }, [name, wrong + says, verdict.words].join(", "), state.vehicle === name,
+    cell(null, foreign(name)), cell(null, wrong ? element("span", { class: "refused" }, wrong) : null, says), cell("number", rounds),
+    cell(null, last ? timeWords(last.now, state.units) : ""), cell("number", alarms),
+    cell(verdict.verdict === "refused" ? "refused" : null, verdict.words));
 }

@@ -1,9 +1,11 @@
 // The badge: whether `tfpg check` accepted exactly these bytes, and how to check for oneself.
-import { byId, element } from "./elements.mjs";
+import { byId, element, foreign } from "./elements.mjs";
+import { KINDS_CHECKED, verdictOf } from "../reading/verdicts.mjs";
+import { hasControls } from "../reading/texts.mjs";
 import { linked, reportLink } from "./links.mjs";
 import { state, whenChanged } from "./state.mjs";
 
-const KINDS_CHECKED = ["graph", "log", "report"], MOST_WORDS = 2000;
+const MOST_WORDS = 400, MOST_LINES = 30; // of what a checker said
 
 export function prepareBadge() {
   byId("badge").addEventListener("click", () => {
@@ -11,28 +13,6 @@ export function prepareBadge() {
     byId("badge").setAttribute("aria-expanded", String(!byId("badge-words").hidden));
   });
   whenChanged(drawBadge);
-}
-
-// What the script was told by the checker about these very bytes: a verdict, and in words what it means. `rounds` is how many the report
-// has, or null if there is none.
-export function verdictOf(checks, digests, rounds) {
-  if (rounds === null) return { verdict: "none", words: "no report" };
-  if (!checks.length) return { verdict: "unchecked", words: "not checked" };
-  const check = checks.find(some => KINDS_CHECKED.every(kind => digests[kind] !== null && digests[kind] === some.digests[kind]));
-  return check ? answerOf(check, rounds) : { verdict: "other", words: "not checked: these are not the texts that were checked" };
-}
-
-// The answer is known by the form of its line, whatever stands around it. A refusal wins over all else. An acceptance is one only with its
-// status, as the whole output, and of so many rounds as there are.
-function answerOf(check, rounds) {
-  const { status, output, errors } = check, refused = /^not accepted (\d+) \w+$/m.exec(errors + "\n" + output);
-  const isTrial = /^tfpg: |: this answer is of a trial/m.test(errors), by = isTrial ? "an unproved trial of tfpg check" : "tfpg check";
-  if (refused) return { verdict: "refused", words: "✗ " + refused[0] + ", by " + by, check, isTrial, line: Number(refused[1]) };
-  const accepted = output.replace(/\n$/, "");
-  if (status === 0 && accepted === "accepted " + rounds) {
-    return { verdict: "accepted", words: "✓ checked by " + by + ": " + accepted, check, isTrial };
-  }
-  return { verdict: "failed", words: "not checked: the check did not run", check, isTrial };
 }
 
 export function verdictNow() {
@@ -43,7 +23,7 @@ function drawBadge() {
   const found = verdictNow();
   Object.assign(byId("badge").dataset, { verdict: found.verdict, checker: found.isTrial ? "trial" : "" });
   byId("badge").textContent = found.words;
-  byId("command").textContent = commandWords();
+  byId("command").replaceChildren(foreign(commandWords()));
   byId("badge-words").replaceChildren(...explanation(found));
   drawProblems(found);
 }
@@ -59,22 +39,35 @@ const MEANINGS = {
 const TRIAL = " It was a trial: the same sources as the program, but not proved.";
 const ADVICE = " A file can be forged, and its badge too. To check for yourself, save the texts, build tfpg from its source, and run ";
 
+// A name of a file as a word of a shell, whatever it has in it.
+function shellWord(name) {
+  const safe = name[0] === "-" ? "./" + name : name;
+  if (/^[\w./+,@%=:-]+$/.test(safe)) return safe;
+  if (!hasControls(safe)) return "'" + safe.replaceAll("'", "'\\''") + "'";
+  const escaped = [...safe].map(one => /['\\]/.test(one) ? "\\" + one : hasControls(one) ? escapedOf(one) : one);
+  return "$'" + escaped.join("") + "'";
+}
+
+function escapedOf(character) {
+  return "\\U" + character.codePointAt(0).toString(16).padStart(8, "0");
+}
+
 function commandWords() {
-  const { names } = state;
-  return "./tfpg check " + names.graph + " " + (names.log || "LOG") + " < " + (names.report || "REPORT");
+  const { names } = state, [graph, log, report] = KINDS_CHECKED.map(kind => names[kind] ? shellWord(names[kind]) : kind.toUpperCase());
+  return "./tfpg check " + graph + " " + log + " < " + report;
 }
 
 function explanation({ verdict, check, isTrial }) {
   const digests = KINDS_CHECKED.filter(kind => state.digests[kind]).map(kind => "\nSHA-256 of the " + kind + ": " + state.digests[kind]);
   const meaning = MEANINGS[verdict] + (isTrial ? TRIAL : "") + ADVICE;
-  return [meaning, element("code", {}, commandWords()), check ? runWordsOf(check) : "", ...digests];
+  return [meaning, element("code", {}, foreign(commandWords())), ...(check ? runWordsOf(check).flat(3) : []), ...digests];
 }
 
 function runWordsOf({ command, status, output, errors }) {
   const ended = status === null ? "It did not start" : "It ended with status " + status;
-  const said = (output + errors).trim(), left = said.length - MOST_WORDS;
-  return "\nCommand: " + command + ". " + ended + (said ? " and said:\n" + said.slice(0, MOST_WORDS) : ".")
-    + (left > 0 ? "… (" + left + " characters more)" : "");
+  const said = (output + errors).trim().split("\n").map(line => ["\n", foreign(line, MOST_WORDS)]);
+  return ["\nCommand: ", foreign(command), ". " + ended + (output + errors ? " and said:" : "."), said.slice(0, MOST_LINES),
+    said.length > MOST_LINES ? "\n… and " + (said.length - MOST_LINES) + " lines more" : ""];
 }
 
 // What does not fit, and a report that was refused, stands above all else. What the page says of a report with either is not to be believed.
@@ -84,7 +77,7 @@ function drawProblems({ verdict, line, check }) {
     ? [["tfpg check refuses this report: " + /not accepted \d+ \w+/.exec(check.errors + check.output)[0] + ". Believe nothing of it from ",
       reportLink(line), " on."]] : [];
   const compared = comparedTo === null ? [] : [["Only the rounds up to " + comparedTo + " were compared."]];
-  const rows = [...notOpened.map(words => ["Not opened: ", words]), ...refused, ...problems.map(problemWords), ...compared];
+  const rows = [...notOpened.map(words => ["Not opened: ", foreign(words)]), ...refused, ...problems.map(problemWords), ...compared];
   byId("problems").hidden = !rows.length;
   byId("problems").replaceChildren(
     problems.length ? element("b", {}, "These texts do not fit together, so this page is not to be believed:") : "",

@@ -1,36 +1,69 @@
-// The drawing of the graph, which Graphviz laid out: signs and colours of the round, search, and zoom.
+// The drawing of the graph, which Graphviz laid out: signs and colours of the round, its scale, and the words of its parts.
 import { byId, drawn, element } from "./elements.mjs";
-import { durationWords, rangeWords, timeWords } from "../reading/times.mjs";
+import { durationWords, rangeWords, shortTime, timeWords } from "../reading/times.mjs";
 import { edgeModes, nodeWords, setWords } from "../reading/sentences.mjs";
 import { signOf } from "../reading/monitors.mjs";
-import { edgeName, nodeName } from "./links.mjs";
+import { boxOf, drawMap, prepareMap } from "./map.mjs";
+import { edgeName, lookAtPanel, nodeName } from "./links.mjs";
 import { change, markNode, state, view, whenChanged } from "./state.mjs";
 
 const SIGNS = { alarm: "▲", silent: "○" };
-const drawings = []; // each with its root, its zoom, and the groups of its nodes and edges by number
+const LEAST_TEXT = 11, GREATEST_SCALE = 6, ROOMY = 1.6; // the least height of letters in pixels; scales in pixels for a unit
+const drawings = []; // each with its root, its size, its least scale, and the groups of its nodes and edges by number
 let shownDrawing = null;
 
 // ---- preparing
 
 export function prepareDrawings() {
-  for (const root of document.querySelectorAll("#drawing > svg")) drawings.push(prepare(root));
+  for (const root of document.querySelectorAll("#drawing > svg")) drawings.push(prepare(bestWay(root)));
   byId("part").hidden = drawings.length < 2;
   byId("names").replaceChildren(...state.graph.nodes.map(node => element("option", { value: node.name })));
-  showDrawing(drawings[drawings.length - 1]);
+  prepareMap(scrollTo);
+  prepareDrag(byId("drawing"));
+  byId("drawing").addEventListener("scroll", drawMapNow);
+  byId("drawing").addEventListener("wheel", zoomByWheel, { passive: false });
+  byId("smaller").addEventListener("click", () => rescale(1 / 1.25));
+  byId("larger").addEventListener("click", () => rescale(1.25));
+  addEventListener("resize", () => setScale(shownDrawing, shownDrawing.scale));
   whenChanged(colour);
+  showDrawing(drawings[drawings.length - 1]);
+}
+
+// The layout of this drawing of which the most fits the place at a scale at which it can be read.
+function bestWay(root) {
+  const ways = [root, ...[...document.querySelectorAll("template[data-of=" + root.dataset.drawing + "]")].map(one => one.content.firstElementChild)];
+  const shares = ways.map(shareOf), best = ways[shares.indexOf(Math.max(...shares))];
+  if (best !== root) root.replaceWith(best);
+  for (const template of document.querySelectorAll("template[data-of=" + root.dataset.drawing + "]")) template.remove();
+  return best;
+}
+
+// Which share of a drawing stands in its place at its least scale, and above 1 how much larger it can be.
+function shareOf(root) {
+  const place = byId("drawing"), { width, height } = sizeOf(root), least = leastScale(root);
+  const [across, down] = [place.clientWidth / width, place.clientHeight / height], fitting = Math.min(across, down);
+  return fitting >= least ? fitting / least : Math.min(1, across / least) * Math.min(1, down / least);
+}
+
+function sizeOf(root) {
+  const [, , width, height] = root.getAttribute("viewBox").split(" ").map(Number);
+  return { width, height };
+}
+
+function leastScale(root) {
+  const sizes = [...root.querySelectorAll("text")].map(text => Number(text.getAttribute("font-size")));
+  return LEAST_TEXT / Math.min(...sizes);
 }
 
 function prepare(root) {
-  const picture = root.querySelector("g.graph"), world = drawn("g", {});
-  picture.replaceWith(world);
-  world.append(picture);
-  root.removeAttribute("width");
-  root.removeAttribute("height");
-  const zoom = d3.zoom().scaleExtent([0.2, 60]).on("zoom", () => world.setAttribute("transform", d3.event.transform));
-  d3.select(root).call(zoom).on("dblclick.zoom", null);
-  const drawing = { root, picture, zoom, nodes: new Map(), edges: new Map() };
+  const picture = root.querySelector("g.graph"), drawing = { root, picture, ...sizeOf(root), least: leastScale(root), nodes: new Map(), edges: new Map() };
+  root.setAttribute("role", "group");
+  root.setAttribute("aria-label", "graph; arrows lead along its edges, and the tab nodes says the same as a table");
   for (const group of picture.querySelectorAll("g.node")) drawing.nodes.set(Number(group.id.slice(2)), prepareNode(group));
   for (const group of picture.querySelectorAll("g.edge")) drawing.edges.set(Number(group.id.slice(2)), prepareEdge(group));
+  const [first] = drawing.nodes.values();
+  if (first) first.setAttribute("tabindex", "0");
+  fitScale(drawing);
   return drawing;
 }
 
@@ -38,33 +71,29 @@ function prepareNode(group) {
   const number = Number(group.id.slice(2)), node = state.graph.nodes[number], box = boxOf(group);
   group.dataset.node = node.name;
   group.querySelector("text:last-of-type").classList.add("when");
-  group.append(drawn("text", { class: "sign", x: box.right + 2, y: box.top + 9 }));
+  group.append(drawn("text", { class: "sign", x: box.right - 3, y: box.top + 13, "font-size": 12 }));
   if (node.kind !== "failure" && !node.lags) group.classList.add("hidden-node");
-  group.addEventListener("click", () => markNode(node.name));
-  group.addEventListener("mousemove", event => tip(nodeTip(number), event));
-  group.addEventListener("mouseleave", () => tip(null));
-  return group;
+  return takePointer(group, () => nodeTip(number), () => markNode(node.name));
 }
 
 function prepareEdge(group) {
   const edge = state.graph.edges[Number(group.id.slice(2))];
   group.dataset.edge = nodeName(edge.source) + " " + nodeName(edge.target);
-  group.addEventListener("click", () => change({ marked: { edge } }));
-  group.addEventListener("mousemove", event => tip(edgeTip(edge), event));
-  group.addEventListener("mouseleave", () => tip(null));
-  return group;
+  return takePointer(group, () => edgeTip(edge), () => change({ marked: { edge }, tab: "node" }));
 }
 
-// The box of the shape of a node, by its numbers: a drawing that is not shown has no box of its own.
-function boxOf(group) {
-  const shape = group.querySelector("polygon, ellipse"), value = name => Number(shape.getAttribute(name));
-  if (shape.tagName === "ellipse") {
-    const [x, y, rx, ry] = ["cx", "cy", "rx", "ry"].map(value);
-    return { left: x - rx, right: x + rx, top: y - ry, bottom: y + ry };
-  }
-  const points = shape.getAttribute("points").trim().split(/\s+/).map(point => point.split(",").map(Number));
-  const [xs, ys] = [0, 1].map(place => points.map(point => point[place]));
-  return { left: Math.min(...xs), right: Math.max(...xs), top: Math.min(...ys), bottom: Math.max(...ys) };
+// A node or an edge is a button. What it opens is brought into sight on a narrow screen, and the focus stays where it is.
+function takePointer(group, words, act) {
+  group.setAttribute("role", "button");
+  group.setAttribute("tabindex", "-1");
+  group.addEventListener("click", event => {
+    act();
+    if (event.detail && matchMedia("(max-width: 900px)").matches) lookAtPanel();
+  });
+  group.addEventListener("focus", () => tip(null));
+  group.addEventListener("mousemove", event => tip(words(), event));
+  group.addEventListener("mouseleave", () => tip(null));
+  return group;
 }
 
 // ---- words beside the pointer
@@ -78,35 +107,52 @@ function tip(words, event) {
   box.style.top = Math.min(event.clientY + 14, innerHeight - 110) + "px";
 }
 
-export function edgeTip(edge) {
+// What carried over each edge, by its number.
+function arrivalsNow() {
+  return new Map(view.history.flatMap(({ arrivals }) => arrivals.map(arrival => [arrival.edge.number, arrival])));
+}
+
+export function edgeLines(edge, arrival = arrivalsNow().get(edge.number)) {
   const modes = edgeModes(state.graph, edge), lines = [edgeName(edge), "after " + rangeWords(edge, state.units)];
   if (modes) lines.push("active in " + modes);
   if (edge.greatest === null) lines.push("may carry the failure, and is never forced to");
-  const entry = view.history.flatMap(({ arrivals }) => arrivals).find(arrival => arrival.edge === edge);
-  if (entry) lines.push("carried after " + durationWords(entry.age, state.units) + ", counted from " + timeWords(entry.from, state.units));
-  return lines.join("\n");
+  if (arrival) lines.push("carried after " + durationWords(arrival.age, state.units) + ", counted from " + timeWords(arrival.from, state.units));
+  else if (state.log && !edge.modes.has(view.mode)) lines.push("off in the mode of now");
+  return lines;
 }
 
-export function nodeTip(number) {
+export function edgeTip(edge) {
+  return edgeLines(edge).join("\n");
+}
+
+function nodeLines(number) {
   const lines = [nodeName(number) + ": " + nodeWords(state.graph, number, state.units)], said = view.monitors.get(number);
-  const times = events => events.slice(-4).map(event => timeWords(event.time, state.units)).join(", ");
+  const times = events => (events.length > 4 ? "the last 4 of " + events.length + ", " : "")
+    + events.slice(-4).map(event => timeWords(event.time, state.units)).join(", ");
   if (said && said.alarms.length) lines.push("alarm at " + times(said.alarms));
   if (said && said.silences.length) lines.push("silent at " + times(said.silences));
   const time = view.trace ? view.trace.get(number) : undefined;
   if (time !== undefined) lines.push("active from " + timeWords(time, state.units) + " by the history of " + setWords(view.set));
-  return lines.join("\n");
+  return lines;
+}
+
+export function nodeTip(number) {
+  return nodeLines(number).join("\n");
 }
 
 // ---- colours and signs of the round
 
 function colour() {
+  const arrivals = arrivalsNow();
   for (const drawing of drawings) {
     for (const [number, group] of drawing.nodes) colourNode(group, number);
-    for (const [number, group] of drawing.edges) colourEdge(group, state.graph.edges[number]);
+    for (const [number, group] of drawing.edges) colourEdge(group, state.graph.edges[number], arrivals.get(number));
   }
   const { marked } = state;
   if (marked && marked.node !== undefined && !shownDrawing.nodes.has(marked.node)) showDrawing(drawings[0]);
   drawLegend();
+  drawMapNow();
+  sayPart();
 }
 
 function colourNode(group, number) {
@@ -116,16 +162,18 @@ function colourNode(group, number) {
   for (const [name, isSo] of Object.entries(classes)) group.classList.toggle(name, isSo);
   group.classList.toggle("far", !(sign === "alarm" || isActive || isMember || isDoubted));
   group.classList.toggle("marked", state.marked !== null && state.marked.node === number);
-  group.querySelector(".when").textContent = isActive ? timeWords(trace.get(number), state.units) : "";
+  group.setAttribute("aria-label", nodeLines(number).join(", ") + (isDoubted ? ", its monitor is not believed" : ""));
+  group.querySelector(".when").textContent = isActive ? shortTime(trace.get(number), state.units) : "";
   group.querySelector(".sign").textContent = (isDoubted ? "?" : "") + (SIGNS[sign] || "");
 }
 
-function colourEdge(group, edge) {
-  const carried = view.carried.has(edge.number);
+function colourEdge(group, edge, arrival) {
+  const carried = arrival !== undefined;
   group.classList.toggle("carried", carried);
   group.classList.toggle("far", !carried);
   group.classList.toggle("off", state.log !== null && !carried && !edge.modes.has(view.mode));
   group.classList.toggle("marked", state.marked !== null && state.marked.edge === edge);
+  group.setAttribute("aria-label", "edge " + edgeLines(edge, arrival).join(", "));
 }
 
 // ---- which drawing, and which part of it
@@ -134,39 +182,157 @@ function showDrawing(drawing) {
   shownDrawing = drawing;
   for (const other of drawings) other.root.classList.toggle("other", other !== drawing);
   byId("part").textContent = drawing.root.dataset.drawing === "part" ? "show the whole graph" : "show the part that matters";
+  setScale(drawing, drawing.scale);
+  sayPart();
 }
 
 export function showOtherDrawing() {
   if (drawings.length > 1) showDrawing(drawings.find(drawing => drawing !== shownDrawing));
 }
 
+// How much of the graph the drawing leaves out.
+function sayPart() {
+  if (!view.monitors) return; // nothing is shown yet
+  const { graph } = state, { nodes } = shownDrawing, gone = graph.nodes.filter(node => !nodes.has(node.number)).map(node => node.number);
+  const alarms = gone.filter(node => signOf(view.monitors.get(node)) === "alarm").length;
+  const active = gone.filter(node => view.trace && view.trace.has(node)).length;
+  const more = [active ? active + " of this history" : "", alarms ? alarms + " with an alarm" : ""].filter(Boolean).join(" and ");
+  byId("part-words").hidden = !gone.length;
+  byId("part-words").textContent = nodes.size + " of " + graph.nodes.length + " nodes" + (more ? "; left out are " + more : "");
+}
+
+// ---- scale: at the least one all letters can be read
+
+function fitScale(drawing) {
+  const place = byId("drawing"), { width, height, least } = drawing;
+  drawing.scale = Math.min(ROOMY, Math.max(least, Math.min(place.clientWidth / width, place.clientHeight / height)));
+}
+
+function setScale(drawing, scale) {
+  const { root, width, height, least } = drawing;
+  drawing.scale = Math.min(GREATEST_SCALE, Math.max(least, scale));
+  root.setAttribute("width", Math.floor(width * drawing.scale));
+  root.setAttribute("height", Math.floor(height * drawing.scale));
+  drawMapNow();
+}
+
 export function fit() {
-  d3.select(shownDrawing.root).call(shownDrawing.zoom.transform, d3.zoomIdentity);
+  fitScale(shownDrawing);
+  setScale(shownDrawing, shownDrawing.scale);
+}
+
+// Another scale, at which this place of the window, or else the middle, stays where it is.
+function rescale(factor, event) {
+  const place = byId("drawing"), box = place.getBoundingClientRect(), before = shownDrawing.scale;
+  const [x, y] = event ? [event.clientX - box.left, event.clientY - box.top] : [box.width / 2, box.height / 2];
+  setScale(shownDrawing, before * factor);
+  const grown = shownDrawing.scale / before;
+  place.scrollTo((place.scrollLeft + x) * grown - x, (place.scrollTop + y) * grown - y);
+}
+
+// With Ctrl, as the fingers on a touchpad send it, a wheel changes the scale. Without, it scrolls.
+function zoomByWheel(event) {
+  if (!event.ctrlKey) return;
+  event.preventDefault();
+  rescale(Math.exp(-event.deltaY / 300), event);
+}
+
+function prepareDrag(place) {
+  let from = null;
+  place.addEventListener("pointerdown", event => {
+    if (event.pointerType === "mouse" && event.button === 0) from = { x: event.clientX + place.scrollLeft, y: event.clientY + place.scrollTop };
+  });
+  addEventListener("pointermove", event => {
+    if (from && event.buttons) place.scrollTo(from.x - event.clientX, from.y - event.clientY);
+  });
+  addEventListener("pointerup", () => { from = null; });
+}
+
+// Scrolls so that this point of the drawing is in the middle, in units of the drawing.
+function scrollTo(x, y) {
+  const place = byId("drawing"), { scale } = shownDrawing;
+  place.scrollTo(x * scale - place.clientWidth / 2, y * scale - place.clientHeight / 2);
 }
 
 export function nodesThatMatter() {
   return [...shownDrawing.nodes].filter(([, group]) => !group.classList.contains("far")).map(([number]) => number);
 }
 
+// The scale and the place at which these nodes are in sight, as many of them as can be read at once.
 export function lookAt(numbers) {
   if (!numbers.length) return;
   if (numbers.some(number => !shownDrawing.nodes.has(number))) showDrawing(drawings[0]);
-  const { root, picture, zoom } = shownDrawing, shift = picture.transform.baseVal.consolidate().matrix, frame = root.viewBox.baseVal;
-  const boxes = numbers.map(number => boxOf(shownDrawing.nodes.get(number))), place = root.getBoundingClientRect();
-  const [left, top] = [Math.min(...boxes.map(box => box.left)) + shift.e, Math.min(...boxes.map(box => box.top)) + shift.f];
-  const [right, bottom] = [Math.max(...boxes.map(box => box.right)) + shift.e, Math.max(...boxes.map(box => box.bottom)) + shift.f];
-  const unit = Math.min(place.width / frame.width, place.height / frame.height) || 1; // pixels for each unit of the drawing
-  const scale = Math.min(place.width / unit / (right - left + 60), place.height / unit / (bottom - top + 60), 1.6 / unit);
-  const centre = d3.zoomIdentity.translate(frame.x + frame.width / 2, frame.y + frame.height / 2);
-  d3.select(root).call(zoom.transform, centre.scale(scale).translate(-(left + right) / 2, -(top + bottom) / 2));
+  const { picture, nodes, least } = shownDrawing, shift = picture.transform.baseVal.consolidate().matrix, place = byId("drawing");
+  const boxes = numbers.map(number => boxOf(nodes.get(number)));
+  const [left, right] = [Math.min(...boxes.map(box => box.left)), Math.max(...boxes.map(box => box.right))].map(x => x + shift.e);
+  const [top, bottom] = [Math.min(...boxes.map(box => box.top)), Math.max(...boxes.map(box => box.bottom))].map(y => y + shift.f);
+  const fitting = Math.min(place.clientWidth / (right - left + 40), place.clientHeight / (bottom - top + 40), ROOMY);
+  setScale(shownDrawing, Math.max(least, fitting));
+  scrollTo((left + right) / 2, (top + bottom) / 2);
 }
+
+// At first, a drawing that is larger than its place shows what is active or has an alarm, from its first node on.
+export function showWhatMatters() {
+  const place = byId("drawing"), { picture, nodes, scale } = shownDrawing, shift = picture.transform.baseVal.consolidate().matrix;
+  const boxes = nodesThatMatter().map(number => boxOf(nodes.get(number)));
+  if (!boxes.length) return;
+  const middleOf = (low, high, shown) => Math.min((low + high) / 2, low + shown / scale / 2 - 12);
+  const [left, right] = [Math.min(...boxes.map(box => box.left)), Math.max(...boxes.map(box => box.right))].map(x => x + shift.e);
+  const [top, bottom] = [Math.min(...boxes.map(box => box.top)), Math.max(...boxes.map(box => box.bottom))].map(y => y + shift.f);
+  scrollTo(middleOf(left, right, place.clientWidth), middleOf(top, bottom, place.clientHeight));
+}
+
+function drawMapNow() {
+  if (shownDrawing) drawMap(shownDrawing);
+}
+
+// ---- keys: along an edge by left and right, to the next of its kind by up and down
+
+// Moves the focus from a node or an edge, and says whether the key does so.
+export function moveInDrawing(group, key) {
+  const next = nextInDrawing(group, key);
+  if (next === undefined) return false;
+  if (next) {
+    for (const some of [...shownDrawing.nodes.values(), ...shownDrawing.edges.values()]) some.setAttribute("tabindex", some === next ? "0" : "-1");
+    next.focus();
+  }
+  return true;
+}
+
+function nextInDrawing(group, key) {
+  const { nodes, edges } = shownDrawing, number = Number(group.id.slice(2)), isNode = group.classList.contains("node");
+  const here = isNode ? null : state.graph.edges[number], edgeGroup = some => edges.get((some.find(edge => edges.has(edge.number)) || {}).number);
+  if (key === "ArrowRight") return (isNode ? edgeGroup(state.graph.outgoing[number]) : nodes.get(here.target)) || null;
+  if (key === "ArrowLeft") return (isNode ? edgeGroup(state.graph.incoming[number]) : nodes.get(here.source)) || null;
+  const beside = [...(isNode ? nodes : edges).values()], place = beside.indexOf(group);
+  const places = { ArrowUp: place - 1, ArrowDown: place + 1, Home: 0, End: beside.length - 1 };
+  return Object.hasOwn(places, key) ? beside[places[key]] || null : undefined;
+}
+
+// ---- the drawing by itself
 
 // The drawing as it is now, in whole, for a sheet of paper.
 export function copyOfDrawing() {
   const copy = shownDrawing.root.cloneNode(true);
-  copy.firstElementChild.removeAttribute("transform");
-  for (const some of [copy, ...copy.querySelectorAll("[id]")]) some.removeAttribute("id");
+  for (const name of ["width", "height"]) copy.removeAttribute(name);
+  for (const some of [copy, ...copy.querySelectorAll("[id], [tabindex]")]) for (const name of ["id", "tabindex"]) some.removeAttribute(name);
   return copy;
+}
+
+const STYLES = ["fill", "fill-opacity", "stroke", "stroke-width", "stroke-dasharray", "font-family", "font-size", "font-weight", "text-anchor", "opacity"];
+
+// Saves the drawing as it is now as a file of SVG, which needs no page: the style of each part is written into it.
+export function saveDrawing() {
+  const copy = shownDrawing.root.cloneNode(true), parts = [shownDrawing.root, ...shownDrawing.root.querySelectorAll("*")];
+  [copy, ...copy.querySelectorAll("*")].forEach((part, index) => {
+    const style = getComputedStyle(parts[index]);
+    for (const name of STYLES) if (part.localName !== "g") part.setAttribute(name, style.getPropertyValue(name));
+  });
+  copy.setAttribute("xmlns", "http://www.w3.org/2000/svg");
+  const blob = new Blob([new XMLSerializer().serializeToString(copy)], { type: "image/svg+xml" });
+  const link = element("a", { href: URL.createObjectURL(blob), download: "drawing.svg" });
+  link.click();
+  setTimeout(() => URL.revokeObjectURL(link.href), 5000);
 }
 
 // ---- legend
@@ -175,22 +341,26 @@ function sample(...shapes) {
   return drawn("svg", { viewBox: "0 0 22 14", "aria-hidden": "true" }, shapes);
 }
 
-function drawLegend() {
-  const box = attributes => drawn("rect", { x: 2, y: 2, width: 18, height: 10, fill: "white", stroke: "#333", ...attributes });
-  const line = attributes => drawn("line", { x1: 0, y1: 7, x2: 22, y2: 7, stroke: "#555", "stroke-width": 1.5, ...attributes });
-  const octagon = drawn("polygon", { points: "6,1 16,1 21,5 21,9 16,13 6,13 1,9 1,5", fill: "white", stroke: "#333" });
+export function legendParts() {
+  const box = (kind, attributes) => drawn("rect", { class: "sample " + kind, x: 2, y: 2, width: 18, height: 10, ...attributes });
+  const line = (kind, attributes) => drawn("line", { class: "sample-line " + kind, x1: 0, y1: 7, x2: 22, y2: 7, ...attributes });
+  const octagon = drawn("polygon", { class: "sample", points: "6,1 16,1 21,5 21,9 16,13 6,13 1,9 1,5" });
   const whose = view.trace ? "the history of " + setWords(view.set) : "a history";
   const hasDoubts = view.hypothesis !== null && view.hypothesis.doubts.length > 0;
   const entries = [
-    [box({ fill: "#f6b98c" }), "▲ alarm"],
-    [box({ fill: "#cfe9f9" }), "○ asked, and silent"],
-    [box({ "stroke-dasharray": "3 2" }), "hidden"],
+    [box("alarm"), "▲ alarm"],
+    [box("silent"), "○ asked, and silent"],
+    [box("", { "stroke-dasharray": "3 2" }), "hidden"],
     [octagon, "AND: needs all its causes"],
-    [box({ stroke: "#b36b00", "stroke-width": 3 }), "active by " + whose],
-    [line({ stroke: "#b36b00", "stroke-width": 4 }), "edge that carried"],
-    [line({ stroke: "#c3c9cf" }), "edge that is off in this mode"],
-    [line({ "stroke-dasharray": "4 3" }), "edge that is never forced"],
-    ...(hasDoubts ? [[box({ stroke: "#7b2d8b", "stroke-width": 3, "stroke-dasharray": "2 3" }), "? monitor that is not believed"]] : [])
+    [box("active"), "active by " + whose],
+    [line("carried"), "edge that carried"],
+    [line("off"), "edge that is off in this mode"],
+    [line("", { "stroke-dasharray": "4 3" }), "edge that is never forced"],
+    ...(hasDoubts ? [[box("doubted"), "? monitor that is not believed"]] : [])
   ];
-  byId("legend").replaceChildren(...entries.map(([shape, words]) => element("span", {}, sample(shape), words)));
+  return entries.map(([shape, words]) => element("span", {}, sample(shape), words));
+}
+
+function drawLegend() {
+  byId("legend").replaceChildren(...legendParts());
 }

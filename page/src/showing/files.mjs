@@ -1,13 +1,15 @@
 // The texts of the page: those that it carries, those that are opened on it, and saving them as they are.
 import { byId, element } from "./elements.mjs";
-import { kindOf, textOf } from "../reading/texts.mjs";
+import { kindOf, notKnown, textOf } from "../reading/texts.mjs";
 import { readAsk, readFleet, readPredict, ownLines } from "../reading/answers.mjs";
 import { readGraph } from "../reading/graph.mjs";
 import { readLog } from "../reading/log.mjs";
 import { readReport } from "../reading/report.mjs";
 import { hypothesesOf } from "../reading/hypotheses.mjs";
 import { mismatchesOf } from "../reading/mismatches.mjs";
-import { change, state } from "./state.mjs";
+import { verdictOf } from "../reading/verdicts.mjs";
+import { plainWords } from "./links.mjs";
+import { change, keep, state } from "./state.mjs";
 
 // ---- bytes
 
@@ -39,7 +41,14 @@ function read(texts, names) {
   const table = report ? hypothesesOf(graph, report.terms) : [], rounds = report ? report.rounds : [];
   const found = { log: log || (report ? readLog(graph, "") : null), report, table, ask, predictions };
   const roundOfLine = new Map(rounds.map((round, index) => [round.line, index]));
-  return { ...found, roundOfLine, ...problemsOf(table, log, report) };
+  const other = report ? of("compare", text => readReport(graph, text)) : null;
+  return { ...found, roundOfLine, ...problemsOf(table, log, report), other, otherProblems: other && log ? firstProblem(log, other) : "" };
+}
+
+// What does not fit first in a report that is held beside another, in a word with its line.
+function firstProblem(log, other) {
+  const [first] = mismatchesOf(state.graph, hypothesesOf(state.graph, other.terms), log, other).found;
+  return first ? "line " + first.at + ": " + plainWords(first.words) + "." : "";
 }
 
 function problemsOf(table, log, report) {
@@ -67,13 +76,12 @@ async function showTexts(texts, names, more) {
 // ---- carried texts
 
 export async function readCarried() {
-  state.about = JSON.parse(byId("about").textContent);
-  const texts = {}, { names } = state.about;
+  const about = JSON.parse(byId("about").textContent), texts = {}, { names } = about;
   for (const carried of document.querySelectorAll("script.carried")) {
     texts[carried.dataset.kind] = await unpacked(carried.textContent);
     carried.remove();
   }
-  state.graph = readGraph(textOf(texts.graph));
+  keep({ about, graph: readGraph(textOf(texts.graph)) });
   return { texts, names: { ...names } };
 }
 
@@ -87,12 +95,24 @@ export async function showCarried({ texts, names }) {
 // The output of a fleet, and the stream of its lines in the place of a log. The first vehicle is opened.
 async function showFleet(texts, names) {
   const fleet = named(names.fleet, () => readFleet(state.graph, textOf(texts.fleet)));
-  fleet.summaries = new Map([...fleet.vehicles].map(([name, lines]) => {
-    const { rounds } = named(names.fleet + ", vehicle " + name + ",", () => readReport(state.graph, ownText(lines)));
-    return [name, { rounds: rounds.length, last: rounds[rounds.length - 1] || null }];
-  }));
+  fleet.summaries = new Map();
+  for (const name of fleet.vehicles.keys()) fleet.summaries.set(name, await summaryOf(fleet, texts, names, name));
   const streamed = from => ({ graph: from.graph, stream: from.log, fleet: from.fleet });
   await showVehicle({ fleet, texts: streamed(texts), names: streamed(names) }, fleet.vehicles.keys().next().value, "fleet");
+}
+
+// What the list of vehicles says of one: its last round, how many alarms it has, what was checked, and whether its texts fit together.
+async function summaryOf(fleet, texts, names, name) {
+  const own = ownTexts(fleet, texts.log, name), { graph, about } = state;
+  const report = named(names.fleet + ", vehicle " + name + ",", () => readReport(graph, own.report)), { rounds, terms } = report;
+  const log = readLog(graph, own.log), digests = await digestsOf({ graph: texts.graph, log: bytesOf(own.log), report: bytesOf(own.report) });
+  const last = rounds.length ? rounds[rounds.length - 1] : null, problems = mismatchesOf(graph, hypothesesOf(graph, terms), log, report).found;
+  const verdict = verdictOf(about.checks, digests, rounds.length);
+  return { rounds: rounds.length, last, terms, alarms: log.firstAlarm.size, verdict, problems: problems.length };
+}
+
+function ownTexts(fleet, stream, name) {
+  return { log: ownText(ownLines(textOf(stream), name)), report: ownText(fleet.vehicles.get(name)) };
 }
 
 function ownText(lines) {
@@ -109,8 +129,7 @@ export async function openVehicle(name, tab) {
 
 // Shows a vehicle of a fleet, with the texts that the whole fleet has.
 async function showVehicle({ fleet, texts, names }, name, tab) {
-  const lines = { log: ownLines(textOf(texts.stream), name), report: fleet.vehicles.get(name) };
-  const own = { log: bytesOf(ownText(lines.log)), report: bytesOf(ownText(lines.report)) };
+  const { log, report } = ownTexts(fleet, texts.stream, name), own = { log: bytesOf(log), report: bytesOf(report) };
   const ownNames = { log: name + ".log", report: name + ".report" };
   await showTexts({ ...texts, ...own }, { ...names, ...ownNames }, { fleet, vehicle: name, tab });
 }
@@ -122,8 +141,9 @@ export async function openFiles(files) {
   delete document.documentElement.dataset.ready;
   try {
     const opened = await Promise.all(files.map(async file => {
-      const bytes = new Uint8Array(await file.arrayBuffer());
-      return { name: file.name, bytes, kind: kindOf(textOf(bytes.subarray(0, 4096))) };
+      const bytes = new Uint8Array(await file.arrayBuffer()), text = textOf(bytes), kind = kindOf(text);
+      if (!kind) throw new Error(file.name + " " + notKnown(text));
+      return { name: file.name, bytes, kind };
     }));
     await takeOpened(opened);
   } catch (fault) {
@@ -134,7 +154,10 @@ export async function openFiles(files) {
 
 async function takeOpened(opened) {
   const kinds = new Set(opened.map(({ kind }) => kind)), texts = { ...state.texts }, names = { ...state.names };
-  for (const kind of leftOut(kinds, Object.keys(texts))) delete texts[kind];
+  for (const kind of leftOut(kinds, Object.keys(texts))) {
+    delete texts[kind];
+    delete names[kind];
+  }
   let count = 0;
   for (const { kind, name, bytes } of opened) {
     if (kind === "graph") await needSameGraph(name, bytes);
@@ -142,6 +165,9 @@ async function takeOpened(opened) {
     texts[place] = bytes;
     names[place] = name;
   }
+  const counts = opened.map(({ kind }) => kind).filter(kind => kind !== "predict");
+  const twice = counts.find((kind, index) => counts.indexOf(kind) < index);
+  if (twice) throw new Error("there are two files of the kind " + twice + ", and this page shows one");
   if (kinds.has("fleet")) await showFleet(texts, names);
   else await showTexts(texts, names, { fleet: null, vehicle: null });
 }
@@ -155,7 +181,7 @@ async function needSameGraph(name, bytes) {
 // The places whose texts are no longer of use: another log has another report and other answers.
 function leftOut(kinds, places) {
   const gone = places.filter(place => place === "stream" || place === "fleet");
-  if (kinds.has("log")) gone.push(...places.filter(place => place === "report" || place === "ask" || place.startsWith("predict")));
+  if (kinds.has("log")) gone.push(...places.filter(place => place === "report" || place === "compare" || place === "ask" || place.startsWith("predict")));
   if (kinds.has("predict")) gone.push(...places.filter(place => place.startsWith("predict")));
   return gone;
 }

@@ -1,7 +1,7 @@
 // The texts as they are, with line numbers.
-import { element } from "./elements.mjs";
+import { element, foreign } from "./elements.mjs";
 import { someLines } from "../reading/report.mjs";
-import { linesOf, shown, textOf } from "../reading/texts.mjs";
+import { charactersOf, linesOf, textOf } from "../reading/texts.mjs";
 import { change, goTo, state, view } from "./state.mjs";
 
 const BEFORE = 150, MOST_LINES = 400;
@@ -41,6 +41,6 @@ function listOfLines(id, lines, current) {
 function lineRow({ number, text, refused, round }, isCurrent) {
   const toRound = round === undefined ? {} : { "data-round": round + 1, tabindex: "0", click: () => goTo(round) };
   return element("div", { "data-line": number, "data-refused": refused, "aria-current": isCurrent ? "true" : null, ...toRound },
-    element("span", { class: "gutter" }, number), element("span", { class: refused ? "text refused" : "text" }, shown(text)),
+    element("span", { class: "gutter" }, number), element("span", { class: refused ? "text refused" : "text" }, foreign(charactersOf(text))),
     refused ? element("span", { class: "refused" }, "  ← refused: " + refused) : null);
 }

@@ -1,5 +1,6 @@
 // Links: to a node, an edge, a line of the log, a line of the report, or a set. One listener of the document follows them all.
-import { element } from "./elements.mjs";
+import { byId, element, isolated } from "./elements.mjs";
+import { charactersOf } from "../reading/texts.mjs";
 import { setWords } from "../reading/sentences.mjs";
 import { timeWords } from "../reading/times.mjs";
 import { change, choose, markNode, state } from "./state.mjs";
@@ -26,7 +27,7 @@ export function edgeLink(edge) {
 }
 
 export function logLink(line) {
-  return link({ "data-log-line": line, title: state.log.lines[line - 1].text.slice(0, 200) }, "line " + line);
+  return link({ "data-log-line": line, title: isolated(charactersOf(state.log.lines[line - 1].text), 200) }, "line " + line);
 }
 
 export function reportLink(at) {
@@ -35,6 +36,18 @@ export function reportLink(at) {
 
 export function setLink(hypothesis, set, tab) {
   return link({ "data-set": set, "data-hypothesis": hypothesis, "data-to": tab }, setWords(set));
+}
+
+// A sentence as plain words, for where no link can stand.
+export function plainWords(sentence) {
+  return sentence.map(piece => {
+    if (typeof piece !== "object") return piece;
+    if (piece.node !== undefined) return nodeName(piece.node);
+    if (piece.time !== undefined) return timeWords(piece.time, state.units);
+    if (piece.set !== undefined) return setWords(piece.set);
+    if (piece.edge) return edgeName(piece.edge);
+    return piece.warning || "line " + piece.logLine;
+  }).join("");
 }
 
 // The words and references of a sentence, as words and links.
@@ -52,7 +65,7 @@ export function linked(sentence) {
 function follow(target) {
   const { node, edge, logLine, reportLine, hypothesis, to } = target.dataset;
   if (node !== undefined) markNode(node);
-  else if (edge !== undefined) change({ marked: { edge: edgeOfWords(edge) } });
+  else if (edge !== undefined) change({ marked: { edge: edgeOfWords(edge) }, tab: "node" });
   else if (logLine !== undefined) change({ logLine: Number(logLine), tab: "log" });
   else if (reportLine !== undefined) change({ reportLine: Number(reportLine), tab: "report" });
   else if (hypothesis !== undefined) choose(Number(hypothesis), to);
@@ -69,5 +82,12 @@ export function followLinks() {
     if (!target) return;
     event.preventDefault(); // a link in a summary does not open it
     follow(target);
+    lookAtPanel();
   });
+}
+
+// Brings the panel, where something was opened, into sight, and gives it the focus.
+export function lookAtPanel() {
+  byId("panel").focus({ preventScroll: true });
+  if (matchMedia("(max-width: 900px)").matches) byId("side").scrollIntoView({ block: "start" });
 }

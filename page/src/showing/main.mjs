@@ -9,9 +9,11 @@ import { probedFor } from "../reading/probe.mjs";
 import { readReport, traceOf } from "../reading/report.mjs";
 import { readSteps, stepsOf } from "../reading/steps.mjs";
 import { textOf } from "../reading/texts.mjs";
+import { durationWords, timeWords } from "../reading/times.mjs";
 import { treeOf } from "../reading/trees.mjs";
 import { prepareBadge } from "./badge.mjs";
-import { prepareDrawings } from "./drawing.mjs";
+import { prepareAddress } from "./address.mjs";
+import { prepareDrawings, showWhatMatters } from "./drawing.mjs";
 import { byId } from "./elements.mjs";
 import { openFiles, openVehicle, readCarried, showCarried } from "./files.mjs";
 import { prepareHead } from "./head.mjs";
@@ -23,8 +25,8 @@ import { choose, goTo, markNode, show, state, view } from "./state.mjs";
 import { prepareTracks } from "./tracks.mjs";
 
 globalThis.Tfpg = {
-  historyOf, hypothesesOf, mismatchesOf, probedFor, readGraph, readLog, readPredict, readReport, readSteps,
-  setOf, statusOf, statusesOf, stepsOf, textOf, traceOf, treeOf
+  durationWords, historyOf, hypothesesOf, mismatchesOf, probedFor, readGraph, readLog, readPredict, readReport, readSteps,
+  setOf, statusOf, statusesOf, stepsOf, textOf, timeWords, traceOf, treeOf
 };
 globalThis.Page = { choose, goTo, mark: markNode, open: openFiles, openVehicle, show, state, view };
 
@@ -41,6 +43,8 @@ async function begin() {
     prepareSheets();
     followLinks();
     await showCarried(carried);
+    await prepareAddress();
+    showWhatMatters();
     root.dataset.ready = "yes";
   } catch (fault) {
     byId("problems").textContent = "This page could not read its texts: " + fault.message;

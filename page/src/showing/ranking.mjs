@@ -1,20 +1,22 @@
 // The ranking of a round, and the history of the chosen set.
-import { bar, cell, element, table } from "./elements.mjs";
+import { bar, cell, element, listBox, option } from "./elements.mjs";
 import { believedIn, setOf } from "../reading/hypotheses.mjs";
 import { timeWords } from "../reading/times.mjs";
 import { activationSentence, historyTitle, setWords } from "../reading/sentences.mjs";
 import { headline } from "../reading/headlines.mjs";
-import { linked, nodeLink, reportLink, setLink } from "./links.mjs";
+import { linked, nodeLink, plainWords, reportLink, setLink } from "./links.mjs";
 import { choose, speechOf, state, statusNow, view, waitingNow } from "./state.mjs";
 
-const MOST_ROWS = 300, MOST_SETS = 60, MOST_ACTIVATIONS = 400;
+export const ONE_OF_SEVERAL = "One history of several: others with other times may explain the log too.";
+
+const MOST_ROWS = 300, MOST_SETS = 60, MOST_ACTIVATIONS = 400, MOST_LISTED = 40;
 
 export function rankingPanel() {
   const { round } = view;
   if (!round) return [element("p", {}, "The log has no accepted line, so there is no round and no ranking.")];
-  const head = ["#", "explains all that was seen", "cost", "alarms raised", ""];
+  const head = ["#", "explains all that was seen", "cost", "alarms raised"], label = "sets that explain all that was seen, best first";
   return [
-    round.ranked.length ? table({ id: "ranking" }, head, round.ranked.slice(0, MOST_ROWS).map(rankingRow))
+    round.ranked.length ? listBox({ id: "ranking" }, label, head, round.ranked.slice(0, MOST_ROWS).map(rankingRow), true)
       : element("p", { id: "no-ranking" }, linked(headline(state.report.terms, round))),
     more(round.ranked.length - MOST_ROWS, "The tab sets has them all."),
     listOf(round.open, "open", "open: the budget was spent, so nobody knows"),
@@ -38,16 +40,17 @@ export function alarmsWords(line) {
 
 function rankingRow(line, index) {
   const { hypothesis, set, cost, alarmed, monitored } = line, isChosen = view.ranked !== null && hypothesis === view.ranked.hypothesis;
-  const attributes = { "data-set": set, "data-hypothesis": hypothesis, "aria-selected": String(isChosen), tabindex: "0" };
-  return element("tr", { ...attributes, click: () => choose(hypothesis) },
-    cell("number", index + 1), cell(null, setWords(set)), cell("number cost", cost),
-    cell("alarms", canAlarm(line) ? bar(alarmed / monitored) : null, alarmsWords(line)), cell(null, reportLink(line.at), againstPart(line)));
+  const against = againstWords(line), attributes = { "data-set": set, "data-hypothesis": hypothesis, click: () => choose(hypothesis) };
+  const name = (index + 1) + ". " + setWords(set) + ", cost " + cost + ", " + alarmsWords(line) + against;
+  return option(attributes, name, isChosen,
+    cell("number", index + 1), cell(null, setWords(set), against ? element("span", { class: "refused" }, against) : null),
+    cell("number cost", cost), cell("alarms", canAlarm(line) ? bar(alarmed / monitored) : null, alarmsWords(line)));
 }
 
 // What speaks against a line of the ranking.
-function againstPart({ at }) {
+function againstWords({ at }) {
   const found = state.problems.filter(problem => problem.at === at);
-  return found.length ? element("span", { class: "refused" }, " ✗ does not fit: ", found.map(({ words }) => [linked(words), ". "])) : null;
+  return found.length ? " ✗ does not fit: " + found.map(({ words }) => plainWords(words)).join("; ") : "";
 }
 
 function listOf(lines, status, words) {
@@ -64,10 +67,11 @@ function historyPart() {
   if (!ranked) return set === null ? [] : [notRankedPart(set)];
   const rows = history.slice(0, MOST_ACTIVATIONS).map(entry => activationPart(set, entry));
   return [
-    element("h2", {}, historyTitle(set)),
+    element("h2", {}, historyTitle(set), " ", reportLink(ranked.at)),
+    set === "-" ? null : element("p", { class: "dim", id: "one-of-several" }, ONE_OF_SEVERAL),
     history.length ? null : element("p", {}, "Nothing became active."),
     element("ol", { id: "history" }, rows),
-    more(history.length - MOST_ACTIVATIONS, ""),
+    more(history.length - MOST_ACTIVATIONS, "The tab report has them all."),
     waitingPart(),
     doubtsPart()
   ];
@@ -85,7 +89,8 @@ export function activationPart(set, entry) {
 }
 
 function listed(nodes) {
-  return nodes.slice(0, 40).map((node, index) => [index ? ", " : "", nodeLink(node)]).concat(nodes.length > 40 ? ", …" : []);
+  const left = nodes.length - MOST_LISTED;
+  return nodes.slice(0, MOST_LISTED).map((node, index) => [index ? ", " : "", nodeLink(node)]).concat(left > 0 ? " and " + left + " more" : []);
 }
 
 function waitingPart() {

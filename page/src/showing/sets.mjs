@@ -1,15 +1,15 @@
 // All sets by status, with a filter.
-import { byId, cell, element, table } from "./elements.mjs";
+import { byId, cell, element, listBox, option } from "./elements.mjs";
 import { timeWords } from "../reading/times.mjs";
 import { setText } from "../reading/hypotheses.mjs";
 import { setWords } from "../reading/sentences.mjs";
-import { choose, coveringNow, state, statusNow, view } from "./state.mjs";
+import { choose, coveringNow, keep, state, statusNow, view } from "./state.mjs";
 import { more } from "./ranking.mjs";
 
 const MOST_LISTED = 400, STATUSES = ["ranked", "open", "rejected", "covered", "missing"];
 
 export function setsPanel() {
-  const filter = element("input", { id: "set-filter", placeholder: "part of a name", value: state.filter, input: takeFilter });
+  const filter = element("input", { id: "set-filter", "aria-label": "part of a name", placeholder: "part of a name", value: state.filter, input: takeFilter });
   const options = ["", ...STATUSES].map(status =>
     element("option", { value: status, selected: status === state.statusFilter ? "" : null }, status || "all"));
   const choice = element("select", { id: "status-filter", "aria-label": "status", change: takeStatus }, options);
@@ -24,8 +24,9 @@ function takeStatus(event) {
   refill({ statusFilter: event.target.value });
 }
 
+// The filters change the table alone, so that the field keeps what is being written.
 function refill(values) {
-  Object.assign(state, values);
+  keep(values);
   byId("sets").replaceChildren(...setsTable().filter(Boolean));
 }
 
@@ -40,15 +41,15 @@ function setsTable() {
     else left++;
   }
   const head = ["no.", "set", "status in round " + (view.round ? view.round.number : "-")];
-  return [table({}, head, rows), more(left, "Narrow the filter.")];
+  const none = rows.length ? null : element("p", { id: "no-sets" }, "No set has these words and this status.");
+  return [none || listBox({}, "all sets, with their status", head, rows), more(left, "Narrow the filter.")];
 }
 
 function setRow(hypothesis, set, found) {
-  const { status } = found, tab = status === "ranked" ? "ranking" : "why", isChosen = String(state.chosen === hypothesis);
-  const attributes = { "data-set": set, "data-hypothesis": hypothesis, "data-status": status, "aria-selected": isChosen, tabindex: "0" };
-  return element("tr", { ...attributes, click: () => choose(hypothesis, tab) },
-    cell("number dim", hypothesis), cell(null, setWords(set)),
-    cell(null, element("span", { class: "status " + status }, status), " ", statusWords(hypothesis, found)));
+  const { status } = found, tab = status === "ranked" ? "ranking" : "why", words = statusWords(hypothesis, found);
+  const attributes = { "data-set": set, "data-hypothesis": hypothesis, "data-status": status, click: () => choose(hypothesis, tab) };
+  return option(attributes, setWords(set) + ", " + status + " " + words, state.chosen === hypothesis,
+    cell("number dim", hypothesis), cell(null, setWords(set)), cell(null, element("span", { class: "status " + status }, status), " ", words));
 }
 
 function statusWords(hypothesis, { status, place, since }) {

@@ -1,45 +1,74 @@
-// The sheet that is printed: one page for a round, as a crew hands it over.
-import { byId, cell, element, table } from "./elements.mjs";
+// The sheets that are printed: one page for a round, as a crew hands it over. What has no place on the page is counted.
+import { byId, cell, element, foreign, table } from "./elements.mjs";
 import { timeWords } from "../reading/times.mjs";
-import { activationSentence, historyTitle, setWords } from "../reading/sentences.mjs";
-import { shown } from "../reading/texts.mjs";
-import { copyOfDrawing } from "./drawing.mjs";
+import { activationSentence, contradictionSentences, historyTitle, setWords, whyNotWords } from "../reading/sentences.mjs";
+import { charactersOf } from "../reading/texts.mjs";
+import { chainOf, contradictionsIn, treeOf } from "../reading/trees.mjs";
+import { stepsOf } from "../reading/steps.mjs";
+import { copyOfDrawing, legendParts } from "./drawing.mjs";
 import { roundWords } from "./head.mjs";
 import { headSentences } from "./headline.mjs";
 import { linked, nodeName } from "./links.mjs";
-import { alarmsWords } from "./ranking.mjs";
-import { goTo, speechOf, state, view, waitingNow } from "./state.mjs";
+import { ONE_OF_SEVERAL, alarmsWords } from "./ranking.mjs";
+import { goTo, keep, speechOf, state, view, waitingNow } from "./state.mjs";
 
-const MOST_SETS = 8, MOST_ENTRIES = 18, MOST_LINES = 8, MOST_WAITING = 20, MOST_SHEETS = 200;
+const MOST = { sets: 8, entries: 18, lines: 8, waiting: 20, reasons: 16 }, LEAST = { sets: 3, entries: 4, lines: 2, waiting: 4, reasons: 0 };
+const ORDER = ["reasons", "lines", "waiting", "entries", "sets"]; // what gives way first
+const MOST_SHEETS = 200, HEIGHT = 995; // of a page, in pixels
 
 export function prepareSheets() {
   byId("print").addEventListener("click", () => print());
   byId("print-all").addEventListener("click", printAll);
   addEventListener("beforeprint", () => {
-    if (!byId("sheet").childElementCount) byId("sheet").replaceChildren(sheet());
+    if (!byId("sheet").childElementCount) byId("sheet").replaceChildren(fittingSheet([]));
   });
   addEventListener("afterprint", () => byId("sheet").replaceChildren());
 }
 
-// A sheet for each round, or for the last ones of a long report.
+// A sheet for each round, or for the last ones of a long report, of which the first says which rounds have none.
 function printAll() {
-  const { round: kept, report } = state, count = report ? report.rounds.length : 1, sheets = [];
-  for (let round = Math.max(0, count - MOST_SHEETS); round < count; round++) {
+  const { round: kept, report } = state, count = report ? report.rounds.length : 1, first = Math.max(0, count - MOST_SHEETS), sheets = [];
+  const gone = first ? [element("p", {}, element("b", {}, "Rounds 1 to " + first + " have no sheet: these are the last " + MOST_SHEETS + " of "
+    + count.toLocaleString("en-US") + "."))] : [];
+  keep({ isQuiet: true });
+  for (let round = first; round < count; round++) {
     goTo(round);
-    sheets.push(sheet());
+    sheets.push(fittingSheet(round === first ? gone : []));
   }
   goTo(kept);
+  keep({ isQuiet: false });
   byId("sheet").replaceChildren(...sheets);
   print();
 }
 
-function sheet() {
+// The sheet of the round with as much as its page holds.
+function fittingSheet(gone) {
+  const limits = { ...MOST }, place = byId("sheet");
+  let made = sheet(limits, gone);
+  place.classList.add("measured");
+  place.replaceChildren(made);
+  for (let name = nextToGiveWay(limits); made.offsetHeight > HEIGHT && name; name = nextToGiveWay(limits)) {
+    limits[name] = Math.max(LEAST[name], Math.floor(limits[name] / 2));
+    made = sheet(limits, gone);
+    place.replaceChildren(made);
+  }
+  place.classList.remove("measured");
+  place.replaceChildren();
+  return made;
+}
+
+function nextToGiveWay(limits) {
+  return ORDER.find(name => limits[name] > LEAST[name]);
+}
+
+function sheet(limits, gone) {
   const { names } = state, { round } = view, files = [names.graph, names.log, names.report].filter(Boolean).join(", ");
-  const head = [element("h1", {}, byId("title").textContent),
-    element("p", {}, files + ". " + byId("badge").textContent + ". This sheet judges nothing.")];
-  const parts = round ? [element("p", {}, roundWords(round)), headPart(round), copyOfDrawing(), rankingPart(round), historySheet(), logPart(round)]
-    : copyOfDrawing();
-  return element("section", { class: "sheet", "data-round": round ? round.number : "" }, head, parts);
+  const head = [element("h1", {}, foreign(byId("title").textContent)), gone,
+    element("p", {}, foreign(files), ". " + byId("badge").textContent + ". This sheet judges nothing.")];
+  const drawing = [copyOfDrawing(), element("div", { class: "legend" }, legendParts())];
+  const parts = round ? [element("p", {}, roundWords(round)), headPart(round), drawing, rankingPart(round, limits), historySheet(limits),
+    refutationsPart(round, limits), logPart(round, limits)] : drawing;
+  return element("section", { class: "sheet", "data-round": round ? round.number : "" }, head, parts, digestsPart());
 }
 
 function headPart(round) {
@@ -47,39 +76,64 @@ function headPart(round) {
   return [element("p", {}, element("b", {}, linked(lead))), element("p", {}, linked(rest))];
 }
 
-function rankingPart({ ranked, open }) {
-  const rows = ranked.slice(0, MOST_SETS).map((line, index) =>
+function rankingPart({ ranked, open }, { sets: most }) {
+  const rows = ranked.slice(0, most).map((line, index) =>
     element("tr", {}, cell(null, index + 1), cell(null, setWords(line.set)), cell(null, "cost " + line.cost),
       cell(null, alarmsWords(line))));
-  const sets = open.slice(0, MOST_SETS).map(({ set }) => setWords(set)).join("; ");
+  const sets = open.slice(0, most).map(({ set }) => setWords(set)).join("; ");
   return [
-    rows.length ? [element("h2", {}, "What explains all that was seen"), table({}, [], rows), leftOut(ranked.length - MOST_SETS)] : null,
+    rows.length ? [element("h2", {}, "What explains all that was seen"), table({}, [], rows), leftOut(ranked.length - most, "set")] : null,
     open.length ? [element("h2", {}, "What is not known"), element("p", {}, "Open, since the budget was spent: " + sets + "."),
-      leftOut(open.length - MOST_SETS)] : null
+      leftOut(open.length - most, "set")] : null
   ];
 }
 
-function leftOut(count) {
-  return count > 0 ? element("p", {}, "… and " + count + " more") : null;
+function leftOut(count, word) {
+  return count > 0 ? element("p", { class: "left-out" }, "… and " + count + " " + word + (count > 1 ? "s" : "") + " more") : null;
 }
 
-function historySheet() {
+function historySheet({ entries, waiting: most }) {
   if (!view.trace) return null;
-  const rows = view.history.slice(0, MOST_ENTRIES).map(entry =>
+  const rows = view.history.slice(0, entries).map(entry =>
     element("li", {}, timeWords(entry.time, state.units) + " ", linked(activationSentence(speechOf(view.set), entry))));
-  const waiting = waitingNow().slice(0, MOST_WAITING).map(node => nodeName(node)).join(", ");
+  const all = waitingNow(), waiting = all.slice(0, most).map(node => nodeName(node)).join(", ");
   return [
     element("h2", {}, historyTitle(view.set)),
+    view.set === "-" ? null : element("p", {}, ONE_OF_SEVERAL),
     element("ol", {}, rows),
-    leftOut(view.history.length - MOST_ENTRIES),
-    waiting ? element("p", {}, "Could alarm, and have not: " + waiting) : null
+    leftOut(view.history.length - entries, "activation"),
+    waiting ? element("p", {}, "Could alarm, and have not: " + waiting + ".") : null,
+    leftOut(all.length - most, "monitor")
   ];
+}
+
+// Why the sets that this round rejects cannot be: what contradicts what, as far as there is place.
+function refutationsPart({ rejected, number }, { sets: most, reasons }) {
+  if (!rejected.length) return null;
+  const parts = rejected.slice(0, most).map(({ hypothesis, set }) => refutationPart(hypothesis, set, number, reasons));
+  return [element("h2", {}, "Rejected in this round"), parts, leftOut(rejected.length - most, "set")];
+}
+
+function refutationPart(hypothesis, set, number, most) {
+  const { graph, log, report, table: sets } = state, steps = sets[hypothesis] ? stepsOf(graph, report, hypothesis, number) : [];
+  const tree = steps.length ? treeOf(graph, log, sets[hypothesis], steps) : null;
+  if (!tree || tree.state !== "closed") return element("p", { class: "refused" }, setWords(set) + ": its steps do not show it.");
+  const all = contradictionsIn(tree.root), speech = speechOf(set), some = all.slice(0, most).map(one => contradictionSentences(speech, chainOf(one)));
+  const rows = some.map(({ reasons, end }) => element("li", {}, reasons.map(({ words }) => [linked(words), "; "]), linked(end), "."));
+  return [element("p", {}, element("b", {}, whyNotWords(set)), " " + all.length + " contradiction" + (all.length > 1 ? "s" : "") + ":"),
+    element("ul", {}, rows), leftOut(all.length - most, "contradiction")];
 }
 
 // The last lines of the log up to this round.
-function logPart({ line }) {
-  const rows = state.log.lines.slice(Math.max(0, line - MOST_LINES), line).map(({ number, text, event, refused }) =>
+function logPart({ line }, { lines: most }) {
+  const rows = state.log.lines.slice(Math.max(0, line - most), line).map(({ number, text, event, refused }) =>
     element("tr", {}, cell(null, number), cell(null, event ? timeWords(event.time, state.units) : ""),
-      cell(null, element("code", {}, shown(text.slice(0, 100)))), cell(null, refused ? "refused: " + refused : "")));
-  return [element("h2", {}, "The last lines of the log"), table({}, [], rows)];
+      cell(null, element("code", {}, foreign(charactersOf(text), 100))), cell(null, refused ? "refused: " + refused : "")));
+  const title = line > most ? "The last " + most + " of " + line + " lines of the log" : "The lines of the log";
+  return [element("h2", {}, title), table({}, [], rows)];
+}
+
+function digestsPart() {
+  const kinds = Object.entries(state.digests).filter(([, digest]) => digest);
+  return kinds.map(([kind, digest]) => element("p", { class: "digests" }, "SHA-256 of the " + kind + ": " + digest));
 }

@@ -10,7 +10,7 @@ import { traceOf } from "../reading/report.mjs";
 // place.
 export const state = {
   texts: {}, names: {}, digests: {}, about: null, graph: null, log: null, report: null, table: [],
-  ask: null, predictions: [], fleet: null, vehicle: null, problems: [], comparedTo: null, notOpened: [],
+  other: null, otherProblems: "", ask: null, predictions: [], fleet: null, vehicle: null, problems: [], comparedTo: null, notOpened: [], isQuiet: false,
   round: 0, chosen: null, forecast: null, tab: "ranking", marked: null, logLine: null, reportLine: null, graphLine: null,
   units: { unit: "clock", start: 0 }, filter: "", statusFilter: "", isEven: true, widening: 1
 };
@@ -22,6 +22,11 @@ const drawers = [];
 
 export function whenChanged(draw) {
   drawers.push(draw);
+}
+
+// Keeps values that no drawer but the one that calls this goes by.
+export function keep(values) {
+  Object.assign(state, values);
 }
 
 export function change(values) {

@@ -1,9 +1,9 @@
 // What stands in one row of the tracks.
-import { drawn } from "./elements.mjs";
+import { drawn, isolated } from "./elements.mjs";
 import { intervalOf } from "../reading/monitors.mjs";
 import { runWords } from "../reading/runs.mjs";
 import { setWords } from "../reading/sentences.mjs";
-import { shown } from "../reading/texts.mjs";
+import { charactersOf } from "../reading/texts.mjs";
 import { spansAt } from "../reading/spans.mjs";
 import { timeWords } from "../reading/times.mjs";
 import { nodeName } from "./links.mjs";
@@ -26,29 +26,33 @@ export function modeTrack({ at, last }) {
   return spansAt(state.log, last).map(({ lo, hi, mode }) => {
     const [x, width] = [at(lo), Math.max(1, at(hi) - at(lo))], grey = Math.round(238 - 90 * mode / modes.length);
     const fill = `rgb(${grey},${grey},${grey})`,
-      name = width > 7 * modes[mode].length ? drawn("text", { x: x + 4, y: 14 }, modes[mode]) : null;
+      name = width > 7 * modes[mode].length ? drawn("text", { class: "mode-words", x: x + 4, y: 14 }, modes[mode]) : null;
     const title = modes[mode] + " from " + clock(lo) + " to " + clock(hi);
     return [shapeOf("rect", { class: "mode-span", x, y: 2, width, height: HEIGHT - 4, fill }, title), name];
   });
 }
 
-// A refused line stands beside the last accepted one.
+// Refused lines stand beside the last accepted one, in one mark with their number.
 export function logTrack({ at }) {
-  const isMany = state.log.events.length > MANY, taken = new Set();
-  let last = 0;
-  return state.log.lines.map(line => {
+  const isMany = state.log.events.length > MANY, taken = new Set(), marks = [];
+  let last = 0, refused = null;
+  for (const line of state.log.lines) {
     if (line.event) last = line.event.time;
     const kind = line.event ? line.event.kind : "refused", x = at(last), key = kind + Math.round(x / 4);
-    if (isMany && (kind === "tick" || taken.has(key))) return null;
+    if (!line.event && refused && refused.key === key) refused.count++;
+    else if (!line.event) marks.push(refused = { line, kind, x, key, count: 1 });
+    else if (!isMany || (kind !== "tick" && !taken.has(key))) marks.push({ line, kind, x, count: 1 });
     taken.add(key);
-    return logMark(line, kind, x);
-  });
+  }
+  return marks.map(logMark);
 }
 
-function logMark({ number, text, refused }, kind, x) {
-  const title = "line " + number + ": " + shown(text.slice(0, 120)) + (refused ? ", refused: " + refused : "");
-  const place = { x: refused ? x + 8 : x, y: BASE, click: () => openLine(number, state.roundOfLine.get(number)) };
-  return shapeOf("text", { class: "mark", "data-log-line": number, "data-kind": kind, ...place }, title, SIGNS_OF_EVENTS[kind]);
+function logMark({ line: { number, text, refused }, kind, x, count }) {
+  const title = "line " + number + ": " + isolated(charactersOf(text), 120) + (refused ? ", refused: " + refused : "")
+    + (count > 1 ? ", the first of " + count + " refused lines here" : "");
+  const place = { x: refused ? x + 6 : x, y: BASE, click: () => openLine(number, state.roundOfLine.get(number)) };
+  const attributes = { class: "mark", "data-log-line": number, "data-kind": kind, "data-count": count > 1 ? count : null };
+  return shapeOf("text", { ...attributes, ...place }, title, [SIGNS_OF_EVENTS[kind], count > 1 ? String(count) : ""]);
 }
 
 function openLine(number, round) {
@@ -74,12 +78,11 @@ function rejectedMark({ hypothesis }, since, at) {
 }
 
 function runPart(row, run, x, width) {
-  const { rounds } = state.report, isRanked = run.status === "ranked", words = runWords(run);
-  const opacity = isRanked ? Math.max(0.3, 1 - 0.16 * (run.place - 1)) : 1, fill = isRanked && run.place < 4 ? "white" : "#222";
+  const { rounds } = state.report, words = runWords(run), place = run.status === "ranked" ? Math.min(run.place, 4) : null;
   const title = setWords(row.set) + " " + words + " from round " + rounds[run.from].number + " to " + rounds[run.to].number;
   const click = () => change({ chosen: row.hypothesis, round: run.to, forecast: null });
-  const bar = shapeOf("rect", { class: run.status + "-run", x, y: 3, width, height: HEIGHT - 6, opacity, click }, title);
-  return [bar, width > 46 ? drawn("text", { class: "run-words", x: x + 4, y: 14, fill }, words) : null];
+  const bar = shapeOf("rect", { class: run.status + "-run", "data-place": place, x, y: 3, width, height: HEIGHT - 6, click }, title);
+  return [bar, width > 46 ? drawn("text", { class: "run-words", "data-place": place, x: x + 4, y: 14 }, words) : null];
 }
 
 export function nodeTrack(node, axis, end) {
