@@ -6,7 +6,9 @@ Which texts are reports, with the line and the cause of one that is none; and wh
 import base64
 
 from forgeries import many_forged
+from judged import lines_of
 from pages import PUMP
+from slow_judge import Graph, Judge
 
 LEAST = 500  # changed reports, of which these tests are about at least so many
 READ_ALL = """
@@ -67,6 +69,44 @@ def maker_page_and_judge_name_the_same_line_and_cause(view):
             else:
                 view.same(said, "read", f"{what}, of which the judge says {wanted}")
     view.same((count >= LEAST, refused >= LEAST / 10), (True, True), f"{count} changed reports, {refused} of them none")
+
+
+LATER_RANKED = b"ranked 3 cost 4 robust 1/3 set MotorBearing\nat MotorBearing 2700000\nat MotorStrain 2705000\nat LowFlow 2715000\nrejected 0 set -\n"
+CHOSEN = [  # changes of the report of the pump
+    (b"rejected 4 set LevelWiring", b"rejected 4 set LevelWiring,ValveStuck"),
+    (b"rejected 4 set LevelWiring", b"rejected 4 set LevelWiring,LevelWiring"),
+    (b"rejected 4 set LevelWiring", b"rejected 4 set !LowFlow,LevelWiring"),
+    (b"rejected 4 set LevelWiring", b"rejected 4 set LowFlow"),
+    (b"rejected 4 set LevelWiring", b"rejected 4 set !WeakSuction"),
+    (LATER_RANKED, b"open 4 set LevelWiring\n" + LATER_RANKED),
+    (b"split ormust ValveStuck HighPressure", b"split ormust ValveStuck LowLevel"),
+    (b"report 2 k 2 doubt 0 budget 1000", b"report 2 k 65 doubt 0 budget 1000"),
+    (b"report 2 k 2 doubt 0 budget 1000", b"report 2 k 2 doubt 5 budget 1000"),
+    (b"report 2 k 2 doubt 0 budget 1000", b"report 2 k 2 doubt 0 budget 0"),
+    (b"report 2 k 2 doubt 0 budget 1000", b""),
+]
+
+
+def wide_set(count):
+    """A graph of so many monitors with long names, a log, and a report with a line that has all of them in a set."""
+    names = [f"N{number:031}" for number in range(count)]
+    nodes, edges = [f"or {name} watch 1" for name in names], [f"edge F {name} 1 2 *" for name in names]
+    graph = "\n".join(["tfpg 1", "mode M", "failure F 1", *nodes, *edges, "end", ""])
+    report = "report 2 k 1 doubt 0 budget 1\nround 1 1 5\nopen 0 set " + ",".join("!" + name for name in names) + "\n"
+    return graph.encode(), b"5 tick\n", report.encode()
+
+
+def chosen_lines_are_none_of_a_report(view):
+    """A set in another order, with a member that is none, or in a line that is too long; a rank after an open set; terms out of range."""
+    view.show(PUMP[0])
+    graph, log, right = (path.read_bytes() for path in PUMP)
+    cases = [(graph, log, right.replace(old, new, 1)) for old, new in CHOSEN if right.count(old) >= 1]
+    view.same(len(cases), len(CHOSEN), "changes that are made")
+    for one_graph, one_log, report in [*cases, wide_set(125), (graph, log, b"")]:
+        answer = Judge(Graph(one_graph), lines_of(one_log)).judge(report).removeprefix("not accepted ")
+        view.same(is_form(answer, report), True, f"the judge refuses its form: {answer}")
+        (said, _), = answers_of_the_page(view, one_graph, [(one_log, report, answer)])
+        view.same((said, answer_of_the_maker(view, one_graph, report)), (answer, answer), "what the page and the maker say")
 
 
 def the_page_finds_something_in_each_wrong_report(view):

@@ -2,6 +2,7 @@
 
 import sys
 
+from handmade import written
 from judged import lines_of
 from pages import CHECK, PUMP, TOP
 from slow_judge import Graph, Judge
@@ -97,3 +98,16 @@ def a_warning_outlives_a_file_that_is_not_opened(view):
 def a_refused_report_says_so_at_its_head(view):
     show_forged(view, "a reason of a refutation is bent by an instant", "--check", CHECK)
     view.has(view.text("#headline .lead"), "The report was refused, so this is not to be believed", "the head of the round")
+
+
+SILENCE = {
+    "tfpg": "tfpg 1\nmode N\nfailure F 1\nor A watch 0\nedge F A 0 9 *\nend\n",
+    "log": "10 silent A\n",
+    "report": "report 2 k 1 doubt 0 budget 9\nround 1 1 10\nranked 1 cost 1 robust 0/1 set F\nat F 1\nat A 5\ncounts ranked 1 covered 1 rejected 0 open 0\n",
+}
+
+
+def a_history_over_a_silence_is_named(view):
+    view.show(*written(view.maker, "silence", SILENCE))
+    wanted = "the history of F does not fit: line 1 says that A was not active by 0:00:00.010, and it is so at 0:00:00.005"
+    view.has(view.text("#problems"), [wanted, "set 0 (-) is neither ranked, open nor rejected"], "what does not fit")
