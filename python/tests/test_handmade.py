@@ -19,7 +19,7 @@ report.
 
 choice 1: A becomes active before the time from 0:00:00 to 0:00:00.010, after
   it, or within it over one of its edges: ¶4
-  case 1 of 4: A active before 0
+  case 1 of 4: A active before time begins, at 0
     1. A not active by 0:00:00.010: nothing reaches it without a failure ¶7
     2. A active by 0:00:00.010: the alarm of line 1 ¶6
     ✕ Both cannot hold: A not before 0:00:00.011, and by 0:00:00.010 (gap 1 ms).

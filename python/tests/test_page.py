@@ -9,9 +9,8 @@ import tempfile
 import unittest
 from collections import Counter
 from pathlib import Path
-from unittest import mock
 
-from support import EXAMPLES, TOP, files, tiny
+from support import EXAMPLES, TOP, tiny
 from test_graph_causes import CASES as GRAPHS
 from test_log_causes import CASES as LOGS
 from tfpg.inputs import subject_of
@@ -132,17 +131,6 @@ class Maker(unittest.TestCase):
         self.assertEqual(set(shapes.ENDS), set(report_lines.LAST.split(" ")))
         self.assertEqual({WORDS[kind]: number for kind, number in shapes.GREATEST.items()},
                          {kind: greatest for kind, (_, greatest) in report_lines.NUMBERS.items()})
-
-
-    def test_the_version_of_d3(self):
-        for text, said in (("// https://d3js.org v5.16.0 Copyright 2022\n", None), ("// https://d3js.org v7.8.5\n", "is d3 7, and"),
-                           ("!function(){}", "is no d3 that says its version, and"), (None, "d3 is not there")):
-            with self.subTest(text=text), files(**({} if text is None else {"d3.js": text})) as folder, \
-                    mock.patch.object(script, "D3", folder / "d3.js"):
-                if said is None:
-                    self.assertEqual(script.d3(), text)
-                else:
-                    self.assertRaisesRegex(SystemExit, said, script.d3)
 
 
 @unittest.skipUnless(NODE, "node is missing")

@@ -30,7 +30,7 @@ def constraint_sentence(speech: Speech, constraint: Constraint) -> str:
 
 def by_words(speech: Speech, time: int) -> str:
     if time < 0:
-        return f"active before {speech.begin()}"
+        return f"active before time begins, at {speech.begin()}"
     return "active at some time or never" if time >= NEVER else f"active by {speech.time(time)}"
 
 
@@ -38,7 +38,7 @@ def reason_sentence(speech: Speech, reason: Reason, constraint: Constraint, pick
     """A reason of a contradiction, with why it holds."""
     said = constraint_sentence(speech, constraint)
     if reason.kind == "zero":
-        return f"{said}: no time is"
+        return f"{said}: time begins there"
     if pick is not None:
         return f"{said} (by case {pick[1].number} of choice {pick[0].number})"
     if reason.kind in ("from", "upto"):
