@@ -32,6 +32,12 @@ typedef char prediction_terms_are_as_in_the_library[sizeof(tfpg_prediction_terms
     && offsetof(tfpg_prediction_terms, ahead) == 16 ? 1 : -1];
 extern tfpg_session kept;
 tfpg_session kept = TFPG_SESSION;
+static tfpg_session many[2] = {TFPG_SESSION, TFPG_SESSION};
+extern void forget(void);
+void forget(void) {
+    kept = TFPG_CLOSED_SESSION;
+    many[0] = many[1] = TFPG_CLOSED_SESSION;
+}
 END
 
 # Prints what the header says of each number of a status or a cause up to 30.
@@ -76,7 +82,8 @@ compile() {
     done
 }
 
-mine=("$top/bench/statuses.c" "$top/bench/numbers.c" "$top/bench/causes.c" "$top/bench/pool_test.c" "$top/bench/measure.c" "$top/bench/renew_test.c")
+mine=("$top/bench/statuses.c" "$top/bench/numbers.c" "$top/bench/causes.c" "$top/bench/pool_test.c" "$top/bench/measure.c" "$top/bench/renew_test.c"
+    "$top/bench/stack.c")
 for compiler in gcc clang; do
     if ! command -v "$compiler" > /dev/null; then
         printf '%s is not there, and is left out\n' "$compiler"

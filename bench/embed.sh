@@ -12,6 +12,7 @@
 # - Lets reads fail, at once and in a line.
 # - Compares the numbers of the header with those of the library, and tries the calls where they do not end well.
 # - Finds each cause that the header names in a small text, and compares it and its line with those that the program says.
+# - Runs each call on the deepest inputs in a thread that has just as much stack as the header says, and adds up the frames of its code.
 # - Looks at what the library asks for. Prints its size, the time of a line, and what two sessions take.
 #
 # Ends with status 1 where something differs. With the word `alone` the program is not built: the one C program is compared with the other, and
@@ -69,6 +70,7 @@ link_with bench/statuses.c statuses "${sanitized[@]}"
 link_with bench/causes.c causes "${sanitized[@]}"
 link_with examples/report.c plain -O2
 link_with bench/measure.c measure -O2 -pthread
+link_with bench/stack.c stack -O2 -pthread
 
 # What the last round of a report ranks and leaves open, and its counts.
 last_round() {
@@ -343,6 +345,12 @@ if grep -vxE 'rattle_(alloc|realloc|dealloc)|mem(cpy|move|set|cmp)|_GLOBAL_OFFSE
 fi
 newer='v[a-z0-9]+|mulx|pdep|pext|andn|bextr|bls[ir]|blsmsk|shlx|sarx|shrx|rorx|lzcnt|movbe'
 if objdump -d --no-show-raw-insn "$library" | grep -E "%[yz]mm|^ +[0-9a-f]+:[[:space:]]+($newer) "; then differs 'the instructions of the library'; fi
+
+# The stack of each call: by the code, and by runs on the deepest inputs.
+"$top/bench/stack.py" "$library" > "$made/text" || { cat "$made/text"; differs 'the stack by the code'; }
+"$made/stack" "$top/examples/satellite.tfpg" "$top/examples/satellite-relay.log" > "$made/said" || { cat "$made/said"; differs 'the stack'; }
+[ "$(awk '/^stack / { print $2 }' "$made/said" | sort)" = "$(awk '/^stack / { print $2 }' "$made/text" | sort)" ] ||
+    differs 'the calls whose stack is tried'
 
 strip -g -o "$made/small.a" "$library"
 printf 'library: %s bytes, asks for %s\n' "$(stat -c %s "$made/small.a")" "$(tr '\n' ' ' < "$made/asked")"

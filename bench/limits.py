@@ -6,8 +6,8 @@
 - An input of 2^32 bytes is diagnosed: it is one line that is too long. One byte more ends the run with `too much input`, and what was
   written before stands. `explain` ends so too.
 - 65,536 events are accepted, and the next line is refused as `LogFull`.
-- With a stack of so many KB (96 if nothing is said): a report of 10^6 nested splits, a map of all of 512 nodes, JSON of 127 levels, and a
-  graph of 512 nodes in one chain.
+- With a stack of so many KB (192 if nothing is said): a report of 10^6 nested splits, a map of all of 512 nodes, JSON of 127 levels, a
+  graph of 512 nodes in one chain, 512 monitors of which one may be doubted, and a map and a report whose set names all monitors.
 
 Each line says what was tried, how the run ended, its seconds, and its peak memory. The exit status is 1 if one did not end as it should.
 
@@ -72,6 +72,17 @@ def chain():
     return "\n".join(lines + ["end"]) + "\n"
 
 
+def ring():
+    """A graph of 512 monitors, each of which leads to the next."""
+    lines = ["tfpg 1", "mode N"] + [f"or A{number} watch 5" for number in range(512)]
+    return "\n".join(lines + [f"edge A{number} A{(number + 1) % 512} 1 2 *" for number in range(512)] + ["end"]) + "\n"
+
+
+def wide_set():
+    """The set of the failure mode and all monitors of the chain."""
+    return "set F" + "".join(f",!A{number}" for number in range(511)) + "\n"
+
+
 def deep_json():
     """The JSON of the small graph, with 126 levels of lists under a key that is ignored."""
     graph = (
@@ -83,7 +94,7 @@ def deep_json():
 
 def main():
     parser = word_reader(__doc__)
-    parser.add_argument("--stack", type=int, default=96)
+    parser.add_argument("--stack", type=int, default=192)
     given = parser.parse_args()
     program = built_program(given.program)
     wrong = 0
@@ -148,6 +159,23 @@ def main():
             f"diagnose, a chain of 512 nodes, a stack of {stack} KB",
             fed([program, "diagnose", text("chain", chain())], [b"100 alarm A0\n2000 alarm A510\n"], folder, stack),
             lambda out, said, status: status == 0 and b"ranked" in out,
+        )
+        tell(
+            f"diagnose, 512 monitors of which one may be doubted, a stack of {stack} KB",
+            fed([program, "diagnose", "--k", "1", "--doubt", "1", text("ring", ring())], [b"9 alarm A0\n"], folder, stack),
+            lambda out, said, status: status == 0 and b"\ncounts " in out,
+        )
+        graph, log = str(folder / "chain"), text("alarm.log", "100 alarm A0\n")
+        tell(
+            f"explain, a set that names 511 monitors, a stack of {stack} KB",
+            fed([program, "explain", graph, log], [f"{wide_set()}at F 100\n".encode()], folder, stack),
+            lambda out, said, status: status == 0 and out.startswith((b"yes", b"no ")),
+        )
+        report = f"report 2 k 1 doubt 1 budget 1\nround 1 1 100\nranked 0 cost 0 robust 1/1 {wide_set()}counts ranked 1 covered 0 rejected 0 open 0\n"
+        tell(
+            f"check, a set that names 511 monitors, a stack of {stack} KB",
+            fed([program, "check", graph, log], [report.encode()], folder, stack),
+            lambda out, said, status: said == "not accepted 3 WrongRanked\n" and status == 1,
         )
     sys.exit(1 if wrong else 0)
 

@@ -7,7 +7,7 @@
  * Memory: a call reads the texts and the terms that it is given only while it runs, and keeps no pointer to them; nothing writes them
  * meanwhile. What a call writes is the caller's: a session, a room, a result, a ranked hypothesis, times, an index. It writes nothing else
  * of the caller's. Each of these overlaps nothing else of the same call, and nothing else reads or writes them while the call runs. A room
- * is written only if the call is done, and behind the text it stays as it is. A call took at most 32 KB of stack; 100 KB are ample.
+ * is written only if the call is done, and behind the text it stays as it is. How much stack a call needs is said by `TFPG_STACK_OF_`.
  *
  * The library takes memory of its own, and says so if there is none. The calls over whole texts, `tfpg_report`, `tfpg_check`, `tfpg_ask`,
  * `tfpg_predict` and `tfpg_explain`, give all of it back before they return, and each may be made again, whatever it answered. An open
@@ -21,7 +21,8 @@
  * Threads: calls may run at the same time, each with a room and a session of its own. The three functions then have to bear it, as those of
  * the archive do. A session may go from one thread to another between two calls, if the program orders these by a lock, by an atomic that
  * is sequentially consistent, or by starting or joining a thread. No call may be made from a signal handler, nor from the forked child of a
- * process with threads.
+ * process with threads. Where two calls have one session at the same time nothing is promised, of this session or of the program: a call has
+ * the session closed while it runs, so the other one may answer TFPG_ENDED, or both may use and give back the same memory.
  *
  * Nothing checks what a C program passes. The library's statements hold for texts, rooms and sessions that are there.
  *
@@ -40,7 +41,7 @@ extern "C" {
 #endif
 
 /* The version of this header. It rises with each change of a declaration or a number in it. The library does not say which one it has. */
-#define TFPG_HEADER_VERSION 3
+#define TFPG_HEADER_VERSION 4
 #define TFPG_VERSION "0.1.0"
 
 /* How a call ended. Where more than one cause holds, the first one is said, in the order of the program: a number out of its range, a fault
@@ -149,6 +150,50 @@ enum tfpg_event_kind { TFPG_ALARM = 1, TFPG_SILENT = 2, TFPG_SWEEP = 3, TFPG_TIC
 /* The time of a node that is never active. It is above each time of a log. */
 #define TFPG_NEVER UINT64_C(1000000000001)
 
+/* The limits of `docs/formats.md`, in bytes, items and milliseconds. */
+#define TFPG_MAX_LINE 4096U      /* bytes of a line, */
+#define TFPG_MAX_NAME 32U        /* of a name, */
+#define TFPG_MAX_FILE 16777216U  /* and of a log, but for `tfpg_report` */
+#define TFPG_MAX_INPUT UINT64_C(4294967296) /* bytes of a log for `tfpg_report`, of a map, and of a report */
+#define TFPG_MAX_NODES 512U
+#define TFPG_MAX_FAILURES 64U
+#define TFPG_MAX_EDGES 2048U
+#define TFPG_MAX_MODES 64U
+#define TFPG_MAX_INCOMING 32U /* edges into a node */
+#define TFPG_MAX_RARITY 1000000U
+#define TFPG_MAX_TIME UINT64_C(1000000000000) /* a time, a lag, a delay */
+#define TFPG_MAX_EVENTS 65536U                /* accepted lines of a log, */
+#define TFPG_MAX_CHANGES 1024U                /* and those of them that change the mode */
+#define TFPG_MAX_HYPOTHESES 4096U
+#define TFPG_MAX_K 64U
+#define TFPG_MAX_DOUBT 4U
+#define TFPG_MAX_BUDGET UINT64_C(1000000000000)
+#define TFPG_MAX_AHEAD UINT64_C(1000000000000)
+#define TFPG_MAX_QUESTIONS 37426U /* bytes that `tfpg_ask` writes, */
+#define TFPG_MAX_VERDICT 59U      /* and `tfpg_explain` */
+
+/* The bytes of stack that a thread has to have left where it makes a call, whatever the texts and the terms are. Most of it is for graphs of
+ * 512 nodes: what follows the edges of a graph, lists its sets, or reads a set of names calls itself once for each node.
+ *
+ * By the code of the library `tfpg_check` takes 172,712 bytes at most, `tfpg_explain` 166,392, the other calls over whole texts and
+ * `tfpg_open` 158,064, `tfpg_line` and `tfpg_event` 5,232, `tfpg_block` 1,712, and each other call 648. The rest is for the functions of the
+ * program that take memory, and for those of the C library that copy bytes. With `malloc` the deepest inputs took 171,952 bytes, 166,240,
+ * 147,192, 5,024, 2,120 and 824. These numbers are tested, and not proved. */
+#define TFPG_STACK_OF_CHECK (192 * 1024)
+#define TFPG_STACK_OF_EXPLAIN (192 * 1024)
+#define TFPG_STACK_OF_REPORT (176 * 1024)
+#define TFPG_STACK_OF_ASK (176 * 1024)
+#define TFPG_STACK_OF_PREDICT (176 * 1024)
+#define TFPG_STACK_OF_OPEN (176 * 1024)
+#define TFPG_STACK_OF_LINE (16 * 1024)
+#define TFPG_STACK_OF_EVENT (16 * 1024)
+#define TFPG_STACK_OF_BLOCK (8 * 1024)
+#define TFPG_STACK_OF_RESULT_OF (8 * 1024)
+#define TFPG_STACK_OF_RANKED_AT (8 * 1024)
+#define TFPG_STACK_OF_INDEX (8 * 1024)
+#define TFPG_STACK_OF_NAME (8 * 1024)
+#define TFPG_STACK_OF_CLOSE (8 * 1024)
+
 /* What a call answers. What a status says nothing of is 0. */
 typedef struct {
     uint32_t status;     /* a `tfpg_status` */
@@ -215,13 +260,22 @@ tfpg_answer tfpg_explain(const uint8_t *graph, size_t graph_count, const uint8_t
  *
  * A session is closed or open. One whose bytes are all 0 is closed, as TFPG_SESSION is, and it has to be that before the first call. From
  * then on a program only hands its address to the calls below, and to one of them at a time. It may move a session, if it uses the old
- * place no more. It may not copy one, since both copies would own the same memory, and neither read nor write what is in it. */
+ * place no more. It may not copy one, since both copies would own the same memory, and neither read nor write what is in it.
+ *
+ * TFPG_SESSION stands where a session is defined, as `tfpg_session session = TFPG_SESSION;`, and TFPG_CLOSED_SESSION where one is assigned, as
+ * `session = TFPG_CLOSED_SESSION;`: the languages have no form for both. Assign it only to a session that is closed, since an open one would
+ * lose its memory. */
 typedef struct {
     bool is_open;
     uint8_t *held;
 } tfpg_session;
 
 #define TFPG_SESSION {false, NULL}
+#ifdef __cplusplus
+#define TFPG_CLOSED_SESSION (tfpg_session TFPG_SESSION)
+#else
+#define TFPG_CLOSED_SESSION ((tfpg_session)TFPG_SESSION)
+#endif
 
 /* Opens a session of this graph, on terms as `tfpg_report` has them. The text of the session is then the first line of its report, with its
  * line end, and `count` is the number of its bytes.
@@ -307,7 +361,7 @@ typedef struct {
 
 /* Says which hypothesis the last round ranks at this place, 0 for the best, and when each node of its trace became active, or TFPG_NEVER:
  * `times[n]` is that of node n. `count` is the number of nodes. With a `times_count` of 0 no time is written, though `times` is not NULL even
- * then; else there has to be room for all of them.
+ * then; else there has to be room for all of them. A closed session is said first, then a rank that nothing has, and then too little room.
  *
  * TFPG_DONE, TFPG_NO_SUCH, TFPG_ROOM_TOO_SMALL, TFPG_ENDED */
 tfpg_answer tfpg_ranked_at(tfpg_session *session, uint32_t rank, tfpg_ranked *ranked, uint64_t *times, size_t times_count);

@@ -44,7 +44,7 @@ def fields_of(body):
 
 
 # Of the declarations and the numbers of the header, without comments and spaces.
-SUM = "a4198824d3040732aae3b82ff89aeed512dd45d7c8a2eba44022d0f31278e525"
+SUM = "dcaa868778f8f2acdfeaa21eca177ae11e2e9c645e1737ea8646bf911e094655"
 
 
 class Header(unittest.TestCase):

@@ -47,6 +47,19 @@ class Limits(unittest.TestCase):
                          [limits.LONGEST_NAME])
         self.assertEqual(self.header(r"TFPG_NEVER UINT64_C\(#\)"), [limits.NEVER])
 
+    def test_macros_of_the_header(self):
+        """Each limit that is a macro, and that its text says too where it does."""
+        options = limits.OPTIONS
+        found = re.findall(r"#define TFPG_MAX_(\w+) (?:UINT64_C\()?(\d+)", HEADER)
+        self.assertEqual({name: int(one) for name, one in found}, {
+            "LINE": limits.LONGEST_LINE, "NAME": limits.LONGEST_NAME, "FILE": limits.FILE_BYTES, "INPUT": limits.INPUT_BYTES,
+            "NODES": limits.MOST_NODES, "FAILURES": limits.MOST_FAILURES, "EDGES": limits.MOST_EDGES, "MODES": limits.MOST_MODES,
+            "INCOMING": limits.MOST_INCOMING, "RARITY": limits.MOST_RARITY, "TIME": limits.MOST_TIME, "EVENTS": limits.MOST_EVENTS,
+            "CHANGES": limits.MOST_CHANGES, "HYPOTHESES": limits.MOST_HYPOTHESES, "K": options["--k"].greatest,
+            "DOUBT": options["--doubt"].greatest, "BUDGET": options["--budget"].greatest, "AHEAD": options["--ahead"].greatest,
+            "QUESTIONS": self.header(r"\. It has at most # bytes\. The log")[0], "VERDICT": self.header(r"\. It has at most # bytes, and the same")[0],
+        })
+
     def test_table_of_limits(self):
         self.assertEqual(self.row("a line"), [limits.LONGEST_LINE])
         self.assertEqual(self.row("a name"), [limits.LONGEST_NAME])

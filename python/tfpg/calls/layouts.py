@@ -10,7 +10,7 @@ from typing import Dict, Type
 
 from ..reading import causes
 
-HEADER_VERSION = 3  # of the header that has these layouts and numbers
+HEADER_VERSION = 4  # of the header that has these layouts and numbers
 
 
 class Status(IntEnum):
