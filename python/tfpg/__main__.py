@@ -4,6 +4,7 @@ from __future__ import annotations
 
 import io
 import sys
+from importlib import import_module
 from typing import Callable, Dict, List, Sequence
 
 from .answers.command import ask, explain, predict
@@ -26,7 +27,7 @@ def fleet(words: Sequence[str]) -> int:
 def stream(words: Sequence[str]) -> int:
     """Diagnoses the growing logs of a part of a fleet, with the module redis, which is loaded for it alone."""
     try:
-        import redis  # noqa: F401
+        import_module("redis")
     except ImportError:
         print("tfpg stream: the module redis is missing; on Debian it is the package python3-redis, for /usr/bin/python3", file=sys.stderr)
         return NO_TRIAL
