@@ -63,7 +63,7 @@ def ended_with_help(path, commands):
     """The status of a script with --help, what it says, and its standard error."""
     words = [sys.executable, "-c", WATCHED, path] if "python" in first_line(path) else ["/bin/bash", path, "--help"]
     environment = {"PATH": str(commands), "HOME": "/nowhere", "LANG": "C.UTF-8"}
-    ran = subprocess.run(words, stdin=subprocess.DEVNULL, stdout=subprocess.PIPE, stderr=subprocess.PIPE, env=environment, timeout=20,
+    ran = subprocess.run(words, stdin=subprocess.DEVNULL, stdout=subprocess.PIPE, stderr=subprocess.PIPE, env=environment, timeout=60,
                          check=False)
     return ran.returncode, ran.stdout.decode(), ran.stderr.decode()
 
