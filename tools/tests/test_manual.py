@@ -91,6 +91,12 @@ class Formats(unittest.TestCase):
             self.assertLessEqual(set(re.findall(r"\d,\d+|2\^\d+", said)), {"4,096", "8,192", "2^32", "2^24"}, name)
         self.assertIn("1 to 64 vehicles", page("tfpg-fleet")["OPTIONS"])
 
+    def test_the_options_of_the_maker_of_pages(self):
+        """Its page has those that it names itself."""
+        said = [term for term, _ in manual.entries_of(page("tfpg-page")["OPTIONS"])]
+        own = subprocess.run([sys.executable, "-B", TOP / "page" / "tfpg-page", "--help"], capture_output=True, text=True, check=True).stdout
+        self.assertEqual(said, re.findall(r"^  (--\w+ [A-Z]+)", own, re.M))
+
     def test_tfpg_5_is_docs_formats(self):
         self.assertTrue(manual.page_text("tfpg.5").endswith(FORMATS.split("\n", 1)[1]))
 
