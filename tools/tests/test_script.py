@@ -144,6 +144,12 @@ class Words(ScriptCase):
         running = subprocess.Popen([self.checkout.top / "tfpg", "ask"], stdout=subprocess.PIPE, text=True)
         self.assertEqual(running.communicate(timeout=20)[0], f"{running.pid}\n")
 
+    def test_the_program_has_the_environment_of_the_user(self):
+        self.checkout.put_program()
+        self.checkout.program.write_text("#!/bin/sh\necho \"$LC_ALL\"\n")
+        os.utime(self.checkout.program)
+        self.assertEqual(self.checkout.run("tfpg", "ask", LC_ALL="C.UTF-8").stdout, "C.UTF-8\n")
+
     def test_files_that_a_trial_makes_have_the_mode_that_the_user_wants(self):
         (self.checkout.says / "tried").write_text("#!/bin/sh\numask\n" + "#" * (2 << 20) + "\n")
         ran = self.checkout.bash("umask 027; ./tfpg ask; ./tfpg ask")
