@@ -5,7 +5,7 @@
 
 `logs`: vehicles a second, for logs of 20, 200 and 2,000 lines of the pump and of a graph of 60 nodes: by a loop over sessions in one
 process, by the pool with a process for each processor, by Dask with 1, 2 and 4 workers, and by `parallel tfpg diagnose` over files. All
-ways have the same logs, which stand in files. With `--part N` there is an N-th of them; without it there are 10,000 of 20 lines, 2,000 of
+ways have the same logs, which stand in files; `parallel` has the first 200. With `--part N` there is an N-th of them; without it there are 10,000 of 20 lines, 2,000 of
 200 and 400 of 2,000. The ratio is that to the loop; the cost is what a vehicle takes longer than the loop's time over the processes.
 Processes are started before the clock is.
 
@@ -13,7 +13,7 @@ Processes are started before the clock is.
 session; the time from a line to the change that it brings, while 1,000 lines a second come; and that from a worker's death to the next
 change.
 
-It says how busy the machine is before and after. It needs the library and the built program, python3-distributed, python3-redis,
+The clock is that of the wall, since what is measured is how work is spread. So it says how busy the machine is before and after. It needs the library and the built program, python3-distributed, python3-redis,
 redis-server and parallel, and starts all servers itself, on the loopback address.
 """
 
@@ -28,7 +28,8 @@ import tempfile
 import time
 from pathlib import Path
 
-TOP = Path(__file__).resolve().parent.parent
+from lib.program import PROGRAM, TOP
+
 sys.path[:0] = [str(TOP / "python"), str(TOP / "python" / "tests")]
 os.environ["PYTHONPATH"] = os.pathsep.join([str(TOP / "python"), os.environ.get("PYTHONPATH", "")])
 
@@ -41,10 +42,10 @@ from tfpg.fleet.one_log import result_of  # noqa: E402
 from tfpg.program import run_program  # noqa: E402
 from tfpg.stream import Part, send  # noqa: E402
 
-PROGRAM = TOP / "crates" / "tfpg" / "out" / "tfpg"
 PUMP = TOP / "examples" / "pump.tfpg"
 FLEETS = ((10000, 20), (2000, 200), (400, 2000))  # how many vehicles, and lines of each
 KINDS = 25  # of different logs of a length
+PARALLEL = 200  # logs of which each has a process of its own
 PROCESSORS = os.cpu_count()
 
 
@@ -94,7 +95,7 @@ def ways(graph, text, logs, folder, clients):
     yield "pool", PROCESSORS, None
     for workers, client in clients:
         yield f"Dask, {workers}", workers, spread(executor=client.get_executor(pure=False))
-    command = f"find {folder} -name '*.log' | parallel -j {PROCESSORS} '{PROGRAM} diagnose {text} < {{}} | sha256sum > /dev/null'"
+    command = f"find {folder} -name '*.log' | head -n {PARALLEL} | parallel -j {PROCESSORS} '{PROGRAM} diagnose {text} < {{}} > /dev/null'"
     yield "parallel", PROCESSORS, lambda: subprocess.run(["bash", "-c", command], check=True)
 
 
@@ -148,9 +149,10 @@ def measure_logs(part):
                 row, loop = [], 0.0
                 for way, processes, work in ways(graph, file, logs, folder, clients):
                     took = pool_time(graph, logs) if work is None else clocked(work)
-                    loop = loop or took
-                    cost = (took - loop / processes) / len(logs) * 1000
-                    row.append(f"{len(logs) / took:,.0f}" + (f" ({loop / took:.2f}, {cost:.2f} ms)" if way != "loop" else ""))
+                    each = took / (min(PARALLEL, len(logs)) if way == "parallel" else len(logs))
+                    loop = loop or each
+                    cost = (each - loop / processes) * 1000
+                    row.append(f"{1 / each:,.0f}" + (f" ({loop / each:.2f}, {cost:.2f} ms)" if way != "loop" else ""))
                 print(f"| {name} | {len(logs):,} of {lines:,} lines | {' | '.join(row)} |", flush=True)
 
 

@@ -3,6 +3,7 @@
 from __future__ import annotations
 
 import contextlib
+import ctypes
 import importlib
 import os
 import random
@@ -74,8 +75,9 @@ def tfpg(*words: object, timeout: float = 300, given: str = "", **more: str) -> 
 
 @contextlib.contextmanager
 def process(words: Sequence[str], **options) -> Iterator["subprocess.Popen[str]"]:
-    """A process with all that it starts, which is ended in the end."""
-    started = subprocess.Popen(words, env=options.pop("env", environment()), text=True, start_new_session=True, **options)
+    """A process with all that it starts, which is ended in the end, and with the tests if someone kills them."""
+    started = subprocess.Popen(words, env=options.pop("env", environment()), text=True, start_new_session=True, preexec_fn=end_with_parent,
+                               **options)
     try:
         yield started
     finally:
@@ -85,6 +87,11 @@ def process(words: Sequence[str], **options) -> Iterator["subprocess.Popen[str]"
         for stream in (started.stdout, started.stderr):
             if stream is not None:
                 stream.close()
+
+
+def end_with_parent() -> None:
+    """Has the kernel end this process once the one that began it is gone."""
+    ctypes.CDLL(None).prctl(1, signal.SIGKILL)
 
 
 def free_port() -> int:
@@ -130,7 +137,7 @@ class Redis:
 
         words = ["redis-server", "--port", str(self.port), "--bind", "127.0.0.1", "--dir", str(self.place), "--save", "", "--appendonly", "yes",
                  "--appendfsync", "always", *self.words]
-        self.server = subprocess.Popen(words, stdout=subprocess.DEVNULL, stderr=subprocess.DEVNULL)
+        self.server = subprocess.Popen(words, stdout=subprocess.DEVNULL, stderr=subprocess.DEVNULL, preexec_fn=end_with_parent)
         self.client = redis.Redis(port=self.port)
         until(self.answers, "Redis answers")
 

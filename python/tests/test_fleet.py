@@ -33,7 +33,7 @@ from tfpg.fleet.results import Result
 
 VEHICLES = 10000 if LARGE else int(os.environ.get("TFPG_SLIPS", "200"))
 MANY = 100000 if LARGE else 2000  # of 20 lines
-LONG = 60000 if LARGE else 6000  # lines of the vehicle that takes long
+LONG = 4000000 if LARGE else 100000  # lines of the vehicle that takes long: a minute, or some seconds
 PUMP = str(EXAMPLES / "pump.tfpg")
 NEEDED = missing()
 
@@ -486,7 +486,7 @@ class Faults(WithFolder):
 
     def long_fleet(self, seed):
         """A fleet with two vehicles whose logs take long, beside which others are soon done."""
-        long = b"".join(b"%d %b\n" % (time, draw) for time, draw in enumerate([b"tick", b"silent MotorHot"] * (LONG * 3)))
+        long = b"no line\n" * LONG
         return {**fleet_of(150, seed, 20, 20), "long0": long, "long1": long}
 
     def test_a_worker_killed_in_a_task(self):
@@ -564,11 +564,9 @@ class Faults(WithFolder):
         self.hold({**logs, "gone": b"5 tick\n"})
 
     def test_one_vehicle_that_takes_long_holds_up_no_other(self):
-        long = b"".join(b"%d silent MotorHot\n" % time for time in range(LONG))
-        logs = {"long": long, **fleet_of(400, 26, 20, 20)}
+        logs = {"long": b"no line\n" * LONG, **fleet_of(100, 26, 1, 3)}  # its log alone is a bundle
         order = [one.vehicle for one in tfpg.fleet.diagnose(pump(), logs, workers=2)]
-        with_it = {name for name, _ in list(logs.items())[:200]}  # its bundle has those that came with it
-        self.assertGreater(len(set(order[:order.index("long")]) - with_it), 100)
+        self.assertEqual(order[-1], "long")
         self.assertEqual(sorted(order), sorted(logs))
 
     def test_a_disk_that_is_full(self):
@@ -591,7 +589,8 @@ class Faults(WithFolder):
         self.assertEqual((ended.returncode, ended.stderr), (0, ""))
         self.assertIn(f"{MANY:,} vehicles: 0 with a fault", ended.stdout)
         self.assertEqual(len(self.lines()), MANY)
-        self.assertEqual(sum(line["lines"] for line in self.lines().values()), 20 * MANY)
+        wanted = sum(len(log.split(b"\n")) - (log.endswith(b"\n") or not log) for log in logs.values())
+        self.assertEqual(sum(line["lines"] for line in self.lines().values()), wanted)
 
 
 def kill_one(parent):

@@ -24,7 +24,7 @@ from tfpg.reading.subjects import Subject
 
 # What is bound to this process: sessions with what they hold, and a sum that is still being made.
 BOUND = {"calls.session.Session", "calls.renewing.RenewingSession", "calls.taking.Taking", "calls.renewing.State", "calls.library.Library",
-         "calls.numbers.Numbers", "calls.turns.Turns", "calls.layouts.Handle", "fleet.one_log.Report"}
+         "calls.numbers.Numbers", "calls.turns.Turns", "calls.layouts.Handle", "fleet.one_log.ReportBytes"}
 LINES = ["5 alarm Wet", "7 alarm Nobody"]
 
 

@@ -16,7 +16,7 @@ from .results import RankedSet, Result
 GZIP = 31  # the form of what zlib makes: the largest window, in a file of gzip
 
 
-class Report:
+class ReportBytes:
     """A report that is made block by block: its sum, and if it is kept its bytes, compressed."""
 
     def __init__(self, is_kept: bool) -> None:
@@ -67,7 +67,7 @@ class Ranking:
 
 def result_of(graph: Graph, vehicle: str, log: bytes, terms: Terms, keeps_report: bool) -> Result:
     """The result of a vehicle with this log."""
-    report, ranking, refused = Report(keeps_report), Ranking(), Counter[str]()
+    report, ranking, refused = ReportBytes(keeps_report), Ranking(), Counter[str]()
     first_refused, lines = None, 0
     with Session(graph, terms.k, terms.doubt, terms.budget) as session:
         report.add(session.head)

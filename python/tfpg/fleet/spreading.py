@@ -41,8 +41,8 @@ def diagnose(graph: Graph, logs: FleetLogs, *, k: int = 2, doubt: int = 0, budge
     `if __name__ == "__main__":`. With `reports` each result has its report, and with `check` each report is judged by `check`, in another
     process than made it. At most `tasks` bundles are out at once: take twice the number of workers or more.
 
-    A log that cannot be read has a result with its `fault`. Errors: those of `Session` for the graph and the terms, ValueError for a vehicle
-    that comes twice, and WorkersLost if the executor loses its workers; then the results so far have been yielded."""
+    A log that cannot be read has a result with its `fault`. Errors: those of `Session` for the graph and the terms, ValueError for a
+    vehicle that comes twice, and WorkersLost if the executor loses its workers; then the results so far have been yielded."""
     terms = Terms(k, doubt, budget)
     Session(graph, k, doubt, budget).close()
     with engine(executor, graph, workers) as (used, text):

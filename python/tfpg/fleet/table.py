@@ -15,8 +15,9 @@ COUNTS = """select count(*), sum(fault != ''), sum(lost > 0), sum(lost), sum(ope
 def table_lines(summary: Summary, most: int) -> Iterator[str]:
     """The lines of the table, with so many vehicles and sets."""
     vehicles, faults, losing, lost, are_open, unexplained, checked = (number or 0 for number in summary.rows(COUNTS)[0])
+    accepted = f"; {counted(checked, 'report')} accepted by check" if checked else ""
     yield (f"{counted(vehicles, 'vehicle')}: {faults:,} with a fault, {losing:,} lost {counted(lost, 'line')}, "
-           f"{unexplained:,} that nothing explains, {are_open:,} open" + (f"; {counted(checked, 'report')} accepted by check" if checked else ""))
+           f"{unexplained:,} that nothing explains, {are_open:,} open{accepted}")
     worst = summary.rows(f"select vehicle, lines, lost, open, sets, best, cost, since, fault from worst limit {most}")
     yield ""
     yield from columns(["vehicle", "lines", "lost", "open", "sets", "best set", "cost", "since"], [row_of(*row) for row in worst])

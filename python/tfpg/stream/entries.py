@@ -95,8 +95,8 @@ class Lines:
         except ResponseError as fault:
             raise self._fault(fault) from None
         if len(answers) == 1:
-            raise OtherWorker(f"another worker took lines of {self.key}, up to {answers[0].decode()} and not {id_text(self.delivered)}: only "
-                              f"one may have this part")
+            raise OtherWorker(f"another worker took lines of {self.key}, up to {answers[0].decode()} and not "
+                              f"{id_text(self.delivered)}: only one may have this part")
         state, taken = answers
         self._hold({name.decode(): value for name, value in pairs(state)})
         entries = self._read([(one, dict(pairs(fields))) for one, fields in taken])

@@ -32,7 +32,8 @@ class Mark(NamedTuple):
     def text(self) -> bytes:
         """The mark as it is stored."""
         lines = [line.decode("ascii") for line in self.lines]
-        return json.dumps({"id": id_text(self.id), "lines": lines, "told": self.told, "over": self.is_over}, separators=(",", ":")).encode("ascii")
+        said = {"id": id_text(self.id), "lines": lines, "told": self.told, "over": self.is_over}
+        return json.dumps(said, separators=(",", ":")).encode("ascii")
 
 
 MODES_FULL = "ModesFull"
