@@ -7,8 +7,9 @@ from datetime import datetime, timedelta, timezone
 from pathlib import Path
 
 import tfpg
-from support import files, library_words, run, text, unwrapped
+from support import TOP, files, library_words, run, text, unwrapped
 from tfpg.program import run_program
+from tfpg.recording.rules import RULES
 from tfpg.recording.times import duration_of, moment_of
 
 # Wet has a lag of 1 to 5 s, Cold one of 0 to 2 s, Hidden no monitor.
@@ -145,6 +146,27 @@ class Times(unittest.TestCase):
             with self.subTest(said=said):
                 self.assertRaises(ValueError, moment_of, said)
 
+    def test_numbers_that_count_something_smaller(self):
+        """Microseconds, and milliseconds with a point, would be read as times a thousand times too far apart."""
+        for said, unit in (("1764468000000000", "milliseconds"), ("1764468000000.0", "seconds, since it has a point,")):
+            self.assertIn(f"`{said}` counts {unit} and is after the year 5000.", fault(f"{said} Wet raised", before="8h"))
+        self.assertEqual(moment_of("99999999999999").time, 99999999999999)
+        self.assertEqual(moment_of("99999999999.999").time, 99999999999999)
+
+    def test_numbers_that_may_be_seconds(self):
+        note = "The times of the box left have 10 digits, as Unix time in seconds has. If they count seconds, say --seconds."
+        said = [(1764468000, "Wet", "raised", "left"), (1764468060, "Cold", "raised", "left"), (5, "Wet", "off", "right")]
+        self.assertEqual(tfpg.records(graph(), said).notes, (note,))
+        self.assertEqual(tfpg.records(graph(), [*said, (5, "Wet", "off", "left")]).notes, ())
+        log = tfpg.records(graph(), said[:2], seconds=True, before=0)
+        self.assertEqual((log.notes, log.lines), ((), ("0 alarm Wet", "60000 alarm Cold")))
+
+    def test_dates_without_a_zone(self):
+        log = tfpg.records(graph(), rows("2025-11-30T02:00:00 Wet raised"), before="1s")
+        self.assertEqual((log.lines, log.origin), (("1000 alarm Wet",), 1764467999000))
+        self.assertEqual(log.notes, ("The times have no zone, and are taken as UTC. If clocks were put forward or back between them, "
+                                     "some are wrong by an hour.",))
+
     def test_against_the_calendar_of_python(self):
         epoch = datetime(1970, 1, 1, tzinfo=timezone.utc)
         begin = datetime(1969, 12, 31, 23, 59, 59, 999000, timezone(timedelta(hours=-11, minutes=-30)))
@@ -245,6 +267,18 @@ class Notes(unittest.TestCase):
         self.assertEqual(tfpg.records(graph(), rows("9 Cold on")).notes, (
             "Line 1: Cold is on in its first sample, so nobody knows since when. The line says that it became active at most 2 s before. "
             "Begin the records earlier, or take its records out.",))
+
+
+class Page(unittest.TestCase):
+    def test_each_rule_is_said_with_its_reason(self):
+        """Each rule has its row in the page on modelling: what becomes of the record, and why."""
+        page = (TOP / "docs" / "modelling.md").read_text(encoding="utf-8").split("## From your records to a log")[1].split("\n## ")[0]
+        rows_of_page = [line for line in page.splitlines() if line.startswith("| `")]
+        for rule in RULES:
+            with self.subTest(rule=rule):
+                found = [line for line in rows_of_page if f"`{rule}`" in line.split("|")[1]]
+                self.assertEqual(len(found), 1)
+                self.assertTrue(all(cell.strip() for cell in found[0].split("|")[1:4]), found)
 
 
 class Limits(unittest.TestCase):

@@ -10,7 +10,8 @@ from tfpg.program import run_program
 from tfpg.reading.graphs import DeclaredGraph
 from tfpg.reading.logs import EventLog
 from tfpg.reading.reports import Refused
-from tfpg.warning.log_warnings import LoggedGraph, log_warnings
+from tfpg.warning.log_warnings import (ALARM_AND_SILENCE, EARLY_ALARM, FAR_TIME, NEVER_NAMED, SECOND_ALARM, SILENCE_AFTER_ALARM,
+                                       LoggedGraph, log_warnings)
 
 CASES = int(os.environ.get("TFPG_SLIPS", "200"))
 # Low has a lag of 1 to 5 s, High one of 0 to 2 s. Worn takes 8 h at least to Low, Jam 60 s by way of High.
@@ -226,6 +227,13 @@ class NoneIsFalse(unittest.TestCase):
         unnamed = [node for node in graph.monitored if graph.name(node) not in named]
         return {*(["EarlyAlarm"] if early else []),
                 *(["NeverNamed"] if unnamed and not any(kind == "sweep" for _, kind, *_ in events) else [])}
+
+
+class Page(unittest.TestCase):
+    def test_each_warning_has_its_row(self):
+        page = (EXAMPLES.parent / "python" / "README.md").read_text(encoding="utf-8")
+        for cause in (SECOND_ALARM, SILENCE_AFTER_ALARM, ALARM_AND_SILENCE, FAR_TIME, EARLY_ALARM, NEVER_NAMED):
+            self.assertEqual(page.count(f"\n| `{cause}` | "), 1)
 
 
 class Told(unittest.TestCase):

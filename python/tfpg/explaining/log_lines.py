@@ -86,7 +86,8 @@ def _time_back(here: RefusedLine) -> Explanation:
     word = here.words[0]
     return Explanation(f"The time {word.text} is before {here.time}, that of the last accepted line.", word,
                        ["Times never fall. A line that comes too late is left out, and changes nothing.",
-                        "`python3 -m tfpg records` sorts the records of several boxes."] + _seconds_hints(here))
+                        "Lines of several boxes are sorted by `sort -n -s OLD > NEW`, and their records by `python3 -m tfpg records`."]
+                       + _seconds_hints(here))
 
 
 def _seconds_hints(here: RefusedLine) -> List[str]:

@@ -21,8 +21,8 @@ def records(graph: Graph, rows: Rows, *, names: Union[Mapping[str, str], Iterabl
     several boxes, `box`, as `csv.DictReader` has them, or a tuple of these. A time is a text as in a file, whole milliseconds, or a
     `datetime`. `names` says which word of the graph a word of the records stands for. `offsets` are milliseconds that are added to the
     times of a box. The time of the log's 0 is `origin`, or a duration `before` the first record: milliseconds, or a text such as `8h`.
-    `mode` is the mode in the beginning, if it is not the first of the graph. With `seconds` whole numbers count seconds, and with `leave_out`
-    records of names that have no monitor are left out. BadRecord says why a record cannot be taken.
+    `mode` is the mode in the beginning, if it is not the first of the graph. With `seconds` whole numbers count seconds, and with
+    `leave_out` records of names that have no monitor are left out. BadRecord says why a record cannot be taken.
 
     >>> rows = [("600000", "LowFlow", "raised"), ("660000", "LowFlow", "raised")]
     >>> tfpg.records(tfpg.Graph.load("examples/pump.tfpg"), rows).lines

@@ -101,7 +101,7 @@ def log_of_records(graph: DeclaredGraph, words: Words, source: Source, choices: 
     times = {one.number: one.time for one in said}
     entries = tuple(Entry(record, rules[number], times.get(number), done.line_of.get(number))
                     for number, record in enumerate(source.records))
-    notes = notes_of(graph, said, done, sum(is_cut for _, is_cut in moments), source.unread)
+    notes = notes_of(graph, said, done, clocks, sum(is_cut for _, is_cut in moments), source.unread)
     has_dates = any(clock.form in (WITH_ZONE, WITHOUT_ZONE) for clock in clocks.values())
     return RecordedLog(tuple(done.lines), origin, entries, tuple(notes), has_dates)
 

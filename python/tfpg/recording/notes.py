@@ -2,25 +2,40 @@
 
 from __future__ import annotations
 
-from typing import Dict, Iterable, List, Sequence
+from typing import Dict, Iterable, List, Mapping, Sequence
 
 from ..reading.graphs import DeclaredGraph
 from ..saying.times import duration_words
 from .rules import ALARM, SILENCE, Applied, Said
+from .times import MILLISECONDS, WITHOUT_ZONE, Clock
 from .words import ON
 
 MOST_NAMED = 10
 
 
-def notes_of(graph: DeclaredGraph, said: Sequence[Said], done: Applied, cut: int, unread: Iterable[str]) -> List[str]:
-    """Sentences on samples from which nobody knows when an alarm was raised, on times that were cut, and on columns that are not read."""
-    notes = _sample_notes(graph, said, done)
+def notes_of(graph: DeclaredGraph, said: Sequence[Said], done: Applied, clocks: Mapping[str, Clock], cut: int,
+             unread: Iterable[str]) -> List[str]:
+    """Sentences on samples from which nobody knows when an alarm was raised, on times that are doubtful or were cut, and on columns that
+    are not read."""
+    notes = [*_sample_notes(graph, said, done), *_clock_notes(clocks)]
     if cut:
         notes.append(f"{cut:,} {'time has' if cut == 1 else 'times have'} digits below a millisecond, which are cut off.")
     names = list(unread)
     if names:
         notes.append(f"Not read: {'column' if len(names) == 1 else 'columns'} {', '.join(names)}.")
     return notes
+
+
+def _clock_notes(clocks: Mapping[str, Clock]) -> List[str]:
+    """On times that may mean something else than they are taken for."""
+    notes = [f"{_times_of(box)} have 10 digits, as Unix time in seconds has. If they count seconds, say --seconds."
+             for box, clock in clocks.items() if clock.form == MILLISECONDS and clock.is_like_unix_seconds]
+    return notes + [f"{_times_of(box)} have no zone, and are taken as UTC. If clocks were put forward or back between them, some are wrong "
+                    "by an hour." for box, clock in clocks.items() if clock.form == WITHOUT_ZONE]
+
+
+def _times_of(box: str) -> str:
+    return f"The times of the box {box}" if box else "The times"
 
 
 def _sample_notes(graph: DeclaredGraph, said: Sequence[Said], done: Applied) -> List[str]:

@@ -7,6 +7,8 @@ from datetime import date, datetime, timedelta, timezone
 from typing import NamedTuple, Optional, Tuple
 
 LONGEST_TIME = 64  # characters
+TOO_LATE = 10**14  # Unix milliseconds of the year 5138: a greater number counts microseconds, or seconds with a point that are none
+UNIX_SECONDS = range(10**9, 4 * 10**9)  # of the years 2001 to 2096
 DECIMAL = re.compile(r"(-?[0-9]+)(?:\.([0-9]+))?")
 ISO = re.compile(r"([0-9]{4})-([0-9]{2})-([0-9]{2})[T ]([0-9]{2}):([0-9]{2})(?::([0-9]{2})(?:[.,]([0-9]+))?)?(Z|[+-][0-9]{2}:[0-9]{2})?")
 DURATION = re.compile(r"([0-9]{1,15})(ms|s|min|h|d)")
@@ -29,7 +31,7 @@ def moment_of(text: str, in_seconds: bool = False) -> Moment:
     """What a text says of the time. A whole number counts milliseconds, or seconds if told so. ValueError says why a text is no time."""
     decimal = DECIMAL.fullmatch(text) if len(text) <= LONGEST_TIME else None
     if decimal is not None:
-        return _counted(decimal[1], decimal[2], in_seconds)
+        return _credible(text, _counted(decimal[1], decimal[2], in_seconds))
     dated = ISO.fullmatch(text) if len(text) <= LONGEST_TIME else None
     if dated is None:
         raise ValueError(f"`{text[:LONGEST_TIME]}` is no time. {SHAPES}")
@@ -42,6 +44,15 @@ def _counted(whole: str, digits: Optional[str], in_seconds: bool) -> Moment:
         return Moment(int(whole) * 1000, SECONDS, False) if in_seconds else Moment(int(whole), MILLISECONDS, False)
     time, rest = divmod(int(whole + digits) * 1000, 10 ** len(digits))
     return Moment(time, SECONDS, rest != 0)
+
+
+def _credible(text: str, said: Moment) -> Moment:
+    """The same moment, if it is no number that counts something smaller than its form says."""
+    if abs(said.time) < TOO_LATE:
+        return said
+    unit = "seconds, since it has a point," if "." in text else said.form
+    raise ValueError(f"`{text}` counts {unit} and is after the year 5000. Unix time has 10 digits before the point in seconds, and in "
+                     "milliseconds 13 digits without a point. Bring it to one of these.")
 
 
 def _dated(said: "re.Match[str]") -> Moment:
@@ -88,6 +99,7 @@ class Clock:
     def __init__(self, offset: int = 0, in_seconds: bool = False) -> None:
         self.offset, self.in_seconds = offset, in_seconds
         self.form: Optional[str] = None
+        self.is_like_unix_seconds = True
 
     def moment(self, text: str) -> Moment:
         """The time of a record with the offset, or ValueError if it is none or has another form than those before."""
@@ -97,6 +109,7 @@ class Clock:
         if said.form != self.form:
             remedy = _mixed_remedy(said.form, self.form)
             raise ValueError(f"`{text}` is a time in {said.form}, and this box wrote {self.form} before. {remedy}")
+        self.is_like_unix_seconds &= said.form == MILLISECONDS and said.time in UNIX_SECONDS
         return said._replace(time=said.time + self.offset)
 
 
