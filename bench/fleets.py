@@ -1,7 +1,7 @@
 #!/usr/bin/python3
 """Times fleets: whole logs by a loop, a pool, Dask and `parallel`, and growing logs on Redis Streams.
 
-    bench/fleets.py [logs] [stream] [--part N]
+    bench/fleets.py [logs] [stream] [--part N] [--only ROW]
 
 `logs`: vehicles a second, for logs of 20, 200 and 2,000 lines of the pump and of a graph of 60 nodes: by a loop over sessions in one
 process, by the pool with a process for each processor, by Dask with 1, 2 and 4 workers, and by `parallel tfpg diagnose` over files. All
@@ -131,7 +131,7 @@ def dask():
         yield clients
 
 
-def measure_logs(part):
+def measure_logs(part, only):
     print(f"| Graph | Logs | {' | '.join(['Loop', 'Pool', 'Dask, 1', 'Dask, 2', 'Dask, 4', 'parallel'])} |")
     print("|---" * 8 + "|")
     with tempfile.TemporaryDirectory(prefix="tfpg-bench-") as top, dask() as clients:
@@ -140,6 +140,8 @@ def measure_logs(part):
         for name, file in (("pump", PUMP), ("60 nodes", text)):
             graph = tfpg.Graph.load(file)
             for vehicles, lines in FLEETS:
+                if only not in (None, f"{name} {lines}"):
+                    continue
                 folder = Path(top, f"{name}{lines}".replace(" ", ""))
                 folder.mkdir()
                 kinds = [simulated(file, lines, seed) for seed in range(1, KINDS + 1)]
@@ -251,7 +253,7 @@ def measure_restart(server, sessions, count):
           "vehicles to read again", flush=True)
 
 
-def measure_stream(part):
+def measure_stream(part, _):
     with tempfile.TemporaryDirectory(prefix="tfpg-bench-") as folder, engines.Redis(Path(folder), "--appendfsync", "everysec") as server:
         measure_rate(server, 1000, 60000 // part)
         measure_rate(server, 20000, 60000 // part)
@@ -264,6 +266,7 @@ def main():
     parser = argparse.ArgumentParser(description=__doc__, formatter_class=argparse.RawDescriptionHelpFormatter)
     parser.add_argument("what", nargs="*", help="what is measured, logs or stream; without a word both")
     parser.add_argument("--part", type=int, default=1, help="measure an N-th of the logs and lines")
+    parser.add_argument("--only", metavar="ROW", help="measure one row of the logs, as 'pump 20'")
     said = parser.parse_args()
     if not {"logs", "stream"}.issuperset(said.what):
         parser.error("what is measured is logs or stream")
@@ -271,7 +274,7 @@ def main():
     start = time.perf_counter()
     for what, measure in (("logs", measure_logs), ("stream", measure_stream)):
         if not said.what or what in said.what:
-            measure(said.part)
+            measure(said.part, said.only)
     print(f"load {os.getloadavg()[0]:.1f} after {time.perf_counter() - start:.0f} s")
 
 

@@ -101,7 +101,7 @@ def free_port() -> int:
         return int(one.getsockname()[1])
 
 
-def until(holds: Callable[[], object], what: str, seconds: float = 60) -> None:
+def until(holds: Callable[[], object], what: str, seconds: float = 240) -> None:
     """Waits until something holds."""
     end = time.monotonic() + seconds
     while not holds():

@@ -494,7 +494,7 @@ class Faults(WithFolder):
         with self.begin(logs, "--workers", "2") as run:
             until(self.some_lines, "a vehicle is done")
             until(lambda: kill_one(run.pid), "a worker is there")
-            said = run.communicate(timeout=120)[1]
+            said = run.communicate(timeout=300)[1]
         self.assertEqual(run.returncode, 70)
         self.assertRegex(said, r"tfpg fleet: a worker process ended by itself; not done are .*; \d+ of 152 vehicles are done; --resume goes on")
         self.assertNotIn("Traceback", said)
@@ -507,9 +507,9 @@ class Faults(WithFolder):
         logs = self.long_fleet(21)
         with scheduler() as head, dask_worker(head.address) as one, dask_worker(head.address):
             with self.begin(logs, "--scheduler", head.address) as run:
-                until(self.some_lines, "a vehicle is done", 120)
+                until(self.some_lines, "a vehicle is done")
                 one.kill()
-                said = run.communicate(timeout=240)[1]
+                said = run.communicate(timeout=300)[1]
         self.assertEqual(run.returncode, 0, said)
         self.hold(logs)
 
@@ -518,9 +518,9 @@ class Faults(WithFolder):
             self.skipTest(missing("distributed"))
         logs = self.long_fleet(22)
         with scheduler() as head, dask_worker(head.address), self.begin(logs, "--scheduler", head.address) as run:
-            until(self.some_lines, "a vehicle is done", 120)
+            until(self.some_lines, "a vehicle is done")
             head.kill()
-            said = run.communicate(timeout=240)[1]
+            said = run.communicate(timeout=300)[1]
         self.assertEqual(run.returncode, 70)
         self.assertRegex(said, r"tfpg fleet: the scheduler or its workers are gone; not done are .* of 152 vehicles are done; --resume goes on")
         self.finish(logs)
@@ -532,7 +532,7 @@ class Faults(WithFolder):
             with self.subTest(signal=sent), self.begin(logs, "--workers", "2", *more) as run:
                 until(lambda: self.begun() != before and self.some_lines(), "a vehicle is done")
                 run.send_signal(sent)
-                output, said = run.communicate(timeout=60)
+                output, said = run.communicate(timeout=300)
                 self.assertEqual(run.returncode, 130)
                 self.assertRegex(said, r"tfpg fleet: stopped; \d+ of 152 vehicles are done; --resume goes on")
                 self.assertNotIn("Traceback", said)

@@ -157,7 +157,7 @@ class Lines(WithRedis):
         with process(tfpg_words(*fleet.words(0)), stderr=subprocess.DEVNULL) as worker:
             until(lambda: fleet.found()[0][0], "a change is written")
             worker.send_signal(signal.SIGTERM)
-            self.assertEqual(worker.wait(30), 0)
+            self.assertEqual(worker.wait(300), 0)
         fleet.send()
         fleet.work()
         self.hold(fleet)
@@ -228,7 +228,7 @@ class Deaths(WithRedis):
         with process(tfpg_words(*fleet.words(0, "--patience", 1)), stderr=subprocess.PIPE) as worker:
             until(lambda: fleet.found()[0][0], "a change is written")
             self.redis.kill()
-            _, said = worker.communicate(timeout=60)
+            _, said = worker.communicate(timeout=300)
         self.assertEqual(worker.returncode, 70)
         self.assertRegex(said.splitlines()[-1], "^tfpg stream: Redis does not answer")
         self.assertNotIn("Traceback", said)
@@ -297,7 +297,7 @@ class Gaps(WithRedis):
             before = fleet.found()
             self.client.xtrim(Part(0, 1).lines, maxlen=25, approximate=False)
             worker.send_signal(signal.SIGCONT)
-            said = worker.communicate(timeout=60)[1]
+            said = worker.communicate(timeout=300)[1]
         self.assertEqual(worker.returncode, 1)
         self.assertRegex(said, "has lost 5 lines before they were read")
         self.assertEqual(fleet.found(), before)

@@ -35,13 +35,16 @@ def fault_of_url(url: str) -> str:
 
 
 def connected(url: str, part: Part, password: Optional[str] = None) -> Any:
-    """A client for the server that has the part. Of a Redis Cluster it is the machine with the keys of the part."""
+    """A client for the server that has the part. Of a Redis Cluster it is the machine with the keys of the part. NoStore if none answers, and
+    `redis.AuthenticationError` if the password is not right."""
     words = {"password": password, "socket_timeout": SECONDS, "socket_connect_timeout": SECONDS}
     try:
         client = redis.Redis.from_url(url, **words)
         if client.info("cluster")["cluster_enabled"]:
             cluster = RedisCluster.from_url(url, **words)
             client = cluster.get_redis_connection(cluster.get_node_from_key(part.lines))
+    except redis.AuthenticationError:
+        raise
     except (redis.RedisError, OSError) as fault:
         raise NoStore(f"Redis does not answer at {without_user(url)}: {fault}") from None
     return client
