@@ -76,7 +76,8 @@ class Loading(unittest.TestCase):
     def test_a_library_of_another_header(self):
         """All calls are there, and the version of the header is an older one, or is not said."""
         calls = "".join(f"void {name}(void) {{}}\n" for name in CALLS)
-        for version, said in (("const unsigned tfpg_header_version = 2;", f"is of version 2 of the header, and this package of version {HEADER_VERSION}: "),
+        other = f"is of version 2 of the header, and this package of version {HEADER_VERSION}: "
+        for version, said in (("const unsigned tfpg_header_version = 2;", other),
                               ("", "does not say the version of its header, so it is older than this package: ")):
             with self.subTest(version=version), files(**{"calls.c": calls + version}) as folder:
                 subprocess.run(["cc", "-shared", "-fPIC", "-o", FILE, "calls.c"], check=True)

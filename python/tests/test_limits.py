@@ -60,6 +60,16 @@ class Limits(unittest.TestCase):
             "QUESTIONS": self.header(r"\. It has at most # bytes\. The log")[0], "VERDICT": self.header(r"\. It has at most # bytes, and the same")[0],
         })
 
+    def test_macros(self):
+        """Each of the header, but for the bytes of two texts that calls write."""
+        said = {name: int(value) for name, value in re.findall(r"#define TFPG_MAX_(\w+) (?:UINT64_C\()?(\d+)", HEADER)}
+        options = {name: limits.OPTIONS[f"--{name.lower()}"].greatest for name in ("K", "DOUBT", "BUDGET", "AHEAD")}
+        self.assertEqual({name: value for name, value in said.items() if name not in ("QUESTIONS", "VERDICT")}, {
+            "LINE": limits.LONGEST_LINE, "NAME": limits.LONGEST_NAME, "FILE": limits.FILE_BYTES, "INPUT": limits.INPUT_BYTES,
+            "NODES": limits.MOST_NODES, "FAILURES": limits.MOST_FAILURES, "EDGES": limits.MOST_EDGES, "MODES": limits.MOST_MODES,
+            "INCOMING": limits.MOST_INCOMING, "RARITY": limits.MOST_RARITY, "TIME": limits.MOST_TIME, "EVENTS": limits.MOST_EVENTS,
+            "CHANGES": limits.MOST_CHANGES, "HYPOTHESES": limits.MOST_HYPOTHESES, **options})
+
     def test_table_of_limits(self):
         self.assertEqual(self.row("a line"), [limits.LONGEST_LINE])
         self.assertEqual(self.row("a name"), [limits.LONGEST_NAME])
