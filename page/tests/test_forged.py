@@ -111,3 +111,40 @@ def a_history_over_a_silence_is_named(view):
     view.show(*written(view.maker, "silence", SILENCE))
     wanted = "the history of F does not fit: line 1 says that A was not active by 0:00:00.010, and it is so at 0:00:00.005"
     view.has(view.text("#problems"), [wanted, "set 0 (-) is neither ranked, open nor rejected"], "what does not fit")
+
+
+# The third round says what the second one said, although A must be active by then.
+LATE = {
+    "tfpg": "tfpg 1\nmode N\nfailure F 1\nor A watch 0\nor B watch 0\nedge F A 0 9 *\nedge F B 0 9 *\nend\n",
+    "log": "5 alarm B\n9 tick\n20 tick\n",
+    "report": """report 2 k 1 doubt 0 budget 9
+round 1 1 5
+hyp 0
+cycle 2
+why upto 1
+why unreached B 5
+ranked 1 cost 1 robust 1/2 set F
+at F 5
+at B 5
+rejected 0 set -
+counts ranked 1 covered 0 rejected 1 open 0
+round 2 2 9
+ranked 1 cost 1 robust 1/2 set F
+at F 5
+at B 5
+counts ranked 1 covered 0 rejected 1 open 0
+round 3 3 20
+ranked 1 cost 1 robust 1/2 set F
+at F 5
+at B 5
+counts ranked 1 covered 0 rejected 1 open 0
+""",
+}
+
+
+def a_history_that_becomes_late_is_named(view):
+    texts = [LATE[kind].encode() for kind in ("tfpg", "log", "report")]
+    view.same(Judge(Graph(texts[0]), lines_of(texts[1])).judge(texts[2]), "not accepted 18 NotATrace", "what the judge says")
+    view.show(*written(view.maker, "late", LATE))
+    view.same(view.values("#problems .link[data-report-line]", "reportLine"), ["18"], "the line that is named, and no other")
+    view.has(view.text("#problems"), "A must be active by 0:00:00.014, and is not active", "what does not fit")

@@ -20,7 +20,7 @@ function count(number, word) {
 class Comparison {
   constructor(graph, table, log, report) {
     Object.assign(this, { graph, table, log, report, found: [], seen: new Seen(graph), events: 0, nextPart: 0, work: 0 });
-    Object.assign(this, { walks: new Map(), closed: new Set(), believed: new Map(), alarmed: new Set(), names: new Map(), covered: { key: null, missing: null } });
+    Object.assign(this, { walks: new Map(), closed: new Set(), believed: new Map(), alarmed: new Set(), names: new Map(), before: null, traces: [], covered: { key: null, missing: null } });
   }
 
   run() {
@@ -71,7 +71,10 @@ class Comparison {
       this.say(round.at, "round " + round.number + " is at " + round.now + ", and line " + round.line + " at " + event.time);
     }
     if (event && round.number !== event.number) this.say(round.at, "this is round " + round.number + ", where round " + event.number + " is due");
-    const splits = this.parts(round), { ranked, open, rejected } = round;
+    const splits = this.parts(round), lists = this.report.text.slice(round.listsFrom, round.to);
+    if (event && event.kind === "tick" && !splits.size && lists === this.before) return this.again(round);
+    const { ranked, open, rejected } = round;
+    Object.assign(this, { before: open.length || rejected.length ? null : lists, traces: [] });
     for (const line of [...ranked, ...open, ...rejected]) this.set(line);
     const inTable = { ranked: ranked.filter(isOfTable), open: open.filter(isOfTable) };
     this.ranking(round, inTable);
@@ -81,6 +84,17 @@ class Comparison {
     this.rejections(round, splits);
     this.statuses(round, inTable, splits);
     this.counts(round);
+  }
+
+  // A round after a tick that says what the round before said: only the time is another, so only the histories are held against it.
+  again({ listsAt }) {
+    for (const { hypothesis, set, trace, place } of this.traces) this.history(hypothesis, set, trace, listsAt + place);
+  }
+
+  history(hypothesis, set, trace, at) {
+    const against = againstTrace(this.graph, this.log, this.seen, this.table[hypothesis], trace);
+    this.work += (trace.size + 1) * (8 + this.log.modeChanges.length);
+    if (against) this.say(at, "the history of " + set + " does not fit: ", ...against);
   }
 
   set({ hypothesis, set, at }) {
@@ -165,10 +179,10 @@ class Comparison {
 
   // ---- the ranking
 
-  ranking({ ranked: lines }, { ranked }) {
+  ranking({ ranked: lines, listsAt }, { ranked }) {
     let before = null;
     for (const line of ranked) {
-      this.rankedLine(line);
+      this.rankedLine(line, listsAt);
       if (before && !isBefore(before, line)) this.say(line.at, line.set + " does not stand in the order of cost, alarms and numbers");
       const part = ranked.find(other => this.isProperPart(other.hypothesis, line.hypothesis));
       if (part) this.say(line.at, line.set + " is ranked beside its part " + part.set);
@@ -177,7 +191,7 @@ class Comparison {
     this.work += lines.length * (lines.length + 1);
   }
 
-  rankedLine(line) {
+  rankedLine(line, listsAt) {
     const { graph, table, report } = this, hypothesis = table[line.hypothesis], { at, set, cost, alarmed, monitored } = line;
     const right = hypothesis.failures.reduce((sum, node) => sum + graph.nodes[node].rarity, DOUBT_COST * hypothesis.doubts.length);
     if (cost !== right) this.say(at, "the cost of " + set + " is said to be " + cost + ", and its members cost " + right);
@@ -188,9 +202,9 @@ class Comparison {
     }
     if (this.closed.has(line.hypothesis)) this.say(at, set + " is ranked, and was rejected before");
     else if (this.isClosed(line.hypothesis)) this.say(at, set + " is ranked, and its steps leave no case");
-    const trace = traceOf(graph, report, line), against = againstTrace(graph, this.log, this.seen, hypothesis, trace);
-    this.work += (trace.size + 1) * (8 + this.log.modeChanges.length);
-    if (against) this.say(at, "the history of " + set + " does not fit: ", ...against);
+    const trace = traceOf(graph, report, line);
+    this.traces.push({ hypothesis: line.hypothesis, set, trace, place: at - listsAt });
+    this.history(line.hypothesis, set, trace, at);
   }
 
   believedOf(hypothesis) {
