@@ -62,7 +62,9 @@ def by_program(log):
 def by_loop(graph, log):
     """The report of a session."""
     with tfpg.Session(graph) as session:
-        return (session.head + "".join(session.block for _ in session.rounds(log))).encode("ascii")
+        lines = log.split(b"\n")
+        blocks = [session.block for _ in session.rounds(lines if lines[-1] else lines[:-1])]
+    return (session.head + "".join(blocks)).encode("ascii")
 
 
 def said_of(report):
@@ -116,7 +118,11 @@ class Answers(unittest.TestCase):
 
     @classmethod
     def setUpClass(cls):
-        cls.graph, cls.logs = pump(), fleet_of(VEHICLES, 1)
+        cls.graph, cls.logs = pump(), {**fleet_of(VEHICLES, 1), "one line": b"600000 tick", "return": b"600000 tick\r", "nothing": b""}
+        stack = contextlib.ExitStack()
+        cls.addClassCleanup(stack.close)
+        place = stack.enter_context(folder())
+        cls.paths = {path.stem: path for path in written(place, cls.logs).iterdir()}
         cls.wanted = {name: by_loop(cls.graph, log) for name, log in cls.logs.items()}
 
     def hold(self, results):
@@ -135,12 +141,12 @@ class Answers(unittest.TestCase):
             self.assertEqual(by_program(log), self.wanted[name], name)
 
     def test_the_pool(self):
-        self.hold(tfpg.fleet.diagnose(self.graph, self.logs, workers=2, reports=True))
+        self.hold(tfpg.fleet.diagnose(self.graph, self.paths, workers=2, reports=True))
 
     def test_a_caller_may_take_any_executor(self):
         with concurrent.futures.ThreadPoolExecutor(2) as executor:
-            self.hold(tfpg.fleet.diagnose(self.graph, iter(self.logs.items()), executor=executor, reports=True))
-        self.hold(tfpg.fleet.diagnose(self.graph, self.logs, executor=Counting(), reports=True))
+            self.hold(tfpg.fleet.diagnose(self.graph, iter(self.paths.items()), executor=executor, reports=True))
+        self.hold(tfpg.fleet.diagnose(self.graph, self.paths, executor=Counting(), reports=True))
 
     @unittest.skipIf(missing("distributed"), missing("distributed"))
     def test_dask(self):
@@ -149,15 +155,15 @@ class Answers(unittest.TestCase):
         with scheduler() as head, dask_worker(head.address), dask_worker(head.address):
             with contextlib.closing(Client(head.address, set_as_default=False)) as client:
                 client.wait_for_workers(2, timeout=120)
-                self.hold(tfpg.fleet.diagnose(self.graph, self.logs, executor=client.get_executor(pure=False), reports=True))
-                results = list(tfpg.fleet.diagnose(self.graph, self.logs, executor=client.get_executor(), check=True))
+                self.hold(tfpg.fleet.diagnose(self.graph, self.paths, executor=client.get_executor(pure=False), reports=True))
+                results = list(tfpg.fleet.diagnose(self.graph, self.paths, executor=client.get_executor(), check=True))
         self.assertEqual({one.vehicle: one.checked for one in results},
                          {name: said_of(report)[1] for name, report in self.wanted.items()})
 
     @unittest.skipIf(missing("mpi4py", "mpiexec"), missing("mpi4py", "mpiexec"))
     def test_mpi(self):
         with folder() as place:
-            logs = written(place / "logs", self.logs)
+            logs = next(iter(self.paths.values())).parent
             (place / "spread.py").write_text(MPI, encoding="utf-8")
             words = ["mpiexec", "--allow-run-as-root", "--oversubscribe", "-n", "3", sys.executable, "-m", "mpi4py.futures",
                      str(place / "spread.py"), PUMP, str(logs)]

@@ -11,6 +11,7 @@ from ..calls.answers import Ranked, Refused, Round
 from ..calls.endings import Terms
 from ..calls.graph import Graph
 from ..calls.session import Session
+from ..calls.whole_logs import lines_in
 from .results import RankedSet, Result
 
 GZIP = 31  # the form of what zlib makes: the largest window, in a file of gzip
@@ -71,7 +72,7 @@ def result_of(graph: Graph, vehicle: str, log: bytes, terms: Terms, keeps_report
     first_refused, lines = None, 0
     with Session(graph, terms.k, terms.doubt, terms.budget) as session:
         report.add(session.head)
-        for answer in session.rounds(log):
+        for answer in session.rounds(lines_in(log)):
             lines += 1
             report.add(session.block)
             if isinstance(answer, Refused):
