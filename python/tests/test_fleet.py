@@ -386,6 +386,28 @@ class Command(WithFolder):
         self.assertEqual([one["vehicle"] for one in vehicles], [row[0] for row in self.query("select vehicle from worst")])
         self.assertEqual([tuple(one.values()) for one in sets["sets"]], self.query('select "set", vehicles, best_of, cost, since from sets'))
 
+    def on_terminal(self, **more):
+        """What a run says on a terminal."""
+        leader, follower = os.openpty()
+        log = written(self.place / "logs", {"car": b"5 tick\n"})
+        ended = subprocess.run(tfpg_words("fleet", PUMP, log, "--workers", 1), stdout=subprocess.DEVNULL, stderr=follower, check=False,
+                               env=environment(**more))
+        os.close(follower)
+        said = os.read(leader, 100000).decode()
+        os.close(leader)
+        self.assertEqual(ended.returncode, 0, said)
+        return said
+
+    def test_progress_on_a_terminal(self):
+        if missing("tqdm"):
+            self.skipTest(missing("tqdm"))
+        self.assertRegex(self.on_terminal(), r"100% 1/1 .* vehicles")
+
+    def test_no_progress_without_its_module(self):
+        (self.place / "tqdm.py").write_text("raise ImportError('none')\n", encoding="utf-8")
+        said = self.on_terminal(PYTHONPATH=os.pathsep.join([str(self.place), str(TOP / "python")]))
+        self.assertIn("there is no bar of progress, since the module tqdm is missing: on Debian it is the package python3-tqdm", said)
+
     def test_words_for_logs(self):
         logs = fleet_of(6, 7)
         place = written(self.place / "logs" / "monday", {name: logs[name] for name in ("car0", "car1", "car2")})
