@@ -9,8 +9,8 @@ FLEET = (EXAMPLES / "pump.tfpg", EXAMPLES / "pumps.log")
 RIGHT_COUNTS = b"counts ranked 1 covered 4 rejected 0 open 0\n"
 
 
-def vehicles(view):
-    return view.values("#vehicles tr[data-vehicle]", "vehicle")
+def vehicles(view, selector="#vehicles tr[data-vehicle]"):
+    return view.values(selector, "vehicle")
 
 
 def each_vehicle_has_a_line_with_its_head(view):

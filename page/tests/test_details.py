@@ -10,9 +10,9 @@ from pages import ARRAY, GAUGE, PUMP, RELAY
 BEFORE_PRINT = "dispatchEvent(new Event('beforeprint'))"
 
 
-def pages_of_print(view):
+def pages_of_print(view, mark=rb"/Type\s*/Page\b"):
     pdf = base64.b64decode(view.command("Page.printToPDF", preferCSSPageSize=True)["data"])
-    return len(re.findall(rb"/Type\s*/Page\b", pdf))
+    return len(re.findall(mark, pdf))
 
 
 def refused_lines_at_one_place_are_counted(view):

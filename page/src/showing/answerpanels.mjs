@@ -134,6 +134,6 @@ function vehicleRow({ name, rounds, last, alarms, terms, verdict, problems }) {
   const click = () => openVehicle(name, "ranking").then(lookAtPanel);
   return option({ "data-vehicle": name, click }, [name, wrong + says, verdict.words].join(", "), state.vehicle === name,
     cell(null, foreign(name)), cell(null, wrong ? element("span", { class: "refused" }, wrong) : null, says), cell("number", rounds),
-    cell(null, last ? timeWords(last.now, state.units) : ""), cell("number", alarms),
+    cell("time", last ? timeWords(last.now, state.units) : ""), cell("number", alarms),
     cell(verdict.verdict === "refused" ? "refused" : null, verdict.words));
 }

@@ -71,7 +71,8 @@ function prepareNode(group) {
   const number = Number(group.id.slice(2)), node = state.graph.nodes[number], box = boxOf(group);
   group.dataset.node = node.name;
   group.querySelector("text:last-of-type").classList.add("when");
-  group.append(drawn("text", { class: "sign", x: box.right - 3, y: box.top + 13, "font-size": 12 }));
+  const inset = node.kind === "and" ? [14, 17] : [3, 13]; // the corners of an octagon are cut
+  group.append(drawn("text", { class: "sign", x: box.right - inset[0], y: box.top + inset[1], "font-size": 12 }));
   if (node.kind !== "failure" && !node.lags) group.classList.add("hidden-node");
   return takePointer(group, () => nodeTip(number), () => markNode(node.name));
 }
