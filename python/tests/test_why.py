@@ -107,7 +107,7 @@ class Why(unittest.TestCase):
     def test_the_interval_of_an_alarm(self):
         """The flow was low at most 5 s before its alarm at 45:15, and at the latest then."""
         said = unwrapped(run("brief", *files_of("pump", "pump", EXAMPLES / "pump.report"), "--why", "FilterClogged")[1])
-        self.assertIn("LowFlow active before 0 ✕ but LowFlow not active before 0:45:10: "
+        self.assertIn("LowFlow active before time begins, at 0 ✕ but LowFlow not active before 0:45:10: "
                       "the alarm of line 3 comes at most 5 s after it ¶15-17", said)
         self.assertIn("LowFlow not active by 0:45:15 ✕ but LowFlow active by 0:45:15: the alarm of line 3 ¶18-20", said)
 
