@@ -1,4 +1,4 @@
-"""The command `brief`: it reads a report, or has the program write one, and says what stands in it."""
+"""The command `brief`: it reads a report, or has one made, and says what stands in it."""
 
 from __future__ import annotations
 

@@ -1,4 +1,4 @@
-"""The command `lint`: it runs the program, and tells what that refuses. The verdict is always the program's own."""
+"""The command `lint`: it asks the library, or runs the program, and tells what that refuses. The verdict is always their own."""
 
 from __future__ import annotations
 
