@@ -25,12 +25,12 @@ MODES = ("A", "B", "C")
 FAILURES = 4
 
 
-def draw_graph(draws, count):
+def draw_graph(draws, count, failures=FAILURES):
     """The nodes, as (name, kind, lag or None), and the edges, as (source, target, tmin, tmax or None, modes)."""
     band = draws.randint(8, 12)
     nodes, edges = [], []
     for node in range(count):
-        if node < FAILURES:
+        if node < failures:
             nodes.append((f"F{node}", "failure", None))
             continue
         kind = "or" if draws.random() < 0.85 else "and"
@@ -115,10 +115,10 @@ def draw_log(draws, nodes, edges, count):
     return "\n".join(lines) + "\n", [nodes[node][0] for node in sorted(starts)]
 
 
-def drawn(count, draw):
-    """The graph text, the log text and the failure modes of one draw."""
+def drawn(count, draw, failures=FAILURES):
+    """The graph text, the log text and the failure modes that started, of one draw with so many failure modes."""
     draws = random.Random(1000 * count + draw)
-    nodes, edges = draw_graph(draws, count)
+    nodes, edges = draw_graph(draws, count, failures)
     log, true = draw_log(draws, nodes, edges, count)
     return graph_text(nodes, edges), log, true
 

@@ -1,8 +1,9 @@
 #!/usr/bin/env bash
 # Compiles the header and the C programs of `examples` in C99, C11, C17 and C++11 to C++20, and those of `bench` in C99 and C17, by gcc and by
 # clang, where they are there. Each warning counts as an error. Then tries `examples/pool.c` by itself, under the sanitizers, which lines
-# `examples/renew.c` keeps, and whether the names that the header says are those of its numbers and of `docs/formats.md`. It needs no library
-# and no toolchain but these compilers. Ends with status 1 where something differs.
+# `examples/renew.c` keeps, and whether the names that the header says are those of its numbers and of `docs/formats.md`. Compares what
+# `cppcheck` says by MISRA of header and examples, where it is there, with the table of `docs/certification.md`. It needs no library and no
+# toolchain but these compilers. Ends with status 1 where something differs.
 set -eu -o pipefail
 
 top=$(dirname "$(dirname "$(readlink -f "${BASH_SOURCE[0]}")")")
@@ -83,7 +84,7 @@ compile() {
 }
 
 mine=("$top/bench/statuses.c" "$top/bench/numbers.c" "$top/bench/causes.c" "$top/bench/pool_test.c" "$top/bench/measure.c" "$top/bench/renew_test.c"
-    "$top/bench/stack.c")
+    "$top/bench/stack.c" "$top/bench/worst.c")
 for compiler in gcc clang; do
     if ! command -v "$compiler" > /dev/null; then
         printf '%s is not there, and is left out\n' "$compiler"
@@ -98,6 +99,18 @@ for compiler in gcc clang; do
     for language in c++11 c++14 c++17 c++20; do
         compile "${compiler/#gcc/g++}" "$language" "$made/header.c" "$top"/examples/*.c
     done
+    # Each size of a pool that its page allows can be linked, without a warning, and each other is refused.
+    "$compiler" -std=c99 -O2 -c -o "$made/pool_test.o" "$top/bench/pool_test.c"
+    for bits in {3..38}; do
+        linked=yes
+        "$compiler" -std=c99 "${strict[@]}" -DPOOL_BITS="$bits" -o "$made/pool" "$top/examples/pool.c" "$made/pool_test.o" \
+            2> "$made/said" || linked=no
+        case $bits,$linked in
+            [345],no | 3[1-8],no) grep -q 'POOL_BITS is from 6 to 30' "$made/said" || differs "why a pool of 2^$bits bytes is refused" ;;
+            [6-9],yes | [12][0-9],yes | 30,yes) ;;
+            *) differs "whether a pool of 2^$bits bytes can be linked, by $compiler: $linked" ;;
+        esac
+    done
     # Pools of 1 KB, 64 KB and 4 MB.
     for bits in 10 16 22; do
         "$compiler" -std=c99 -g -O1 -fsanitize=address,undefined -fno-sanitize-recover=all -DPOOL_BITS=$bits -o "$made/pool" \
@@ -108,5 +121,21 @@ for compiler in gcc clang; do
     "$made/renew" 1000 1 || differs "what is kept of a log, by $compiler"
     try_names "$compiler"
 done
+
+# The rules of MISRA from which a file deviates, `RULE FILE`: by the table, and by `cppcheck`.
+deviations_said() {
+    sed -n '/^| Rule | Where /,$p' "$top/docs/certification.md" | awk -F '|' '
+        NR > 2 { rules = split($2, rule, ","); files = split($3, file, ",")
+            for (one = 1; one <= rules; one++) for (other = 1; other <= files; other++) print rule[one], file[other] }' | tr -s ' '
+}
+deviations_found() {
+    (cd "$top" && cppcheck --addon=misra --std=c99 -I include -q examples/*.c 2>&1) |
+        sed -nE 's/^.*\/([a-z]+\.[ch]):[0-9]+:.*\[misra-c2012-([0-9.]+)\]/ \2 \1/p'
+}
+if command -v cppcheck > /dev/null && deviations_found > "$made/found" && [ -s "$made/found" ]; then
+    diff <(deviations_said | sed 's/ *$//' | LC_ALL=C sort -u) <(LC_ALL=C sort -u "$made/found") || differs 'the deviations from MISRA'
+else
+    printf 'cppcheck or its addon is not there, and is left out\n'
+fi
 
 exit "$status"

@@ -7,6 +7,7 @@
 #   node of its graph, and each example map.
 # - Compares the numbers of sessions, which took lines or events, with the lines of reports, for each example log and for 20,000 random lines.
 #   Compares what `examples/monitor.c` says of each example log with its report, and all names of the graphs with those of the graphs' texts.
+# - Gives a hard log to a pool that is too small for it, and to one that is enough.
 # - Fills sessions, and compares what `examples/renew.c` says in the end with what is said of the same log without that. Compares what looser
 #   graphs reject with what is rejected.
 # - Lets reads fail, at once and in a line.
@@ -225,6 +226,15 @@ for bits in 10 12 13 14 15 16 17; do
         *) differs "a pool of 2^$bits bytes: the last block" ;;
     esac
 done
+
+# A hard log, for which a pool of 4 MB is too small, and one of 16 MB is enough.
+python3 "$top/bench/banded.py" "$made/banded" 8
+link_with_pool examples/embed.c embed_small 22
+ended=0
+"$made/embed_small" "$made/banded/150-7.tfpg" < "$made/banded/150-7.log" > "$made/text" || ended=$?
+[ "$ended" = 8 ] || differs "a hard log in a pool of 4 MB: status $ended"
+"$made/embed_pool" "$made/banded/150-7.tfpg" < "$made/banded/150-7.log" > "$made/said" || differs 'a hard log in a pool of 16 MB: the status'
+[ -s "$made/text" ] && cmp -s "$made/text" <(head -c "$(stat -c %s "$made/text")" "$made/said") || differs 'a hard log in a pool of 4 MB'
 
 # A full log. The pump's own, with 70,000 ticks after its third line, is said to be the same in the end. So is one with 2,000 changes to
 # the mode that is already there. Where 1,100 changes matter, the run ends with 7, and with a line that is refused.

@@ -12,11 +12,14 @@
 #include <string.h>
 
 #ifndef POOL_BITS
-#define POOL_BITS 22 /* 4 MB; from 5 to 36 */
+#define POOL_BITS 22 /* 4 MB; from 6 to 30, since a program has at most 2 GB of such arrays */
+#endif
+#if POOL_BITS < 6 || POOL_BITS > 30
+#error "POOL_BITS is from 6 to 30"
 #endif
 
 #define UNIT_BITS 5U
-#define TOP (POOL_BITS - UNIT_BITS)
+#define TOP ((unsigned)POOL_BITS - UNIT_BITS)
 #define UNITS ((size_t)1 << TOP)
 #define FREE 0x80U
 
@@ -141,7 +144,7 @@ void rattle_dealloc(void *p) {
     unsigned order = state[block] - 1U;
     taken -= (size_t)1 << order;
     state[block] = 0U;
-    for (other = block ^ ((size_t)1 << order); order < TOP && is_free(other, order); other = block ^ ((size_t)1 << order)) {
+    for (other = block ^ ((size_t)1 << order); order != TOP && is_free(other, order); other = block ^ ((size_t)1 << order)) {
         take(other, order);
         block &= ~((size_t)1 << order);
         order++;
