@@ -122,14 +122,15 @@ for compiler in gcc clang; do
     try_names "$compiler"
 done
 
-# The rules of MISRA from which a file deviates, `RULE FILE`: by the table, and by `cppcheck`.
+# The rules of MISRA from which a file deviates, `RULE FILE`: by the table, and by `cppcheck`, which leaves files beside those that it reads.
 deviations_said() {
     sed -n '/^| Rule | Where /,$p' "$top/docs/certification.md" | awk -F '|' '
         NR > 2 { rules = split($2, rule, ","); files = split($3, file, ",")
             for (one = 1; one <= rules; one++) for (other = 1; other <= files; other++) print rule[one], file[other] }' | tr -s ' '
 }
 deviations_found() {
-    (cd "$top" && cppcheck --addon=misra --std=c99 -I include -q examples/*.c 2>&1) |
+    cp -r "$top/examples" "$top/include" "$made"
+    (cd "$made" && cppcheck --addon=misra --std=c99 -I include -q examples/*.c 2>&1) |
         sed -nE 's/^.*\/([a-z]+\.[ch]):[0-9]+:.*\[misra-c2012-([0-9.]+)\]/ \2 \1/p'
 }
 if command -v cppcheck > /dev/null && deviations_found > "$made/found" && [ -s "$made/found" ]; then
