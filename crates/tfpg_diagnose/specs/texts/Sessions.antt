@@ -6,7 +6,7 @@ use Rattle.tfpg_log.specs.LogOfLines.{log_of_lines}
 use Rattle.tfpg_evidence.specs.declared.round.Round.{Round}
 use Rattle.tfpg_engine.specs.EngineState.{EngineState, EngineRepresents, calls_of_engine}
 use Rattle.tfpg_report.specs.Blocks.{Block, block_text, head_text}
-use Rattle.tfpg_check.specs.Report.{rounds_of}
+use Rattle.tfpg_check.specs.Report.{IsBlock, rounds_of}
 use Rattle.tfpg_diagnose.specs.Work.{IsBlockLimit}
 use Rattle.tfpg_diagnose.specs.declared.texts.latest.Latest.{Latest}
 use Rattle.tfpg_diagnose.specs.texts.Latest.{latest_after, text_of_latest}
@@ -48,10 +48,12 @@ pub record IsNewSession (graph_text : List ℕ) (terms : Terms) (session : Sessi
   pub text_is : latest_text session ≡ head_text terms
   pub no_calls : calls_of_engine session.engine ≡ 0
 
--- The bytes are the block of a line that came to an engine after these rounds. For it the count of calls went from one number to the other,
--- by at most the limit of the block: that of its round, and 0 for a refused line.
+-- The bytes are the text of a right block of a line that came to an engine after these rounds. For it the count of calls went from one number
+-- to the other, by at most the limit of the block: that of its round, and 0 for a refused line.
 pub record CountsBlock (engine : EngineState) (rounds : List Round) (line bytes : List ℕ) (start end : ℕ) : Type 0 where
+  pub number : ℕ
   pub block : Block
+  pub is_block : IsBlock engine.graph engine.terms (record { rounds = rounds; log = engine.log }) number line block
   pub text : bytes ≡ block_text engine.graph block
   pub limit : ℕ
   pub is_limit : IsBlockLimit engine.graph (record { rounds = rounds; log = engine.log }) line block limit

@@ -135,8 +135,11 @@ impl Session {
         ensures work { (rounds : List Round) → EngineRepresents self.old.engine rounds →
             OnOk result (CountsBlock self.old.engine rounds text.now (latest_text self.new)
             (calls_of_engine self.old.engine) (calls_of_engine self.new.engine)) }
+        ensures graph { self.new.engine.graph ≡ self.old.engine.graph }
         ensures ended { (result ≡ Err EventFault.Ended) ↔ (self.old.next ≡ None) }
         ensures ends { OnErr result (self.new.next ≡ None) }
+        // Where memory runs out, what came last is kept.
+        ensures keeps { OnErr result (self.new.latest ≡ self.old.latest) }
         ensures goes_on { OnOk result (IsSome self.new.next) }
     {
         let number = self.next.take().ok_or(EventFault::Ended)?;
@@ -169,6 +172,7 @@ impl Session {
             IfOk result (λ block. CountsBlock self.old.engine rounds text.now block.items
             (calls_of_engine self.old.engine) (calls_of_engine self.new.engine)) }
         ensures text { IfOk result (λ block. block.items ≡ latest_text self.new) }
+        ensures graph { self.new.engine.graph ≡ self.old.engine.graph }
         ensures ended { (result ≡ Err EventFault.Ended) ↔ (self.old.next ≡ None) }
         ensures ends { OnErr result (self.new.next ≡ None) }
         ensures goes_on { OnOk result (IsSome self.new.next) }
@@ -192,7 +196,8 @@ impl Session {
 
     /// Takes no further line.
     fn end(&mut self)
-        ensures { self.new.next ≡ None }
+        ensures next { self.new.next ≡ None }
+        ensures graph { self.new.engine.graph ≡ self.old.engine.graph }
     {
         self.next = None;
     }

@@ -175,11 +175,27 @@ pub brought_counts : (old new : EngineState) (rounds : List Round) (number : ℕ
     → CountsBlock old rounds line (block_text old.graph (block_brought number what)) start finish
 brought_counts old new rounds number line what start finish is =
     let within = is.brings.2 in
-    record { block = is.brings.0.block; text = is.brings.0.text; limit = within.0; is_limit = within.1; within = within.2 }
+    record {
+      number = number;
+      block = is.brings.0.block;
+      is_block = is.brings.0.is_block;
+      text = is.brings.0.text;
+      limit = within.0;
+      is_limit = within.1;
+      within = within.2;
+    }
 
 -- what the counter counts, the systems of the engine count
 pub counted_by_systems : (old new : EngineState) (rounds : List Round) (line bytes : List ℕ) (start finish : ℕ) → calls_of_engine new + start ≡ calls_of_engine old + finish
     → CountsBlock old rounds line bytes start finish → CountsBlock old rounds line bytes (calls_of_engine old) (calls_of_engine new)
 counted_by_systems old new rounds line bytes start finish counted counts =
     let within = counts.within in
-    record { block = counts.block; text = counts.text; limit = counts.limit; is_limit = counts.is_limit; within = omega (arith, counted, within) }
+    record {
+      number = counts.number;
+      block = counts.block;
+      is_block = counts.is_block;
+      text = counts.text;
+      limit = counts.limit;
+      is_limit = counts.is_limit;
+      within = omega (arith, counted, within);
+    }
