@@ -1,16 +1,13 @@
 //! The top call: from the words and the bytes of the outside to the bytes of a report, or of a verdict.
 
 ghost use Rattle.std.specs.Prelude.{◌≡◌, ℕ, List, map, string_bytes, OnOk, IfErr, Ok};
-ghost use Rattle.tfpg_check.specs.declared.cause.CheckCause.{CheckCause};
 ghost use Rattle.tfpg_panel.specs.Desk.{seen_by};
 ghost use Rattle.tfpg_words.specs.Meaning.{Meaning, Check, Diagnose, meaning};
-ghost use Rattle.tfpg_run.specs.Completeness.{CanBeDone, CanRefuse, IsCompleted, IsRefusedFor, NothingFails};
 ghost use Rattle.tfpg_words.specs.Plans.{meaning_of};
 ghost use Rattle.tfpg_run.specs.inside.Plans.{AreWithinLimits, PlansCommand};
 ghost use Rattle.tfpg_run.specs.EndsOf.{end_of_result};
 ghost use Rattle.tfpg_run.specs.Run.{RunEnds, CommandEnds, LeavesDesk};
 ghost use Rattle.tfpg_run.specs.World.{World, world};
-ghost use Rattle.tfpg_run.specs.check.AfterDiagnosis.{FollowsDiagnosis};
 ghost use Rattle.tfpg_run.specs.Work.{RunsWithin};
 
 use crate::ask::ask_by_files;
@@ -27,11 +24,7 @@ use std::alloc::Global;
 use std::sync::ledger::Ledger;
 use tfpg_answers::ForecastRequest;
 use tfpg_base::{Shelf, Sink, Source, Steps, Terms};
-use tfpg_check::laws::lines_have_at_most_one_cause;
-use tfpg_graph::laws::a_text_has_at_most_one_first_fault;
-use tfpg_json::laws::a_text_has_at_most_one_first_fault_as_json;
 use tfpg_panel::{Desk, Panel};
-use tfpg_report::laws::a_report_line_says_one_thing;
 use tfpg_words::laws::numbers_are_within_their_limits;
 use tfpg_words::{Command, PlanFault, Planned, plan};
 
@@ -45,62 +38,32 @@ use tfpg_words::{Command, PlanFault, Planned, plan};
 /// diagnose a fleet it reads the graph, then takes the input line by line, writes the answer to each line before the next read, and
 /// at the end writes how many vehicles have which failure mode. To predict it reads the graph and the log that they name, diagnoses the
 /// log, and writes when at the earliest a node becomes active by each ranked hypothesis. Searches count their calls on `work`.
-pub fn run<F: Shelf, S: Source, K: Sink, L: Ledger>(
+pub fn run<F: Shelf, S: Source, K: Sink, P: Panel, L: Ledger>(
     alloc: Global,
     words: &[String],
     shelf: &mut F,
     input: &mut S,
     out: &mut K,
-    desk: &mut Desk,
+    desk: &mut Desk<P>,
     work: &mut Steps<L>,
 ) -> End
     // Each end has its cause, and what was written by then is right. No file is asked for but those that the words name, in their order.
     ensures ends { RunEnds (meaning (map string_bytes words.now))
-        (world (F.state shelf.old) (S.state input.old) (K.state out.old) (seen_by ⟦<Box<dyn Panel> as Panel>⟧.state desk.old))
+        (world (F.state shelf.old) (S.state input.old) (K.state out.old) (seen_by P.state desk.old))
         (world (F.state shelf.new) (S.state input.new) (K.state out.new)
-        (seen_by ⟦<Box<dyn Panel> as Panel>⟧.state desk.new)) result }
-
-    // Where the words are right, the files and the input serve them and nothing fails, it is done, or memory ran out.
-    ensures completes { (meant : Meaning) → meaning (map string_bytes words.now) ≡ Ok meant →
-        CanBeDone meant (world (F.state shelf.old) (S.state input.old) (K.state out.old)
-        (seen_by ⟦<Box<dyn Panel> as Panel>⟧.state desk.old)) →
-        NothingFails (world (F.state shelf.old) (S.state input.old) (K.state out.old)
-        (seen_by ⟦<Box<dyn Panel> as Panel>⟧.state desk.old))
-        (world (F.state shelf.new) (S.state input.new) (K.state out.new) (seen_by ⟦<Box<dyn Panel> as Panel>⟧.state desk.new)) →
-        IsCompleted result }
-
-    // Where the lines of a report have a cause for which they are not accepted, a check ends with it and its line, or memory ran out.
-    ensures refuses { (graph log : List ℕ) (line : ℕ) (cause : CheckCause) →
-        meaning (map string_bytes words.now) ≡ Ok (Check graph log) →
-        CanRefuse (F.state shelf.old) (S.state input.old) graph log line cause →
-        NothingFails (world (F.state shelf.old) (S.state input.old) (K.state out.old)
-        (seen_by ⟦<Box<dyn Panel> as Panel>⟧.state desk.old))
-        (world (F.state shelf.new) (S.state input.new) (K.state out.new) (seen_by ⟦<Box<dyn Panel> as Panel>⟧.state desk.new)) →
-        IsRefusedFor line cause result }
+        (seen_by P.state desk.new)) result }
 
     // A run of `diagnose` or `fleet` that is done made at most as many counted calls as the limits of its rounds allow.
     ensures work { (meant : Meaning) → meaning (map string_bytes words.now) ≡ Ok meant → result ≡ End.Done →
         RunsWithin meant (world (F.state shelf.old) (S.state input.old) (K.state out.old)
-        (seen_by ⟦<Box<dyn Panel> as Panel>⟧.state desk.old))
+        (seen_by P.state desk.old))
         (world (F.state shelf.new) (S.state input.new) (K.state out.new)
-        (seen_by ⟦<Box<dyn Panel> as Panel>⟧.state desk.new)) work.old work.new }
+        (seen_by P.state desk.new)) work.old work.new }
 
     // No command but `diagnose` touches the desk.
     ensures desk { LeavesDesk (meaning (map string_bytes words.now)) desk.old desk.new }
-
-    // What a diagnosis that is done has written can be checked by the same graph and the same lines.
-    ensures rechecks { (terms : Terms) (diagnosed : List ℕ) →
-        meaning (map string_bytes words.now) ≡ Ok (Diagnose terms diagnosed) → result ≡ End.Done →
-        (graph log : List ℕ) (later : World) → FollowsDiagnosis diagnosed graph log
-        (world (F.state shelf.old) (S.state input.old) (K.state out.old) (seen_by ⟦<Box<dyn Panel> as Panel>⟧.state desk.old))
-        (world (F.state shelf.new) (S.state input.new) (K.state out.new)
-        (seen_by ⟦<Box<dyn Panel> as Panel>⟧.state desk.new)) later → CanBeDone (Check graph log) later }
 {
     numbers_are_within_their_limits();
-    a_text_has_at_most_one_first_fault();
-    lines_have_at_most_one_cause();
-    a_text_has_at_most_one_first_fault_as_json();
-    a_report_line_says_one_thing();
     match plan_words(alloc, words) {
         Ok(planned) => end_of(perform(alloc, &planned.command, shelf, input, out, desk, work)),
         Err(fault) => End::from(fault),

@@ -12,6 +12,7 @@ ghost use Rattle.tfpg_evidence.specs.declared.round.Round.{Round};
 ghost use Rattle.tfpg_evidence.specs.Findings.{hypothesis_of};
 ghost use Rattle.tfpg_evidence.specs.RoundOf.{is_rejected};
 ghost use Rattle.tfpg_report.specs.Blocks.{Block, Loss, RoundBlock};
+ghost use Rattle.tfpg_check.specs.declared.cause.CheckCause.{CheckCause};
 ghost use Rattle.tfpg_check.specs.Report.{AreBlocks};
 ghost use Rattle.tfpg_sim.specs.declared.simulated.Simulated.{Simulated};
 ghost use Rattle.tfpg_sim.specs.Simulated.{IsSimulationOf};
@@ -30,7 +31,7 @@ ghost use Rattle.tfpg_run.specs.fleet.FleetOutput.{AreAnswers, FleetProblem};
 ghost use Rattle.tfpg_words.specs.Meaning.{Check, Diagnose, Meaning};
 ghost use Rattle.tfpg_words.specs.declared.usage_cause.UsageCause.{UsageCause};
 ghost use Rattle.tfpg_run.specs.declared.end.End.{End};
-ghost use Rattle.tfpg_run.specs.Completeness.{CanBeDone, IsCompleted, NothingFails};
+ghost use Rattle.tfpg_run.specs.Completeness.{CanBeDone, CanRefuse, IsCompleted, IsRefusedFor, NothingFails};
 ghost use Rattle.tfpg_run.specs.FilesAsked.{AsksInOrder, named_files};
 ghost use Rattle.tfpg_run.specs.Run.{RunEnds};
 ghost use Rattle.tfpg_run.specs.check.AfterDiagnosis.{FollowsDiagnosis};
@@ -89,6 +90,21 @@ pub fn files_are_asked_for_in_order()
     ensures { (meant : Result Meaning UsageCause) (before now : World) (end : End) → RunEnds meant before now end →
         AsksInOrder (named_files meant) before.shelf now.shelf }
 {}
+
+/// Where the files and the input serve what the words mean, and nothing fails, a run is done, or memory ran out. Where the lines of a report
+/// have a cause for which they are not accepted, a check ends with it and its line, or memory ran out.
+pub fn only_memory_hinders_a_run()
+    ensures completes { (meant : Meaning) (before now : World) (end : End) → RunEnds (Ok meant) before now end →
+        CanBeDone meant before → NothingFails before now → IsCompleted end }
+    ensures refuses { (graph log : List ℕ) (line : ℕ) (cause : CheckCause) (before now : World) (end : End) →
+        RunEnds (Ok (Check graph log)) before now end →
+        CanRefuse before.shelf before.input graph log line cause → NothingFails before now → IsRefusedFor line cause end }
+{
+    a_text_has_at_most_one_first_fault();
+    a_text_has_at_most_one_first_fault_as_json();
+    lines_have_at_most_one_cause();
+    a_report_line_says_one_thing();
+}
 
 /// What a diagnosis that is done has written is accepted by `check`, with the same graph file, and with a log file that has the lines of the
 /// input that was diagnosed: the check is done, or memory runs out, where neither files, input nor output fail.

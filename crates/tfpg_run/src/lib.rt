@@ -2,8 +2,8 @@
 //!
 //! [`run`] is the call that the program makes. It says how it ended by an [`End`], which has an exit code and a line. [`laws`] says that a
 //! simulated set is rejected in no round, that a vehicle is diagnosed as if alone, that files are asked for in their order, that `diagnose`
-//! writes each block and `fleet` each answer before the next read, that what `diagnose` wrote is accepted by `check`, and that a graph that
-//! is converted to JSON and back is the same graph.
+//! writes each block and `fleet` each answer before the next read, that a run that files and input serve is done unless something fails or
+//! memory runs out, that what `diagnose` wrote is accepted by `check`, and that a graph that is converted to JSON and back is the same graph.
 //! [`panel_lines`] has the lines that panels over files write.
 //!
 //! ```
@@ -13,7 +13,7 @@
 //!
 //! # Proved, and by which clause
 //!
-//! - The rows of the program in `docs/promises.md`: `run`, `ends`, `completes`, `refuses`, `rechecks`, `work`, `desk`.
+//! - The rows of the program in `docs/promises.md`: `run`, `ends`, `work`, `desk`.
 //! - The line of each kind of panel, byte for byte: `panel_lines::panel_line`.
 //!
 //! # Not proved

@@ -386,28 +386,12 @@ module _ (graphs : GraphLaws) (laws : CheckLaws) (before now : World) (calm : No
   completed (Predict terms ahead graph log node) end can is = predicted end (prediction terms ahead node) graph log can is.0
 
   -- the whole run
-  pub run_completes : (words : Result Meaning UsageCause) (meant : Meaning) (end : End) → words ≡ Ok meant → CanBeDone meant before → RunEnds words before now end
-      → IsCompleted end
-  run_completes words meant end e can is = go (subst (λ (w : Result Meaning UsageCause). RunEnds w before now end) e is)
-    where
-      go : RunEnds (Ok meant) before now end → IsCompleted end
-      go (inl does) = completed meant end can does
-      go (inr none) = inr none.1
+  pub run_completes : (meant : Meaning) (end : End) → RunEnds (Ok meant) before now end → CanBeDone meant before → IsCompleted end
+  run_completes meant end (inl does) can = completed meant end can does
+  run_completes meant end (inr none) can = inr none.1
 
   -- so it is with lines that have a cause
-  pub run_refuses : (words : Result Meaning UsageCause) (graph_name log_name : List ℕ) (line : ℕ) (cause : CheckCause) (end : End) → words ≡ Ok (Check graph_name log_name)
-      → CanRefuse before.shelf before.input graph_name log_name line cause → RunEnds words before now end → IsRefusedFor line cause end
-  run_refuses words graph_name log_name line cause end e can is = go (subst (λ (w : Result Meaning UsageCause). RunEnds w before now end) e is)
-    where
-      go : RunEnds (Ok (Check graph_name log_name)) before now end → IsRefusedFor line cause end
-      go (inl does) = refused end graph_name log_name line cause can does
-      go (inr none) = inr none.1
-
--- how a run ends whose work had this result
-pub by_work : (words : Result Meaning UsageCause) (meant : Meaning) (before now : World) (work : Result (Unit {0}) End) (end : End) → words ≡ Ok meant
-    → end ≡ end_of_result (λ (end : End). end) work → OnOk work (CommandEnds (Ok meant) before now ends.Done) → IfErr work (CommandEnds (Ok meant) before now)
-    → RunEnds words before now end
-by_work words meant before now (Ok done) end e f is stopped =
-    subst (λ (w : Result Meaning UsageCause). RunEnds w before now end) (sym e) (inl (subst (CommandEnds (Ok meant) before now) (sym f) is))
-by_work words meant before now (Err other) end e f is stopped =
-    subst (λ (w : Result Meaning UsageCause). RunEnds w before now end) (sym e) (inl (subst (CommandEnds (Ok meant) before now) (sym f) stopped))
+  pub run_refuses : (graph_name log_name : List ℕ) (line : ℕ) (cause : CheckCause) (end : End) → RunEnds (Ok (Check graph_name log_name)) before now end
+      → CanRefuse before.shelf before.input graph_name log_name line cause → IsRefusedFor line cause end
+  run_refuses graph_name log_name line cause end (inl does) can = refused end graph_name log_name line cause can does
+  run_refuses graph_name log_name line cause end (inr none) can = inr none.1

@@ -1,4 +1,3 @@
-use Rattle.std.proofs.Common.{Ok, refl}
 use Rattle.tfpg_words.specs.Meaning.{Check}
 use Rattle.tfpg_run.proofs.lemmas.Completing.{run_completes}
 use Rattle.tfpg_run.proofs.lemmas.check.AcceptedDiagnoses.{can_check}
@@ -15,5 +14,5 @@ returns-clause-accepted c = λ terms diagnosed graph log before now later after 
       one_cause = c.lines_have_at_most_one_cause.ensures.one;
       too_many = c.lines_have_at_most_one_cause.ensures.too_many;
       one_line = c.a_report_line_says_one_thing.ensures;
-    }) later after calm (Ok (Check graph log)) (Check graph log) end refl
-    (can_check terms diagnosed graph log before now later ends follows) checks
+    }) later after calm (Check graph log) end checks
+    (can_check terms diagnosed graph log before now later ends follows)

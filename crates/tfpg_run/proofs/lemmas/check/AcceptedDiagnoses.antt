@@ -126,10 +126,3 @@ module _ (terms : Terms) (diagnosed graph log : List ℕ) (before now later : Wo
       ),
     );
   }
-
--- So it is where a run ended so whose words meant the diagnosis.
-pub can_check_after : (words : Result Meaning UsageCause) (end : End) (terms : Terms) (diagnosed graph log : List ℕ) (before now later : World)
-    → words ≡ Ok (Diagnose terms diagnosed) → end ≡ Done
-    → RunEnds words before now end → FollowsDiagnosis diagnosed graph log before now later → CanBeDone (Check graph log) later
-can_check_after words end terms diagnosed graph log before now later means done ends follows =
-    can_check terms diagnosed graph log before now later (subst₂ (λ (w : Result Meaning UsageCause) (e : End). RunEnds w before now e) means done ends) follows
