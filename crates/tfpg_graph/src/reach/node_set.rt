@@ -1,6 +1,6 @@
 //! Sets of the nodes of a graph.
 
-ghost use Rattle.std.specs.Prelude.{◌≡◌, ◌<◌, ◌↔◌, [], IsTrue, Contains};
+ghost use Rattle.std.specs.Prelude.{◌≡◌, ◌<◌, ◌↔◌, [], ◌∷◌, IsTrue, Contains, MatchOption};
 ghost use Rattle.tfpg_base.specs.Set.{with_member};
 ghost use Rattle.tfpg_base.specs.NodeSet.{IsNodeSet};
 
@@ -46,6 +46,14 @@ impl NodeSet {
         NodeSet {
             nodes: self.nodes.with(node),
         }
+    }
+
+    /// The least node, and the set of the others.
+    pub(crate) fn split_first(self) -> Option<(u32, NodeSet)>
+        ensures { MatchOption result (self ≡ []) (λ parts. self ≡ parts.0 ∷ parts.1) }
+    {
+        let (node, nodes) = self.nodes.split_first()?;
+        Some((node, NodeSet { nodes }))
     }
 
     /// Whether the node is in the set. A number from [`MAX_NODES`] on is in none.

@@ -1,5 +1,5 @@
 -- What a set reaches with one failure mode more, as it is found.
-use Rattle.std.proofs.Common.{◌≡◌, ℕ, ◌+◌, ◌<◌, ◌≤◌, ◌==◌, ◌⊎◌, inl, inr, ⊎_elim, List, [], ◌∷◌, ◌++◌, length, get_or, drop, Option, Some, None, IfSome, IsTrue, ap, sym, ◌∙◌, subst}
+use Rattle.std.proofs.Common.{◌≡◌, ℕ, ◌+◌, ◌<◌, ◌≤◌, ◌==◌, ◌⊎◌, inl, inr, ⊎_elim, List, [], ◌∷◌, ◌++◌, length, get_or, drop, Option, Some, None, IfSome, IsTrue, ap, sym, ◌∙◌, subst, subst₂}
 use Rattle.std.specs.List.{All, Contains}
 use Rattle.std.specs.Option.{IsSomeAnd}
 use Rattle.std.proofs.lemmas.Bool.{eqb-true}
@@ -56,58 +56,66 @@ module _ (graph : Tfpg) (old new : List ℕ) (more : ℕ) (only : (other : ℕ) 
 
 -- ---- what is pending
 
-module _ (graph : Tfpg) (first : ℕ) (others : List ℕ) (old : List ℕ) (full : IsFullBut graph (first ∷ others) old) where
-  -- the first that is pending is not fed, or is there
-  IsFullBut-passed : (IsFed graph old first → Contains old first) → IsFullBut graph others old
-  IsFullBut-passed here node fed =
+module _ (graph : Tfpg) (rows : List (List ℕ)) (old pending : List ℕ) where
+  -- where the first of a rest is passed, the rest is left
+  IsFullBut-passed : (first : ℕ) (others : List ℕ) → IsFullBut graph rows (first ∷ others) pending old → (IsFed graph old first → Contains old first) → IsFullBut graph rows others pending old
+  IsFullBut-passed first others full here node fed =
       ⊎_elim
-      (λ pending. ⊎_elim (λ same. inr (subst (Contains old) same (here (subst (IsFed graph old) (sym same) fed)))) inl (Contains-cons_cases first others node pending))
+      (λ rest. ⊎_elim (λ same. inr (inr (subst (Contains old) same (here (subst (IsFed graph old) (sym same) fed))))) inl (Contains-cons_cases first others node rest))
       inr
       (full node fed)
 
-  -- the first that is pending is added: all to which edges lead from it are pending
-  pub IsFullBut-added : (new : List ℕ) (rows : List (List ℕ)) → AreOnward (length graph.nodes) graph.edges rows → ((other : ℕ) → Contains new other → (first ≡ other) ⊎ Contains old other)
-      → Contains new first → ((other : ℕ) → Contains old other → Contains new other) → IsFullBut graph (row rows first ++ others) new
-  IsFullBut-added new rows onward only here keeps node fed =
+  -- where the first of a rest is added, it is pending
+  IsFullBut-added : (first : ℕ) (others new : List ℕ) → IsFullBut graph rows (first ∷ others) pending old → AreOnward (length graph.nodes) graph.edges rows
+      → ((other : ℕ) → Contains new other → (first ≡ other) ⊎ Contains old other) → Contains new first → ((other : ℕ) → Contains old other → Contains new other)
+      → IsFullBut graph rows others (with_member first pending) new
+  IsFullBut-added first others new full onward only here keeps node fed =
       ⊎_elim
-      (λ leads. inl (Contains-append_left (row rows first) others node ((onward.exact first node).1 leads)))
+      (λ leads. inr (inl (first, Contains-with_member first pending, (onward.exact first node).1 leads)))
       (λ before.
       ⊎_elim
-      (λ pending. ⊎_elim (λ same. inr (subst (Contains new) same here)) (λ later. inl (Contains-append_right (row rows first) others node later)) (Contains-cons_cases first others node pending))
-      (λ there. inr (keeps node there))
+      (λ rest. ⊎_elim (λ same. inr (inr (subst (Contains new) same here))) inl (Contains-cons_cases first others node rest))
+      (λ either. ⊎_elim (λ lead. inr (inl (lead.0, with_member-keeps first pending lead.0 lead.1, lead.2))) (λ there. inr (inr (keeps node there))) either)
       (full node before))
       (fed_before graph old new first only node fed)
 
+  -- what is gone on from is no longer pending, and its row is left
+  pub IsFullBut-opened : (from : ℕ) → IsFullBut graph rows [] (from ∷ pending) old → IsFullBut graph rows (row rows from) pending old
+  IsFullBut-opened from full node fed =
+      ⊎_elim
+      (λ none. absurd (Contains-nil node none))
+      (λ either. ⊎_elim
+      (λ lead. ⊎_elim (λ same. inl (subst (λ (source : ℕ). Contains (row rows source) node) (sym same) lead.2)) (λ later. inr (inl (lead.0, later, lead.2))) (Contains-cons_cases from pending lead.0 lead.1))
+      (λ there. inr (inr there))
+      either)
+      (full node fed)
+
 -- ---- along the edges from a node
 
--- what is pending of a row from an index on
-abbrev pub pending_from : List ℕ → ℕ → List ℕ → List ℕ
-pending_from row index others = drop index row ++ others
-
-module _ (graph : Tfpg) (nodes : List ℕ) (index : ℕ) (within : index < length nodes) (old new : List ℕ) where
+module _ (graph : Tfpg) (rows : List (List ℕ)) (nodes : List ℕ) (index : ℕ) (within : index < length nodes) (old pending : List ℕ) (full : IsFullBut graph rows (drop index nodes) pending old) where
   abbrev next : ℕ
   next = get_or nodes index 0
 
-  first_pending : (others : List ℕ) → IsFullBut graph (pending_from nodes index others) old → IsFullBut graph (next ∷ pending_from nodes (index + 1) others) old
-  first_pending others full = subst (λ (rest : List ℕ). IsFullBut graph (rest ++ others) old) (drop_more nodes index 0 within) full
+  first_left : IsFullBut graph rows (next ∷ drop (index + 1) nodes) pending old
+  first_left = subst (λ (rest : List ℕ). IsFullBut graph rows rest pending old) (drop_more nodes index 0 within) full
 
   -- the next node is passed
-  pub pending_passed : (others : List ℕ) → IsFullBut graph (pending_from nodes index others) old → new ≡ old → (IsFed graph new next → Contains new next) → IsFullBut graph (pending_from nodes (index + 1) others) new
-  pending_passed others full same here =
-      subst (IsFullBut graph (pending_from nodes (index + 1) others)) (sym same)
-      (IsFullBut-passed graph next (pending_from nodes (index + 1) others) old (first_pending others full) (subst (λ (ns : List ℕ). IsFed graph ns next → Contains ns next) same here))
+  pub left_passed : (new : List ℕ) → new ≡ old → (IsFed graph new next → Contains new next) → IsFullBut graph rows (drop (index + 1) nodes) pending new
+  left_passed new same here =
+      subst (IsFullBut graph rows (drop (index + 1) nodes) pending) (sym same)
+      (IsFullBut-passed graph rows old pending next (drop (index + 1) nodes) first_left (subst (λ (ns : List ℕ). IsFed graph ns next → Contains ns next) same here))
 
-  -- the next node is added, and the search goes on from it
-  pub pending_added : (rows : List (List ℕ)) (after : List ℕ) → AreOnward (length graph.nodes) graph.edges rows → ((other : ℕ) → Contains new other → (next ≡ other) ⊎ Contains old other)
-      → Contains new next → Widens graph old new → ((others : List ℕ) → IsFullBut graph (row rows next ++ others) new → IsFullBut graph others after)
-      → (others : List ℕ) → IsFullBut graph (pending_from nodes index others) old → IsFullBut graph (pending_from nodes (index + 1) others) after
-  pending_added rows after onward only here widens spreads others full =
-      spreads (pending_from nodes (index + 1) others)
-      (IsFullBut-added graph next (pending_from nodes (index + 1) others) old (first_pending others full) new rows onward only here widens.keeps)
+  -- the next node is added
+  pub left_added : (new more : List ℕ) → AreOnward (length graph.nodes) graph.edges rows → ((other : ℕ) → Contains new other → (next ≡ other) ⊎ Contains old other)
+      → Contains new next → Widens graph old new → more ≡ with_member next pending → IsFullBut graph rows (drop (index + 1) nodes) more new
+  left_added new more onward only here widens is =
+      subst (λ (them : List ℕ). IsFullBut graph rows (drop (index + 1) nodes) them new) (sym is)
+      (IsFullBut-added graph rows old pending next (drop (index + 1) nodes) new first_left onward only here widens.keeps)
 
--- at the end of a row nothing of it is pending
-pub pending_none : (graph : Tfpg) (nodes : List ℕ) (index : ℕ) (others reached : List ℕ) → length nodes ≤ index → IsFullBut graph (pending_from nodes index others) reached → IsFullBut graph others reached
-pending_none graph nodes index others reached end full = subst (λ (rest : List ℕ). IsFullBut graph (rest ++ others) reached) (drop_all index nodes end) full
+-- at the end of a row nothing of it is left
+pub left_none : (graph : Tfpg) (rows : List (List ℕ)) (nodes : List ℕ) (index : ℕ) (pending reached : List ℕ) → length nodes ≤ index → IsFullBut graph rows (drop index nodes) pending reached
+    → IsFullBut graph rows [] pending reached
+left_none graph rows nodes index pending reached end full = subst (λ (rest : List ℕ). IsFullBut graph rows rest pending reached) (drop_all index nodes end) full
 
 -- ---- one failure mode more
 
@@ -121,13 +129,9 @@ Reaches-larger graph set larger within node reaches test closed =
       and_nodes = closed.and_nodes;
     })
 
-module _ (graph : Tfpg) (set known : List ℕ) (is : IsReach graph set known) (position node : ℕ) (at : failure_at graph position ≡ Some node) where
+module _ (graph : Tfpg) (set known : List ℕ) (is_reach : IsReach graph set known) (position node : ℕ) (at : failure_at graph position ≡ Some node) where
   known_reached : All (Reaches graph set) known
-  known_reached = All-from_members (Reaches graph set) known (λ other member. (is.exact other).0 member)
-
-  -- the reach feeds nothing that it has not
-  full_known : IsFullBut graph (node ∷ []) known
-  full_known other fed = inr ((is.exact other).1 (fed_is_reached graph set known known_reached other fed))
+  known_reached = All-from_members (Reaches graph set) known (λ other member. (is_reach.exact other).0 member)
 
   -- the node of the failure mode and the reach are reached
   reached_at_first : (start : List ℕ) → IsNodeSet start → start ≡ with_member node known → AreReached graph (with_member position set) start
@@ -136,22 +140,25 @@ module _ (graph : Tfpg) (set known : List ℕ) (is : IsReach graph set known) (p
     own = λ place own member at_place. subst (λ (nodes : List ℕ). Contains nodes own) (sym begins)
         (⊎_elim
         (λ same. subst (Contains (with_member node known)) (same_Some node own (sym at ∙ ap (failure_at graph) same ∙ at_place)) (Contains-with_member node known))
-        (λ before. with_member-keeps node known own ((is.exact own).1 (own_is_reached graph set place own before at_place)))
+        (λ before. with_member-keeps node known own ((is_reach.exact own).1 (own_is_reached graph set place own before at_place)))
         (with_member-only position set place member));
     reached = subst (All (Reaches graph (with_member position set))) (sym begins)
         (All-with_member (Reaches graph (with_member position set)) node known (own_is_reached graph (with_member position set) position node (Contains-with_member position set) at)
-        (All-from_members (Reaches graph (with_member position set)) known (λ other member. Reaches-larger graph set (with_member position set) (All-from_members (Contains (with_member position set)) set (with_member-keeps position set)) other ((is.exact other).0 member))));
+        (All-from_members (Reaches graph (with_member position set)) known (λ other member. Reaches-larger graph set (with_member position set) (All-from_members (Contains (with_member position set)) set (with_member-keeps position set)) other ((is_reach.exact other).0 member))));
   }
 
-  -- What is found from the node on is what the set reaches with the failure mode.
-  pub IsReach-grown : (rows : List (List ℕ)) (start reached : List ℕ) → AreOnward (length graph.nodes) graph.edges rows → IsNodeSet start → start ≡ with_member node known → Widens graph start reached
-      → ((pending : List ℕ) → IsFullBut graph (row rows node ++ pending) start → IsFullBut graph pending reached) → IsReach graph (with_member position set) reached
-  IsReach-grown rows start reached onward is_set begins widens spreads =
+  -- at first the node of the failure mode alone is pending
+  pub pending_at_first : (rows : List (List ℕ)) (start pending : List ℕ) → AreOnward (length graph.nodes) graph.edges rows → start ≡ with_member node known → pending ≡ with_member node []
+      → IsFullBut graph rows [] pending start
+  pending_at_first rows start pending onward begins is =
+      subst₂ (IsFullBut graph rows []) (sym is) (sym begins)
+      (IsFullBut-added graph rows known [] node [] (with_member node known)
+      (λ other fed. inr (inr ((is_reach.exact other).1 (fed_is_reached graph set known known_reached other fed)))) onward (with_member-only node known) (Contains-with_member node known) (with_member-keeps node known))
+
+  -- Where nothing is pending any more, all is found that the set reaches with the failure mode.
+  pub IsReach-grown : (rows : List (List ℕ)) (start reached : List ℕ) → IsNodeSet start → start ≡ with_member node known → Widens graph start reached → IsFullBut graph rows [] [] reached
+      → IsReach graph (with_member position set) reached
+  IsReach-grown rows start reached is_set begins widens full =
       IsReach-full graph (with_member position set) reached
       (AreReached-widened graph (with_member position set) start reached widens (reached_at_first start is_set begins))
-      (λ other within fed. ⊎_elim (λ none. absurd (Contains-nil other none)) (λ there. there) (spreads [] full_start other fed))
-    where
-      full_start : IsFullBut graph (row rows node ++ []) start
-      full_start =
-          subst (IsFullBut graph (row rows node ++ [])) (sym begins)
-          (IsFullBut-added graph node [] known full_known (with_member node known) rows onward (with_member-only node known) (Contains-with_member node known) (with_member-keeps node known))
+      (λ other within fed. ⊎_elim (λ none. absurd (Contains-nil other none)) (λ either. ⊎_elim (λ lead. absurd (Contains-nil lead.0 lead.1)) (λ there. there) either) (full other fed))

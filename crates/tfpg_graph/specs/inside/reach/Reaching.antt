@@ -7,6 +7,7 @@ use Rattle.tfpg_graph.specs.declared.edge.Edge.{Edge}
 use Rattle.tfpg_graph.specs.Graph.{Tfpg, kind_at, failure_at, edges_into}
 use Rattle.tfpg_base.specs.NodeSet.{IsNodeSet}
 use Rattle.tfpg_graph.specs.Reach.{Reaches}
+use Rattle.tfpg_graph.specs.inside.zero_cycle.ZeroSearch.{IsStep}
 
 -- the source of some edge into the node is one of these
 abbrev pub HasSourceIn : Tfpg → List ℕ → ℕ → Type 0
@@ -30,9 +31,14 @@ IsFed graph nodes node = IsSomeAnd (kind_at graph node) (IsFedAs graph nodes nod
 abbrev pub IsFullBefore : Tfpg → List ℕ → ℕ → Type 0
 IsFullBefore graph nodes end = (node : ℕ) → node < end → IsFed graph nodes node → Contains nodes node
 
--- each node that these feed is pending, or is one of these
-abbrev pub IsFullBut : Tfpg → List ℕ → List ℕ → Type 0
-IsFullBut graph pending nodes = (node : ℕ) → IsFed graph nodes node → Contains pending node ⊎ Contains nodes node
+-- a step leads to the node from one of these
+abbrev pub LeadFrom : List (List ℕ) → List ℕ → ℕ → Type 0
+LeadFrom rows sources node = (source : ℕ) × Contains sources source × IsStep rows source node
+
+-- Each node that these feed is in the rest of a row, or a step leads to it from one that is pending, or it is one of these.
+abbrev pub IsFullBut : Tfpg → List (List ℕ) → List ℕ → List ℕ → List ℕ → Type 0
+IsFullBut graph rows rest pending nodes =
+    (node : ℕ) → IsFed graph nodes node → Contains rest node ⊎ (LeadFrom rows pending node ⊎ Contains nodes node)
 
 -- These nodes are reached by the set, and the set's own failure modes are among them.
 pub record AreReached (graph : Tfpg) (set nodes : List ℕ) : Type 0 where
