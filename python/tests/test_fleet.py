@@ -497,9 +497,9 @@ class Faults(WithFolder):
         words = tfpg_words("fleet", PUMP, written(self.place / "logs", logs), "--out", self.out, *more)
         return process(words, stdout=subprocess.PIPE, stderr=subprocess.PIPE)
 
-    def some_lines(self):
+    def some_lines(self, least=1):
         path = self.out / "summary.jsonl"
-        return path.exists() and path.read_text(encoding="utf-8").count("\n") > 0
+        return path.exists() and path.read_text(encoding="utf-8").count("\n") >= least
 
     def begun(self):
         """Which file the summary is. A run begins it anew."""
@@ -556,9 +556,9 @@ class Faults(WithFolder):
     def test_an_interrupt_leaves_what_is_done(self):
         logs = self.long_fleet(23)
         for sent, more in ((signal.SIGINT, []), (signal.SIGTERM, ["--resume"])):
-            before = self.begun()
+            before, wanted = self.begun(), 8 + (len(self.lines()) if more else 0)  # by then both workers are there
             with self.subTest(signal=sent), self.begin(logs, "--workers", "2", *more) as run:
-                until(lambda: self.begun() != before and self.some_lines(), "a vehicle is done")
+                until(lambda: self.begun() != before and self.some_lines(wanted), "some vehicles are done")
                 run.send_signal(sent)
                 output, said = run.communicate(timeout=300)
                 self.assertEqual(run.returncode, 130)

@@ -108,9 +108,10 @@ class Run:
         if self.folder is None:
             return []
         lines = [line for line in map(self.line_before, self.logs) if line is not None]
-        self.folder.begin(lines)
-        for line in lines:
-            self.summary.add(line)
+        with uninterrupted():
+            self.folder.begin(lines)
+            for line in lines:
+                self.summary.add(line)
         return [line["vehicle"] for line in lines]
 
     def line_before(self, vehicle: str) -> Optional[Dict[str, Any]]:
@@ -140,7 +141,8 @@ class Run:
         if result.fault:
             status = NOT_READ if not result.log else NOT_ACCEPTED
             self.status = self.status or told(f"{result.vehicle}: {result.fault}", status)
-        self.summary.add(self.folder.add(result) if self.folder is not None else {**result.to_dict(), **self.terms})
+        with uninterrupted():
+            self.summary.add(self.folder.add(result) if self.folder is not None else {**result.to_dict(), **self.terms})
 
     def tell(self) -> int:
         """Writes the table, and returns the status."""
@@ -152,6 +154,20 @@ class Run:
         except sqlite3.OperationalError as fault:
             return told(f"{self.said.out}: {fault}; {self.left()}", NOT_WRITTEN)
         return self.status
+
+
+@contextlib.contextmanager
+def uninterrupted() -> Iterator[None]:
+    """Lets an interrupt come after what is done within, so that a vehicle stands in both summaries or in none."""
+    came: List[int] = []
+    before = {sent: signal.signal(sent, lambda number, _: came.append(number)) for sent in (signal.SIGINT, signal.SIGTERM)}
+    try:
+        yield
+    finally:
+        for sent, handler in before.items():
+            signal.signal(sent, handler)
+    if came:
+        raise KeyboardInterrupt
 
 
 def shown(results: Iterable[Result], total: int) -> Iterable[Result]:
