@@ -13,7 +13,6 @@ import os
 import random
 import signal
 import sqlite3
-import statistics
 import subprocess
 import sys
 import unittest
@@ -103,13 +102,12 @@ class Counting(concurrent.futures.Executor):
     """An executor that does each task at once, and keeps what it was given."""
 
     def __init__(self):
-        self.given, self.answers = [], []
+        self.given = []
 
     def submit(self, call, *words):
         self.given.append((call, words))
         future = concurrent.futures.Future()
-        self.answers.append(call(*words))
-        future.set_result(self.answers[-1])
+        future.set_result(call(*words))
         return future
 
 
@@ -189,13 +187,23 @@ if __name__ == "__main__":
 @unittest.skipIf(NEEDED, NEEDED)
 class Tasks(unittest.TestCase):
     def test_small_logs_go_in_bundles(self):
-        executor = Counting()
-        logs = fleet_of(3000, 2, 20, 20)
+        class Steady(Counting):
+            def submit(self, call, *words):
+                future = super().submit(call, *words)
+                steady = future.result()._replace(seconds=spreading.weight_of(words[1]) / 1e6)
+                future = concurrent.futures.Future()
+                future.set_result(steady)
+                return future
+        executor, logs = Steady(), fleet_of(600, 2, 20, 20)
         list(tfpg.fleet.diagnose(pump(), logs, executor=executor))
-        sizes = [len(bundle.logs) for _, (_, bundle) in executor.given]
-        self.assertEqual(sum(sizes), len(logs))
-        self.assertGreater(min(sizes[:-1]), 10)
-        self.assertGreater(statistics.median(answer.seconds for answer in executor.answers[1:-1]), 0.1)
+        bundles = [bundle for _, (_, bundle) in executor.given]
+        self.assertEqual([name for bundle in bundles for name, _ in bundle.logs], list(logs))
+        weights = list(map(spreading.weight_of, bundles))
+        self.assertGreaterEqual(min(weights[:-1]), spreading.FIRST_WEIGHT)
+        later = weights[spreading.FIRST_TASKS:-1]  # made after the first were back, at a million in a second
+        self.assertGreater(len(later), 1)
+        self.assertGreaterEqual(min(later), 1e6 * spreading.SECONDS)
+        self.assertGreaterEqual(spreading.SECONDS, 0.1)
 
     def test_the_next_bundles_take_as_long_as_is_wanted(self):
         spread = spreading.Spread(Counting(), b"", spreading.Terms(), False, False, 8)
