@@ -435,13 +435,6 @@ MISTAKES = [
         "badge.a_report_that_was_checked_is_said_to_be",
     ),
     Mistake(
-        "a line of a stream that begins with the name of a vehicle is its own",
-        "making/fleet.py",
-        """if line.startswith(name + b" ") and""",
-        """if line.startswith(name) and""",
-        "outlooks.the_report_of_each_vehicle_is_checked",
-    ),
-    Mistake(
         "a log with a byte order mark is a log",
         "making/reading.py",
         "    if text.startswith(MARKS):",
