@@ -11,7 +11,7 @@ use Rattle.tfpg_evidence.specs.declared.finding.Finding.{Finding}
 use Rattle.tfpg_evidence.specs.declared.round.Round.{Round}
 use Rattle.tfpg_evidence.specs.declared.step.Step.{Step}
 use Rattle.tfpg_evidence.specs.Findings.{hypothesis_of, ranked_in_order}
-use Rattle.tfpg_report.specs.LineWords.{activation_text}
+use Rattle.tfpg_report.specs.declared.report_line.ReportLine.TheVariants.{At}
 use Rattle.tfpg_report.specs.ReadRounds.{step_lines}
 use Rattle.tfpg_report.specs.ReportLines.{lines_text}
 use Rattle.tfpg_report.specs.SetText.{set_word}
@@ -73,7 +73,7 @@ probed_steps_text probed steps = lines_text probed (flat_map step_lines steps)
 abbrev pub outlook_text : Tfpg → Tfpg → Finding → Outlook → List ℕ
 outlook_text graph probed finding (Earliest time trace earlier) =
     forecast_line graph finding (codes "earliest" ∷ decimal time ∷ [])
-    ++ flat_map (activation_text graph) trace ++ probed_steps_text probed earlier
+    ++ lines_text graph (map At trace) ++ probed_steps_text probed earlier
 outlook_text graph probed finding (Never steps) =
     forecast_line graph finding (codes "never" ∷ []) ++ probed_steps_text probed steps
 outlook_text graph probed finding (Unsettled bound steps) =

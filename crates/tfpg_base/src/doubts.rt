@@ -11,7 +11,7 @@ use std::marker::Model;
 /// A set of monitors that may be wrong, each by the number of its node, which is below
 /// [`MAX_NODE_NUMBERS`](crate::MAX_NODE_NUMBERS). It takes no memory.
 /// Contracts see it as the rising list of these numbers.
-#[derive(Clone, Copy, Debug)]
+#[derive(Clone, Copy)]
 pub struct Doubts {
     nodes: NodeNumbers,
 }

@@ -5,7 +5,7 @@ ghost use Rattle.tfpg_base.specs.Memory.{count_after};
 ghost use Rattle.tfpg_base.specs.Outside.{Rose};
 
 /// How often something of the outside has failed. At its last value, `u64::MAX`, the count stands still.
-#[derive(Debug, Drop)]
+#[derive(Drop)]
 pub struct FaultCount {
     /// The number of faults.
     pub count: u64,

@@ -10,7 +10,7 @@ use crate::set::Set;
 use std::marker::Model;
 
 /// The failure modes of a hypothesis, and the monitors that it does not believe. Contracts see the record of both lists.
-#[derive(Clone, Copy, Debug)]
+#[derive(Clone, Copy)]
 pub struct Hypothesis {
     pub set: Set,
     pub doubts: Doubts,

@@ -1,7 +1,7 @@
 //! What a reader of lines returns.
 
 /// What the next line is.
-#[derive(Clone, Copy, Debug, PartialEq, Eq)]
+#[derive(Clone, Copy, PartialEq, Eq)]
 pub enum Line {
     /// A line of at most [`LONGEST_LINE`](crate::LONGEST_LINE) bytes.
     Text,
@@ -12,7 +12,7 @@ pub enum Line {
 }
 
 /// Why no next line can be read.
-#[derive(Clone, Copy, Debug, PartialEq, Eq)]
+#[derive(Clone, Copy, PartialEq, Eq)]
 pub enum LineFault {
     /// The source failed.
     ReadFault,

@@ -14,7 +14,7 @@ const WORDS: usize = MAX_NODE_NUMBERS as usize / 64;
 
 /// A set of nodes, each by its number, which is below [`MAX_NODE_NUMBERS`](crate::MAX_NODE_NUMBERS). It takes no memory.
 /// Contracts see it as the rising list of these numbers.
-#[derive(Clone, Copy, Debug)]
+#[derive(Clone, Copy)]
 pub struct NodeNumbers {
     words: [u64; WORDS],
 }

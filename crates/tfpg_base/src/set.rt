@@ -14,7 +14,7 @@ use std::marker::Model;
 /// A set of failure modes, each by its position among the failure modes of the graph, which is below
 /// [`MAX_MEMBERS`](crate::MAX_MEMBERS).
 /// Contracts see it as the rising list of these positions.
-#[derive(Clone, Copy, Debug)]
+#[derive(Clone, Copy)]
 pub struct Set {
     bits: u64,
 }

@@ -1,7 +1,7 @@
 //! The terms of a diagnosis.
 
 /// What a diagnosis is asked with, besides a graph and a log.
-#[derive(Clone, Copy, Debug, PartialEq, Eq)]
+#[derive(Clone, Copy, PartialEq, Eq)]
 pub struct Terms {
     /// The greatest number of members of a hypothesis: failure modes, and monitors that it doubts.
     pub k: u32,

@@ -10,7 +10,7 @@ use std::marker::Model;
 
 /// Which node became active at which millisecond. A node that does not stand in it never became active.
 /// Contracts see it as the list of its activations, by rising nodes.
-#[derive(Clone, Debug, Drop)]
+#[derive(Clone, Drop)]
 pub struct Trace {
     items: Vec<Activation>,
 }

@@ -10,7 +10,7 @@ ghost use Rattle.tfpg_base.specs.Words.{is_letter, is_name_byte, is_name, is_num
 use crate::LONGEST_NAME;
 
 /// What a word says in the place of a number.
-#[derive(Clone, Copy, Debug, PartialEq, Eq)]
+#[derive(Clone, Copy, PartialEq, Eq)]
 pub enum Number {
     /// The number.
     Value(u64),

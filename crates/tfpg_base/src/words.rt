@@ -10,7 +10,7 @@ use std::alloc::Global;
 use std::marker::Model;
 
 /// The words of a line that has at most [`MAX_WORDS`]. Contracts see them as the list of their bytes.
-#[derive(Debug, Drop)]
+#[derive(Drop)]
 pub struct Words<'a> {
     items: [&'a [u8]; MAX_WORDS],
     count: usize,

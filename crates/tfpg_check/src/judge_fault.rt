@@ -6,7 +6,7 @@ use tfpg_hyp::TableFault;
 use tfpg_report::ReadRefusal;
 
 /// Why a report is not accepted, or not judged.
-#[derive(Clone, Copy, Debug, PartialEq, Eq)]
+#[derive(Clone, Copy, PartialEq, Eq)]
 pub enum JudgeFault {
     /// The first test of the report that fails says this line and this cause.
     NotAccepted { line: u64, cause: CheckCause },

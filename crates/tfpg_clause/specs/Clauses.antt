@@ -90,36 +90,24 @@ abbrev pub must_by : Bool → ℕ → ℕ → Option Window → Option (List Due
 must_by holds target number window dues =
     if holds then option_and_then (λ all. option_and_then (λ w. must_in target number w all) window) dues else None
 
--- the clause that an OR node becomes active in a span only where the failure arrives by some edge
-abbrev pub or_may : Tfpg → Logbook → ℕ → ℕ → ℕ → Option (List (List Constraint))
-or_may graph log node number horizon =
+-- The alternatives of a clause in order, each a list of constraints, where the name is allowed at the log. An OR node
+-- becomes active in a span only where the failure arrives by some edge, and an AND node only where it arrives by each. An
+-- OR node is active once the failure is due by an edge, and an AND node once it is due by all.
+abbrev pub alternatives : Tfpg → Logbook → ClauseName → Option (List (List Constraint))
+alternatives graph log (OrMay node number horizon) =
     may_by log (is_kind_at is_or graph node) node (edges_into graph node) number horizon
-
--- the clause that an AND node becomes active in a span only where the failure arrives by this edge
-abbrev pub and_may : Tfpg → Logbook → Edge → ℕ → ℕ → Option (List (List Constraint))
-and_may graph log edge number horizon =
-    may_by log (is_kind_at is_and graph edge.target) edge.target (edge ∷ []) number horizon
-
--- the clause that an OR node is active once the failure is due by this edge
-abbrev pub or_must : Tfpg → Logbook → Edge → ℕ → ℕ → Option (List (List Constraint))
-or_must graph log edge number horizon =
-    must_by (is_kind_at is_or graph edge.target) edge.target number (window_of log edge number horizon)
-    (dues_of log number horizon (edge ∷ []))
-
--- the clause that an AND node is active once the failure is due by all edges
-abbrev pub and_must : Tfpg → Logbook → ℕ → ℕ → ℕ → Option (List (List Constraint))
-and_must graph log node number horizon =
+alternatives graph log (AndMay edge number horizon) =
+    option_and_then (λ e. may_by log (is_kind_at is_and graph e.target) e.target (e ∷ []) number horizon)
+    (slice_get graph.edges edge)
+alternatives graph log (OrMust edge number horizon) =
+    option_and_then
+    (λ e.
+    must_by (is_kind_at is_or graph e.target) e.target number (window_of log e number horizon)
+    (dues_of log number horizon (e ∷ [])))
+    (slice_get graph.edges edge)
+alternatives graph log (AndMust node number horizon) =
     must_by (is_kind_at is_and graph node) node number (joint_of graph log node number horizon)
     (dues_of log number horizon (edges_into graph node))
-
--- The alternatives of a clause in order, each a list of constraints, where the name is allowed at the log.
-abbrev pub alternatives : Tfpg → Logbook → ClauseName → Option (List (List Constraint))
-alternatives graph log (OrMay node number horizon) = or_may graph log node number horizon
-alternatives graph log (AndMay edge number horizon) =
-    option_and_then (λ e. and_may graph log e number horizon) (slice_get graph.edges edge)
-alternatives graph log (OrMust edge number horizon) =
-    option_and_then (λ e. or_must graph log e number horizon) (slice_get graph.edges edge)
-alternatives graph log (AndMust node number horizon) = and_must graph log node number horizon
 
 -- how many alternatives a clause has, where the name is allowed at the log
 abbrev pub count_of : Tfpg → Logbook → ClauseName → Option ℕ

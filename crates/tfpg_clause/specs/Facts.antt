@@ -6,7 +6,7 @@ use Rattle.tfpg_base.specs.declared.constraint.Constraint.{Constraint}
 use Rattle.tfpg_graph.specs.Graph.{Tfpg}
 use Rattle.tfpg_graph.specs.Reach.{is_among}
 use Rattle.tfpg_log.specs.declared.event.Event.{Event}
-use Rattle.tfpg_log.specs.declared.event.Event.TheVariants.{Alarm, Silent, Sweep, Tick, Mode}
+use Rattle.tfpg_log.specs.declared.event.Event.TheVariants.{Alarm}
 use Rattle.tfpg_log.specs.Log.{Logbook, now_of, event_at, alarm_interval, quiet_at}
 use Rattle.tfpg_evidence.specs.declared.reason.Reason.{Reason}
 use Rattle.tfpg_evidence.specs.declared.reason.Reason.TheVariants.{Zero, Top, Unreached, From, Upto, Quiet, Pick}
@@ -17,19 +17,13 @@ use Rattle.tfpg_clause.specs.Case.{Case}
 abbrev pub from_alarm : Tfpg → Logbook → Event → Option Constraint
 from_alarm graph log (Alarm time node) =
     option_map (λ interval. at_least node interval.earliest) (alarm_interval graph log node time)
-from_alarm graph log (Silent time node) = None
-from_alarm graph log (Sweep time) = None
-from_alarm graph log (Tick time) = None
-from_alarm graph log (Mode time mode) = None
+from_alarm graph log _ = None
 
 -- The node did not become active after the instants that its alarm leaves.
 abbrev pub upto_alarm : Tfpg → Logbook → Event → Option Constraint
 upto_alarm graph log (Alarm time node) =
     option_map (λ interval. at_most node (pos interval.latest)) (alarm_interval graph log node time)
-upto_alarm graph log (Silent time node) = None
-upto_alarm graph log (Sweep time) = None
-upto_alarm graph log (Tick time) = None
-upto_alarm graph log (Mode time mode) = None
+upto_alarm graph log _ = None
 
 -- The constraint that a reason states, where it is a fact of the log and of a set that reaches these nodes.
 abbrev pub fact : Case → Reason → Option Constraint

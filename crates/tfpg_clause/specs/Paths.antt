@@ -8,7 +8,7 @@ use Rattle.tfpg_base.specs.Choice.{last_of}
 use Rattle.tfpg_log.specs.Log.{Logbook, first_events}
 use Rattle.tfpg_evidence.specs.declared.clause_name.ClauseName.{ClauseName}
 use Rattle.tfpg_evidence.specs.declared.reason.Reason.{Reason}
-use Rattle.tfpg_evidence.specs.declared.reason.Reason.TheVariants.{Zero, Top, Unreached, From, Upto, Quiet, Pick}
+use Rattle.tfpg_evidence.specs.declared.reason.Reason.TheVariants.{Pick}
 use Rattle.tfpg_evidence.specs.declared.step.Step.{Step}
 use Rattle.tfpg_evidence.specs.declared.step.Step.TheVariants.{Split, Cycle, Again}
 use Rattle.tfpg_clause.specs.Case.{Case, case_at}
@@ -45,12 +45,7 @@ chosen_on path =
 -- the test of a reason that is a pick of the split with this number
 abbrev pub is_pick_of : ℕ → Reason → Bool
 is_pick_of number (Pick split constraint) = split == number
-is_pick_of number (Zero node) = false
-is_pick_of number (Top node) = false
-is_pick_of number (Unreached node horizon) = false
-is_pick_of number (From event) = false
-is_pick_of number (Upto event) = false
-is_pick_of number (Quiet event node) = false
+is_pick_of number _ = false
 
 -- whether some of the reasons is a pick of the split with this number
 abbrev pub cites : List Reason → ℕ → Bool

@@ -8,7 +8,7 @@ use Rattle.tfpg_graph.specs.Graph.{Tfpg}
 use Rattle.tfpg_log.specs.Log.{Logbook}
 use Rattle.tfpg_evidence.specs.declared.clause_name.ClauseName.{ClauseName}
 use Rattle.tfpg_evidence.specs.declared.reason.Reason.{Reason}
-use Rattle.tfpg_evidence.specs.declared.reason.Reason.TheVariants.{Zero, Top, Unreached, From, Upto, Quiet, Pick}
+use Rattle.tfpg_evidence.specs.declared.reason.Reason.TheVariants.{Pick}
 use Rattle.tfpg_evidence.specs.declared.step.Step.{Step}
 use Rattle.tfpg_evidence.specs.declared.step.Step.TheVariants.{Split, Cycle, Again}
 use Rattle.tfpg_clause.specs.Case.{Case, case_at}
@@ -23,8 +23,7 @@ pub record Judged : Type 0 where
 -- the test of a step that splits
 abbrev pub is_split : Step → Bool
 is_split (Split name) = true
-is_split (Cycle reasons) = false
-is_split Again = false
+is_split _ = false
 
 -- how many of the steps are splits
 abbrev pub split_count : List Step → ℕ
@@ -130,12 +129,7 @@ picked graph log path split number =
 -- The constraint that a reason states, where one function gives each pick, and another each fact.
 abbrev pub stated_with : (ℕ → ℕ → Option Constraint) → (Reason → Option Constraint) → Reason → Option Constraint
 stated_with pick_at fact_of (Pick split number) = pick_at split number
-stated_with pick_at fact_of (Zero node) = fact_of (Zero node)
-stated_with pick_at fact_of (Top node) = fact_of (Top node)
-stated_with pick_at fact_of (Unreached node horizon) = fact_of (Unreached node horizon)
-stated_with pick_at fact_of (From event) = fact_of (From event)
-stated_with pick_at fact_of (Upto event) = fact_of (Upto event)
-stated_with pick_at fact_of (Quiet event node) = fact_of (Quiet event node)
+stated_with pick_at fact_of reason = fact_of reason
 
 -- The constraint that a reason states at a leaf of this path: a fact, or one that was picked on the path.
 abbrev pub stated : Case → List Chosen → Reason → Option Constraint

@@ -4,7 +4,8 @@ ghost use Rattle.std.specs.Prelude.{◌≡◌, ◌<◌, ◌≤◌, length, All, 
 ghost use Rattle.std.specs.Result.{result_ok};
 ghost use Rattle.tfpg_graph.specs.declared.limits.TheConstants.{MAX_INCOMING, MAX_NODES};
 ghost use Rattle.tfpg_graph.specs.Graph.{is_or, is_and};
-ghost use Rattle.tfpg_clause.specs.Clauses.{alternatives, or_may, and_may, or_must, and_must, must_in, count_of, constraint_at};
+ghost use Rattle.tfpg_clause.specs.Clauses.{alternatives, must_in, count_of, constraint_at};
+ghost use Rattle.tfpg_clause.specs.inside.ClausesByKind.{or_may, and_may, or_must, and_must};
 ghost use Rattle.tfpg_base.specs.Choice.{item_at};
 ghost use Rattle.tfpg_clause.specs.inside.Alternatives.{constraints_in, dues_over, target_of_kind};
 ghost use Rattle.tfpg_clause.specs.inside.FirstSpan.{may_over};
@@ -20,7 +21,7 @@ use tfpg_graph::Graph;
 use tfpg_log::{Log, Window};
 
 /// The name of the clause is not allowed at the log.
-#[derive(Clone, Copy, Debug, PartialEq, Eq)]
+#[derive(Clone, Copy, PartialEq, Eq)]
 pub struct NotAClause;
 
 /// How many alternatives the clause has. The name is refused where it is not allowed: where its horizon is after now, the

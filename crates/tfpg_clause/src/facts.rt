@@ -19,7 +19,7 @@ use tfpg_graph::{Graph, NodeSet};
 use tfpg_log::{Event, Interval, Log};
 
 /// The reason states no fact.
-#[derive(Clone, Copy, Debug, PartialEq, Eq)]
+#[derive(Clone, Copy, PartialEq, Eq)]
 pub struct NotAFact;
 
 /// The constraint that the reason states, where it is a fact of the log and of a set that reaches these nodes. A pick is

@@ -21,7 +21,7 @@ use tfpg_log::Log;
 /// A split on a path, with the number of the alternative in whose subtree one stands, counted from 1, and how many
 /// alternatives it has. It is cited where some cycle in that subtree picks from it, so far. It is reusable where there is
 /// an alternative before, in whose subtree no cycle picks from it.
-#[derive(Clone, Copy, Debug, PartialEq, Eq, Drop)]
+#[derive(Clone, Copy, PartialEq, Eq, Drop)]
 pub struct PathSplit {
     pub name: ClauseName,
     pub alternative: u32,

@@ -8,7 +8,7 @@ use tfpg_base::{LineFault, NoMemory};
 use tfpg_check::{CheckCause, JudgeFault};
 
 /// Why the report of the input was not accepted.
-#[derive(Clone, Copy, Debug, PartialEq, Eq)]
+#[derive(Clone, Copy, PartialEq, Eq)]
 pub enum CheckFault {
     /// The first test of the report that fails says this line and this cause.
     NotAccepted { line: u64, cause: CheckCause },

@@ -11,13 +11,15 @@ use Rattle.tfpg_diff.specs.Demands.{Demands, demands_of}
 use Rattle.tfpg_diff.specs.Solution.{HasSolution, HasNoSolution}
 use Rattle.tfpg_diff.specs.Cycle.{NamesNegativeCycle}
 
--- What a system demands, for how many more picks it has room, the tags that it lends after a conflict, and how many calls of `raise`,
--- `lower` and `push` it has counted, by whatever counter they were counted besides.
+-- What a system demands, for how many more picks it has room, the tags that it lends after a conflict, how many calls of `raise`,
+-- `lower` and `push` it has counted, by whatever counter they were counted besides, and which system it is. Its calls keep that, and
+-- of a new system or a copy nothing says that it is one that was there.
 pub record SystemState : Type 0 where
   pub demands : Demands
   pub spare : ℕ
   pub cycle : List Why
   pub calls : ℕ
+  pub identity : ℕ
 
 -- the bounds of a variable of which nothing is known
 abbrev pub widest : ℕ → VariableBounds

@@ -33,8 +33,8 @@
 //!
 //! - A bound is kept or a negative cycle named: `System::push`, `raise`, `lower`, `adds`.
 //! - The latest solution: `solution`, `latest`.
-//! - A copy demands the same: `System::copy`.
-//! - Each call that adds is counted: `counted`.
+//! - A copy demands the same and lends no tags: `System::copy`.
+//! - Each call that adds is counted: `counted`. The system stays the one that it is: `identity`.
 //!
 //! # Not proved
 //!

@@ -10,7 +10,7 @@ use crate::demand::{Demand, ceiling_of, demand_of_pick};
 use crate::pick::Pick;
 
 /// The demand that the value of a variable comes from. The demand itself is looked up among the bounds and the picks.
-#[derive(Clone, Copy, Debug, PartialEq, Eq)]
+#[derive(Clone, Copy, PartialEq, Eq)]
 pub(crate) enum Link {
     /// Its upper bound.
     Ceiling,

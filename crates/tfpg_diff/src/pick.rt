@@ -3,7 +3,7 @@
 use tfpg_base::Constraint;
 
 /// A constraint that was pushed, with its tag.
-#[derive(Clone, Copy, Debug, PartialEq, Eq)]
+#[derive(Clone, Copy, PartialEq, Eq)]
 pub struct Pick {
     pub constraint: Constraint,
     pub tag: u64,

@@ -2,6 +2,7 @@
 
 ghost use Rattle.std.specs.Prelude.{◌≡◌, ◌+◌, ◌-◌, ◌^◌, ◌<◌, ◌≤◌, [], ◌∷◌, ◌++◌, length, vec_len, vec_capacity, All, IfOk, OnOk, OnErr, IsOk};
 ghost use Rattle.tfpg_diff.specs.Solution.{IsLatest};
+ghost use Rattle.tfpg_diff.specs.VariableBounds.{VariableBounds};
 ghost use Rattle.tfpg_diff.specs.Demands.{Bounded};
 ghost use Rattle.tfpg_base.specs.declared.limits.TheConstants.{NEVER};
 ghost use Rattle.tfpg_diff.specs.SystemState.{unbounded_from, with_floor, with_ceiling, with_pick, popped_to, Adds, LeavesRoom};
@@ -18,7 +19,7 @@ use crate::walk::push_tag;
 use crate::why::{Conflict, Why};
 use std::alloc::Global;
 use std::marker::Model;
-use std::sync::ledger::Ledger;
+use std::sync::ledger::{Blank, Ledger};
 use tfpg_base::{Constraint, NoMemory, Steps};
 
 /// How many picks a system has at most, so that their number takes 32 bits.
@@ -28,7 +29,7 @@ const MAX_PICKS: usize = 0xffff_ffff;
 const MAX_VARIABLES: u32 = 0x8000_0000;
 
 /// Some variables, their bounds, a stack of picks, and the latest solution of all that. It counts the calls that add to it, whatever
-/// counter they are given.
+/// counter they are given. For contracts alone it has an identity: the name of an empty token, of which each system has its own.
 #[derive(Drop)]
 pub struct System {
     bounds: Vec<Bounds>,
@@ -36,6 +37,7 @@ pub struct System {
     labels: Labels,
     cycle: Vec<Why>,
     calls: CountedCalls,
+    mark: Blank,
 }
 
 impl Model for System {
@@ -52,6 +54,7 @@ impl Model for System {
       spare = min (vec_capacity s.picks) (2 ^ 32 - 1) - vec_len s.picks;
       cycle = s.cycle.items;
       calls = s.calls.number;
+      identity = s.mark.name;
     } };
 
     ghost invariant = { λ s. IsReady (demands_of s.bounds.items s.picks.items) s.labels (vec_capacity s.cycle) };
@@ -83,14 +86,16 @@ impl System {
             labels,
             cycle,
             calls: CountedCalls::none(),
+            mark: Blank::new(0),
         })
     }
 
-    /// A copy, with the allocator that the system keeps. It demands the same, has counted as many calls and lends no tags. Takes time
-    /// and memory linear in the variables and the picks.
+    /// A copy, with the allocator that the system keeps. It demands the same, has counted as many calls and lends no tags. It is another
+    /// system. Takes time and memory linear in the variables and the picks.
     pub fn copy(&self) -> Result<System, NoMemory>
         ensures demands { IfOk result (λ copy. copy.demands ≡ self.now.demands) }
         ensures counted { IfOk result (λ copy. copy.calls ≡ self.now.calls) }
+        ensures no_tags { IfOk result (λ copy. copy.cycle ≡ []) }
     {
         let bounds = self.bounds.clone()?;
         let picks = self.picks.clone()?;
@@ -102,6 +107,7 @@ impl System {
             labels,
             cycle,
             calls: self.calls.again(),
+            mark: Blank::new(0),
         })
     }
 
@@ -185,6 +191,7 @@ impl System {
         ensures spare { self.new.spare ≡ self.old.spare }
         ensures step { work.new ≡ work.old + 1 }
         ensures counted { self.new.calls ≡ self.old.calls + 1 }
+        ensures identity { self.new.identity ≡ self.old.identity }
     {
         work.tick();
         self.add_floor(variable, least, tag)
@@ -209,6 +216,7 @@ impl System {
         ensures spare { self.new.spare ≡ self.old.spare }
         ensures step { work.new ≡ work.old + 1 }
         ensures counted { self.new.calls ≡ self.old.calls + 1 }
+        ensures identity { self.new.identity ≡ self.old.identity }
     {
         work.tick();
         self.add_ceiling(variable, most, tag)
@@ -232,6 +240,7 @@ impl System {
         ensures spare { LeavesRoom self.old.spare result self.new.spare }
         ensures step { work.new ≡ work.old + 1 }
         ensures counted { self.new.calls ≡ self.old.calls + 1 }
+        ensures identity { self.new.identity ≡ self.old.identity }
     {
         work.tick();
         self.add_pick(Pick { constraint, tag })
@@ -244,6 +253,7 @@ impl System {
         ensures demands { self.new.demands ≡ popped_to self.old.demands len }
         ensures spare { self.new.spare ≡ self.old.spare + (length self.old.demands.picks - len) }
         ensures counted { self.new.calls ≡ self.old.calls }
+        ensures identity { self.new.identity ≡ self.old.identity }
     {
         let len = len as usize;
         if len == self.picks.len() {
@@ -260,6 +270,7 @@ impl System {
         ensures variables { length self.new.demands.bounds ≡ length self.old.demands.bounds }
         ensures spare { self.new.spare ≡ self.old.spare }
         ensures counted { self.new.calls ≡ self.old.calls + 1 }
+        ensures identity { self.new.identity ≡ self.old.identity }
     {
         self.calls = self.calls.and_one();
         let index = variable as usize;
@@ -290,10 +301,10 @@ impl System {
         ensures variables { length self.new.demands.bounds ≡ length self.old.demands.bounds }
         ensures spare { self.new.spare ≡ self.old.spare }
         ensures counted { self.new.calls ≡ self.old.calls + 1 }
+        ensures identity { self.new.identity ≡ self.old.identity }
     {
         self.calls = self.calls.and_one();
-        let index = variable as usize;
-        let old = self.bounds[index];
+        let old = self.bounds[variable as usize];
         if old.ceiling() <= ceiling {
             return Ok(());
         }
@@ -303,6 +314,22 @@ impl System {
             push_tag(&mut self.cycle, old.floor_why());
             return Err(Conflict);
         }
+        self.tighten_ceiling(variable, ceiling, tag)
+    }
+
+    /// Lowers an upper bound to one that is tighter, and not below the lower bound.
+    fn tighten_ceiling(&mut self, variable: u32, ceiling: u64, tag: u64) -> Result<(), Conflict>
+        requires variable { variable < length self.old.demands.bounds }
+        requires tighter { (bounds : VariableBounds) → Bounded self.old.demands variable bounds →
+            (ceiling < bounds.ceiling) × (bounds.floor ≤ ceiling) }
+        ensures adds { Adds self.old (with_ceiling self.old.demands variable ceiling tag) result self.new }
+        ensures variables { length self.new.demands.bounds ≡ length self.old.demands.bounds }
+        ensures spare { self.new.spare ≡ self.old.spare }
+        ensures uncounted { self.new.calls ≡ self.old.calls }
+        ensures identity { self.new.identity ≡ self.old.identity }
+    {
+        let index = variable as usize;
+        let old = self.bounds[index];
         self.bounds[index] = old.with_ceiling(ceiling, tag);
         // What the trail saved may lie above the new ceiling, also what the call itself saves.
         let before = self.picks.len() as u32;
@@ -339,6 +366,7 @@ impl System {
         ensures adds { Adds self.old (with_pick self.old.demands pick.constraint pick.tag) result self.new }
         ensures spare { LeavesRoom self.old.spare result self.new.spare }
         ensures counted { self.new.calls ≡ self.old.calls + 1 }
+        ensures identity { self.new.identity ≡ self.old.identity }
     {
         self.calls = self.calls.and_one();
         let before = self.picks.len() as u32;

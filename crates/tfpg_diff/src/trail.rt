@@ -7,7 +7,7 @@ use crate::link::Link;
 use std::alloc::{AllocError, Global};
 
 /// The value and the link of a number before its value was lowered.
-#[derive(Clone, Copy, Debug, PartialEq, Eq)]
+#[derive(Clone, Copy, PartialEq, Eq)]
 pub(crate) struct Saved {
     pub(crate) value: u64,
     pub(crate) link: Link,

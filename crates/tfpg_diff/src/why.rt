@@ -1,7 +1,7 @@
 //! What names the constraints of a cycle, and the error that there is one.
 
 /// The tag of a constraint.
-#[derive(Clone, Copy, Debug, PartialEq, Eq)]
+#[derive(Clone, Copy, PartialEq, Eq)]
 pub enum Why {
     /// The variable is at least 0.
     Floor(u32),
@@ -12,5 +12,5 @@ pub enum Why {
 }
 
 /// There is no solution: some constraints chain into a cycle whose bounds sum up to less than 0.
-#[derive(Clone, Copy, Debug, PartialEq, Eq)]
+#[derive(Clone, Copy, PartialEq, Eq)]
 pub struct Conflict;

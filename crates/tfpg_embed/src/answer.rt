@@ -17,7 +17,7 @@ use tfpg_graph::{GraphCause, GraphFault};
 
 /// How a call ended, and what there is to say of it. What a status says nothing of is 0.
 #[repr(C)]
-#[derive(Clone, Copy, Debug, PartialEq, Eq)]
+#[derive(Clone, Copy, PartialEq, Eq)]
 pub struct TfpgAnswer {
     /// One of the constants of this crate.
     pub status: u32,

@@ -22,7 +22,7 @@ use tfpg_graph::laws::a_node_is_found_by_its_name;
 
 /// A law: the statuses and the kinds of names and of events are these numbers; a number says one cause of a graph, and one of a report; and a
 /// number with its time says one thing that a line came to. The numbers of causes are the rows of `graph_cause_number`,
-/// `check_cause_number` and `why_number`. `include/tfpg.h` has all of them once more, and `bench/embed.sh` compares them.
+/// `check_cause_number` and `why_number`. `include/tfpg.h` has all of them once more, and `tools/checks/c/embed.sh` compares them.
 pub fn each_number_says_one_thing()
     ensures statuses { DONE ∷ NOT_ACCEPTED ∷ OUT_OF_RANGE ∷ BAD_GRAPH ∷ TOO_MANY_HYPOTHESES ∷ TOO_MUCH_INPUT ∷ NO_MEMORY ∷ ROOM_TOO_SMALL ∷ ENDED
         ∷ NO_SUCH ∷ BAD_MAP ∷ FULL_GRAPH ∷ [] ≡ 0 ∷ 1 ∷ 2 ∷ 3 ∷ 4 ∷ 7 ∷ 8 ∷ 9 ∷ 10 ∷ 11 ∷ 12 ∷ 13 ∷ [] }

@@ -20,7 +20,7 @@ use tfpg_graph::Graph;
 
 /// A hypothesis that the last round ranks.
 #[repr(C)]
-#[derive(Clone, Copy, Debug, PartialEq, Eq)]
+#[derive(Clone, Copy, PartialEq, Eq)]
 pub struct TfpgRanked {
     /// Bit `p` is set exactly if the failure mode of position `p` is in it.
     pub failures: u64,

@@ -9,7 +9,7 @@ use tfpg_log::{Refusal, RefusedLine};
 
 /// What the last line brought, and the numbers of the last round. Before the first line all of them are 0.
 #[repr(C)]
-#[derive(Clone, Copy, Debug, PartialEq, Eq)]
+#[derive(Clone, Copy, PartialEq, Eq)]
 pub struct TfpgResult {
     /// Why the last line was refused, as a number from 1 in the order of [`Refusal`], and 10 for a line that is too long; 0 if it was not.
     pub refusal: u32,

@@ -19,7 +19,7 @@ use tfpg_diagnose::{check_texts, diagnose_texts};
 
 /// The terms of a prediction: those of its diagnosis, and how many milliseconds past the last event it looks.
 #[repr(C)]
-#[derive(Clone, Copy, Debug, PartialEq, Eq)]
+#[derive(Clone, Copy, PartialEq, Eq)]
 pub struct TfpgPredictionTerms {
     /// How many members a hypothesis has at most.
     pub k: u32,

@@ -2,7 +2,7 @@
 
 /// The name of a clause: each trace that explains the log meets one of its alternatives. It is about the span of this
 /// number, up to a horizon in milliseconds.
-#[derive(Clone, Copy, Debug, PartialEq, Eq)]
+#[derive(Clone, Copy, PartialEq, Eq)]
 pub enum ClauseName {
     /// An OR node becomes active in the span only where the failure arrives by some edge.
     OrMay { node: u32, span: u32, horizon: u64 },

@@ -4,7 +4,7 @@ use tfpg_base::Items;
 
 /// A constraint that holds at a leaf: a fact of the log and the set of failure modes, or a pick of an alternative on the
 /// path. Events are numbered from 1.
-#[derive(Clone, Copy, Debug, PartialEq, Eq)]
+#[derive(Clone, Copy, PartialEq, Eq)]
 pub enum Reason {
     /// No time is before 0.
     Zero { node: u32 },

@@ -7,7 +7,7 @@ use crate::finding::copy_findings;
 use tfpg_base::{NoMemory, NumberList};
 
 /// How many hypotheses have each status. A hypothesis is open where its budget was spent.
-#[derive(Clone, Copy, Debug, PartialEq, Eq)]
+#[derive(Clone, Copy, PartialEq, Eq)]
 pub struct Counts {
     pub ranked: u32,
     pub covered: u32,

@@ -1,6 +1,6 @@
 -- What is wrong with one line of a text, by the lines before it. Each cause has its condition, in the order in which they are tested.
 use Rattle.std.specs.Prelude.{ℕ, zero, suc, List, [], ◌∷◌, length, take, Bool, true, false, ◌&&◌, ◌||◌, not, nat_lt, nat_le, if◌then◌else◌, Option, Some, None, is_some, is_none, option_and_then, slice_index_or, codes, bytes_eq}
-use Rattle.std.specs.Option.{option_map_or}
+use Rattle.std.specs.Option.{option_map_or, option_zip}
 use Rattle.std.specs.Bool.{then_some}
 use Rattle.std.specs.List.{list_all, list_any}
 use Rattle.std.specs.Str.Parse.{digits_value}
@@ -14,7 +14,7 @@ use Rattle.tfpg_graph.specs.Text.{version_said, version_of}
 use Rattle.tfpg_base.specs.declared.limits.TheConstants.{MAX_TIME}
 use Rattle.tfpg_graph.specs.declared.limits.TheConstants.{MAX_NODES, MAX_FAILURES, MAX_EDGES, MAX_INCOMING, MAX_MODES, MAX_RARITY}
 use Rattle.tfpg_graph.specs.Statements.{LagWords, NodeWords, FailureWords, OrWords, AndWords, lag_words_of, Statement, DeclaresMode, DeclaresNode, DeclaresEdge, Ends, statement_of, statements_of, is_skipped, declares_mode, declares_edge, ends_text}
-use Rattle.tfpg_graph.specs.Declares.{modes_listed, ends_named, graph_said}
+use Rattle.tfpg_graph.specs.Declares.{modes_listed, graph_said}
 
 -- the words in the place of a name
 abbrev pub names_in : Statement → List (List ℕ)
@@ -36,10 +36,9 @@ node_numbers (AndWords lag) = lag_numbers lag
 
 -- the words in the place of a number, each with the greatest that it may be; `inf` for a greatest delay is none of them
 abbrev pub numbers_in : Statement → List (List ℕ × ℕ)
-numbers_in (DeclaresMode name) = []
 numbers_in (DeclaresNode name words) = node_numbers words
 numbers_in (DeclaresEdge source target tmin tmax modes) = (tmin, MAX_TIME) ∷ (if bytes_eq tmax (codes "inf") then [] else (tmax, MAX_TIME) ∷ [])
-numbers_in Ends = []
+numbers_in _ = []
 
 -- some name stands twice
 abbrev pub has_twice : List (List ℕ) → Bool
@@ -50,13 +49,7 @@ has_twice (name ∷ others) = list_any (bytes_eq name) others || has_twice other
 abbrev pub is_out_of_order : List Statement → Statement → Bool
 is_out_of_order before (DeclaresMode name) = list_any (λ said. not (declares_mode said)) before
 is_out_of_order before (DeclaresNode name words) = not (list_any declares_mode before) || list_any declares_edge before
-is_out_of_order before (DeclaresEdge source target tmin tmax modes) = not (list_any declares_mode before)
-is_out_of_order before Ends = not (list_any declares_mode before)
-
--- The line has none of the shapes, or stands out of its order.
-abbrev pub is_bad_line : List Statement → Option Statement → Bool
-is_bad_line before None = true
-is_bad_line before (Some said) = is_out_of_order before said
+is_out_of_order before _ = not (list_any declares_mode before)
 
 -- a word in the place of a name is not one
 abbrev pub has_bad_name : Statement → Bool
@@ -71,11 +64,9 @@ has_duplicate_name graph Ends = false
 
 -- an end of the edge is no declared node, or one of its modes no declared mode
 abbrev pub has_unknown_name : Tfpg → Statement → Bool
-has_unknown_name graph (DeclaresMode name) = false
-has_unknown_name graph (DeclaresNode name words) = false
 has_unknown_name graph (DeclaresEdge source target tmin tmax modes) =
     is_none (node_named graph source) || (is_none (node_named graph target) || list_any (λ name. is_none (mode_named graph name)) (modes_listed modes))
-has_unknown_name graph Ends = false
+has_unknown_name graph _ = false
 
 -- a word in the place of a number is not one
 abbrev pub has_bad_number : Statement → Bool
@@ -91,85 +82,65 @@ is_over least greatest = nat_lt (digits_value 10 greatest) (digits_value 10 leas
 
 -- the least lag or the least delay is above the greatest
 abbrev pub has_min_over_max : Statement → Bool
-has_min_over_max (DeclaresMode name) = false
 has_min_over_max (DeclaresNode name words) = option_map_or (λ lag. is_over lag.least lag.most) (lag_words_of words) false
 has_min_over_max (DeclaresEdge source target tmin tmax modes) = not (bytes_eq tmax (codes "inf")) && is_over tmin tmax
-has_min_over_max Ends = false
+has_min_over_max _ = false
 
 -- the edge goes into a failure mode
 abbrev pub enters_failure : Tfpg → Statement → Bool
-enters_failure graph (DeclaresMode name) = false
-enters_failure graph (DeclaresNode name words) = false
 enters_failure graph (DeclaresEdge source target tmin tmax modes) = option_map_or (is_kind_at is_failure graph) (node_named graph target) false
-enters_failure graph Ends = false
+enters_failure graph _ = false
 
 -- the edge leads back to its source
 abbrev pub is_self_edge : Statement → Bool
-is_self_edge (DeclaresMode name) = false
-is_self_edge (DeclaresNode name words) = false
 is_self_edge (DeclaresEdge source target tmin tmax modes) = bytes_eq source target
-is_self_edge Ends = false
+is_self_edge _ = false
 
 -- an earlier edge has the same source and target
 abbrev pub is_second_edge : Tfpg → Statement → Bool
-is_second_edge graph (DeclaresMode name) = false
-is_second_edge graph (DeclaresNode name words) = false
 is_second_edge graph (DeclaresEdge source target tmin tmax modes) =
-    is_some (option_and_then (λ ends. edge_from_to graph ends.0 ends.1) (ends_named graph source target))
-is_second_edge graph Ends = false
+    is_some (option_and_then (λ ends. edge_from_to graph ends.0 ends.1) (option_zip (node_named graph source) (node_named graph target)))
+is_second_edge graph _ = false
 
 -- the edge is active in no mode
 abbrev pub names_no_mode : Statement → Bool
-names_no_mode (DeclaresMode name) = false
-names_no_mode (DeclaresNode name words) = false
 names_no_mode (DeclaresEdge source target tmin tmax modes) = bytes_eq modes (codes "-")
-names_no_mode Ends = false
+names_no_mode _ = false
 
 -- there is no room for one more node
 abbrev pub lacks_node_room : Tfpg → Statement → Bool
-lacks_node_room graph (DeclaresMode name) = false
 lacks_node_room graph (DeclaresNode name words) = nat_le MAX_NODES (length graph.nodes)
-lacks_node_room graph (DeclaresEdge source target tmin tmax modes) = false
-lacks_node_room graph Ends = false
+lacks_node_room graph _ = false
 
 -- they say that the node is a failure mode
 abbrev pub are_failure_words : NodeWords → Bool
 are_failure_words (FailureWords rarity) = true
-are_failure_words (OrWords lag) = false
-are_failure_words (AndWords lag) = false
+are_failure_words _ = false
 
 -- there is no room for one more failure mode
 abbrev pub lacks_failure_room : Tfpg → Statement → Bool
-lacks_failure_room graph (DeclaresMode name) = false
 lacks_failure_room graph (DeclaresNode name words) = are_failure_words words && nat_le MAX_FAILURES (length (failures graph))
-lacks_failure_room graph (DeclaresEdge source target tmin tmax modes) = false
-lacks_failure_room graph Ends = false
+lacks_failure_room graph _ = false
 
 -- there is no room for one more edge
 abbrev pub lacks_edge_room : Tfpg → Statement → Bool
-lacks_edge_room graph (DeclaresMode name) = false
-lacks_edge_room graph (DeclaresNode name words) = false
 lacks_edge_room graph (DeclaresEdge source target tmin tmax modes) = nat_le MAX_EDGES (length graph.edges)
-lacks_edge_room graph Ends = false
+lacks_edge_room graph _ = false
 
 -- there is no room for one more mode
 abbrev pub lacks_mode_room : Tfpg → Statement → Bool
 lacks_mode_room graph (DeclaresMode name) = nat_le MAX_MODES (length graph.modes)
-lacks_mode_room graph (DeclaresNode name words) = false
-lacks_mode_room graph (DeclaresEdge source target tmin tmax modes) = false
-lacks_mode_room graph Ends = false
+lacks_mode_room graph _ = false
 
 -- there is no room for one more edge into its target
 abbrev pub lacks_incoming_room : Tfpg → Statement → Bool
-lacks_incoming_room graph (DeclaresMode name) = false
-lacks_incoming_room graph (DeclaresNode name words) = false
 lacks_incoming_room graph (DeclaresEdge source target tmin tmax modes) = option_map_or (λ node. nat_le MAX_INCOMING (length (incoming graph node))) (node_named graph target) false
-lacks_incoming_room graph Ends = false
+lacks_incoming_room graph _ = false
 
--- the causes that a statement can have, in the order in which they are tested
+-- the causes that a statement can have, in the order in which they are tested; the first is that it stands out of its order
 abbrev pub causes : Bool → Tfpg → Statement → List (Option GraphCause)
-causes bad_line graph said =
-    then_some bad_line BadLine
+causes out_of_order graph said =
+    then_some out_of_order BadLine
     ∷ then_some (has_bad_name said) BadName
     ∷ then_some (has_duplicate_name graph said) DuplicateName
     ∷ then_some (has_unknown_name graph said) UnknownName
@@ -187,26 +158,18 @@ causes bad_line graph said =
     ∷ then_some (lacks_incoming_room graph said) TooManyIncoming
     ∷ []
 
--- the cause of a line that says this, or that has no shape
+-- the cause of a line that says this, or that has none of the shapes
 abbrev pub cause_of_said : List Statement → Option Statement → Option GraphCause
-cause_of_said before None = then_some (is_bad_line before None) BadLine
-cause_of_said before (Some said) = first_of (causes (is_bad_line before (Some said)) (graph_said before) said)
-
--- the line stands after one that ends the text
-abbrev pub is_after_end : List Statement → Bool
-is_after_end before = list_any ends_text before
+cause_of_said before None = Some BadLine
+cause_of_said before (Some said) = first_of (causes (is_out_of_order before said) (graph_said before) said)
 
 -- The cause of a line after the header, by what the lines before it say. After the end every line but one that is skipped is too much.
 abbrev pub cause_after : Version → List Statement → List ℕ → Option GraphCause
 cause_after version before line =
-    if is_skipped line then None else (if is_after_end before then Some AfterEnd else cause_of_said before (statement_of version line))
-
--- the line is the header of some version
-abbrev pub is_header : List ℕ → Bool
-is_header line = is_some (version_said line)
+    if is_skipped line then None else (if list_any ends_text before then Some AfterEnd else cause_of_said before (statement_of version line))
 
 -- The cause of the line at this index, from 0. The first line is tested for the header alone.
 abbrev pub cause_at : List (List ℕ) → ℕ → Option GraphCause
-cause_at lines zero = if is_header (slice_index_or lines 0 []) then None else Some BadHeader
+cause_at lines zero = if is_some (version_said (slice_index_or lines 0 [])) then None else Some BadHeader
 cause_at lines (suc index) =
     cause_after (version_of lines) (statements_of (version_of lines) (take (suc index) lines)) (slice_index_or lines (suc index) [])

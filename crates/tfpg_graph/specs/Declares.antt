@@ -1,5 +1,6 @@
 -- Which graph the lines of a text declare. What has no value, as a word that is no number, declares nothing.
 use Rattle.std.specs.Prelude.{ℕ, List, [], ◌||◌, if◌then◌else◌, Option, Some, None, option_map, option_and_then, filter_map, codes, bytes_eq}
+use Rattle.std.specs.Option.{option_zip}
 use Rattle.tfpg_base.specs.SetBits.{bits_of}
 use Rattle.tfpg_base.specs.Words.{comma_parts, number_of}
 use Rattle.tfpg_graph.specs.declared.kind.Kind.{Kind}
@@ -8,16 +9,13 @@ use Rattle.tfpg_graph.specs.declared.kind.Kind.TheVariants.{Failure, Or, And}
 use Rattle.tfpg_graph.specs.declared.edge.Edge.{Edge}
 use Rattle.tfpg_graph.specs.Graph.{Tfpg, Node, node_named, mode_named}
 use Rattle.tfpg_graph.specs.Text.{all_modes, version_of}
-use Rattle.tfpg_graph.specs.Statements.{LagWords, NodeWords, FailureWords, OrWords, AndWords, Statement, DeclaresMode, DeclaresNode, DeclaresEdge, Ends, statements_of}
-
--- the two numbers that two words say
-abbrev pub numbers_of_words : List ℕ → List ℕ → Option (ℕ × ℕ)
-numbers_of_words least greatest = option_and_then (λ from. option_map (λ to. (from, to)) (number_of greatest)) (number_of least)
+use Rattle.tfpg_graph.specs.Statements.{LagWords, NodeWords, FailureWords, OrWords, AndWords, Statement, DeclaresMode, DeclaresNode, DeclaresEdge, statements_of}
 
 -- the lag that words say: none where there are no words for it
 abbrev pub lag_of_words : Option LagWords → Option (Option Lag)
 lag_of_words None = Some None
-lag_of_words (Some words) = option_map (λ range. Some (record { least = range.0; most = range.1 })) (numbers_of_words words.least words.most)
+lag_of_words (Some words) =
+    option_map (λ range. Some (record { least = range.0; most = range.1 })) (option_zip (number_of words.least) (number_of words.most))
 
 -- what the words say that a node is
 abbrev pub kind_of_words : NodeWords → Option Kind
@@ -28,16 +26,12 @@ kind_of_words (AndWords lag) = option_map And (lag_of_words lag)
 -- the mode that a line declares
 abbrev pub mode_declared : Statement → Option (List ℕ)
 mode_declared (DeclaresMode name) = Some name
-mode_declared (DeclaresNode name words) = None
-mode_declared (DeclaresEdge source target tmin tmax modes) = None
-mode_declared Ends = None
+mode_declared _ = None
 
 -- the node that a line declares
 abbrev pub node_declared : Statement → Option Node
-node_declared (DeclaresMode name) = None
 node_declared (DeclaresNode name words) = option_map (λ kind. record { name = name; kind = kind }) (kind_of_words words)
-node_declared (DeclaresEdge source target tmin tmax modes) = None
-node_declared Ends = None
+node_declared _ = None
 
 -- a greatest delay, or `inf` for none
 abbrev pub tmax_of_word : List ℕ → Option (Option ℕ)
@@ -51,18 +45,8 @@ modes_listed word = if bytes_eq word (codes "*") || bytes_eq word (codes "-") th
 abbrev pub modes_of_word : Tfpg → List ℕ → ℕ
 modes_of_word graph word = if bytes_eq word (codes "*") then all_modes graph else bits_of (filter_map (mode_named graph) (modes_listed word))
 
--- the delays that two words say
-abbrev pub delays_of_words : List ℕ → List ℕ → Option (ℕ × Option ℕ)
-delays_of_words tmin tmax = option_and_then (λ least. option_map (λ greatest. (least, greatest)) (tmax_of_word tmax)) (number_of tmin)
-
--- the nodes of two names
-abbrev pub ends_named : Tfpg → List ℕ → List ℕ → Option (ℕ × ℕ)
-ends_named graph source target = option_and_then (λ from. option_map (λ to. (from, to)) (node_named graph target)) (node_named graph source)
-
 -- the edge that a line declares between nodes of the graph
 abbrev pub edge_declared : Tfpg → Statement → Option Edge
-edge_declared graph (DeclaresMode name) = None
-edge_declared graph (DeclaresNode name words) = None
 edge_declared graph (DeclaresEdge source target tmin tmax modes) =
     option_and_then (λ ends. option_map (λ delays. record {
       source = ends.0;
@@ -70,8 +54,8 @@ edge_declared graph (DeclaresEdge source target tmin tmax modes) =
       tmin = delays.0;
       tmax = delays.1;
       modes = modes_of_word graph modes;
-    }) (delays_of_words tmin tmax)) (ends_named graph source target)
-edge_declared graph Ends = None
+    }) (option_zip (number_of tmin) (tmax_of_word tmax))) (option_zip (node_named graph source) (node_named graph target))
+edge_declared graph _ = None
 
 -- the modes and nodes that lines declare
 abbrev pub named_by : List Statement → Tfpg
@@ -79,11 +63,7 @@ named_by said = record { nodes = filter_map node_declared said; edges = []; mode
 
 -- the graph that these statements declare
 abbrev pub graph_said : List Statement → Tfpg
-graph_said said = record {
-  nodes = filter_map node_declared said;
-  edges = filter_map (edge_declared (named_by said)) said;
-  modes = filter_map mode_declared said;
-}
+graph_said said = record (named_by said) { edges = filter_map (edge_declared (named_by said)) said }
 
 -- what the lines of a text say, in the version that the first says
 abbrev pub said_by : List (List ℕ) → List Statement

@@ -24,20 +24,17 @@ pub record Tfpg : Type 0 where
 -- a failure mode
 abbrev pub is_failure : Kind → Bool
 is_failure (Failure rarity) = true
-is_failure (Or lag) = false
-is_failure (And lag) = false
+is_failure _ = false
 
 -- a discrepancy that is activated from any source
 abbrev pub is_or : Kind → Bool
-is_or (Failure rarity) = false
 is_or (Or lag) = true
-is_or (And lag) = false
+is_or _ = false
 
 -- a discrepancy that is activated from all its sources at once
 abbrev pub is_and : Kind → Bool
-is_and (Failure rarity) = false
-is_and (Or lag) = false
 is_and (And lag) = true
+is_and _ = false
 
 -- a lag from 0 up to this
 abbrev pub lag_up_to : ℕ → Lag

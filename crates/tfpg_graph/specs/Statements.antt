@@ -1,5 +1,6 @@
 -- What a line of a graph's text says by its words alone: no name is looked up, and no number is read.
 use Rattle.std.specs.Prelude.{◌≡◌, ◌≢◌, ◌≤◌, ℕ, All, Contains, List, [], ◌∷◌, length, Bool, true, false, ◌&&◌, ◌==◌, nat_le, if◌then◌else◌, Option, Some, None, IfSome, option_map, filter_map, codes, bytes_eq}
+use Rattle.std.specs.Bool.{then_some}
 use Rattle.tfpg_base.specs.Words.{has_empty_word, words_of, line_of}
 use Rattle.tfpg_base.specs.Lines.{is_too_long}
 use Rattle.tfpg_base.specs.declared.limits.TheConstants.{LONGEST_LINE}
@@ -60,10 +61,8 @@ CanSayLag Two lag = Unit {0}
 
 -- A version can say a statement: it can say the lag.
 abbrev pub CanSay : Version → Statement → Type 0
-CanSay version (DeclaresMode name) = Unit {0}
 CanSay version (DeclaresNode name words) = IfSome (lag_words_of words) (CanSayLag version)
-CanSay version (DeclaresEdge source target tmin tmax modes) = Unit {0}
-CanSay version Ends = Unit {0}
+CanSay version _ = Unit {0}
 
 -- a word that a line can have: it has a byte, and no space
 abbrev pub IsLineWord : List ℕ → Type 0
@@ -77,71 +76,34 @@ pub record SaysStatement (version : Version) (line : List ℕ) (said : Statement
   pub short : length line ≤ LONGEST_LINE
   pub sayable : CanSay version said
 
--- what the words after `watch` say: in version 1 the greatest lag alone, and then the least is 0
-abbrev pub watched_in : Version → List (List ℕ) → Option (Option LagWords)
-watched_in One [] = None
-watched_in One (most ∷ []) = Some (Some (record { least = codes "0"; most = most }))
-watched_in One (most ∷ more ∷ others) = None
-watched_in Two [] = None
-watched_in Two (least ∷ []) = None
-watched_in Two (least ∷ most ∷ []) = Some (Some (record { least = least; most = most }))
-watched_in Two (least ∷ most ∷ more ∷ others) = None
-
--- what the words after `hidden` say
-abbrev pub hidden_in : List (List ℕ) → Option (Option LagWords)
-hidden_in [] = Some None
-hidden_in (more ∷ others) = None
-
--- what a discrepancy's last words say: `hidden`, or `watch` and the words for its lag
+-- What a discrepancy's last words say: `hidden`, or `watch` and the words for its lag. In version 1 that is the greatest alone, and
+-- the least is 0.
 abbrev pub lag_in : Version → List (List ℕ) → Option (Option LagWords)
-lag_in version [] = None
-lag_in version (state ∷ others) =
-    if bytes_eq state (codes "hidden") then hidden_in others
-    else (if bytes_eq state (codes "watch") then watched_in version others else None)
+lag_in version (state ∷ []) = then_some (bytes_eq state (codes "hidden")) None
+lag_in One (state ∷ most ∷ []) = then_some (bytes_eq state (codes "watch")) (Some (record { least = codes "0"; most = most }))
+lag_in Two (state ∷ least ∷ most ∷ []) = then_some (bytes_eq state (codes "watch")) (Some (record { least = least; most = most }))
+lag_in _ _ = None
 
--- what the words after `mode` say
-abbrev pub mode_in : List (List ℕ) → Option Statement
-mode_in [] = None
-mode_in (name ∷ []) = Some (DeclaresMode name)
-mode_in (name ∷ more ∷ others) = None
+-- what a failure mode's last words say: its rarity alone
+abbrev pub rarity_in : List (List ℕ) → Option NodeWords
+rarity_in (rarity ∷ []) = Some (FailureWords rarity)
+rarity_in _ = None
 
--- what the words after `failure` say
-abbrev pub failure_in : List (List ℕ) → Option Statement
-failure_in [] = None
-failure_in (name ∷ []) = None
-failure_in (name ∷ rarity ∷ []) = Some (DeclaresNode name (FailureWords rarity))
-failure_in (name ∷ rarity ∷ more ∷ others) = None
+-- what a node is, by the keyword of its line and the words after its name
+abbrev pub node_words_in : Version → List ℕ → List (List ℕ) → Option NodeWords
+node_words_in version keyword words =
+    if bytes_eq keyword (codes "failure") then rarity_in words
+    else (if bytes_eq keyword (codes "or") then option_map OrWords (lag_in version words)
+    else (if bytes_eq keyword (codes "and") then option_map AndWords (lag_in version words) else None))
 
--- what the words after `or` say, where `with_lag` is `OrWords`, and those after `and`, where it is `AndWords`
-abbrev pub discrepancy_in : Version → (Option LagWords → NodeWords) → List (List ℕ) → Option Statement
-discrepancy_in version with_lag [] = None
-discrepancy_in version with_lag (name ∷ others) = option_map (λ lag. DeclaresNode name (with_lag lag)) (lag_in version others)
-
--- what the words after `edge` say
-abbrev pub edge_in : List (List ℕ) → Option Statement
-edge_in [] = None
-edge_in (source ∷ []) = None
-edge_in (source ∷ target ∷ []) = None
-edge_in (source ∷ target ∷ tmin ∷ []) = None
-edge_in (source ∷ target ∷ tmin ∷ tmax ∷ []) = None
-edge_in (source ∷ target ∷ tmin ∷ tmax ∷ modes ∷ []) = Some (DeclaresEdge source target tmin tmax modes)
-edge_in (source ∷ target ∷ tmin ∷ tmax ∷ modes ∷ more ∷ others) = None
-
--- what the words after `end` say
-abbrev pub end_in : List (List ℕ) → Option Statement
-end_in [] = Some Ends
-end_in (more ∷ others) = None
-
--- what the words of a line after the header say, where they have one of the shapes: a keyword, and the words after it
+-- what the words of a line after the header say, where they have one of the shapes: of the end, of a mode, of an edge or of a node
 abbrev pub statement_in : Version → List (List ℕ) → Option Statement
-statement_in version [] = None
-statement_in version (keyword ∷ others) =
-    if bytes_eq keyword (codes "mode") then mode_in others
-    else (if bytes_eq keyword (codes "failure") then failure_in others
-    else (if bytes_eq keyword (codes "or") then discrepancy_in version OrWords others
-    else (if bytes_eq keyword (codes "and") then discrepancy_in version AndWords others
-    else (if bytes_eq keyword (codes "edge") then edge_in others
-    else (if bytes_eq keyword (codes "end") then end_in others else None)))))
+statement_in version (keyword ∷ []) = then_some (bytes_eq keyword (codes "end")) Ends
+statement_in version (keyword ∷ name ∷ []) = then_some (bytes_eq keyword (codes "mode")) (DeclaresMode name)
+statement_in version (keyword ∷ source ∷ target ∷ tmin ∷ tmax ∷ modes ∷ []) =
+    then_some (bytes_eq keyword (codes "edge")) (DeclaresEdge source target tmin tmax modes)
+statement_in version (keyword ∷ name ∷ others) = option_map (DeclaresNode name) (node_words_in version keyword others)
+statement_in _ _ = None
 
 -- What a line of a text of this version says: it is not too long, has no empty word, and has one of the shapes.
 abbrev pub statement_of : Version → List ℕ → Option Statement
@@ -165,27 +127,19 @@ is_skipped line = is_empty_or_comment line && nat_le (length line) LONGEST_LINE
 -- it declares a mode
 abbrev pub declares_mode : Statement → Bool
 declares_mode (DeclaresMode name) = true
-declares_mode (DeclaresNode name words) = false
-declares_mode (DeclaresEdge source target tmin tmax modes) = false
-declares_mode Ends = false
+declares_mode _ = false
 
 -- it declares a node
 abbrev pub declares_node : Statement → Bool
-declares_node (DeclaresMode name) = false
 declares_node (DeclaresNode name words) = true
-declares_node (DeclaresEdge source target tmin tmax modes) = false
-declares_node Ends = false
+declares_node _ = false
 
 -- it declares an edge
 abbrev pub declares_edge : Statement → Bool
-declares_edge (DeclaresMode name) = false
-declares_edge (DeclaresNode name words) = false
 declares_edge (DeclaresEdge source target tmin tmax modes) = true
-declares_edge Ends = false
+declares_edge _ = false
 
 -- it ends the text
 abbrev pub ends_text : Statement → Bool
-ends_text (DeclaresMode name) = false
-ends_text (DeclaresNode name words) = false
-ends_text (DeclaresEdge source target tmin tmax modes) = false
 ends_text Ends = true
+ends_text _ = false

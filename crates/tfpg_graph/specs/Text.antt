@@ -1,5 +1,5 @@
 -- The text of a graph: what each line spells.
-use Rattle.std.specs.Prelude.{◌≡◌, ℕ, ◌-◌, ◌≤◌, ◌^◌, List, [], ◌∷◌, ◌++◌, length, map, filter, All, not, ◌==◌, if◌then◌else◌, Option, Some, None, slice_get, codes, decimal, option_map, filter_map, flat_map, unwrap_or, slice_index_or, bytes_eq, IfSome, ◌⊎◌, ◌≢◌, ◌<◌, AllPairs}
+use Rattle.std.specs.Prelude.{◌≡◌, ℕ, ◌-◌, ◌≤◌, ◌^◌, List, [], ◌∷◌, ◌++◌, length, map, filter, All, not, ◌==◌, if◌then◌else◌, Option, Some, None, slice_get, codes, decimal, option_map, filter_map, flat_map, unwrap_or, slice_index_or, bytes_eq, IsTrue, ◌⊎◌, ◌≢◌, ◌<◌, AllPairs}
 use Rattle.std.specs.List.{range_with_len, AllZip, list_all}
 use Rattle.tfpg_base.specs.SetBits.{bits_of}
 use Rattle.tfpg_base.specs.Words.{joined_by_commas, line_of}
@@ -11,8 +11,8 @@ use Rattle.tfpg_graph.specs.declared.kind.Kind.TheVariants.{Failure, Or, And}
 use Rattle.tfpg_graph.specs.declared.edge.Edge.{Edge}
 use Rattle.tfpg_graph.specs.declared.version.Version.{Version}
 use Rattle.tfpg_graph.specs.declared.version.Version.TheVariants.{One, Two}
-use Rattle.tfpg_graph.specs.Graph.{Tfpg, Node, name_word, has_mode_bit, lag_of, has_zero_least}
-use Rattle.tfpg_graph.specs.Statements.{LagWords, NodeWords, FailureWords, OrWords, AndWords, DeclaresNode, words_of_statement, is_empty_or_comment}
+use Rattle.tfpg_graph.specs.Graph.{Tfpg, Node, name_word, has_mode_bit, has_zero_least}
+use Rattle.tfpg_graph.specs.Statements.{LagWords, NodeWords, FailureWords, OrWords, AndWords, words_of_node, is_empty_or_comment}
 
 -- the first line of a text of this version
 abbrev pub header : Version → List ℕ
@@ -41,13 +41,9 @@ words_of_kind (Failure rarity) = FailureWords (decimal rarity)
 words_of_kind (Or lag) = OrWords (option_map lag_words lag)
 words_of_kind (And lag) = AndWords (option_map lag_words lag)
 
--- the words of a node's line
-abbrev pub node_words : Version → List ℕ → Kind → List (List ℕ)
-node_words version name kind = words_of_statement version (DeclaresNode name (words_of_kind kind))
-
 -- the line of a node
 abbrev pub node_line : Version → Node → List ℕ
-node_line version node = line_of (node_words version node.name node.kind)
+node_line version node = line_of (words_of_node version node.name (words_of_kind node.kind))
 
 -- the line of a node, with its line end
 abbrev pub node_text : Version → Node → List ℕ
@@ -87,22 +83,13 @@ SpellsEdge graph edge line = (word : List ℕ) × SpellsModes graph edge.modes w
 abbrev pub content_lines : List (List ℕ) → List (List ℕ)
 content_lines lines = filter (λ line. not (is_empty_or_comment line)) lines
 
--- A version can spell a lag: version 1 has no word for the least, which is 0 there.
-abbrev pub CanSpellLag : Version → Lag → Type 0
-CanSpellLag One lag = lag.least ≡ 0
-CanSpellLag Two lag = Unit {0}
-
--- A version can spell what a node is: it can spell the lag.
-abbrev pub CanSpell : Version → Kind → Type 0
-CanSpell version kind = IfSome (lag_of kind) (CanSpellLag version)
-
--- The lines after the header that are not skipped: the modes, the nodes, the edges and the end. The version can spell what
--- each node is.
+-- The lines after the header that are not skipped: the modes, the nodes, the edges and the end. Version 1 has no word for a
+-- least lag, which is 0 there.
 pub record SpellsLines (version : Version) (graph : Tfpg) (lines : List (List ℕ)) : Type 0 where
   pub edge_lines : List (List ℕ)
   pub edges : AllZip (SpellsEdge graph) graph.edges edge_lines
   pub all : lines ≡ map mode_line graph.modes ++ map (node_line version) graph.nodes ++ edge_lines ++ codes "end" ∷ []
-  pub kinds : All (λ node. CanSpell version node.kind) graph.nodes
+  pub zero_least : version ≡ One → All (λ node. IsTrue (has_zero_least node.kind)) graph.nodes
 
 -- The text spells the graph, in one of the versions. After the header, empty lines and lines that begin with `#` are skipped;
 -- no line is too long.

@@ -1,6 +1,6 @@
 //! What is declared so far of a graph, with the indexes by which it is looked up.
 
-ghost use Rattle.std.specs.Prelude.{◌≡◌, ◌↔◌, ◌<◌, ◌≤◌, ◌^◌, [], ◌∷◌, ◌++◌, length, Some, None, slice_get, IsTrue, IfOk, IfSome, IfNone, if◌then◌else◌, is_some};
+ghost use Rattle.std.specs.Prelude.{◌≡◌, ◌↔◌, ◌<◌, ◌≤◌, ◌^◌, [], ◌∷◌, ◌++◌, length, map, Some, None, slice_get, IsTrue, IfOk, IfSome, IfNone, if◌then◌else◌, is_some};
 ghost use Rattle.tfpg_base.specs.Words.{is_name};
 ghost use Rattle.tfpg_graph.specs.Graph.{is_failure, kind_at, name_at, node_named, mode_named, edge_from_to, incoming, failures, failure_at, position_of_failure};
 ghost use Rattle.tfpg_graph.specs.Valid.{HasValidNumber, IsValidEdge};
@@ -14,7 +14,7 @@ use std::marker::Model;
 use tfpg_base::NoMemory;
 
 /// Nodes, edges and modes, in the order of their lines.
-#[derive(Debug, Drop)]
+#[derive(Drop)]
 pub(crate) struct Declared {
     nodes: IndexMap<Vec<u8>, Kind>,
     edges: Vec<Edge>,
@@ -94,11 +94,17 @@ impl Declared {
             mut failures,
             mut positions,
         } = self;
-        let position = give_position(&mut failures, nodes.len() as u32, kind)?;
+        let number = nodes.len() as u32;
         let name = Vec::from_slice(alloc, name)?;
         nodes.insert(name, kind)?;
-        incoming.push(Vec::new(alloc))?;
-        positions.push(position)?;
+        index_node(
+            alloc,
+            &mut incoming,
+            &mut failures,
+            &mut positions,
+            number,
+            kind,
+        )?;
         Ok(Declared {
             nodes,
             edges,
@@ -128,12 +134,12 @@ impl Declared {
     pub(crate) fn copy(&self) -> Result<Declared, NoMemory>
         ensures { IfOk result (λ declared. declared ≡ self.now) }
     {
-        let nodes = self.nodes.clone()?;
         let edges = self.edges.clone()?;
-        let modes = self.modes.clone()?;
-        let incoming = self.incoming.clone()?;
         let failures = self.failures.clone()?;
         let positions = self.positions.clone()?;
+        let incoming = self.incoming.clone()?;
+        let modes = self.modes.clone()?;
+        let nodes = self.nodes.clone()?;
         Ok(Declared {
             nodes,
             edges,
@@ -270,6 +276,29 @@ impl Declared {
     {
         self.positions[node as usize]
     }
+}
+
+/// Adds a node with no edge into it to the indexes.
+fn index_node(
+    alloc: Global,
+    incoming: &mut Vec<Vec<u32>>,
+    failures: &mut Vec<u32>,
+    positions: &mut Vec<Option<u32>>,
+    node: u32,
+    kind: Kind,
+) -> Result<(), NoMemory>
+    requires { length failures.old.items < 2 ^ 32 }
+    ensures rows { IfOk result (λ _. map (λ row. row.items) incoming.new.items ≡
+        map (λ row. row.items) incoming.old.items ++ [] ∷ []) }
+    ensures failures { IfOk result (λ _. failures.new.items ≡ failures.old.items ++
+        (if is_failure kind then node ∷ [] else [])) }
+    ensures positions { IfOk result (λ _. positions.new.items ≡ positions.old.items ++
+        (if is_failure kind then Some (length failures.old.items) else None) ∷ []) }
+{
+    let position = give_position(failures, node, kind)?;
+    incoming.push(Vec::new(alloc))?;
+    positions.push(position)?;
+    Ok(())
 }
 
 /// Gives the next position to a node that is a failure mode.

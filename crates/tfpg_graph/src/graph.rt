@@ -17,7 +17,7 @@ use tfpg_base::NoMemory;
 /// Nodes, edges and modes are numbered from 0 in the order of their lines; the failure modes among the nodes have
 /// positions from 0, in the order of their numbers. No look-up takes memory. Those by number take constant time, those
 /// by name one look-up in a map.
-#[derive(Debug, Drop)]
+#[derive(Drop)]
 pub struct Graph {
     declared: Declared,
 }

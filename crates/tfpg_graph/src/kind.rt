@@ -4,7 +4,7 @@ ghost use Rattle.std.specs.Prelude.{◌≡◌, is_some};
 
 /// How late the alarm of a monitored node comes: at least and at most so many milliseconds after the node became
 /// active. The greatest goes up to [`MAX_TIME`](tfpg_base::MAX_TIME), and the least up to the greatest.
-#[derive(Clone, Copy, Debug, PartialEq, Eq)]
+#[derive(Clone, Copy, PartialEq, Eq)]
 pub struct Lag {
     pub least: u64,
     pub most: u64,
@@ -12,7 +12,7 @@ pub struct Lag {
 
 /// What a node is. A discrepancy with a lag is monitored: an alarm logged at `t` says that it became active within the
 /// lag before. One without is hidden.
-#[derive(Clone, Copy, Debug, PartialEq, Eq)]
+#[derive(Clone, Copy, PartialEq, Eq)]
 pub enum Kind {
     /// A failure mode, with its rarity from 0 to [`MAX_RARITY`](crate::MAX_RARITY): the rarer, the greater.
     Failure { rarity: u64 },

@@ -1,7 +1,7 @@
 //! The versions of a graph's text.
 
 /// The version of a graph's text, which its first line says.
-#[derive(Clone, Copy, Debug, PartialEq, Eq)]
+#[derive(Clone, Copy, PartialEq, Eq)]
 pub enum Version {
     /// The line of a monitored node has one word for its lag, the greatest. The least is 0.
     One,

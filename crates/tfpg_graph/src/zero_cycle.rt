@@ -21,8 +21,7 @@ use tfpg_base::NoMemory;
 /// An edge lies on such a cycle exactly where it may take no time and its ends lie in one group of nodes that reach
 /// each other in no time. The groups are the strongly connected components of the edges that may take no time. Two
 /// depth-first searches find them, the first along the reversed edges (the algorithm of Kosaraju), and then it goes
-/// through the edges once. Takes time and memory in the numbers of nodes and edges, and calls as deep as there are
-/// nodes.
+/// through the edges once. Takes time and memory in the numbers of nodes and edges, and no more stack for more of them.
 pub(crate) fn first_on_zero_cycle(
     alloc: Global,
     declared: &Declared,

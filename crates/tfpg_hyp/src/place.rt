@@ -8,7 +8,7 @@ pub struct Fraction {
 }
 
 /// By what a ranked hypothesis is ordered: its cost, then its robustness, then its number.
-#[derive(Clone, Copy, Debug, PartialEq, Eq)]
+#[derive(Clone, Copy, PartialEq, Eq)]
 pub struct Place {
     pub cost: u64,
     pub robust: Fraction,

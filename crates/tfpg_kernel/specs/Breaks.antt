@@ -4,7 +4,7 @@ use Rattle.std.specs.Bool.{then_some}
 use Rattle.tfpg_base.specs.Choice.{first_of, each_of}
 use Rattle.tfpg_base.specs.declared.constraint.Constraint.{Constraint}
 use Rattle.tfpg_evidence.specs.declared.reason.Reason.{Reason}
-use Rattle.tfpg_evidence.specs.declared.reason.Reason.TheVariants.{Zero, Top, Unreached, From, Upto, Quiet, Pick}
+use Rattle.tfpg_evidence.specs.declared.reason.Reason.TheVariants.{Pick}
 use Rattle.tfpg_evidence.specs.declared.step.Step.{Step}
 use Rattle.tfpg_evidence.specs.declared.step.Step.TheVariants.{Split, Cycle, Again}
 use Rattle.tfpg_clause.specs.Case.{Case, case_at}
@@ -17,12 +17,7 @@ use Rattle.tfpg_kernel.specs.declared.taken.BadStep.TheVariants.{AfterClosed, No
 -- what is wrong with a reason that states no constraint
 abbrev pub fault_of : Reason → BadStep
 fault_of (Pick split number) = NotOnPath
-fault_of (Zero node) = NotAFact
-fault_of (Top node) = NotAFact
-fault_of (Unreached node horizon) = NotAFact
-fault_of (From event) = NotAFact
-fault_of (Upto event) = NotAFact
-fault_of (Quiet event node) = NotAFact
+fault_of _ = NotAFact
 
 -- the fault of the first reason that states no constraint, where there is one
 abbrev pub reasons_fault : (Reason → Option Constraint) → List Reason → Option BadStep

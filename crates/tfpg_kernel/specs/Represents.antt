@@ -8,7 +8,7 @@ use Rattle.tfpg_clause.specs.Trees.{Judged, IsRefutation}
 use Rattle.tfpg_clause.specs.Paths.{with_step, HasPath}
 use Rattle.tfpg_clause.specs.declared.path.PathSplit.{PathSplit}
 use Rattle.tfpg_kernel.specs.declared.taken.Taken.{Taken}
-use Rattle.tfpg_kernel.specs.declared.taken.Taken.TheVariants.{Open, Closed, Bad}
+use Rattle.tfpg_kernel.specs.declared.taken.Taken.TheVariants.{Bad}
 use Rattle.tfpg_kernel.specs.CheckerState.{CheckerState}
 
 -- A checker that is closed represents a refutation, and one that is not a partial tree, whose steps lead to its path.
@@ -23,6 +23,5 @@ pub record CheckerRepresents (graph : Tfpg) (log : Logbook) (checker : CheckerSt
 
 -- the steps taken after a step with this result: a bad one is not among them
 abbrev pub steps_after : Taken → List Judged → Logbook → Step → List Judged
-steps_after Open steps log step = with_step steps log step
-steps_after Closed steps log step = with_step steps log step
 steps_after (Bad bad) steps log step = steps
+steps_after _ steps log step = with_step steps log step

@@ -1,7 +1,7 @@
 //! What the checker returns.
 
 /// What became of a step.
-#[derive(Clone, Copy, Debug, PartialEq, Eq)]
+#[derive(Clone, Copy, PartialEq, Eq)]
 pub enum Taken {
     /// It is right, and the tree is not finished.
     Open,
@@ -13,7 +13,7 @@ pub enum Taken {
 
 /// The first condition that a step breaks. Whether the tree was closed is tested first, then whether a subtree can be reused, and
 /// then the others in this order. The second and the third are tested together, reason by reason.
-#[derive(Clone, Copy, Debug, PartialEq, Eq)]
+#[derive(Clone, Copy, PartialEq, Eq)]
 pub enum BadStep {
     /// The name of the split is not allowed.
     NotAClause,

@@ -40,13 +40,12 @@ room_refusal log = then_some (nat_le MAX_EVENTS (length log.events)) LogFull
 abbrev pub statement_refusals : Tfpg → Logbook → LogStatement → List (Option Refusal)
 statement_refusals graph log (Alarm name) = monitor_refusals graph name ++ room_refusal log ∷ []
 statement_refusals graph log (Silent name) = monitor_refusals graph name ++ room_refusal log ∷ []
-statement_refusals graph log Sweep = room_refusal log ∷ []
-statement_refusals graph log Tick = room_refusal log ∷ []
 statement_refusals graph log (Mode name) =
     then_some (is_none (mode_named graph name)) NotAMode
     ∷ room_refusal log
     ∷ then_some (nat_le MAX_MODE_CHANGES (count_by is_mode_change log.events)) ModesFull
     ∷ []
+statement_refusals graph log _ = room_refusal log ∷ []
 
 -- The event of a statement at a time. A name of the graph has its number. What number another name gets does not
 -- matter, since that name is refused.

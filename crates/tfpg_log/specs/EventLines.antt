@@ -29,9 +29,8 @@ event_line graph event = text_line (event_words graph event)
 abbrev pub HasNames : Tfpg → Event → Type 0
 HasNames graph (Alarm time node) = node < length graph.nodes
 HasNames graph (Silent time node) = node < length graph.nodes
-HasNames graph (Sweep time) = Unit {0}
-HasNames graph (Tick time) = Unit {0}
 HasNames graph (Mode time mode) = mode < length graph.modes
+HasNames graph _ = Unit {0}
 
 -- The event may come next in a log: it is of the graph, not before now and not too late, and there is room.
 pub record IsNextEvent (graph : Tfpg) (log : Logbook) (event : Event) : Type 0 where

@@ -5,7 +5,7 @@ use Rattle.tfpg_base.specs.Trace.{time_of}
 use Rattle.tfpg_graph.specs.declared.kind.Lag.{Lag}
 use Rattle.tfpg_graph.specs.Graph.{Tfpg, lag_or_zero, is_monitored, is_kind_at, is_failure, failure_at}
 use Rattle.tfpg_log.specs.declared.event.Event.{Event}
-use Rattle.tfpg_log.specs.declared.event.Event.TheVariants.{Alarm, Silent, Sweep, Tick, Mode}
+use Rattle.tfpg_log.specs.declared.event.Event.TheVariants.{Alarm, Silent, Sweep}
 use Rattle.tfpg_log.specs.Log.{Logbook, now_of, first_events, is_ignored, alarm_of}
 use Rattle.tfpg_log.specs.Rules.{IsActive, KeepsRules, IsTraceOf}
 
@@ -32,8 +32,7 @@ Shows graph before trace (Silent time node) = ShowsSilence graph before trace no
 Shows graph before trace (Sweep time) =
     (node : ℕ) → IsTrue (is_monitored graph node) → IsNone (alarm_of before node)
     → ShowsSilence graph before trace node time
-Shows graph before trace (Tick time) = Unit {0}
-Shows graph before trace (Mode time mode) = Unit {0}
+Shows graph before trace _ = Unit {0}
 
 -- The trace shows each event of the log, by its index.
 abbrev pub ShowsAll : Tfpg → Logbook → List Activation → Type 0

@@ -57,10 +57,7 @@ pub record GoesOn (earlier later : Logbook) : Type 0 where
 -- whether an event is an alarm of the node
 abbrev pub is_alarm_of : ℕ → Event → Bool
 is_alarm_of node (Alarm time alarmed) = alarmed == node
-is_alarm_of node (Silent time silent) = false
-is_alarm_of node (Sweep time) = false
-is_alarm_of node (Tick time) = false
-is_alarm_of node (Mode time mode) = false
+is_alarm_of node _ = false
 
 -- the time of the first alarm of a node
 abbrev pub alarm_among : List Event → ℕ → Option ℕ
@@ -80,20 +77,14 @@ alarm_event log node = option_map suc (alarm_index log.events node)
 
 -- whether an event is a change of mode
 abbrev pub is_mode_change : Event → Bool
-is_mode_change (Alarm time node) = false
-is_mode_change (Silent time node) = false
-is_mode_change (Sweep time) = false
-is_mode_change (Tick time) = false
 is_mode_change (Mode time mode) = true
+is_mode_change _ = false
 
 -- the mode at an instant, where this one holds before the events
 abbrev pub mode_after : ℕ → List Event → ℕ → ℕ
 mode_after held [] instant = held
 mode_after held (Mode time mode ∷ events) instant = mode_after (if nat_lt time instant then mode else held) events instant
-mode_after held (Alarm time node ∷ events) instant = mode_after held events instant
-mode_after held (Silent time node ∷ events) instant = mode_after held events instant
-mode_after held (Sweep time ∷ events) instant = mode_after held events instant
-mode_after held (Tick time ∷ events) instant = mode_after held events instant
+mode_after held (_ ∷ events) instant = mode_after held events instant
 
 -- The mode of an instant is that of the last change whose time is below it, and else the first declared mode. So a
 -- change does not hold at its own instant, and of two with one time the later line decides.
@@ -122,11 +113,9 @@ inactive_until graph log node time =
 -- Whether the event, after this log, is a silence of the node. A sweep is one of each monitored node without an alarm so
 -- far.
 abbrev pub is_silence_of : Tfpg → Logbook → ℕ → Event → Bool
-is_silence_of graph before node (Alarm time alarmed) = false
 is_silence_of graph before node (Silent time silent) = silent == node
 is_silence_of graph before node (Sweep time) = is_monitored graph node && is_none (alarm_of before node)
-is_silence_of graph before node (Tick time) = false
-is_silence_of graph before node (Mode time mode) = false
+is_silence_of graph before node _ = false
 
 -- the time of the event, where it is a silence of the node after this log
 abbrev pub silence_time : Tfpg → Logbook → Event → ℕ → Option ℕ
@@ -146,9 +135,8 @@ quiet_at graph log number node = option_and_then (inactive_until graph log node)
 abbrev pub IsEventOf : Tfpg → Event → Type 0
 IsEventOf graph (Alarm time node) = IsTrue (is_monitored graph node)
 IsEventOf graph (Silent time node) = IsTrue (is_monitored graph node)
-IsEventOf graph (Sweep time) = Unit {0}
-IsEventOf graph (Tick time) = Unit {0}
 IsEventOf graph (Mode time mode) = mode < length graph.modes
+IsEventOf graph _ = Unit {0}
 
 -- A log is of a graph where each event names only monitored nodes and modes of the graph, and each ignored node is a
 -- monitored node of the graph.

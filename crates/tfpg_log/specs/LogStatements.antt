@@ -28,8 +28,6 @@ pub record SaysLogStatement (line time : List ℕ) (statement : LogStatement) : 
 -- the word for the time and the statement of a line with these words, where it says one: the statement has one word, or a
 -- word and a name
 abbrev pub log_statement_in : List (List ℕ) → Option (List ℕ × LogStatement)
-log_statement_in [] = None
-log_statement_in (time ∷ []) = None
 log_statement_in (time ∷ word ∷ []) =
     if bytes_eq word (codes "sweep") then Some (time, Sweep)
     else (if bytes_eq word (codes "tick") then Some (time, Tick) else None)
@@ -37,7 +35,7 @@ log_statement_in (time ∷ word ∷ name ∷ []) =
     if bytes_eq word (codes "alarm") then Some (time, Alarm name)
     else (if bytes_eq word (codes "silent") then Some (time, Silent name)
     else (if bytes_eq word (codes "mode") then Some (time, Mode name) else None))
-log_statement_in (time ∷ word ∷ name ∷ more ∷ others) = None
+log_statement_in _ = None
 
 -- the same of a line: one with an empty word says nothing
 abbrev pub log_statement_of : List ℕ → Option (List ℕ × LogStatement)

@@ -1,5 +1,5 @@
 -- Spans of one mode, and the windows of spans in which an edge, or all edges into a node, are active.
-use Rattle.std.specs.Prelude.{ℕ, zero, suc, ◌+◌, max, Bool, ◌&&◌, nat_le, ◌==◌, if◌then◌else◌, Option, Some, None, option_and_then}
+use Rattle.std.specs.Prelude.{ℕ, zero, suc, ◌+◌, max, Bool, ◌&&◌, nat_le, ◌==◌, if◌then◌else◌, Option, Some, None, option_map, option_and_then}
 use Rattle.std.specs.Bool.{then_some}
 use Rattle.std.specs.List.{list_all}
 use Rattle.tfpg_base.specs.Trials.{least, greatest}
@@ -17,9 +17,8 @@ span_number log (suc instant) =
 
 -- the span between two instants
 abbrev pub span_between : Logbook → Option ℕ → Option ℕ → Option Span
-span_between log None hi = None
-span_between log (Some lo) None = None
 span_between log (Some lo) (Some hi) = Some (record { lo = lo; hi = hi; mode = mode_at log lo })
+span_between log _ _ = None
 
 -- the first instant of the span that is not before this one
 abbrev pub first_from : Span → ℕ → Option ℕ
@@ -45,8 +44,7 @@ run_end passes instant horizon =
 
 -- the window between two instants
 abbrev pub window_between : Logbook → ℕ → Option ℕ → Option Window
-window_between log lo None = None
-window_between log lo (Some hi) = Some (record { first = span_number log lo; lo = lo; hi = hi })
+window_between log lo end = option_map (λ hi. record { first = span_number log lo; lo = lo; hi = hi }) end
 
 -- The window round a span up to a horizon: the maximal run of passing instants that the span lies in. There is none where
 -- the span's own instants do not pass.

@@ -6,7 +6,7 @@ use crate::Refusal;
 
 /// An accepted line. Times are in milliseconds, from 0 to [`MAX_TIME`](tfpg_base::MAX_TIME), and never fall from one
 /// event to the next.
-#[derive(Clone, Copy, Debug, PartialEq, Eq)]
+#[derive(Clone, Copy, PartialEq, Eq)]
 pub enum Event {
     /// The monitor of a discrepancy raised its alarm.
     Alarm { time: u64, node: u32 },
@@ -38,7 +38,7 @@ impl Event {
 }
 
 /// What became of a line.
-#[derive(Clone, Copy, Debug, PartialEq, Eq)]
+#[derive(Clone, Copy, PartialEq, Eq)]
 pub enum Offered {
     Accepted(Event),
     Refused(Refusal),

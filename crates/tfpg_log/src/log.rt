@@ -32,7 +32,7 @@ use tfpg_graph::Graph;
 /// No look-up takes memory, and most take constant time. Those of the mode and of the span of an instant take time
 /// logarithmic in the number of mode changes. Those of windows go through the spans of the window, and for all edges into a
 /// node at once also through these edges.
-#[derive(Debug, Drop)]
+#[derive(Drop)]
 pub struct Log {
     events: Vec<Event>,
     /// Which events bound when each node became active. A node past the end has none.

@@ -1,7 +1,7 @@
 //! What a log keeps of each node beside its events.
 
 /// The numbers of events that bound when a node became active, where there are such events. Numbers begin with 1.
-#[derive(Clone, Copy, Debug)]
+#[derive(Clone, Copy)]
 pub(crate) struct NodeEvents {
     /// The node's first alarm.
     pub(crate) first_alarm: Option<u32>,

@@ -1,7 +1,7 @@
 //! Why a line of the log is refused.
 
 /// Why a line of the log is refused: the first in this order that holds.
-#[derive(Clone, Copy, Debug, PartialEq, Eq)]
+#[derive(Clone, Copy, PartialEq, Eq)]
 pub enum Refusal {
     /// It has none of the five shapes.
     BadLine,

@@ -7,7 +7,7 @@ use crate::refusal::Refusal;
 use tfpg_base::LONGEST_LINE;
 
 /// Why a line of input brings no round, but a block of its own.
-#[derive(Clone, Copy, Debug, PartialEq, Eq)]
+#[derive(Clone, Copy, PartialEq, Eq)]
 pub enum RefusedLine {
     /// It has more than [`LONGEST_LINE`] bytes.
     TooLong,

@@ -4,7 +4,7 @@ ghost use Rattle.std.specs.Prelude.{◌≡◌};
 ghost use Rattle.tfpg_log.specs.Spans.{first_from};
 
 /// A maximal run of instants with one mode, from the first to the last of them, in milliseconds.
-#[derive(Clone, Copy, Debug, PartialEq, Eq)]
+#[derive(Clone, Copy, PartialEq, Eq)]
 pub struct Span {
     pub lo: u64,
     pub hi: u64,
@@ -22,7 +22,7 @@ impl Span {
 }
 
 /// A maximal run of spans: the number of its first span, and its first and last instant, in milliseconds.
-#[derive(Clone, Copy, Debug, PartialEq, Eq)]
+#[derive(Clone, Copy, PartialEq, Eq)]
 pub struct Window {
     pub first: u32,
     pub lo: u64,

@@ -1,8 +1,6 @@
 -- The map of the input, or why there is none.
 use Rattle.std.specs.Prelude.{◌≡◌, ◌++◌, ℕ, ◌≤◌, List, [], length, ◌+◌, take}
-use Rattle.tfpg_base.specs.declared.activation.Activation.{Activation}
 use Rattle.tfpg_base.specs.declared.limits.TheConstants.{MAX_BYTES}
-use Rattle.tfpg_base.specs.Hypothesis.{Hypothesis}
 use Rattle.tfpg_base.specs.Lines.{lines_of, whole_lines}
 use Rattle.tfpg_base.specs.Outside.{SourceState, IsAtEnd, Rose, Takes}
 use Rattle.tfpg_graph.specs.Graph.{Tfpg}
@@ -13,13 +11,6 @@ use Rattle.tfpg_map.specs.declared.map.NoMap.{NoMap}
 use Rattle.tfpg_map.specs.declared.map.NoMap.TheVariants.{Refused, Lines, NoMemory}
 use Rattle.tfpg_base.specs.declared.line.LineFault.TheVariants.{ReadFault, TooMuchInput}
 
--- The whole input was taken, at most 2^32 bytes, and its lines spell this map.
-pub record GivesMap (graph : Tfpg) (input : SourceState) (taken : List ℕ) (hypothesis : Hypothesis)
-    (trace : List Activation) : Type 0 where
-  pub spells : SpellsMap graph (lines_of taken) hypothesis trace
-  pub few : length taken ≤ MAX_BYTES
-  pub at_end : IsAtEnd input
-
 -- The input is what was taken and what is left. Its lines are no map, and this is the number of the first faulty one.
 -- An input without a line was read to its end. Nothing failed.
 pub record RefusesMap (graph : Tfpg) (before now : SourceState) (taken : List ℕ) (number : ℕ) : Type 0 where
@@ -29,11 +20,13 @@ pub record RefusesMap (graph : Tfpg) (before now : SourceState) (taken : List �
   pub ended : lines_of (taken ++ rest) ≡ [] → IsAtEnd now
   pub no_fault : now.faults ≡ before.faults
 
--- The lines of the whole input spell this map.
+-- The whole input was taken, at most 2^32 bytes, and its lines spell this map. Nothing failed.
 pub record ReadsMap (graph : Tfpg) (before now : SourceState) (map : Map) : Type 0 where
   pub taken : List ℕ
   pub takes : Takes before now taken
-  pub gives : GivesMap graph now taken map.hypothesis map.trace
+  pub spells : SpellsMap graph (lines_of taken) map.hypothesis map.trace
+  pub few : length taken ≤ MAX_BYTES
+  pub at_end : IsAtEnd now
   pub no_fault : now.faults ≡ before.faults
 
 -- what shows why there is no map, where these bytes were taken

@@ -8,7 +8,8 @@ use Rattle.tfpg_base.specs.Trace.{IsRisingByNode, time_of}
 use Rattle.tfpg_base.specs.Words.{line_of}
 use Rattle.tfpg_base.specs.Hypothesis.{Hypothesis}
 use Rattle.tfpg_graph.specs.Graph.{Tfpg}
-use Rattle.tfpg_report.specs.LineWords.{activation_line}
+use Rattle.tfpg_report.specs.declared.report_line.ReportLine.TheVariants.{At}
+use Rattle.tfpg_report.specs.ReportLines.{written_line}
 use Rattle.tfpg_report.specs.SetText.{IsHypothesisOf, set_word}
 
 -- the line of the set of a hypothesis
@@ -27,7 +28,7 @@ pub record SpellsMap (graph : Tfpg) (lines : List (List ℕ)) (hypothesis : Hypo
   pub listed : List Activation
   pub of_nodes : All (IsActivationOf graph) listed
   pub once : AllPairs (λ earlier later. earlier.node ≢ later.node) listed
-  pub spelled : lines ≡ set_line graph hypothesis ∷ map (activation_line graph) listed
+  pub spelled : lines ≡ set_line graph hypothesis ∷ map (λ activation. written_line graph (At activation)) listed
   pub short : All (λ line. length line ≤ LONGEST_LINE) lines
   pub rising : IsRisingByNode trace
   pub same_times : (node : ℕ) → time_of trace node ≡ time_of listed node

@@ -5,7 +5,7 @@ ghost use Rattle.tfpg_base.specs.declared.activation.Activation.{Activation};
 ghost use Rattle.tfpg_base.specs.Hypothesis.{Hypothesis as Members};
 ghost use Rattle.tfpg_base.specs.Words.{words_of};
 ghost use Rattle.tfpg_graph.specs.Graph.{name_word};
-ghost use Rattle.tfpg_report.specs.LineWords.{activation_line};
+ghost use Rattle.tfpg_report.specs.inside.LineNames.{activation_line};
 ghost use Rattle.tfpg_report.specs.SetText.{IsHypothesisOf};
 ghost use Rattle.tfpg_map.specs.Spelling.{IsActivationOf, set_line};
 ghost use Rattle.tfpg_map.specs.inside.Lines.{word_after_set, words_after_at};

@@ -12,7 +12,7 @@ use tfpg_base::{Doubts, Hypothesis, LineFault, NoMemory, Set, Trace};
 use tfpg_graph::Graph;
 
 /// Why a line is not taken.
-#[derive(Clone, Copy, Debug, PartialEq, Eq)]
+#[derive(Clone, Copy, PartialEq, Eq)]
 pub(crate) enum MapFault {
     /// No map begins with the lines so far and this one.
     BadMap,
@@ -21,7 +21,7 @@ pub(crate) enum MapFault {
 }
 
 /// Why the input gives no map.
-#[derive(Clone, Copy, Debug, PartialEq, Eq)]
+#[derive(Clone, Copy, PartialEq, Eq)]
 pub enum NoMap {
     /// The line of this number is the first faulty one.
     Refused { line: u64 },

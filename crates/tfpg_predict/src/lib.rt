@@ -6,7 +6,7 @@
 //!   that there is none. [`Outlook`] is what it found, with its evidence.
 //! - [`laws`] has rows of what a probed log keeps.
 //!
-//! The mathematics stands in `docs/least-times.md`.
+//! The mathematics stands in `docs/search.md`.
 //!
 //! ```
 //! match forecast(alloc, &graph, &log, set, Doubts::empty(), node, 50, 1_000, &mut work)? {

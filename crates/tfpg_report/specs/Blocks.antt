@@ -30,14 +30,6 @@ lines_if_ranked finding (status.Ranked trace cost alarmed monitored) =
     Ranked finding.number cost alarmed monitored (hypothesis_of finding) ∷ map At trace
 lines_if_ranked finding _ = []
 
--- the line of an open hypothesis
-abbrev pub open_line : Finding → ReportLine
-open_line finding = Open finding.number (hypothesis_of finding)
-
--- the line of a hypothesis that this round rejected
-abbrev pub rejected_line : Finding → ReportLine
-rejected_line finding = Rejected finding.number (hypothesis_of finding)
-
 -- The lines of a round before its counts: its first line; the steps by rising numbers; the ranked hypotheses in ranking
 -- order; the open ones and those that this round rejected by rising numbers.
 abbrev pub lines_before_counts : RoundOf → List ReportLine
@@ -45,8 +37,8 @@ lines_before_counts round =
     Round round.number round.line round.now
     ∷ flat_map lines_of_finding round.findings
     ++ flat_map (λ finding. lines_if_ranked finding finding.status) (ranked_in_order round)
-    ++ map open_line (open_in round)
-    ++ map rejected_line (newly_rejected round)
+    ++ map (λ finding. Open finding.number (hypothesis_of finding)) (open_in round)
+    ++ map (λ finding. Rejected finding.number (hypothesis_of finding)) (newly_rejected round)
 
 -- the lines of a round, the last of which has its counts
 abbrev pub round_lines : RoundOf → List ReportLine
@@ -57,10 +49,6 @@ pub record Loss : Type 0 where
   pub panel : ℕ
   pub memory : Bool
 
--- the line of a panel that was lost, or for which memory ran out
-abbrev pub loss_line : Loss → ReportLine
-loss_line loss = Panel loss.panel loss.memory
-
 -- the block of a line: of a refused line, or of a round with the panels that were lost at it
 pub data Block : Type 0 where
   RefusedBlock : (line : ℕ) (cause : RefusedLine) → Block
@@ -69,7 +57,7 @@ pub data Block : Type 0 where
 -- the lines of a block
 abbrev pub block_lines : Block → List ReportLine
 block_lines (RefusedBlock line cause) = Refused line cause ∷ []
-block_lines (RoundBlock round losses) = round_lines round ++ map loss_line losses
+block_lines (RoundBlock round losses) = round_lines round ++ map (λ loss. Panel loss.panel loss.memory) losses
 
 -- The text of a block is that of its lines.
 abbrev pub block_text : Tfpg → Block → List ℕ

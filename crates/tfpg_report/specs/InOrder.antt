@@ -2,16 +2,14 @@
 use Rattle.std.specs.Prelude.{◌<◌, List, All, AllPairs}
 use Rattle.tfpg_base.specs.Trace.{IsRisingByNode}
 use Rattle.tfpg_evidence.specs.declared.finding.Status.{Status}
-use Rattle.tfpg_evidence.specs.declared.finding.Status.TheVariants.{Ranked, Covered, Rejected, Open}
+use Rattle.tfpg_evidence.specs.declared.finding.Status.TheVariants.{Ranked}
 use Rattle.tfpg_evidence.specs.declared.round.Round.{Round}
 use Rattle.tfpg_report.specs.Blocks.{Loss, Block, RefusedBlock, RoundBlock}
 
 -- The trace of the status, if it has one, rises by node.
 abbrev pub HasRisingTrace : Status → Type 0
 HasRisingTrace (Ranked trace cost alarmed monitored) = IsRisingByNode trace
-HasRisingTrace (Covered by) = Unit {0}
-HasRisingTrace Rejected = Unit {0}
-HasRisingTrace Open = Unit {0}
+HasRisingTrace _ = Unit {0}
 
 -- The traces of a round rise by node.
 abbrev pub HasRisingTraces : Round → Type 0

@@ -1,12 +1,8 @@
 -- The words of the lines of a report.
-use Rattle.std.specs.Prelude.{ℕ, List, [], ◌∷◌, ◌++◌, Bool, if◌then◌else◌, Option, Some, None, option_map, unwrap_or, slice_get, codes, decimal}
+use Rattle.std.specs.Prelude.{ℕ, List, [], ◌∷◌, ◌++◌, Bool, if◌then◌else◌, option_map, unwrap_or, slice_get, codes, decimal}
 use Rattle.tfpg_base.specs.declared.terms.Terms.{Terms}
-use Rattle.tfpg_base.specs.Lines.{with_line_end}
-use Rattle.tfpg_base.specs.Words.{line_of}
 use Rattle.tfpg_base.specs.Hypothesis.{Hypothesis}
-use Rattle.tfpg_base.specs.declared.activation.Activation.{Activation}
 use Rattle.tfpg_graph.specs.Graph.{Tfpg, name_word}
-use Rattle.tfpg_log.specs.declared.refusal.Refusal.{Refusal}
 use Rattle.tfpg_log.specs.declared.refusal.Refusal.TheVariants.{BadLine, BadNumber, TimeTooLarge, TimeBack, UnknownName, NotMonitored, NotAMode, LogFull, ModesFull}
 use Rattle.tfpg_evidence.specs.declared.clause_name.ClauseName.{ClauseName}
 use Rattle.tfpg_evidence.specs.declared.clause_name.ClauseName.TheVariants.{OrMay, AndMay, OrMust, AndMust}
@@ -28,39 +24,18 @@ abbrev pub old_head_words : ℕ → ℕ → List (List ℕ)
 old_head_words k budget =
     codes "report" ∷ codes "1" ∷ codes "k" ∷ decimal k ∷ codes "budget" ∷ decimal budget ∷ []
 
--- the name of a refusal
-abbrev pub refusal_name : Refusal → List ℕ
-refusal_name BadLine = codes "BadLine"
-refusal_name BadNumber = codes "BadNumber"
-refusal_name TimeTooLarge = codes "TimeTooLarge"
-refusal_name (TimeBack last) = codes "TimeBack"
-refusal_name UnknownName = codes "UnknownName"
-refusal_name NotMonitored = codes "NotMonitored"
-refusal_name NotAMode = codes "NotAMode"
-refusal_name LogFull = codes "LogFull"
-refusal_name ModesFull = codes "ModesFull"
-
--- the time that a refusal carries
-abbrev pub refusal_time : Refusal → Option ℕ
-refusal_time BadLine = None
-refusal_time BadNumber = None
-refusal_time TimeTooLarge = None
-refusal_time (TimeBack last) = Some last
-refusal_time UnknownName = None
-refusal_time NotMonitored = None
-refusal_time NotAMode = None
-refusal_time LogFull = None
-refusal_time ModesFull = None
-
--- the word for a time, where there is one
-abbrev pub time_words : Option ℕ → List (List ℕ)
-time_words None = []
-time_words (Some time) = decimal time ∷ []
-
 -- the words for why a line is refused
 abbrev pub cause_words : RefusedLine → List (List ℕ)
 cause_words TooLong = codes "TooLong" ∷ []
-cause_words (Offer refusal) = refusal_name refusal ∷ time_words (refusal_time refusal)
+cause_words (Offer BadLine) = codes "BadLine" ∷ []
+cause_words (Offer BadNumber) = codes "BadNumber" ∷ []
+cause_words (Offer TimeTooLarge) = codes "TimeTooLarge" ∷ []
+cause_words (Offer (TimeBack last)) = codes "TimeBack" ∷ decimal last ∷ []
+cause_words (Offer UnknownName) = codes "UnknownName" ∷ []
+cause_words (Offer NotMonitored) = codes "NotMonitored" ∷ []
+cause_words (Offer NotAMode) = codes "NotAMode" ∷ []
+cause_words (Offer LogFull) = codes "LogFull" ∷ []
+cause_words (Offer ModesFull) = codes "ModesFull" ∷ []
 
 -- the words of the line of a refused line
 abbrev pub refused_words : ℕ → RefusedLine → List (List ℕ)
@@ -99,14 +74,6 @@ numbered_set_words graph number hypothesis = decimal number ∷ codes "set" ∷ 
 -- how many of the monitored nodes have an alarm
 abbrev pub robustness_word : ℕ → ℕ → List ℕ
 robustness_word alarmed monitored = decimal alarmed ++ codes "/" ++ decimal monitored
-
--- the line of an activation
-abbrev pub activation_line : Tfpg → Activation → List ℕ
-activation_line graph activation = line_of (codes "at" ∷ name_word graph activation.node ∷ decimal activation.time ∷ [])
-
--- the line of an activation, with its line end
-abbrev pub activation_text : Tfpg → Activation → List ℕ
-activation_text graph activation = with_line_end (activation_line graph activation)
 
 -- the words that say how many hypotheses have each status
 abbrev pub counts_words : Counts → List (List ℕ)

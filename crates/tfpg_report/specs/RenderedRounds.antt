@@ -32,11 +32,7 @@ MayReturnInTurn graph before (bytes ∷ others) (Err NoMemory ∷ results) = res
 
 -- Each line but the last completes nothing, and the last completes this round; or memory ran out at one of them.
 abbrev pub CompletesRound : Round → List (Result Fed ReadRefusal) → Type 0
-CompletesRound round [] = ⊥
 CompletesRound round (Ok fed.More ∷ results) = CompletesRound round results
-CompletesRound round (Ok (fed.Head k doubt budget) ∷ results) = ⊥
-CompletesRound round (Ok (fed.Refused line cause) ∷ results) = ⊥
 CompletesRound round (Ok (fed.Round read) ∷ results) = IsReadBack round read × (results ≡ [])
-CompletesRound round (Ok (fed.Lost panel memory) ∷ results) = ⊥
-CompletesRound round (Err (BadReport at) ∷ results) = ⊥
 CompletesRound round (Err NoMemory ∷ results) = results ≡ []
+CompletesRound round _ = ⊥

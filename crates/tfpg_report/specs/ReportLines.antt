@@ -1,5 +1,5 @@
 -- The lines of a report: how each is written, and which numbers it may have.
-use Rattle.std.specs.Prelude.{◌≡◌, ℕ, ◌<◌, ◌≤◌, ◌^◌, List, [], ◌∷◌, length, flat_map, Option, Some, None, codes, decimal}
+use Rattle.std.specs.Prelude.{◌≡◌, ℕ, ◌<◌, ◌≤◌, ◌^◌, List, [], ◌∷◌, length, flat_map, codes, decimal}
 use Rattle.tfpg_base.specs.Lines.{with_line_end}
 use Rattle.tfpg_base.specs.Words.{line_of}
 use Rattle.tfpg_base.specs.Terms.{AreReportTerms}
@@ -9,11 +9,11 @@ use Rattle.tfpg_evidence.specs.declared.clause_name.ClauseName.{ClauseName}
 use Rattle.tfpg_evidence.specs.declared.clause_name.ClauseName.TheVariants.{OrMay, AndMay, OrMust, AndMust}
 use Rattle.tfpg_evidence.specs.declared.reason.Reason.{Reason}
 use Rattle.tfpg_evidence.specs.declared.reason.Reason.TheVariants.{Zero, Top, Unreached, From, Upto, Quiet, Pick}
-use Rattle.tfpg_evidence.specs.declared.round.Counts.{Counts as CountsOf}
 use Rattle.tfpg_report.specs.SetText.{IsHypothesisOf, set_word}
-use Rattle.tfpg_report.specs.LineWords.{head_words, old_head_words, refused_words, refusal_time, clause_words, reason_words, numbered_set_words, robustness_word, counts_words, lost_words}
+use Rattle.tfpg_report.specs.LineWords.{head_words, old_head_words, refused_words, clause_words, reason_words, numbered_set_words, robustness_word, counts_words, lost_words}
+use Rattle.tfpg_log.specs.declared.refusal.Refusal.TheVariants.{TimeBack}
 use Rattle.tfpg_log.specs.declared.refused_line.RefusedLine.{RefusedLine}
-use Rattle.tfpg_log.specs.declared.refused_line.RefusedLine.TheVariants.{TooLong, Offer}
+use Rattle.tfpg_log.specs.declared.refused_line.RefusedLine.TheVariants.{Offer}
 use Rattle.tfpg_report.specs.declared.report_line.ReportLine.{ReportLine}
 use Rattle.tfpg_report.specs.declared.report_line.ReportLine.TheVariants.{Head, OldHead, Refused, Round, Hyp, Split, Cycle, Why, Again, Ranked, At, Open, Rejected, Counts, Panel}
 
@@ -50,15 +50,10 @@ lines_text graph lines = flat_map (λ line. with_line_end (written_line graph li
 abbrev pub Has32Bits : ℕ → Type 0
 Has32Bits number = number < 2 ^ 32
 
--- a time that is there is not too large
-abbrev pub IsTimeWithin : Option ℕ → Type 0
-IsTimeWithin None = Unit {0}
-IsTimeWithin (Some time) = time ≤ MAX_TIME
-
 -- The time that a refusal carries, if any, is not too large.
 abbrev pub IsCauseWithin : RefusedLine → Type 0
-IsCauseWithin TooLong = Unit {0}
-IsCauseWithin (Offer refusal) = IsTimeWithin (refusal_time refusal)
+IsCauseWithin (Offer (TimeBack last)) = last ≤ MAX_TIME
+IsCauseWithin _ = Unit {0}
 
 -- A clause is of a node or an edge of the graph, and its numbers are within their limits.
 abbrev pub IsNameWithin : Tfpg → ClauseName → Type 0
@@ -77,13 +72,6 @@ IsReasonWithin graph (Upto event) = Has32Bits event
 IsReasonWithin graph (Quiet event node) = Has32Bits event × (node < length graph.nodes)
 IsReasonWithin graph (Pick split constraint) = (split ≤ MAX_LINE_NUMBER) × Has32Bits constraint
 
--- The counts are within their limits.
-pub record AreCountsWithin (counts : CountsOf) : Type 0 where
-  pub ranked : Has32Bits counts.ranked
-  pub covered : Has32Bits counts.covered
-  pub rejected : Has32Bits counts.rejected
-  pub unsettled : Has32Bits counts.unsettled
-
 -- A line names what the graph has, and its numbers are within their limits.
 abbrev pub IsLineWithin : Tfpg → ReportLine → Type 0
 IsLineWithin graph (Head terms) = AreReportTerms terms
@@ -100,7 +88,8 @@ IsLineWithin graph (Ranked number cost alarmed monitored hypothesis) =
 IsLineWithin graph (At activation) = (activation.node < length graph.nodes) × (activation.time ≤ MAX_TIME)
 IsLineWithin graph (Open number hypothesis) = Has32Bits number × IsHypothesisOf graph hypothesis
 IsLineWithin graph (Rejected number hypothesis) = Has32Bits number × IsHypothesisOf graph hypothesis
-IsLineWithin graph (Counts counts) = AreCountsWithin counts
+IsLineWithin graph (Counts counts) =
+    Has32Bits counts.ranked × Has32Bits counts.covered × Has32Bits counts.rejected × Has32Bits counts.unsettled
 IsLineWithin graph (Panel panel memory) = panel ≤ MAX_PANEL_NUMBER
 
 -- The bytes say this line: they are how it is written, its names and numbers are within their limits, and they are not too

@@ -5,6 +5,7 @@ pub mod Readers
 pub mod Further
 pub mod Numbered
 pub mod Sections
+pub mod LineNames
 pub mod Texts
 pub mod ReadMembers
 pub mod FirstWords

@@ -18,7 +18,7 @@ pub enum Fed {
 }
 
 /// Why a line of a report is not taken.
-#[derive(Clone, Copy, Debug, PartialEq, Eq)]
+#[derive(Clone, Copy, PartialEq, Eq)]
 pub enum ReadRefusal {
     /// No report begins with the lines up to this one.
     BadReport { line: u64 },

@@ -1,11 +1,13 @@
 //! The lines of the ranked hypotheses.
 
-ghost use Rattle.std.specs.Prelude.{◌≡◌, ◌<◌, All, AllPairs, flat_map, length};
+ghost use Rattle.std.specs.Prelude.{◌≡◌, ◌<◌, All, AllPairs, flat_map, length, map};
 ghost use Rattle.tfpg_base.specs.Append.{Appends};
 ghost use Rattle.tfpg_evidence.specs.Findings.{findings_at};
 ghost use Rattle.tfpg_evidence.specs.RoundOf.{IsFindingOf};
 ghost use Rattle.tfpg_graph.specs.Graph.{sizes_of};
-ghost use Rattle.tfpg_report.specs.LineWords.{activation_text};
+ghost use Rattle.tfpg_report.specs.declared.report_line.ReportLine.{ReportLine};
+ghost use Rattle.tfpg_report.specs.ReportLines.{lines_text};
+ghost use Rattle.tfpg_report.specs.inside.LineNames.{activation_text};
 ghost use Rattle.tfpg_report.specs.inside.Texts.{ranked_line, ranked_text};
 ghost use Rattle.tfpg_report.specs.inside.Numbered.{numbered_text};
 
@@ -118,7 +120,7 @@ pub fn append_activations(
     into: &mut Vec<u8>,
 ) -> Result<(), NoMemory>
     requires { All (λ activation. activation.node < length graph.now.nodes) trace.now }
-    ensures { Appends result into.old.items into.new.items (flat_map (activation_text graph.now) trace.now) }
+    ensures { Appends result into.old.items into.new.items (lines_text graph.now (map ReportLine.At trace.now)) }
 {
     for activation in trace {
         append_activation(graph, *activation, into)?;

@@ -1,10 +1,9 @@
 //! The block of a line that was refused.
 
-ghost use Rattle.std.specs.Prelude.{◌≡◌, ◌∷◌, codes, decimal};
+ghost use Rattle.std.specs.Prelude.{[], ◌∷◌, codes, decimal};
 ghost use Rattle.tfpg_base.specs.Append.{Appends};
 ghost use Rattle.tfpg_base.specs.TextLine.{text_line};
 ghost use Rattle.tfpg_report.specs.Blocks.{refused_text};
-ghost use Rattle.tfpg_report.specs.LineWords.{refusal_name, refusal_time, time_words};
 
 use crate::RefusedLine;
 use itoa::Buffer;
@@ -17,61 +16,45 @@ pub fn refused(line: u64, cause: RefusedLine, into: &mut Vec<u8>) -> Result<(), 
     ensures { Appends result into.old.items into.new.items (refused_text line cause) }
 {
     match cause {
-        RefusedLine::TooLong => {
-            let mut digits = Buffer::new();
-            append_line(
-                into,
-                &[b"refused", digits.format(line).as_bytes(), b"TooLong"],
-            )
-        }
+        RefusedLine::TooLong => append_named(line, b"TooLong", into),
         RefusedLine::Offer(refusal) => append_refusal(line, refusal, into),
     }
 }
 
 /// Appends the block of a line that the log refused.
 fn append_refusal(line: u64, refusal: Refusal, into: &mut Vec<u8>) -> Result<(), NoMemory>
+    ensures { Appends result into.old.items into.new.items (refused_text line (RefusedLine.Offer refusal)) }
+{
+    match refusal {
+        Refusal::BadLine => append_named(line, b"BadLine", into),
+        Refusal::BadNumber => append_named(line, b"BadNumber", into),
+        Refusal::TimeTooLarge => append_named(line, b"TimeTooLarge", into),
+        Refusal::TimeBack { last } => append_time_back(line, last, into),
+        Refusal::UnknownName => append_named(line, b"UnknownName", into),
+        Refusal::NotMonitored => append_named(line, b"NotMonitored", into),
+        Refusal::NotAMode => append_named(line, b"NotAMode", into),
+        Refusal::LogFull => append_named(line, b"LogFull", into),
+        Refusal::ModesFull => append_named(line, b"ModesFull", into),
+    }
+}
+
+/// Appends the block of a line whose cause one word names.
+fn append_named(line: u64, name: &[u8], into: &mut Vec<u8>) -> Result<(), NoMemory>
     ensures { Appends result into.old.items into.new.items
-        (text_line
-        (codes "refused" ∷ decimal line ∷ refusal_name refusal ∷ time_words (refusal_time refusal))) }
+        (text_line (codes "refused" ∷ decimal line ∷ name.now ∷ [])) }
+{
+    let mut digits = Buffer::new();
+    append_line(into, &[b"refused", digits.format(line).as_bytes(), name])
+}
+
+/// Appends the block of a line whose time is below that of the last event, in milliseconds.
+fn append_time_back(line: u64, last: u64, into: &mut Vec<u8>) -> Result<(), NoMemory>
+    ensures { Appends result into.old.items into.new.items
+        (text_line (codes "refused" ∷ decimal line ∷ codes "TimeBack" ∷ decimal last ∷ [])) }
 {
     let mut line_digits = Buffer::new();
+    let mut time_digits = Buffer::new();
     let line_word = line_digits.format(line).as_bytes();
-    match refusal_time(refusal) {
-        None => append_line(into, &[b"refused", line_word, refusal_name(refusal)]),
-        Some(time) => {
-            let mut time_digits = Buffer::new();
-            let time_word = time_digits.format(time).as_bytes();
-            append_line(
-                into,
-                &[b"refused", line_word, refusal_name(refusal), time_word],
-            )
-        }
-    }
-}
-
-/// The name of a refusal.
-fn refusal_name(refusal: Refusal) -> &'static [u8]
-    ensures { result.now ≡ refusal_name refusal }
-{
-    match refusal {
-        Refusal::BadLine => b"BadLine",
-        Refusal::BadNumber => b"BadNumber",
-        Refusal::TimeTooLarge => b"TimeTooLarge",
-        Refusal::TimeBack { .. } => b"TimeBack",
-        Refusal::UnknownName => b"UnknownName",
-        Refusal::NotMonitored => b"NotMonitored",
-        Refusal::NotAMode => b"NotAMode",
-        Refusal::LogFull => b"LogFull",
-        Refusal::ModesFull => b"ModesFull",
-    }
-}
-
-/// The time that a refusal carries, in milliseconds.
-fn refusal_time(refusal: Refusal) -> Option<u64>
-    ensures { result ≡ refusal_time refusal }
-{
-    match refusal {
-        Refusal::TimeBack { last } => Some(last),
-        _ => None,
-    }
+    let time_word = time_digits.format(last).as_bytes();
+    append_line(into, &[b"refused", line_word, b"TimeBack", time_word])
 }

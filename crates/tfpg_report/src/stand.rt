@@ -1,7 +1,7 @@
 //! What may come next in a report.
 
 /// What may come next in a report, by the lines that were read.
-#[derive(Clone, Copy, Debug, PartialEq, Eq)]
+#[derive(Clone, Copy, PartialEq, Eq)]
 pub enum Stand {
     /// Nothing was read: the first line comes.
     Nothing,

@@ -8,7 +8,7 @@ use tfpg_base::{NoMemory, ShelfFault};
 use tfpg_graph::{GraphFault, GraphRefusal};
 
 /// Why there is no graph of a file.
-#[derive(Clone, Copy, Debug, PartialEq, Eq)]
+#[derive(Clone, Copy, PartialEq, Eq)]
 pub(crate) enum FetchFault {
     /// The shelf of files failed.
     Failed,

@@ -7,8 +7,8 @@ use Rattle.tfpg_clause.specs.declared.path.PathSplit.{PathSplit}
 use Rattle.tfpg_search.specs.inside.Leaf.{Leaf}
 
 -- A search: its set and what that reaches, and how many events it has seen. What it keeps of its tree is there for the
--- proofs, and no promise reads it but how many calls its system has counted: the splits on the path to the present leaf with how many
--- picks stood before each, and the system of that leaf.
+-- proofs, and no promise reads it but which system it has and how many calls that has counted: the splits on the path to the present
+-- leaf with how many picks stood before each, and the system of that leaf.
 pub record SearchState : Type 0 where
   pub set : List ℕ
   pub reach : List ℕ

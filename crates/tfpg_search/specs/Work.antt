@@ -37,8 +37,8 @@ abbrev pub changed_bounds : NodeBounds → NodeBounds → ℕ
 changed_bounds one other = differing one.lows other.lows + differing one.highs other.highs
 
 -- The limit for a call that appends so many steps, where the search saw so many events before: one counted call for each bound
--- that differs from the one before, and four for each step and once more. A search that built its system anew in each round would
--- not keep within it: it would set again each bound that is as before.
+-- that differs from the one before, and four for each step and once more. The calls are those of one system, which a search keeps
+-- from round to round. If that were given again each bound that is as before, it would not keep within the limit.
 pub record IsWorkLimit (case : Case) (seen steps limit : ℕ) : Type 0 where
   pub old : NodeBounds
   pub before : AreBoundsAt (case_at case seen) seen old

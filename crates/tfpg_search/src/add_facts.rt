@@ -41,6 +41,7 @@ impl LeafSystem {
         ensures counts { (bounds : NodeBounds) → AreFactBounds (case_of graph.now log.now reach.now) bounds →
             CountsFacts bounds self.old self.new work.old work.new result }
         ensures counted { CountsAlike self.old self.new work.old work.new }
+        ensures identity { self.new.identity ≡ self.old.identity }
     {
         for node in 0..graph.node_count() {
             self.raise_to(node, low(graph, log, reach, node), work)?;
@@ -62,6 +63,7 @@ impl LeafSystem {
         ensures counts { (bounds : NodeBounds) → slice_get bounds.lows node ≡ Some low.time →
             CountsFacts bounds self.old self.new work.old work.new result }
         ensures counted { CountsAlike self.old self.new work.old work.new }
+        ensures identity { self.new.identity ≡ self.old.identity }
     {
         if low.time <= self.bounds(node).floor() {
             return Ok(());
@@ -83,6 +85,7 @@ impl LeafSystem {
         ensures counts { (bounds : NodeBounds) → slice_get bounds.highs node ≡ Some high.time →
             CountsFacts bounds self.old self.new work.old work.new result }
         ensures counted { CountsAlike self.old self.new work.old work.new }
+        ensures identity { self.new.identity ≡ self.old.identity }
     {
         if self.bounds(node).ceiling() <= high.time {
             return Ok(());

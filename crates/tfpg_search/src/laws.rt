@@ -34,8 +34,9 @@ pub fn a_tree_is_unsettled_where_its_latest_solution_violates()
 {}
 
 /// Each round has one limit of its counted calls: `there` says that there is one, and `only_one` that there is no other. Where
-/// the log changes no bound, the limit depends on the steps alone, and not on how many nodes there are (`unchanged`). So a search
-/// that built its system anew in each round would not keep within it.
+/// the log changes no bound, the limit depends on the steps alone, and not on how many nodes there are (`unchanged`). So a system that
+/// is given all bounds once more in each round does not keep within it, and a search keeps its system (clause `identity` of
+/// [`Search::round`](crate::Search::round)).
 pub fn a_round_has_one_work_limit()
     ensures there { (case : Case) (seen steps : ℕ) → (limit : ℕ) × IsWorkLimit case seen steps limit }
     ensures only_one { (case : Case) (seen steps one other : ℕ) → IsWorkLimit case seen steps one →

@@ -56,6 +56,7 @@ impl Model for LeafSystem {
       reasons = kept_reasons leaf.system.demands leaf.lows.items leaf.highs.items leaf.entered.items;
       entered = leaf.entered.items;
       calls = leaf.system.calls;
+      identity = leaf.system.identity;
     } };
 
     ghost invariant = { λ leaf. AreKept leaf.system.demands leaf.lows.items leaf.highs.items leaf.entered.items };
@@ -87,9 +88,9 @@ impl LeafSystem {
         })
     }
 
-    /// A copy, with the allocator that the system keeps.
+    /// A copy, with the allocator that the system keeps. It is another system.
     pub(crate) fn copy(&self) -> Result<LeafSystem, NoMemory>
-        ensures { IfOk result (λ copy. copy ≡ self.now) }
+        ensures { IfOk result (λ copy. copy ≡ record self.now { identity = copy.identity }) }
     {
         let system = self.system.copy()?;
         let lows = self.lows.clone()?;
@@ -186,6 +187,7 @@ impl LeafSystem {
             self.old self.new result }
         ensures step { work.new ≡ work.old + 1 }
         ensures counted { CountsAlike self.old self.new work.old work.new }
+        ensures identity { self.new.identity ≡ self.old.identity }
     {
         let tag = u64::from(node);
         match self.system.raise(node, low.time, tag, work) {
@@ -218,6 +220,7 @@ impl LeafSystem {
             self.old self.new result }
         ensures step { work.new ≡ work.old + 1 }
         ensures counted { CountsAlike self.old self.new work.old work.new }
+        ensures identity { self.new.identity ≡ self.old.identity }
     {
         let tag = u64::from(self.system.variable_count()) + u64::from(node);
         match self.system.lower(node, high.time, tag, work) {
@@ -265,6 +268,7 @@ impl LeafSystem {
         ensures adds { AddsPick (Pick split number) constraint self.old self.new result }
         ensures step { work.new ≤ work.old + 1 }
         ensures counted { CountsAlike self.old self.new work.old work.new }
+        ensures identity { self.new.identity ≡ self.old.identity }
     {
         let tag = self.next_tag();
         self.system.reserve(1)?;
@@ -295,6 +299,7 @@ impl LeafSystem {
         ensures bounds { self.new.demands.bounds ≡ self.old.demands.bounds }
         ensures entered { self.new.entered ≡ take kept self.old.entered }
         ensures counted { self.new.calls ≡ self.old.calls }
+        ensures identity { self.new.identity ≡ self.old.identity }
     {
         let before = self.entered[kept];
         self.system.pop_to(before as u64);

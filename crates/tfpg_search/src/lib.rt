@@ -20,8 +20,8 @@
 //! # Proved, and by which clause
 //!
 //! - A trace, a refutation or a spent budget, over all rounds: `Search::round`, `searched`, `enough`, `seen`.
-//! - A copy is equal: `Search::copy`.
-//! - How many calls of its system a round makes: `work`, `counted`.
+//! - A copy is equal, but that it has another system: `Search::copy`.
+//! - How many calls of its system a round makes: `work`, `counted`. That it keeps its system: `identity`.
 //! - One latest solution at a leaf, and which trees are unsettled: its laws.
 //!
 //! # Not proved

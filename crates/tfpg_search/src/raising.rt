@@ -1,7 +1,7 @@
 //! Times by raising: a trace that is proposed beside the search, by moving times alone. No constraint is added, and no counted call is made.
 //!
 //! Each node begins at its floor, the least time that the facts allow. Times are only raised: to the first instant at which the failure
-//! can arrive, and so far that no node after it is overdue. `docs/raising.md` says why only AND nodes leave a choice.
+//! can arrive, and so far that no node after it is overdue. `docs/search.md` says why only AND nodes leave a choice.
 //!
 //! Nothing is promised of the times. [`Search`](crate::Search) judges them, and shows only what passes.
 

@@ -92,9 +92,10 @@ impl Search {
     }
 
     /// A copy of the search, with the allocator that the search keeps. It continues by itself, and the search stays as it is. Its system
-    /// has counted as many calls. Takes time and memory linear in what the search keeps.
+    /// is another one, and has counted as many calls. Takes time and memory linear in what the search keeps.
     pub fn copy(&self) -> Result<Search, NoMemory>
-        ensures { IfOk result (λ copy. copy ≡ self.now) }
+        ensures { IfOk result (λ copy.
+            copy ≡ record self.now { leaf = record self.now.leaf { identity = copy.leaf.identity } }) }
     {
         let path = self.path.clone()?;
         let leaf = self.leaf.copy()?;
@@ -126,7 +127,8 @@ impl Search {
     /// at most as many splits as the budget says. It goes over the facts of the log once, and once more for each leaf that they close.
     ///
     /// The counter counts the calls that add to the system, and no others: what the system itself counted rose by as much. They are at
-    /// most one for each bound of a node that the log changed since the last round, and four for each step and once more.
+    /// most one for each bound of a node that the log changed since the last round, and four for each step and once more. The search
+    /// keeps its system: none is made anew or copied in its place.
     pub fn round<L: Ledger>(
         &mut self,
         graph: &Graph,
@@ -144,6 +146,7 @@ impl Search {
         ensures work { (limit : ℕ) → IsWorkLimit (case_of_search graph.now log.now self.old) self.old.seen
             (length steps.new - length steps.old) limit → work.new ≤ work.old + limit }
         ensures counted { calls_of_search self.new + work.old ≡ calls_of_search self.old + work.new }
+        ensures identity { self.new.leaf.identity ≡ self.old.leaf.identity }
         ensures enough { IsEnough graph.now log.now budget → result ≡ Ok Found.Spent → ⊥ }
         ensures set { self.new.set ≡ self.old.set }
         ensures reach { self.new.reach ≡ self.old.reach }

@@ -42,27 +42,18 @@ time_of_entry (Stop time) = time
 
 -- it is the stop
 abbrev pub is_stop : Entry → Bool
-is_stop (Start time node) = false
-is_stop (Mode time mode) = false
-is_stop (Sweep time) = false
-is_stop (Tick time) = false
 is_stop (Stop time) = true
+is_stop _ = false
 
 -- it changes the mode
 abbrev pub changes_mode : Entry → Bool
-changes_mode (Start time node) = false
 changes_mode (Mode time mode) = true
-changes_mode (Sweep time) = false
-changes_mode (Tick time) = false
-changes_mode (Stop time) = false
+changes_mode _ = false
 
 -- it starts this failure mode
 abbrev pub starts : ℕ → Entry → Bool
 starts failure (Start time node) = node == failure
-starts failure (Mode time mode) = false
-starts failure (Sweep time) = false
-starts failure (Tick time) = false
-starts failure (Stop time) = false
+starts failure _ = false
 
 -- the time of the last line, and 0 where there is none
 abbrev pub time_so_far : List Entry → ℕ

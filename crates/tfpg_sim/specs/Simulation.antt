@@ -29,10 +29,7 @@ script_log entries = log_of_events (filter_map event_of_entry entries)
 abbrev pub start_of : List Entry → ℕ → Option ℕ
 start_of [] failure = None
 start_of (Start time node ∷ entries) failure = if node == failure then Some time else start_of entries failure
-start_of (Mode time mode ∷ entries) failure = start_of entries failure
-start_of (Sweep time ∷ entries) failure = start_of entries failure
-start_of (Tick time ∷ entries) failure = start_of entries failure
-start_of (Stop time ∷ entries) failure = start_of entries failure
+start_of (_ ∷ entries) failure = start_of entries failure
 
 -- the edge of this number has an age of at least its delay at an instant
 pub record Carries (graph : Tfpg) (log : Logbook) (delays : List ℕ) (trace : List Activation)

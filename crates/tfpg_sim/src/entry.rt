@@ -4,7 +4,7 @@ ghost use Rattle.std.specs.Prelude.{◌≡◌};
 ghost use Rattle.tfpg_sim.specs.Script.{time_so_far};
 
 /// A line of a script. Times are in milliseconds, from 0 to [`MAX_TIME`](tfpg_base::MAX_TIME).
-#[derive(Clone, Copy, Debug, PartialEq, Eq)]
+#[derive(Clone, Copy, PartialEq, Eq)]
 pub(crate) enum Entry {
     /// The failure mode of this node starts.
     Start { time: u64, node: u32 },

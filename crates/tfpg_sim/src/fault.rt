@@ -4,7 +4,7 @@ use std::alloc::{AllocError, AllocFailed};
 use tfpg_base::NoMemory;
 
 /// Why a script is not simulated.
-#[derive(Clone, Copy, Debug, PartialEq, Eq)]
+#[derive(Clone, Copy, PartialEq, Eq)]
 pub enum SimFault {
     /// This line of the script is the first at fault. Lines are numbered from 1.
     BadScript { line: u64 },

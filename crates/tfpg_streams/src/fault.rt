@@ -8,7 +8,7 @@ ghost use Rattle.tfpg_streams.specs.declared.fault.OutputFault.TheVariants as ou
 use tfpg_base::{Failed, LineFault, NoMemory};
 
 /// Why the input was not read to its end, or the output not written.
-#[derive(Clone, Copy, Debug, PartialEq, Eq)]
+#[derive(Clone, Copy, PartialEq, Eq)]
 pub enum StreamFault {
     /// The input failed.
     ReadFault,
@@ -59,7 +59,7 @@ impl From<OutputFault> for StreamFault {
 }
 
 /// Why a text was not written.
-#[derive(Clone, Copy, Debug, PartialEq, Eq)]
+#[derive(Clone, Copy, PartialEq, Eq)]
 pub enum OutputFault {
     /// The output failed.
     WriteFault,

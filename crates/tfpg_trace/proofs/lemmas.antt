@@ -5,6 +5,7 @@ pub mod FirstNodes
 pub mod NoStrays
 pub mod Sweeps
 pub mod Decided
+pub mod FirstEventsShown
 pub mod Explained
 pub mod Beginnings
 pub mod SpanOrder

@@ -4,11 +4,7 @@ use Rattle.tfpg_base.specs.declared.activation.Activation.{Activation}
 use Rattle.tfpg_base.specs.Trace.{time_of}
 use Rattle.tfpg_graph.specs.Graph.{Tfpg}
 use Rattle.tfpg_log.specs.Log.{Logbook, now_of}
-use Rattle.tfpg_log.specs.Rules.{KeepsMay, KeepsMust, KeepsRulesOf}
-
--- No node before this one breaks a rule.
-abbrev pub KeepRulesBefore : Tfpg → Logbook → List Activation → ℕ → Type 0
-KeepRulesBefore graph log trace end = (node : ℕ) → node < end → KeepsRulesOf graph log trace node
+use Rattle.tfpg_log.specs.Rules.{KeepsMay, KeepsMust}
 
 -- At this instant, which is its time, the node breaks the may rule.
 pub record BreaksMay (graph : Tfpg) (log : Logbook) (trace : List Activation) (node instant : ℕ) : Type 0 where

@@ -3,8 +3,8 @@
 ghost use Rattle.std.specs.Prelude.{◌<◌, ◌≤◌, ℕ, length, MatchOption};
 ghost use Rattle.tfpg_log.specs.Log.{now_of};
 ghost use Rattle.tfpg_log.specs.Rules.{KeepsMay, KeepsRulesOf};
-ghost use Rattle.tfpg_trace.specs.Broken.{KeepRulesBefore, BreaksMay};
-ghost use Rattle.tfpg_trace.specs.inside.RuleFaults.{IsBroken, IsFirstNodeBroken};
+ghost use Rattle.tfpg_trace.specs.Broken.{BreaksMay};
+ghost use Rattle.tfpg_trace.specs.inside.RuleFaults.{KeepRulesBefore, IsBroken, IsFirstNodeBroken};
 
 use crate::Verdict;
 use crate::may::keeps_may;

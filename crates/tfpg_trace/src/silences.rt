@@ -3,8 +3,7 @@
 ghost use Rattle.std.specs.Prelude.{◌↔◌, ℕ, length, IsTrue, MatchOption};
 ghost use Rattle.tfpg_log.specs.Rules.{IsActive};
 ghost use Rattle.tfpg_log.specs.Explains.{ShowsSilence};
-ghost use Rattle.tfpg_trace.specs.FirstFault.{NoneBefore};
-ghost use Rattle.tfpg_trace.specs.inside.Strays.{IsFirstNode};
+ghost use Rattle.tfpg_trace.specs.FirstFault.{IsFirstNode, NoneBefore};
 ghost use Rattle.tfpg_trace.specs.inside.Shown.{IsNotQuiet};
 
 use crate::trace_table::TraceTable;

@@ -3,8 +3,8 @@
 
 ghost use Rattle.std.specs.Prelude.{◌≡◌, ◌<◌, ℕ, ◌↔◌, false, length, nat_le, All, IsTrue, MatchOption};
 ghost use Rattle.std.specs.List.{list_all};
-ghost use Rattle.tfpg_trace.specs.FirstFault.{NoneBefore, IsLate, IsStranger};
-ghost use Rattle.tfpg_trace.specs.inside.Strays.{IsOutside, IsFirstNode};
+ghost use Rattle.tfpg_trace.specs.FirstFault.{NoneBefore, IsFirstNode, IsLate, IsStranger};
+ghost use Rattle.tfpg_trace.specs.inside.Strays.{IsOutside};
 
 use crate::trace_table::TraceTable;
 use tfpg_base::{Activation, Set};

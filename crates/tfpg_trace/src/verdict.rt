@@ -1,7 +1,7 @@
 //! What is said of a trace.
 
 /// Whether a trace explains a log from a set of failure modes, and if not, its first fault. Times are in milliseconds.
-#[derive(Clone, Copy, Debug, PartialEq, Eq)]
+#[derive(Clone, Copy, PartialEq, Eq)]
 pub enum Verdict {
     /// It explains the log.
     Yes,

@@ -1,5 +1,5 @@
 -- What outcomes and questions say of the rounds and logs to come.
-use Rattle.std.specs.Prelude.{◌≡◌, ℕ, List, map, count_by, IsTrue, Some, slice_get}
+use Rattle.std.specs.Prelude.{◌≡◌, ◌≤◌, ◌+◌, ℕ, List, count_by, IsTrue, false, Some, slice_get}
 use Rattle.tfpg_base.specs.Hypothesis.{Hypothesis}
 use Rattle.tfpg_base.specs.declared.activation.Activation.{Activation}
 use Rattle.tfpg_graph.specs.Graph.{Tfpg}
@@ -14,7 +14,7 @@ use Rattle.tfpg_engine.specs.Work.{has_status}
 use Rattle.tfpg_whatif.specs.declared.outcome.Outcome.{Outcome}
 use Rattle.tfpg_whatif.specs.declared.outcome.Outcome.TheVariants.{Fits, Out}
 use Rattle.tfpg_whatif.specs.declared.question.Question.{Question}
-use Rattle.tfpg_whatif.specs.Outcomes.{Asked, asked_at, is_out, HasNoneUnknown, Keeps}
+use Rattle.tfpg_whatif.specs.Outcomes.{Asked, asked_at, is_out, is_unknown, Keeps}
 use Rattle.tfpg_whatif.specs.Questions.{after_silence, after_alarm}
 
 -- The hypothesis fits no log that goes on from this one, nor this one.
@@ -33,16 +33,17 @@ abbrev pub IsNeverRejected : Asked → ℕ → Type 0
 IsNeverRejected asked number =
     (round : Round) → IsRoundOfLog asked round → IsTrue (has_status is_rejected number round) → ⊥
 
--- What the outcomes say: one that is out fits no later log; one that fits is never rejected; and where a round has no open
--- hypothesis and nothing is unknown, those that are out are exactly those that the round rejects.
+-- What the outcomes say: one that is out fits no later log; one that fits is never rejected; and of those that are not unknown a
+-- round without an open hypothesis rejects exactly those that are out.
 pub record ForeseeRounds (asked : Asked) (outcomes : List Outcome) : Type 0 where
   pub out : (index number : ℕ) (hypothesis : Hypothesis) (steps : List Step) → slice_get asked.among index ≡ Some number
       → slice_get asked.hypotheses number ≡ Some hypothesis → slice_get outcomes index ≡ Some (Out steps)
       → FitsNoLaterLog asked.graph asked.log hypothesis
   pub fits : (index number : ℕ) (trace : List Activation) → slice_get asked.among index ≡ Some number
       → slice_get outcomes index ≡ Some (Fits trace) → IsNeverRejected asked number
-  pub exact : (round : Round) → IsRoundOfLog asked round → HasNoneOpen round → HasNoneUnknown outcomes
-      → map is_out outcomes ≡ map (λ number. has_status is_rejected number round) asked.among
+  pub exact : (round : Round) → IsRoundOfLog asked round → HasNoneOpen round → (index number : ℕ) (outcome : Outcome)
+      → slice_get asked.among index ≡ Some number → slice_get outcomes index ≡ Some outcome → is_unknown outcome ≡ false
+      → is_out outcome ≡ has_status is_rejected number round
 
 -- What the outcomes after a line say of its hypotheses: one that has a trace keeps, and one that is out falls.
 pub record SayWhichKeep (asked : Asked) (line : List ℕ) (outcomes : List Outcome) : Type 0 where
@@ -57,10 +58,11 @@ pub record SayWhichKeep (asked : Asked) (line : List ℕ) (outcomes : List Outco
 abbrev pub rejected_among : Asked → Round → ℕ
 rejected_among asked round = count_by (λ number. has_status is_rejected number round) asked.among
 
--- Where nothing is unknown, this many are rejected by each round of the log that has no open hypothesis.
+-- Each round of the log that has no open hypothesis rejects at least so many, and at most as many more as are unknown.
 abbrev pub CountsRejected : Asked → ℕ → ℕ → Type 0
 CountsRejected asked unknown out =
-    (round : Round) → IsRoundOfLog asked round → HasNoneOpen round → unknown ≡ 0 → out ≡ rejected_among asked round
+    (round : Round) → IsRoundOfLog asked round → HasNoneOpen round
+    → (out ≤ rejected_among asked round) × (rejected_among asked round ≤ out + unknown)
 
 -- What a question says: how many hypotheses a round rejects after each of the two answers.
 pub record ForeseesRounds (asked : Asked) (question : Question) : Type 0 where

@@ -61,15 +61,13 @@ pub record IsOutcome (graph : Tfpg) (log : Logbook) (hypothesis : Hypothesis) (b
 
 -- whether the hypothesis is shown to fall
 abbrev pub is_out : Outcome → Bool
-is_out (Fits trace) = false
 is_out (Out steps) = true
-is_out (Unknown steps) = false
+is_out _ = false
 
 -- whether the budget did not suffice
 abbrev pub is_unknown : Outcome → Bool
-is_unknown (Fits trace) = false
-is_unknown (Out steps) = false
 is_unknown (Unknown steps) = true
+is_unknown _ = false
 
 -- none of the outcomes is unknown
 abbrev pub HasNoneUnknown : List Outcome → Type 0

@@ -4,7 +4,7 @@ use tfpg_base::NoMemory;
 use tfpg_log::Refusal;
 
 /// Why there is no answer.
-#[derive(Clone, Copy, Debug, PartialEq, Eq)]
+#[derive(Clone, Copy, PartialEq, Eq)]
 pub enum AskFault {
     /// The log would refuse the line.
     Refused(Refusal),

@@ -6,8 +6,7 @@ use tfpg_clause::laws::a_refutation_leaves_no_trace;
 use tfpg_hyp::laws::{rounds_say_which_sets_fit, the_table_is_one};
 
 /// A hypothesis that is out fits no log that goes on from the one at which is asked. One that fits is rejected in no round of
-/// that log. Where such a round has no open hypothesis and nothing is unknown, those that are out are exactly those that it
-/// rejects.
+/// that log. Where such a round has no open hypothesis, it rejects those that are out, and of the others unknown ones alone.
 pub fn outcomes_foresee_rounds()
     ensures { OutcomesForeseeRounds }
 {
@@ -16,8 +15,8 @@ pub fn outcomes_foresee_rounds()
     the_table_is_one();
 }
 
-/// Where nothing is unknown, a question counts the hypotheses that a round rejects after each of its two answers, if no hypothesis
-/// of the round is open.
+/// After each of its two answers a round without an open hypothesis rejects at least as many as a question counts, and at most as many
+/// more as are unknown.
 pub fn questions_foresee_rounds()
     ensures { QuestionsForeseeRounds }
 {

@@ -3,7 +3,7 @@
 use tfpg_base::Items;
 
 /// How many of the hypotheses that are asked about are shown to fall after each answer of a monitored node: a silence, or an alarm.
-#[derive(Clone, Copy, Debug, PartialEq, Eq)]
+#[derive(Clone, Copy, PartialEq, Eq)]
 pub struct Question {
     /// The node, which is monitored and has no alarm so far.
     pub node: u32,

@@ -3,7 +3,7 @@
 use tfpg_base::{Items, Text};
 
 /// What a panel writes of each round.
-#[derive(Clone, Copy, Debug, PartialEq, Eq)]
+#[derive(Clone, Copy, PartialEq, Eq)]
 pub enum PanelKind {
     /// `top`: the best of the ranked sets, and its cost.
     Top,

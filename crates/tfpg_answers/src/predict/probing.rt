@@ -18,7 +18,7 @@ pub struct ForecastRequest<'a> {
 }
 
 /// Why a node takes no probe.
-#[derive(Clone, Copy, Debug, PartialEq, Eq)]
+#[derive(Clone, Copy, PartialEq, Eq)]
 pub enum ProbeFault {
     /// The graph has [`MAX_NODES`](tfpg_graph::MAX_NODES) nodes, and no room for one more.
     TooManyNodes,

@@ -11,7 +11,7 @@ use tfpg_graph::{GraphFault, GraphRefusal};
 use tfpg_hyp::TableFault;
 
 /// Why there are no questions.
-#[derive(Clone, Copy, Debug, PartialEq, Eq)]
+#[derive(Clone, Copy, PartialEq, Eq)]
 pub enum AskTextsFault {
     /// A number of the terms is out of its range: `k` is more than [`MAX_K`](tfpg_base::MAX_K), `doubt` more than
     /// [`MAX_DOUBT`](tfpg_base::MAX_DOUBT), or the budget 0 or more than [`MAX_BUDGET`](tfpg_base::MAX_BUDGET).
@@ -49,7 +49,7 @@ impl From<TableFault> for AskTextsFault {
 }
 
 /// Why there are no forecasts.
-#[derive(Clone, Copy, Debug, PartialEq, Eq)]
+#[derive(Clone, Copy, PartialEq, Eq)]
 pub enum PredictTextsFault {
     /// A number of the terms is out of its range, as [`AskTextsFault::OutOfRange`] says, or it is looked ahead more than
     /// [`MAX_TIME`](tfpg_base::MAX_TIME).
@@ -97,7 +97,7 @@ impl From<TableFault> for PredictTextsFault {
 }
 
 /// Why there is no verdict.
-#[derive(Clone, Copy, Debug, PartialEq, Eq)]
+#[derive(Clone, Copy, PartialEq, Eq)]
 pub enum ExplainTextsFault {
     /// The log has more than [`LONGEST_FILE`](tfpg_base::LONGEST_FILE) bytes, or the map more than
     /// [`MAX_BYTES`](tfpg_base::MAX_BYTES).

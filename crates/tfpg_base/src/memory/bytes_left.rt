@@ -4,7 +4,7 @@ ghost use Rattle.std.specs.Prelude.{◌≡◌, ◌++◌, false, length, take, dr
 ghost use Rattle.tfpg_base.specs.Memory.{ended_after};
 
 /// Bytes that are given from their front, and whether their end was returned.
-#[derive(Debug, Drop)]
+#[derive(Drop)]
 pub(crate) struct BytesLeft<'a> {
     pub(crate) left: &'a [u8],
     pub(crate) ended: bool,

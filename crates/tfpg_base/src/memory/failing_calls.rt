@@ -7,7 +7,7 @@ ghost use Rattle.tfpg_base.specs.Outside.{Rose};
 use crate::FaultCount;
 
 /// Counts calls and faults. The calls with these numbers, from 1, are to fail.
-#[derive(Debug, Drop)]
+#[derive(Drop)]
 pub(crate) struct FailingCalls<'a> {
     pub(crate) failing: &'a [u64],
     pub(crate) calls: u64,

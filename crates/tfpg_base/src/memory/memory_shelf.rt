@@ -12,7 +12,7 @@ use std::alloc::Global;
 use std::marker::Model;
 
 /// Files by name. Fetching fails at chosen calls, and where there is no such file.
-#[derive(Debug, Drop)]
+#[derive(Drop)]
 pub struct MemoryShelf<'a> {
     files: &'a [(&'a str, &'a [u8])],
     asked: Vec<String>,

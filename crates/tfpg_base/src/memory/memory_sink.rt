@@ -11,7 +11,7 @@ use std::marker::Model;
 
 /// A sink that keeps its bytes, takes a limited number of them in a call, and fails at chosen calls and where it runs out
 /// of memory.
-#[derive(Debug, Drop)]
+#[derive(Drop)]
 pub struct MemorySink<'a> {
     bytes: Vec<u8>,
     limit: usize,

@@ -10,7 +10,7 @@ use crate::{Failed, Source};
 use std::marker::Model;
 
 /// Bytes at hand as a source that gives a limited number of them in a call, and fails at chosen calls.
-#[derive(Debug, Drop)]
+#[derive(Drop)]
 pub struct MemorySource<'a> {
     bytes: BytesLeft<'a>,
     limit: usize,

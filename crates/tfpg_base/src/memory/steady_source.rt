@@ -9,7 +9,7 @@ use std::marker::Model;
 
 /// Bytes at hand as a source that never fails: its count of faults is the constant 0. It gives a call as many
 /// bytes as the buffer holds. Contracts see it as the bytes that are left.
-#[derive(Debug, Drop)]
+#[derive(Drop)]
 pub struct SteadySource<'a> {
     bytes: BytesLeft<'a>,
 }

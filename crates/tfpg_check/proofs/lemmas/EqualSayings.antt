@@ -34,7 +34,8 @@ use Rattle.tfpg_hyp.proofs.lemmas.FindingsOfRound.{HasFindingAt, evidence}
 use Rattle.tfpg_log.specs.declared.refused_line.RefusedLine.{RefusedLine}
 use Rattle.tfpg_report.specs.SetText.{set_word}
 use Rattle.tfpg_report.specs.Blocks.{Block, Loss, RoundBlock}
-use Rattle.tfpg_report.specs.LineWords.{activation_line, robustness_word}
+use Rattle.tfpg_report.specs.LineWords.{robustness_word}
+use Rattle.tfpg_report.specs.inside.LineNames.{activation_line}
 use Rattle.tfpg_report.proofs.lemmas.ActivationLines.{IsInRange, one_trace}
 use Rattle.tfpg_report.proofs.lemmas.BlockLines.{is_ranked_line, open_line, ranked_words, lines_of_trace, open_lines_of, trace_lines_of}
 use Rattle.tfpg_report.proofs.lemmas.EqualTexts.{HaveSameLines, one_head, same_lines, same_number}

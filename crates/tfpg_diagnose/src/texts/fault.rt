@@ -11,7 +11,7 @@ use tfpg_graph::{GraphFault, GraphRefusal};
 use tfpg_hyp::TableFault;
 
 /// Why there is no diagnosis of the graph of a text on some terms.
-#[derive(Clone, Copy, Debug, PartialEq, Eq)]
+#[derive(Clone, Copy, PartialEq, Eq)]
 pub enum OpenFault {
     /// A number of the terms is out of its range: `k` is more than [`MAX_K`](tfpg_base::MAX_K), `doubt` more than
     /// [`MAX_DOUBT`](tfpg_base::MAX_DOUBT), or the budget 0 or more than [`MAX_BUDGET`](tfpg_base::MAX_BUDGET).
@@ -47,7 +47,7 @@ impl From<TableFault> for OpenFault {
 }
 
 /// Why there is no report.
-#[derive(Clone, Copy, Debug, PartialEq, Eq)]
+#[derive(Clone, Copy, PartialEq, Eq)]
 pub enum ReportFault {
     /// A number of the terms is out of its range, as [`OpenFault::OutOfRange`] says.
     OutOfRange,
@@ -83,7 +83,7 @@ impl From<NoMemory> for ReportFault {
 }
 
 /// Why a report is not accepted.
-#[derive(Clone, Copy, Debug, PartialEq, Eq)]
+#[derive(Clone, Copy, PartialEq, Eq)]
 pub enum CheckTextsFault {
     /// This is the first fault of the graph's text.
     Graph(GraphFault),

@@ -1,5 +1,6 @@
 pub mod ZeroWalks
 pub mod ZeroVisits
+pub mod ZeroFrames
 pub mod StepRows
 pub mod ZeroEdgeSteps
 pub mod ZeroGroups

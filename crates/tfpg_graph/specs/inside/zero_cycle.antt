@@ -1,2 +1,3 @@
 pub mod ZeroSearch
 pub mod ZeroEdges
+pub mod SearchFrames

@@ -10,7 +10,7 @@ use tfpg_base::NodeNumbers;
 
 /// A set of nodes, each by its number, which is below [`MAX_NODES`]. It takes no memory.
 /// Contracts see it as the rising list of these numbers.
-#[derive(Clone, Copy, Debug)]
+#[derive(Clone, Copy)]
 pub struct NodeSet {
     nodes: NodeNumbers,
 }

@@ -4,7 +4,8 @@ ghost use Rattle.std.specs.Prelude.{◌≡◌, ◌≤◌, ◌∷◌, [], IfOk, I
 ghost use Rattle.tfpg_base.specs.Words.{number_of};
 ghost use Rattle.tfpg_base.specs.declared.limits.TheConstants.{MAX_TIME};
 ghost use Rattle.tfpg_graph.specs.Valid.{HasValidNumber, IsValidLag};
-ghost use Rattle.tfpg_graph.specs.Declares.{kind_of_words, lag_of_words, numbers_of_words, delays_of_words};
+ghost use Rattle.tfpg_graph.specs.Declares.{kind_of_words, lag_of_words};
+ghost use Rattle.tfpg_graph.specs.inside.reading.WordValues.{numbers_of_words, delays_of_words};
 ghost use Rattle.tfpg_base.specs.Choice.{first_of};
 ghost use Rattle.tfpg_graph.specs.Statements.{OrWords};
 ghost use Rattle.tfpg_graph.specs.inside.reading.LineCauses.{number_causes, node_number_causes, range_causes, delay_causes};

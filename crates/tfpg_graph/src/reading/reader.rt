@@ -125,21 +125,32 @@ impl Reader {
         ensures valid { IfOk result IsValid }
         ensures fault { IfErr result (IsEndRefusal (parts_of text.now)) }
     {
-        let Reader {
-            part,
-            version,
-            declared,
-        } = self;
+        match self.test_whole(alloc, text, line_count) {
+            Err(refusal) => Err(refusal),
+            Ok(()) => Ok(Graph::new(self.declared)),
+        }
+    }
+
+    /// Tests what no line shows alone: whether a discrepancy has no edge into it, a cycle may take no time, or the end is missing.
+    fn test_whole(&self, alloc: Global, text: &[u8], line_count: u64) -> Result<(), GraphRefusal>
+        requires stands { ReaderRepresents self.now (parts_of text.now) }
+        requires count { line_count ≡ length (parts_of text.now) }
+        requires few { line_count ≤ 2 ^ 63 }
+        ensures ended { IfOk result (λ _. self.now.part ≡ ReadingStage.Ended) }
+        ensures valid { IfOk result (λ _. IsValid self.now.declared) }
+        ensures fault { IfErr result (IsEndRefusal (parts_of text.now)) }
+    {
+        let declared = &self.declared;
         if let Some(node) = declared.without_incoming() {
-            let line = line_declaring(text, version, Declaring::Node, node);
+            let line = line_declaring(text, self.version, Declaring::Node, node);
             return Err(GraphLineRefusal::Cause(GraphCause::NoIncoming).at(line));
         }
-        if let Some(edge) = first_on_zero_cycle(alloc, &declared)? {
-            let line = line_declaring(text, version, Declaring::Edge, edge);
+        if let Some(edge) = first_on_zero_cycle(alloc, declared)? {
+            let line = line_declaring(text, self.version, Declaring::Edge, edge);
             return Err(GraphLineRefusal::Cause(GraphCause::ZeroCycle).at(line));
         }
-        match part {
-            ReadingStage::Ended => Ok(Graph::new(declared)),
+        match self.part {
+            ReadingStage::Ended => Ok(()),
             _ => Err(GraphLineRefusal::Cause(GraphCause::MissingEnd).at(line_count + 1)),
         }
     }

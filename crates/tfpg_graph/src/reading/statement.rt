@@ -2,7 +2,8 @@
 
 ghost use Rattle.std.specs.Prelude.{◌≡◌, length, map, Option, option_map};
 ghost use Rattle.tfpg_graph.specs.Statements.{is_empty_or_comment};
-ghost use Rattle.tfpg_graph.specs.Statements.{statement_of, statement_in, OrWords, AndWords, DeclaresNode, mode_in, failure_in, discrepancy_in, edge_in, end_in, lag_in, hidden_in, watched_in, is_skipped};
+ghost use Rattle.tfpg_graph.specs.Statements.{statement_of, OrWords, AndWords, DeclaresNode, is_skipped};
+ghost use Rattle.tfpg_graph.specs.inside.reading.Shapes.{statement_by_keyword, mode_in, failure_in, discrepancy_in, edge_in, end_in, lag_by_state, hidden_in, watched_in};
 ghost use Rattle.tfpg_graph.specs.Statements as definition;
 ghost use Rattle.tfpg_graph.specs.declared.version.Version.TheVariants.{One, Two};
 ghost use Rattle.tfpg_graph.specs.inside.reading.StatementSeen.{statement_seen, lag_seen};
@@ -78,7 +79,7 @@ pub(crate) fn statement_of(line: &[u8], version: Version) -> Option<Statement<'_
 
 /// What a line of these words says.
 fn statement_in<'a>(words: &[&'a [u8]], version: Version) -> Option<Statement<'a>>
-    ensures { option_map statement_seen result ≡ statement_in version (map (λ word. word.now) words.now) }
+    ensures { option_map statement_seen result ≡ statement_by_keyword version (map (λ word. word.now) words.now) }
 {
     let (keyword, others) = words.split_first()?;
     if *keyword == b"mode".as_slice() {
@@ -157,7 +158,7 @@ fn discrepancy_in<'a>(
 
 /// The words for the lag, where the last words of a discrepancy's line say that it is watched.
 fn lag_in<'a>(words: &[&'a [u8]], version: Version) -> Option<Option<LagWords<'a>>>
-    ensures { option_map lag_seen result ≡ lag_in version (map (λ word. word.now) words.now) }
+    ensures { option_map lag_seen result ≡ lag_by_state version (map (λ word. word.now) words.now) }
 {
     let (state, others) = words.split_first()?;
     if *state == b"hidden".as_slice() {

@@ -1,7 +1,8 @@
 //! The groups of nodes that reach each other, which are the strongly connected components, by two depth-first searches.
 
-ghost use Rattle.std.specs.Prelude.{◌≡◌, ◌<◌, [], None, length, replicate, IfOk, OnOk};
-ghost use Rattle.tfpg_graph.specs.inside.zero_cycle.ZeroSearch.{IsVisited, search_of, HasVisited, IsFinishingOrder, AreReversed, AreGroups};
+ghost use Rattle.std.specs.Prelude.{◌≡◌, ◌<◌, ℕ, List, [], ◌∷◌, ◌++◌, None, length, replicate, IfOk, OnOk};
+ghost use Rattle.tfpg_graph.specs.inside.zero_cycle.SearchFrames.{IsUnderway, IsSearching, all_turns_left};
+ghost use Rattle.tfpg_graph.specs.inside.zero_cycle.ZeroSearch.{IsVisited, Searched, search_of, HasVisited, IsFinishingOrder, AreReversed, AreGroups};
 
 use crate::node_steps::NodeSteps;
 use std::alloc::Global;
@@ -29,9 +30,22 @@ impl GroupSearch {
     }
 }
 
+/// A node that a search has come to and is not done with.
+#[derive(Clone, Copy)]
+struct Frame {
+    node: u32,
+    /// How many nodes of its row, the first ones, the search is done with.
+    passed: usize,
+}
+
 /// Searches depth-first: gives a mark to the node and all that it reaches over nodes without one, and is done with each of
-/// these when it is done with those that it reaches. It calls itself as deep as there are nodes.
+/// these when it is done with those that it reaches.
+///
+/// This is the search of Hopcroft and Tarjan, with a list in place of calls of itself: its frames are the nodes on the path
+/// to where the search is, each with its place in its row. So its stack does not grow with the graph. Takes time linear in
+/// the number of nodes that get the mark and of steps from them, and memory for a frame for each node of that path.
 fn visit(
+    alloc: Global,
     steps: &NodeSteps,
     node: u32,
     mark: usize,
@@ -48,10 +62,50 @@ fn visit(
         return Ok(());
     }
     search.marks[node as usize] = Some(mark);
-    for next in steps.row(node) {
-        visit(steps, *next, mark, search)?;
+    let mut frames = Vec::new(alloc);
+    frames.push(Frame { node, passed: 0 })?;
+    while let Some(top) = frames.pop() {
+        go_on(steps, mark, top, &mut frames, search)?;
     }
-    search.order.push(node)?;
+    Ok(())
+}
+
+/// One turn of a search: goes on from the last of its frames, which was taken from the list. It is done with the node, or
+/// passes the next node of its row, or comes to this.
+fn go_on(
+    steps: &NodeSteps,
+    mark: usize,
+    top: Frame,
+    frames: &mut Vec<Frame>,
+    search: &mut GroupSearch,
+) -> Result<(), NoMemory>
+    requires { (middle : Searched) × IsUnderway steps.now mark top.node top.passed middle (search_of search.old.marks.items search.old.order.items) }
+    ensures searching { OnOk result ((nodes : List ℕ) (old : Searched)
+        → IsSearching steps.now mark nodes old (search_of search.old.marks.items search.old.order.items) (frames.old.items ++ top ∷ [])
+        → IsSearching steps.now mark nodes old (search_of search.new.marks.items search.new.order.items) frames.new.items) }
+    ensures ends { OnOk result
+        (all_turns_left steps.now search.new.marks.items frames.new.items
+        < all_turns_left steps.now search.old.marks.items (frames.old.items ++ top ∷ [])) }
+{
+    let row = steps.row(top.node);
+    if top.passed == row.len() {
+        search.order.push(top.node)?;
+        return Ok(());
+    }
+    let next = row[top.passed];
+    if search.marks[next as usize].is_some() {
+        frames.push(Frame {
+            node: top.node,
+            passed: top.passed + 1,
+        })?;
+        return Ok(());
+    }
+    search.marks[next as usize] = Some(mark);
+    frames.push(top)?;
+    frames.push(Frame {
+        node: next,
+        passed: 0,
+    })?;
     Ok(())
 }
 
@@ -62,7 +116,7 @@ fn finishing_order(alloc: Global, count: u32, steps: &NodeSteps) -> Result<Vec<u
 {
     let mut search = GroupSearch::new(alloc, count)?;
     for node in 0..count {
-        visit(steps, node, 0, &mut search)?;
+        visit(alloc, steps, node, 0, &mut search)?;
     }
     let GroupSearch {
         marks: _marks,
@@ -75,7 +129,7 @@ fn finishing_order(alloc: Global, count: u32, steps: &NodeSteps) -> Result<Vec<u
 ///
 /// The first search goes along the reversed steps. The second takes the nodes from last to first in the order of the
 /// first, and gives each group the index of its first node in that order (the algorithm of Kosaraju). Takes time linear in the
-/// number of nodes and steps, and memory for a mark and an index for each node.
+/// number of nodes and steps, and memory for a mark, an index and a frame for each node.
 pub(crate) fn groups(
     alloc: Global,
     count: u32,
@@ -90,7 +144,7 @@ pub(crate) fn groups(
     let mut search = GroupSearch::new(alloc, count)?;
     for turn in 0..order.len() {
         let index = order.len() - 1 - turn;
-        visit(steps, order[index], index, &mut search)?;
+        visit(alloc, steps, order[index], index, &mut search)?;
     }
     let GroupSearch {
         marks,

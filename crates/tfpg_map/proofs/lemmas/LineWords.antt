@@ -16,7 +16,7 @@ use Rattle.tfpg_base.proofs.lemmas.Separators.{join_with_byte-words_of}
 use Rattle.tfpg_base.proofs.lemmas.lists.Lacking.{lacks_checked, slice_split-join}
 use Rattle.tfpg_graph.specs.Graph.{Tfpg, name_word}
 use Rattle.tfpg_graph.specs.Valid.{IsValid}
-use Rattle.tfpg_report.specs.LineWords.{activation_line}
+use Rattle.tfpg_report.specs.inside.LineNames.{activation_line}
 use Rattle.tfpg_report.specs.SetText.{IsHypothesisOf, set_word}
 use Rattle.tfpg_report.proofs.lemmas.ActivationLines.{IsInRange, activation_words, one_activation}
 use Rattle.tfpg_report.proofs.lemmas.SetWords.{set_word-no_space}

@@ -12,7 +12,7 @@ use Rattle.tfpg_base.proofs.lemmas.lists.Elements.{Contains-head, Contains-middl
 use Rattle.tfpg_base.proofs.lemmas.Traces.{time_of-with_time, time_of-with_time_other, IsRisingByNode-with_time}
 use Rattle.tfpg_graph.specs.Graph.{Tfpg}
 use Rattle.tfpg_graph.specs.Valid.{IsValid}
-use Rattle.tfpg_report.specs.LineWords.{activation_line}
+use Rattle.tfpg_report.specs.inside.LineNames.{activation_line}
 use Rattle.tfpg_report.specs.SetText.{IsHypothesisOf}
 use Rattle.tfpg_map.specs.Spelling.{IsActivationOf, SpellsMap, BeginsMap, set_line}
 use Rattle.tfpg_map.specs.inside.Lines.{HasRead, TakesActivation, IsNoActivation}

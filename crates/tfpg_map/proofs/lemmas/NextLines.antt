@@ -188,12 +188,10 @@ module _ (graph : Tfpg) (before now : SourceState) (reader : MapReader) (all : H
   gives_map (Ok map) returns = record {
     taken = all.taken;
     takes = all.takes;
-    gives = record {
-      spells = subst (λ (hypothesis : Option Hypothesis). HasRead graph hypothesis map.trace (lines_of all.taken)) returns.0
-          (subst (λ (trace : List Activation). HasRead graph reader.hypothesis trace (lines_of all.taken)) returns.1 all.read);
-      few = all.few;
-      at_end = all.at_end;
-    };
+    spells = subst (λ (hypothesis : Option Hypothesis). HasRead graph hypothesis map.trace (lines_of all.taken)) returns.0
+        (subst (λ (trace : List Activation). HasRead graph reader.hypothesis trace (lines_of all.taken)) returns.1 all.read);
+    few = all.few;
+    at_end = all.at_end;
     no_fault = all.no_fault;
   }
   gives_map (Err fault) returns = tt
@@ -218,11 +216,11 @@ module _ (graph : Tfpg) (before now : SourceState) (reader : MapReader) (all : H
 -- a map that was read names only nodes of the graph
 pub map_in_graph : (graph : Tfpg) (before now : SourceState) (result : Result Map NoMap) → IfOk result (ReadsMap graph before now)
     → IfOk result (λ map. All (λ activation. activation.node < length graph.nodes) map.trace)
-map_in_graph graph before now (Ok map) reads = spelled_in_graph graph (lines_of reads.taken) map.hypothesis map.trace reads.gives.spells
+map_in_graph graph before now (Ok map) reads = spelled_in_graph graph (lines_of reads.taken) map.hypothesis map.trace reads.spells
 map_in_graph graph before now (Err fault) reads = tt
 
 -- and ignores only monitored ones
 pub map_of_monitors : (graph : Tfpg) (before now : SourceState) (result : Result Map NoMap) → IfOk result (ReadsMap graph before now)
     → IfOk result (λ map. All (λ node. IsTrue (is_monitored graph node)) map.hypothesis.doubts)
-map_of_monitors graph before now (Ok map) reads = reads.gives.spells.of_graph.monitored
+map_of_monitors graph before now (Ok map) reads = reads.spells.of_graph.monitored
 map_of_monitors graph before now (Err fault) reads = tt

@@ -9,7 +9,7 @@ use Rattle.tfpg_base.specs.Words.{words_of}
 use Rattle.tfpg_base.proofs.lemmas.SameTraces.{same_trace}
 use Rattle.tfpg_graph.specs.Graph.{Tfpg}
 use Rattle.tfpg_graph.specs.Valid.{IsValid}
-use Rattle.tfpg_report.specs.LineWords.{activation_line}
+use Rattle.tfpg_report.specs.inside.LineNames.{activation_line}
 use Rattle.tfpg_report.proofs.lemmas.ActivationLines.{IsInRange, one_trace}
 use Rattle.tfpg_report.proofs.lemmas.SetWords.{one_hypothesis}
 use Rattle.tfpg_map.specs.Spelling.{IsActivationOf, SpellsMap, set_line}

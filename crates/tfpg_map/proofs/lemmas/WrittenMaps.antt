@@ -19,7 +19,9 @@ use Rattle.tfpg_base.proofs.lemmas.lists.Ordered.{Rises-differ}
 use Rattle.tfpg_graph.specs.Graph.{Tfpg, name_word, failures, IsSetOf, failure_word, is_monitored}
 use Rattle.tfpg_graph.specs.Valid.{IsValid}
 use Rattle.tfpg_graph.proofs.lemmas.reading.spelling.SpelledEdges.{is_name-name_word}
-use Rattle.tfpg_report.specs.LineWords.{activation_line}
+use Rattle.tfpg_report.specs.declared.report_line.ReportLine.TheVariants.{At}
+use Rattle.tfpg_report.specs.ReportLines.{written_line}
+use Rattle.tfpg_report.specs.inside.LineNames.{activation_line}
 use Rattle.tfpg_report.specs.SetText.{IsHypothesisOf, hyphen_or_joined, set_word}
 use Rattle.tfpg_graph.specs.Members.{member_words}
 use Rattle.tfpg_report.proofs.lemmas.MemberWords.{IsMemberWord, member_short, member_words_are}
@@ -91,7 +93,8 @@ module _ (graph : Tfpg) (valid : IsValid graph) where
     lines_are = All-cons (IsLinePart LONGEST_LINE) (set_line graph hypothesis) (map (activation_line graph) trace) (set_line_is hypothesis of short) (activation_lines_are trace of_nodes)
 
     text_is : map_text graph hypothesis trace ≡ flat_map with_line_end lines
-    text_is = ap (λ (text : List ℕ). with_line_end (set_line graph hypothesis) ++ text) (sym (flat_map-map with_line_end (activation_line graph) trace))
+    text_is = ap (λ (text : List ℕ). with_line_end (set_line graph hypothesis) ++ text)
+        (flat_map-map (λ line. with_line_end (written_line graph line)) At trace ∙ sym (flat_map-map with_line_end (activation_line graph) trace))
 
     spelled : lines_of (map_text graph hypothesis trace) ≡ lines
     spelled =

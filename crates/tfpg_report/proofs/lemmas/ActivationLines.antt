@@ -12,7 +12,7 @@ use Rattle.tfpg_base.proofs.lemmas.lists.Lacking.{lacks_checked, slice_split-joi
 use Rattle.tfpg_graph.specs.Graph.{Tfpg, name_word, node_named}
 use Rattle.tfpg_graph.specs.Valid.{IsValid}
 use Rattle.tfpg_graph.proofs.lemmas.reading.spelling.SpelledEdges.{is_name-name_word}
-use Rattle.tfpg_report.specs.LineWords.{activation_line}
+use Rattle.tfpg_report.specs.inside.LineNames.{activation_line}
 use Rattle.tfpg_report.proofs.lemmas.CleanLines.{number_lacks}
 use Rattle.tfpg_report.proofs.lemmas.MemberWords.{node_of_word}
 

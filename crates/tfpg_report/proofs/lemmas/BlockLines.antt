@@ -6,6 +6,7 @@ use Rattle.std.specs.List.{AllByRecursion, list_all}
 use Rattle.std.proofs.lemmas.Bool.{cond_both}
 use Rattle.std.proofs.lemmas.Grind.{flat_map-append}
 use Rattle.std.proofs.lemmas.List.Concat.{flat_map_single}
+use Rattle.std.proofs.lemmas.List.Folds.{flat_map-map}
 use Rattle.std.proofs.lemmas.List.Elements.{All-nil, All-cons, All-append, filter-append}
 use Rattle.tfpg_base.specs.TextLine.{text_line}
 use Rattle.tfpg_base.specs.Lines.{HasNoLineEnd, with_line_end}
@@ -31,7 +32,10 @@ use Rattle.tfpg_report.proofs.lemmas.CleanLines.{after, cause_clean, clause_clea
 use Rattle.tfpg_report.proofs.lemmas.WrittenLines.{written_losses}
 use Rattle.tfpg_report.specs.SetText.{set_word}
 use Rattle.tfpg_report.specs.Blocks.{Loss, lost_text, Block, RefusedBlock, RoundBlock, block_text}
-use Rattle.tfpg_report.specs.LineWords.{cause_words, edge_words, clause_words, activation_line, activation_text, robustness_word, counts_words}
+use Rattle.tfpg_report.specs.LineWords.{cause_words, edge_words, clause_words, robustness_word, counts_words}
+use Rattle.tfpg_report.specs.declared.report_line.ReportLine.TheVariants.{At}
+use Rattle.tfpg_report.specs.inside.LineNames.{activation_line, activation_text}
+use Rattle.tfpg_report.specs.ReportLines.{written_line}
 use Rattle.tfpg_report.specs.inside.Texts.{reason_text, step_text, steps_text, hypothesis_words, ranked_line, ranked_text, open_text, rejected_text, counts_text}
 
 -- ---- how lines begin
@@ -238,9 +242,12 @@ module _ (graph : Tfpg) (valid : IsValid graph) where
   ranked : (finding : Finding) (status : Status) → HasLines (ranked_text graph finding status) [] (lines_of_trace graph finding status)
   ranked finding (Ranked trace cost alarmed monitored) =
       let first = line_of (ranked_words graph finding cost alarmed monitored) in
-      subst (λ (shown : List (List ℕ)). HasLines (ranked_text graph finding (Ranked trace cost alarmed monitored)) [] (first ∷ shown)) (flat_map_single (activation_line graph) trace)
+      subst (λ (text : List ℕ). HasLines (ranked_line graph finding cost alarmed monitored ++ text) [] (first ∷ map (activation_line graph) trace))
+      (sym (flat_map-map (λ said. with_line_end (written_line graph said)) At trace))
+      (subst (λ (shown : List (List ℕ)). HasLines (ranked_line graph finding cost alarmed monitored ++ flat_map (activation_text graph) trace) [] (first ∷ shown))
+      (flat_map_single (activation_line graph) trace)
       (both (ranked_line graph finding cost alarmed monitored) (flat_map (activation_text graph) trace) [] [] (first ∷ []) (flat_map (λ (a : Activation). activation_line graph a ∷ []) trace)
-      (first_ranked finding cost alarmed monitored) (each_shown (activation_text graph) (λ a. activation_line graph a ∷ []) activation trace))
+      (first_ranked finding cost alarmed monitored) (each_shown (activation_text graph) (λ a. activation_line graph a ∷ []) activation trace)))
   ranked finding (Covered by) = none
   ranked finding Rejected = none
   ranked finding Open = none

@@ -18,7 +18,6 @@ use Rattle.tfpg_base.proofs.lemmas.lists.Lacking.{Lacks, lacks_checked}
 use Rattle.tfpg_graph.specs.Graph.{Tfpg, Node, name_at, name_word, failure_at, failure_word}
 use Rattle.tfpg_graph.specs.declared.edge.Edge.{Edge}
 use Rattle.tfpg_graph.specs.Valid.{IsValid}
-use Rattle.tfpg_log.specs.declared.refusal.Refusal.{Refusal}
 use Rattle.tfpg_log.specs.declared.refusal.Refusal.TheVariants.{BadLine, BadNumber, TimeTooLarge, TimeBack, UnknownName, NotMonitored, NotAMode, LogFull, ModesFull}
 use Rattle.tfpg_evidence.specs.declared.clause_name.ClauseName.{ClauseName}
 use Rattle.tfpg_evidence.specs.declared.clause_name.ClauseName.TheVariants.{OrMay, AndMay, OrMust, AndMust}
@@ -30,7 +29,7 @@ use Rattle.tfpg_report.specs.declared.report_line.ReportLine.{ReportLine}
 use Rattle.tfpg_report.specs.declared.report_line.ReportLine.TheVariants.{Head, OldHead, Refused, Round, Hyp, Split, Cycle, Why, Again, Ranked, At, Open, Rejected, Counts, Panel}
 use Rattle.tfpg_report.specs.SetText.{hyphen_or_joined, set_word}
 use Rattle.tfpg_graph.specs.Members.{doubt_word, member_words}
-use Rattle.tfpg_report.specs.LineWords.{head_words, old_head_words, refusal_name, refusal_time, time_words, cause_words, edge_words, clause_words, reason_words, numbered_set_words, robustness_word, counts_words, lost_words}
+use Rattle.tfpg_report.specs.LineWords.{head_words, old_head_words, cause_words, edge_words, clause_words, reason_words, numbered_set_words, robustness_word, counts_words, lost_words}
 use Rattle.tfpg_report.specs.ReportLines.{line_words, written_line, lines_text}
 
 -- ---- words without a line end
@@ -111,24 +110,21 @@ words ws clean = All-from_recursion HasNoLineEnd ws clean
 pub after : (front back : List (List ℕ)) → All HasNoLineEnd front → All HasNoLineEnd back → All HasNoLineEnd (front ++ back)
 after front back clean more = All-append HasNoLineEnd front back clean more
 
-pub refusal_clean : (refusal : Refusal) → HasNoLineEnd (refusal_name refusal)
-refusal_clean BadLine = lacks_checked 10 (codes "BadLine") refl
-refusal_clean BadNumber = lacks_checked 10 (codes "BadNumber") refl
-refusal_clean TimeTooLarge = lacks_checked 10 (codes "TimeTooLarge") refl
-refusal_clean (TimeBack last) = lacks_checked 10 (codes "TimeBack") refl
-refusal_clean UnknownName = lacks_checked 10 (codes "UnknownName") refl
-refusal_clean NotMonitored = lacks_checked 10 (codes "NotMonitored") refl
-refusal_clean NotAMode = lacks_checked 10 (codes "NotAMode") refl
-refusal_clean LogFull = lacks_checked 10 (codes "LogFull") refl
-refusal_clean ModesFull = lacks_checked 10 (codes "ModesFull") refl
-
-pub time_clean : (time : Option ℕ) → All HasNoLineEnd (time_words time)
-time_clean None = All-nil HasNoLineEnd
-time_clean (Some time) = words (decimal time ∷ []) (number time, tt)
+-- the one word of a refusal
+alone : (word : List ℕ) → HasNoLineEnd word → All HasNoLineEnd (word ∷ [])
+alone word clean = words (word ∷ []) (clean, tt)
 
 pub cause_clean : (cause : RefusedLine) → All HasNoLineEnd (cause_words cause)
-cause_clean TooLong = words (codes "TooLong" ∷ []) (lacks_checked 10 (codes "TooLong") refl, tt)
-cause_clean (Offer refusal) = All-cons HasNoLineEnd (refusal_name refusal) (time_words (refusal_time refusal)) (refusal_clean refusal) (time_clean (refusal_time refusal))
+cause_clean TooLong = alone (codes "TooLong") (lacks_checked 10 (codes "TooLong") refl)
+cause_clean (Offer BadLine) = alone (codes "BadLine") (lacks_checked 10 (codes "BadLine") refl)
+cause_clean (Offer BadNumber) = alone (codes "BadNumber") (lacks_checked 10 (codes "BadNumber") refl)
+cause_clean (Offer TimeTooLarge) = alone (codes "TimeTooLarge") (lacks_checked 10 (codes "TimeTooLarge") refl)
+cause_clean (Offer (TimeBack last)) = words (codes "TimeBack" ∷ decimal last ∷ []) (lacks_checked 10 (codes "TimeBack") refl, (number last, tt))
+cause_clean (Offer UnknownName) = alone (codes "UnknownName") (lacks_checked 10 (codes "UnknownName") refl)
+cause_clean (Offer NotMonitored) = alone (codes "NotMonitored") (lacks_checked 10 (codes "NotMonitored") refl)
+cause_clean (Offer NotAMode) = alone (codes "NotAMode") (lacks_checked 10 (codes "NotAMode") refl)
+cause_clean (Offer LogFull) = alone (codes "LogFull") (lacks_checked 10 (codes "LogFull") refl)
+cause_clean (Offer ModesFull) = alone (codes "ModesFull") (lacks_checked 10 (codes "ModesFull") refl)
 
 -- a robustness
 pub robustness : (alarmed monitored : ℕ) → HasNoLineEnd (robustness_word alarmed monitored)

@@ -12,13 +12,14 @@ use Rattle.tfpg_evidence.specs.declared.finding.Status.{Status}
 use Rattle.tfpg_evidence.specs.declared.finding.Status.TheVariants as status
 use Rattle.tfpg_evidence.specs.declared.finding.Finding.{Finding}
 use Rattle.tfpg_evidence.specs.declared.round.Round.{Round}
-use Rattle.tfpg_evidence.specs.Findings.{ranked_in_order, open_in, newly_rejected, hypothesis_of}
+use Rattle.tfpg_evidence.specs.Findings.{ranked_in_order, open_in, newly_rejected}
 use Rattle.tfpg_log.specs.declared.refused_line.RefusedLine.{RefusedLine}
 use Rattle.tfpg_report.specs.declared.report_line.ReportLine.{ReportLine}
 use Rattle.tfpg_report.specs.declared.report_line.ReportLine.TheVariants as line
 use Rattle.tfpg_report.specs.ReportLines.{written_line, lines_text}
 use Rattle.tfpg_report.specs.ReadRounds.{step_lines}
-use Rattle.tfpg_report.specs.Blocks.{lines_of_finding, lines_if_ranked, open_line, rejected_line, loss_line, Loss, RefusedBlock, RoundBlock, block_text, refused_text, round_text, lost_text, round_lines}
+use Rattle.tfpg_report.specs.Blocks.{lines_of_finding, lines_if_ranked, Loss, RefusedBlock, RoundBlock, block_text, refused_text, round_text, lost_text, round_lines}
+use Rattle.tfpg_report.specs.inside.LineNames.{open_line, rejected_line, loss_line}
 use Rattle.tfpg_report.specs.inside.Texts.{step_text, steps_text, ranked_text, open_text, rejected_text, counts_text, written_round}
 
 -- a list of lists of lists is flat in one way
@@ -71,8 +72,7 @@ module _ (graph : Tfpg) where
 
   -- the text of a ranked hypothesis
   ranked : (finding : Finding) (s : Status) → lines_text graph (lines_if_ranked finding s) ≡ ranked_text graph finding s
-  ranked finding (status.Ranked trace cost alarmed monitored) =
-      ap (λ (rest : List ℕ). written (line.Ranked finding.number cost alarmed monitored (hypothesis_of finding)) ++ rest) (flat_map-map written line.At trace)
+  ranked finding (status.Ranked trace cost alarmed monitored) = refl
   ranked finding (status.Covered by) = refl
   ranked finding status.Rejected = refl
   ranked finding status.Open = refl

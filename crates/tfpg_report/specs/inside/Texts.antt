@@ -1,5 +1,5 @@
 -- The text of each part of a round's block, as it is written.
-use Rattle.std.specs.Prelude.{ℕ, List, [], ◌∷◌, ◌++◌, length, flat_map, if◌then◌else◌, ◌==◌, codes, decimal}
+use Rattle.std.specs.Prelude.{ℕ, List, [], ◌∷◌, ◌++◌, length, map, flat_map, if◌then◌else◌, ◌==◌, codes, decimal}
 use Rattle.tfpg_base.specs.TextLine.{text_line}
 use Rattle.tfpg_graph.specs.Graph.{Tfpg}
 use Rattle.tfpg_evidence.specs.declared.reason.Reason.{Reason}
@@ -12,7 +12,9 @@ use Rattle.tfpg_evidence.specs.declared.round.Counts.{Counts}
 use Rattle.tfpg_evidence.specs.declared.round.Round.{Round}
 use Rattle.tfpg_evidence.specs.Findings.{hypothesis_of, ranked_in_order, open_in, newly_rejected}
 use Rattle.tfpg_report.specs.SetText.{set_word}
-use Rattle.tfpg_report.specs.LineWords.{clause_words, reason_words, robustness_word, activation_text, counts_words}
+use Rattle.tfpg_report.specs.LineWords.{clause_words, reason_words, robustness_word, counts_words}
+use Rattle.tfpg_report.specs.declared.report_line.ReportLine.TheVariants.{At}
+use Rattle.tfpg_report.specs.ReportLines.{lines_text}
 
 -- the line of a reason
 abbrev pub reason_text : Tfpg → Reason → List ℕ
@@ -44,7 +46,7 @@ ranked_line graph finding cost alarmed monitored =
 -- a ranked hypothesis and the times of its trace
 abbrev pub ranked_text : Tfpg → Finding → Status → List ℕ
 ranked_text graph finding (Ranked trace cost alarmed monitored) =
-    ranked_line graph finding cost alarmed monitored ++ flat_map (activation_text graph) trace
+    ranked_line graph finding cost alarmed monitored ++ lines_text graph (map At trace)
 ranked_text graph finding (Covered by) = []
 ranked_text graph finding Rejected = []
 ranked_text graph finding Open = []

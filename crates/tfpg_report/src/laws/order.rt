@@ -6,7 +6,7 @@ ghost use Rattle.tfpg_evidence.specs.declared.round.Round.{Round};
 ghost use Rattle.tfpg_log.specs.declared.refused_line.RefusedLine.{RefusedLine};
 ghost use Rattle.tfpg_report.specs.declared.report_line.ReportLine.{ReportLine};
 ghost use Rattle.tfpg_report.specs.declared.stand.Stand.{Stand};
-ghost use Rattle.tfpg_report.specs.Blocks.{Block, RefusedBlock, Loss, block_lines, loss_line, lines_before_counts, round_lines};
+ghost use Rattle.tfpg_report.specs.Blocks.{Block, RefusedBlock, Loss, block_lines, lines_before_counts, round_lines};
 ghost use Rattle.tfpg_report.specs.InOrder.{HasRisingTraces, RiseByPanel, IsInOrder};
 ghost use Rattle.tfpg_report.specs.Reading.{IsHead, begun_in};
 ghost use Rattle.tfpg_report.specs.Stands.{may_begin_block, stand_after_all, stand_of};
@@ -18,7 +18,8 @@ pub fn a_round_is_read_in_its_order()
         stand_after_all at (round_lines round) ≡ Some (Stand.Counts None) }
     ensures losses { (losses : List Loss) → RiseByPanel losses →
         (last : Option ℕ) ×
-        (stand_after_all (Stand.Counts None) (map loss_line losses) ≡ Some (Stand.Counts last)) }
+        (stand_after_all (Stand.Counts None) (map (λ loss. ReportLine.Panel loss.panel loss.memory) losses)
+        ≡ Some (Stand.Counts last)) }
 {}
 
 /// Wherever a block may begin, a whole one may come, and after it another one may begin.

@@ -13,7 +13,7 @@ use tfpg_graph::Graph;
 use tfpg_log::is_too_long;
 
 /// Why a line of a report is not read.
-#[derive(Clone, Copy, Debug, PartialEq, Eq)]
+#[derive(Clone, Copy, PartialEq, Eq)]
 pub enum LineRefusal {
     /// It says nothing that a line of a report can say.
     NotALine,

@@ -1,4 +1,5 @@
 -- What a call of a search finds.
+pub mod CopyRepresents
 pub mod CutTimes
 pub mod FoundInTurn
 pub mod NewSearch

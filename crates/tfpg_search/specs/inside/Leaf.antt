@@ -11,14 +11,15 @@ use Rattle.tfpg_diff.specs.declared.pick.Pick.{Pick}
 use Rattle.tfpg_diff.specs.Demands.{Demands, Bounded}
 use Rattle.tfpg_search.specs.Work.{NodeBounds}
 
--- What contracts see of it: the demands, the reason of each tag, how many picks stand before each alternative that is entered, and
--- how many calls it has counted. The tag of a node's lower bound is the node's number. The tag of its upper bound is that number plus
--- the number of nodes. The tag of a pick is its index plus the number of all bounds.
+-- What contracts see of it: the demands, the reason of each tag, how many picks stand before each alternative that is entered, how
+-- many calls it has counted, and which system it is. The tag of a node's lower bound is the node's number. The tag of its upper bound
+-- is that number plus the number of nodes. The tag of a pick is its index plus the number of all bounds.
 pub record Leaf : Type 0 where
   pub demands : Demands
   pub reasons : List Reason
   pub entered : List ℕ
   pub calls : ℕ
+  pub identity : ℕ
 
 -- the reasons of the picks, in their order
 abbrev pub pick_reasons : Leaf → List Reason

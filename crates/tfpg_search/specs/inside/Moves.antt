@@ -60,11 +60,12 @@ pub record Grows (graph : Tfpg) (log : Logbook) (call : SearchCall) (splits : �
 abbrev pub GrowsAnyhow : Tfpg → Logbook → SearchCall → Type 0
 GrowsAnyhow graph log call = (end : Option (List PathSplit)) × Grows graph log call 0 end
 
--- The set, what it reaches, and how many events were seen are unchanged.
+-- The set, what it reaches, how many events were seen, and which system it is are unchanged.
 pub record KeepsSet (old new : SearchState) : Type 0 where
   pub set : new.set ≡ old.set
   pub reach : new.reach ≡ old.reach
   pub seen : new.seen ≡ old.seen
+  pub identity : new.leaf.identity ≡ old.leaf.identity
 
 -- The bounds of the system are those that the facts give.
 abbrev pub HasFactBounds : Tfpg → Logbook → SearchState → Type 0

@@ -89,6 +89,7 @@ impl Search {
         ensures bounds { self.new.leaf.demands.bounds ≡ self.old.leaf.demands.bounds }
         ensures counts { work.new ≤ work.old + 3 }
         ensures counted { CountsAlike self.old.leaf self.new.leaf work.old work.new }
+        ensures identity { self.new.leaf.identity ≡ self.old.leaf.identity }
         ensures closes { IfErr result
             (Closes (stated_on (case_of_search graph.now log.now self.old) self.old.path)) }
     {
@@ -127,6 +128,7 @@ impl Search {
         ensures bounds { self.new.leaf.demands.bounds ≡ self.old.leaf.demands.bounds }
         ensures counts { work.new ≤ work.old + 1 }
         ensures counted { CountsAlike self.old.leaf self.new.leaf work.old work.new }
+        ensures identity { self.new.leaf.identity ≡ self.old.leaf.identity }
         ensures closes { IfErr result
             (Closes (stated_on (case_of_search graph.now log.now self.old) self.old.path)) }
     {
@@ -148,6 +150,7 @@ impl Search {
         ensures leaf { Leaves (slice_get self.old.entered kept) self.old.leaf self.new.leaf }
         ensures bounds { self.new.leaf.demands.bounds ≡ self.old.leaf.demands.bounds }
         ensures counted { self.new.leaf.calls ≡ self.old.leaf.calls }
+        ensures identity { self.new.leaf.identity ≡ self.old.leaf.identity }
     {
         if kept < self.entered_count() {
             self.leaf.leave(kept);

@@ -147,6 +147,7 @@ impl Search {
         ensures counts { (bounds : NodeBounds) → AreFactBounds (case_of_search graph.now log.now self.old) bounds →
             work.new + unset bounds self.new.leaf ≤ work.old + unset bounds self.old.leaf + 1 }
         ensures counted { CountsAlike self.old.leaf self.new.leaf work.old work.new }
+        ensures identity { self.new.leaf.identity ≡ self.old.leaf.identity }
     {
         self.leaf.add_facts(graph, log, &self.reach, work)
     }

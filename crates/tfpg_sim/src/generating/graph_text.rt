@@ -9,7 +9,8 @@ ghost use Rattle.tfpg_sim.specs.Generated.{discrepancy_count, drawn_graph, failu
 ghost use Rattle.tfpg_sim.specs.declared.limits.TheConstants.{FAILURE_COUNT};
 ghost use Rattle.tfpg_sim.specs.inside.GraphText.{drawn_modes_word, edge_text_by_number, draft_text, HasDrawnModes};
 ghost use Rattle.tfpg_base.specs.TextLine.{text_line};
-ghost use Rattle.tfpg_graph.specs.Text.{node_text, node_words, version_for};
+ghost use Rattle.tfpg_graph.specs.Text.{node_text, version_for};
+ghost use Rattle.tfpg_graph.specs.inside.writing.Written.{node_words};
 ghost use Rattle.tfpg_graph.specs.declared.version.Version.TheVariants.{One};
 ghost use Rattle.tfpg_sim.specs.Generated.{drawn_name};
 

@@ -16,18 +16,22 @@ use Rattle.tfpg_log.proofs.lemmas.ages.WindowAges.{exactly, at_least}
 module _ (log : Logbook) (trace : List Activation) (instant age : ℕ) (by_now : instant ≤ now_of log) (span : ℕ)
     (number : Some span ≡ cond (nat_le instant (now_of log)) (Some (span_number log instant)) None) where
   -- where the edge's window and its source are there, both must have the age
-  by_window : (edge : Edge) (window : Window) (start : ℕ) → window_of log edge span instant ≡ Some window → time_of trace edge.source ≡ Some start
+  by_window : (edge : Edge) (window : Window) (start : ℕ) → window_of log edge span instant ≡ Some window
+      → time_of trace edge.source ≡ Some start
       → HasAge log trace edge instant age ↔ ((window.lo + age ≤ instant) × (start + age ≤ instant))
   by_window edge window start there at =
-      let is : span ≡ span_number log instant = sym (cond_some (nat_le instant (now_of log)) (span_number log instant) span (sym number)).1 in
-      let found : window_of log edge (span_number log instant) instant ≡ Some window = (λ i. window_of log edge (sym is i) instant) ∙ there in
+      let is : span ≡ span_number log instant =
+      sym (cond_some (nat_le instant (now_of log)) (span_number log instant) span (sym number)).1 in
+      let found : window_of log edge (span_number log instant) instant ≡ Some window =
+      (λ i. window_of log edge (sym is i) instant) ∙ there in
       let lies = inside log edge instant instant window (omega arith) found in
       at_least log trace edge (span_number log instant) instant instant age start window found lies.0 lies.1 at
 
   -- where there is no window, the edge has no age
   without_window : (edge : Edge) → window_of log edge span instant ≡ None → HasAge log trace edge instant age → ⊥
   without_window edge none has =
-      let is : span ≡ span_number log instant = sym (cond_some (nat_le instant (now_of log)) (span_number log instant) span (sym number)).1 in
+      let is : span ≡ span_number log instant =
+      sym (cond_some (nat_le instant (now_of log)) (span_number log instant) span (sym number)).1 in
       let found = (exactly log trace edge instant instant age (omega arith) by_now).0 has in
       let missing : window_of log edge (span_number log instant) instant ≡ None = (λ i. window_of log edge (sym is i) instant) ∙ none in
       let there = found.there in
@@ -46,7 +50,8 @@ module _ (log : Logbook) (trace : List Activation) (instant age : ℕ) (by_now :
         by (Some edge) none has = absurd (without_window edge (sym none) has)
 
     -- the age by window and source
-    pub by_both : (edge : Edge) → slice_get edges index ≡ Some edge → (window : Window) → Some window ≡ option_and_then (λ e. window_of log e span instant) (slice_get edges index)
+    pub by_both : (edge : Edge) → slice_get edges index ≡ Some edge → (window : Window)
+        → Some window ≡ option_and_then (λ e. window_of log e span instant) (slice_get edges index)
         → (start : ℕ) → Some start ≡ time_of trace edge.source
         → (result : Bool) → IsTrue result ↔ ((window.lo + age ≤ instant) × (start + age ≤ instant))
         → IsTrue result ↔ IsSomeAnd (slice_get edges index) (λ e. HasAge log trace e instant age)

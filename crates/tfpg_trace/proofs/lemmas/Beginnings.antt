@@ -34,26 +34,31 @@ module _ (Due : ℕ → ℕ → Type 0) where
   -- One of one thing more begins to hold with the earlier of the two.
   pub begins_one_more : (lo hi count : ℕ) (first next : Option ℕ) → Begins (OneOf count) lo hi first → Begins (Due count) lo hi next
       → Begins (OneOf (count + 1)) lo hi (earlier first next)
-  begins_one_more lo hi count None None none neither = λ instant from upto one. none instant from upto (some_below-not_last (λ index. Due index instant) count one (neither instant from upto))
+  begins_one_more lo hi count None None none neither =
+      λ instant from upto one. none instant from upto
+      (some_below-not_last (λ index. Due index instant) count one (neither instant from upto))
   begins_one_more lo hi count None (Some next) none at = record {
     from = at.from;
     upto = at.upto;
     not_before = λ instant from before one.
-        none instant from (omega (arith, at.upto, before)) (some_below-not_last (λ index. Due index instant) count one (at.not_before instant from before));
+        none instant from (omega (arith, at.upto, before))
+        (some_below-not_last (λ index. Due index instant) count one (at.not_before instant from before));
     since = λ instant since upto. newest count instant (at.since instant since upto);
   }
   begins_one_more lo hi count (Some first) None at none = record {
     from = at.from;
     upto = at.upto;
     not_before = λ instant from before one.
-        at.not_before instant from before (some_below-not_last (λ index. Due index instant) count one (none instant from (omega (arith, at.upto, before))));
+        at.not_before instant from before
+        (some_below-not_last (λ index. Due index instant) count one (none instant from (omega (arith, at.upto, before))));
     since = λ instant since upto. one_less count instant (at.since instant since upto);
   }
   begins_one_more lo hi count (Some first) (Some next) at other = record {
     from = omega (arith, at.from, other.from);
     upto = omega (arith, at.upto, other.upto);
     not_before = λ instant from before one.
-        at.not_before instant from (omega (arith, before)) (some_below-not_last (λ index. Due index instant) count one (other.not_before instant from (omega (arith, before))));
+        at.not_before instant from (omega (arith, before))
+        (some_below-not_last (λ index. Due index instant) count one (other.not_before instant from (omega (arith, before))));
     since = λ instant since upto. elim (cases_lt instant first) [
       | inl below ↦ newest count instant (other.since instant (omega (arith, since, below)) upto)
       | inr above ↦ one_less count instant (at.since instant above upto)
@@ -83,7 +88,8 @@ module _ (Due : ℕ → ℕ → Type 0) where
       | inr above ↦ other.not_before instant from (omega (arith, before, above)) (each count (omega arith))
     ];
     since = λ instant since upto.
-        below_more (λ index. Due index instant) count (at.since instant (omega (arith, since)) upto) (other.since instant (omega (arith, since)) upto);
+        below_more (λ index. Due index instant) count (at.since instant (omega (arith, since)) upto)
+        (other.since instant (omega (arith, since)) upto);
   }
 
   -- Where one thing never holds, all do not.

@@ -7,7 +7,8 @@ use Rattle.tfpg_log.specs.Explains.{IsMember}
 use Rattle.tfpg_trace.proofs.lemmas.FailureModes.{member_by_position, no_failure}
 
 -- a failure mode that cannot be outside is a member
-pub member_or_not : (graph : Tfpg) (set : List ℕ) (node : ℕ) → IsTrue (is_kind_at is_failure graph node) → ((IsMember graph set node → ⊥) → ⊥) → IsMember graph set node
+pub member_or_not : (graph : Tfpg) (set : List ℕ) (node : ℕ) → IsTrue (is_kind_at is_failure graph node)
+    → ((IsMember graph set node → ⊥) → ⊥) → IsMember graph set node
 member_or_not graph set node failure never = by (position_of_failure graph node) refl
   where
     by : (position : Option ℕ) → position_of_failure graph node ≡ position → IsMember graph set node

@@ -17,7 +17,8 @@ use Rattle.tfpg_trace.specs.inside.Gaps.{IsGap, after_gap}
 use Rattle.tfpg_trace.proofs.lemmas.Beginnings.{carried}
 use Rattle.tfpg_trace.proofs.lemmas.SpanOrder.{numbered, by_now, in_mode}
 
-module _ (graph : Tfpg) (log : Logbook) (trace : List Activation) (item number : ℕ) (span : Span) (edge : Edge) (at : slice_get graph.edges item ≡ Some edge) (here : span_at log number (now_of log) ≡ Some span) where
+module _ (graph : Tfpg) (log : Logbook) (trace : List Activation) (item number : ℕ) (span : Span) (edge : Edge)
+    (at : slice_get graph.edges item ≡ Some edge) (here : span_at log number (now_of log) ≡ Some span) where
   -- what is due by its number is the edge itself
   own : (instant : ℕ) → IsDueBy graph log trace item instant → IsDue log trace edge instant
   own instant due = let same : due.0 ≡ edge = cc (due.1, at) in subst (λ e. IsDue log trace e instant) same due.2
@@ -27,7 +28,8 @@ module _ (graph : Tfpg) (log : Logbook) (trace : List Activation) (item number :
   without_mode shut = λ instant from upto due.
       let own_due = own instant due in
       let open_here : IsTrue (is_active_in edge span.mode) =
-      subst (λ m. IsTrue (is_active_in edge m)) (in_mode log number span here instant from upto) (own_due.2.active_since instant (omega arith) (omega arith)) in
+      subst (λ m. IsTrue (is_active_in edge m)) (in_mode log number span here instant from upto)
+      (own_due.2.active_since instant (omega arith) (omega arith)) in
       absurd (both_ways (is_active_in edge span.mode) shut open_here)
 
   module _ (active : IsTrue (is_active_in edge span.mode)) where
@@ -65,7 +67,8 @@ module _ (graph : Tfpg) (log : Logbook) (trace : List Activation) (item number :
     )
 
     -- when it is due, its source is active for so long
-    since_start : (start delay instant : ℕ) → edge.tmax ≡ Some delay → time_of trace edge.source ≡ Some start → IsDueBy graph log trace item instant
+    since_start : (start delay instant : ℕ) → edge.tmax ≡ Some delay → time_of trace edge.source ≡ Some start
+        → IsDueBy graph log trace item instant
         → start + delay ≤ instant
     since_start start delay instant tmax source due =
         let own_due = own instant due in
@@ -94,14 +97,20 @@ module _ (graph : Tfpg) (log : Logbook) (trace : List Activation) (item number :
         → Begins (IsDueBy graph log trace item) span.lo span.hi found
     behind None start delay found is_gap tmax source begins =
         carried (λ instant. start + delay ≤ instant) (IsDueBy graph log trace item) span.lo span.hi found
-        (λ instant from upto late. due_for 0 start delay instant tmax source (λ x since within below. is_gap x within below) from upto late (omega (arith, late)))
+        (λ instant from upto late. due_for 0 start delay instant tmax source (λ x since within below. is_gap x within below) from upto late
+        (omega (arith, late)))
         (λ instant from upto due. since_start start delay instant tmax source due)
         begins
     behind (Some gap) start delay found is_gap tmax source begins =
         carried (λ instant. max start (gap + 1) + delay ≤ instant) (IsDueBy graph log trace item) span.lo span.hi found
         (λ instant from upto late.
-        due_for (gap + 1) start delay instant tmax source (λ x since within below. is_gap.active_since x (omega (arith, since)) within below) from upto
+        due_for (gap + 1) start delay instant tmax source
+        (λ x since within below. is_gap.active_since x (omega (arith, since)) within below) from upto
         (omega (arith, late)) (omega (arith, late)))
         (λ instant from upto due.
-        omega (arith, since_start start delay instant tmax source due, since_gap gap delay instant tmax is_gap.before is_gap.shut from upto due))
+        omega (
+          arith,
+          since_start start delay instant tmax source due,
+          since_gap gap delay instant tmax is_gap.before is_gap.shut from upto due,
+        ))
         begins

@@ -15,14 +15,18 @@ use Rattle.tfpg_trace.proofs.lemmas.Beginnings.{carried, OneOf, EachOf}
 
 -- what holds of all numbers of the edges into a node holds of the edges, and the other way round
 module _ (graph : Tfpg) (node : ℕ) (Q : ℕ → Type 0) (P : Edge → Type 0) where
-  pub all_edges : ((i : ℕ) (edge : Edge) → slice_get graph.edges i ≡ Some edge → Q i → P edge) → All Q (incoming graph node) → All P (edges_into graph node)
+  -- What each number shows of its edge holds of all edges into the node.
+  pub all_edges : ((i : ℕ) (edge : Edge) → slice_get graph.edges i ≡ Some edge → Q i → P edge) → All Q (incoming graph node)
+      → All P (edges_into graph node)
   all_edges there all =
       All-from_members P (edges_into graph node)
       (λ edge member.
       let found = number_among (λ (e : Edge). eqb e.target node) graph.edges edge member in
       there found.0 edge found.2 (All-contains Q (incoming graph node) found.0 all found.1))
 
-  pub all_numbers : ((i : ℕ) (edge : Edge) → slice_get graph.edges i ≡ Some edge → P edge → Q i) → All P (edges_into graph node) → All Q (incoming graph node)
+  -- What each edge shows of its number holds of all numbers of the edges into the node.
+  pub all_numbers : ((i : ℕ) (edge : Edge) → slice_get graph.edges i ≡ Some edge → P edge → Q i) → All P (edges_into graph node)
+      → All Q (incoming graph node)
   all_numbers there all =
       All-from_members Q (incoming graph node)
       (λ number member.
@@ -38,17 +42,22 @@ abbrev pub HasIndex : Tfpg → List ℕ → Edge → Type 0
 HasIndex graph numbers edge = (index : ℕ) × (index < length numbers) × (slice_get graph.edges (get_or numbers index 0) ≡ Some edge)
 
 module _ (graph : Tfpg) (log : Logbook) (trace : List Activation) (node : ℕ) where
-  own : (number instant : ℕ) (edge : Edge) → slice_get graph.edges number ≡ Some edge → IsDueBy graph log trace number instant → IsDue log trace edge instant
+  own : (number instant : ℕ) (edge : Edge) → slice_get graph.edges number ≡ Some edge → IsDueBy graph log trace number instant
+      → IsDue log trace edge instant
   own number instant edge at due = let same : due.0 ≡ edge = cc (due.1, at) in subst (λ e. IsDue log trace e instant) same due.2
 
-  each_from : (instant : ℕ) → AllDue graph log trace node instant → EachOf (DueAt graph log trace (incoming graph node)) (length (incoming graph node)) instant
+  each_from : (instant : ℕ) → AllDue graph log trace node instant
+      → EachOf (DueAt graph log trace (incoming graph node)) (length (incoming graph node)) instant
   each_from instant all index below =
       All-get_or (λ number. IsDueBy graph log trace number instant) (incoming graph node) index 0 below
-      (all_numbers graph node (λ number. IsDueBy graph log trace number instant) (λ edge. IsDue log trace edge instant) (λ i edge at due. (edge, at, due)) all)
+      (all_numbers graph node (λ number. IsDueBy graph log trace number instant) (λ edge. IsDue log trace edge instant)
+      (λ i edge at due. (edge, at, due)) all)
 
-  each_to : (instant : ℕ) → EachOf (DueAt graph log trace (incoming graph node)) (length (incoming graph node)) instant → AllDue graph log trace node instant
+  each_to : (instant : ℕ) → EachOf (DueAt graph log trace (incoming graph node)) (length (incoming graph node)) instant
+      → AllDue graph log trace node instant
   each_to instant each =
-      all_edges graph node (λ number. IsDueBy graph log trace number instant) (λ edge. IsDue log trace edge instant) (λ i edge at due. own i instant edge at due)
+      all_edges graph node (λ number. IsDueBy graph log trace number instant) (λ edge. IsDue log trace edge instant)
+      (λ i edge at due. own i instant edge at due)
       (All-from_get_or (λ number. IsDueBy graph log trace number instant) (incoming graph node) 0 each)
 
   -- Where some or all edges into a node begin to be due, by their indexes.
@@ -65,6 +74,7 @@ module _ (graph : Tfpg) (log : Logbook) (trace : List Activation) (node : ℕ) w
       carried (Those (DueAt graph log trace (incoming graph node)) (length (incoming graph node))) Holds lo hi found
       (λ instant after upto holds. to instant holds) (λ instant after upto holds. from instant holds) of_all
 
+  -- What begins where all edges are due by their indexes begins where they are due into the node.
   pub all_by_indexes : (lo hi count : ℕ) (numbers : List ℕ) (found : Option ℕ) → numbers ≡ incoming graph node → count ≡ length numbers
       → Begins (EachOf (DueAt graph log trace numbers) count) lo hi found → Begins (AllDue graph log trace node) lo hi found
   all_by_indexes lo hi count numbers found are counted begins =
@@ -74,7 +84,8 @@ module _ (graph : Tfpg) (log : Logbook) (trace : List Activation) (node : ℕ) w
   has_index edge member =
       All-contains (HasIndex graph (incoming graph node)) (edges_into graph node) edge
       (all_edges graph node (Contains (incoming graph node)) (HasIndex graph (incoming graph node))
-      (λ i e at there. (there.0, there.1, ap (slice_get graph.edges) (get_or_default (incoming graph node) there.0 0 i there.1 ∙ there.2) ∙ at))
+      (λ i e at there.
+      (there.0, there.1, ap (slice_get graph.edges) (get_or_default (incoming graph node) there.0 0 i there.1 ∙ there.2) ∙ at))
       (All-contains_itself (incoming graph node)))
       member
 
@@ -89,14 +100,17 @@ module _ (graph : Tfpg) (log : Logbook) (trace : List Activation) (node : ℕ) w
       (λ i e at member edge there. let same : e ≡ edge = cc (at, there) in subst (Contains (edges_into graph node)) same member)
       (All-contains_itself (edges_into graph node)))
 
-  some_from : (instant : ℕ) → SomeDue graph log trace node instant → OneOf (DueAt graph log trace (incoming graph node)) (length (incoming graph node)) instant
+  some_from : (instant : ℕ) → SomeDue graph log trace node instant
+      → OneOf (DueAt graph log trace (incoming graph node)) (length (incoming graph node)) instant
   some_from instant some =
       let there = has_index some.0 some.1 in
       (there.0, there.1, (some.0, there.2, some.2))
 
-  some_to : (instant : ℕ) → OneOf (DueAt graph log trace (incoming graph node)) (length (incoming graph node)) instant → SomeDue graph log trace node instant
+  some_to : (instant : ℕ) → OneOf (DueAt graph log trace (incoming graph node)) (length (incoming graph node)) instant
+      → SomeDue graph log trace node instant
   some_to instant one = (one.2.0, is_into one.0 one.1 one.2.0 one.2.1, one.2.2)
 
+  -- What begins where an edge is due by its index begins where one is due into the node.
   pub some_by_indexes : (lo hi count : ℕ) (numbers : List ℕ) (found : Option ℕ) → numbers ≡ incoming graph node → count ≡ length numbers
       → Begins (OneOf (DueAt graph log trace numbers) count) lo hi found → Begins (SomeDue graph log trace node) lo hi found
   some_by_indexes lo hi count numbers found are counted begins =

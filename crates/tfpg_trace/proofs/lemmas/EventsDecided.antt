@@ -26,12 +26,14 @@ module _ (graph : Tfpg) (trace : List Activation) where
   -- the interval of a node's active time is decided
   activated_decided : (node : ℕ) (interval : Interval) → IsDecided (IsActivatedIn trace node interval)
   activated_decided node interval =
-      same_decided ((active : ℕ) × (time_of trace node ≡ Some active) × ((interval.earliest ≤ active) × (active ≤ interval.latest))) (IsActivatedIn trace node interval)
+      same_decided ((active : ℕ) × (time_of trace node ≡ Some active) × ((interval.earliest ≤ active) × (active ≤ interval.latest)))
+      (IsActivatedIn trace node interval)
       (λ is. (is.0, is.1, is.2.0, is.2.1))
       (λ is. (is.0, is.1, (is.2, is.3)))
       (some_decided (λ active. (interval.earliest ≤ active) × (active ≤ interval.latest)) (time_of trace node)
       (λ active.
-      both_decided (interval.earliest ≤ active) (active ≤ interval.latest) (le_decided interval.earliest active) (le_decided active interval.latest)))
+      both_decided (interval.earliest ≤ active) (active ≤ interval.latest) (le_decided interval.earliest active)
+      (le_decided active interval.latest)))
 
   -- Whether an alarm is shown is decided.
   alarm_decided : (before : Logbook) (node time : ℕ) → IsDecided (ShowsAlarm graph before trace node time)
@@ -107,7 +109,8 @@ module _ (graph : Tfpg) (trace : List Activation) where
     | inl fault ↦ inl fault
     | inr quiet ↦ inr (λ node monitored none. quiet node (monitored_within graph node monitored) time
         (cond-true (is_monitored graph node && is_none (alarm_of before node)) (Some time) None
-        (and_from (is_monitored graph node) (is_none (alarm_of before node)) monitored (not_from_false (is_some (alarm_of before node)) none))))
+        (and_from (is_monitored graph node) (is_none (alarm_of before node)) monitored
+        (not_from_false (is_some (alarm_of before node)) none))))
   ]
   event_decided before (Tick time) = inr tt
   event_decided before (Mode time mode) = inr tt

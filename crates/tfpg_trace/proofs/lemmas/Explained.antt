@@ -16,17 +16,18 @@ use Rattle.tfpg_log.specs.Log.{Logbook, now_of, first_events, alarm_of, silence_
 use Rattle.tfpg_log.specs.Explains.{IsMember, ShowsSilence, Shows, ShowsAll, Explains}
 use Rattle.tfpg_trace.specs.declared.verdict.Verdict.{Verdict}
 use Rattle.tfpg_trace.specs.declared.verdict.Verdict.TheVariants as verdict
-use Rattle.tfpg_trace.specs.Broken.{KeepRulesBefore}
-use Rattle.tfpg_trace.specs.FirstFault.{IsOnTimeFromSet, IsVerdict}
+use Rattle.tfpg_trace.specs.FirstFault.{IsFaultlessBefore, IsVerdict}
 use Rattle.tfpg_trace.proofs.lemmas.Decided.{member_or_not}
 
 -- an event that is shown is shown of each node of which it is a silence
-pub shows_quiet : (graph : Tfpg) (before : Logbook) (trace : List Activation) (event : Event) (node time : ℕ) → Shows graph before trace event
+pub shows_quiet : (graph : Tfpg) (before : Logbook) (trace : List Activation) (event : Event) (node time : ℕ)
+    → Shows graph before trace event
     → silence_time graph before event node ≡ Some time → ShowsSilence graph before trace node time
 shows_quiet graph before trace (Alarm own alarmed) node time shows is = cc
 shows_quiet graph before trace (Silent own silent) node time shows is =
     let told = cond_some (nat_eq silent node) own time is in
-    subst (λ t. ShowsSilence graph before trace node t) told.1 (subst (λ n. ShowsSilence graph before trace n own) (eqb-true silent node told.0) shows)
+    subst (λ t. ShowsSilence graph before trace node t) told.1
+    (subst (λ n. ShowsSilence graph before trace n own) (eqb-true silent node told.0) shows)
 shows_quiet graph before trace (Sweep own) node time shows is =
     let told = cond_some (is_monitored graph node && is_none (alarm_of before node)) own time is in
     let both = and_parts (is_monitored graph node) (is_none (alarm_of before node)) told.0 in
@@ -36,23 +37,25 @@ shows_quiet graph before trace (Mode own mode) node time shows is = cc
 
 module _ (graph : Tfpg) (log : Logbook) (set : List ℕ) (trace : List Activation) where
   -- no fault
-  pub explained : IsRisingByNode trace → All (λ activation. activation.node < length graph.nodes) trace → IsOnTimeFromSet graph log set trace
-      → KeepRulesBefore graph log trace (length graph.nodes) → ShowsAll graph log trace → Explains graph log set trace
-  explained rising nodes own rules shows = record {
+  pub explained : IsRisingByNode trace → All (λ activation. activation.node < length graph.nodes) trace
+      → IsFaultlessBefore graph log set trace (length graph.nodes)
+      → ShowsAll graph log trace → Explains graph log set trace
+  explained rising nodes faultless shows = record {
     trace_of = (rising, nodes);
     by_now = All-from_members (λ activation. activation.time ≤ now_of log) trace
         (λ activation member.
         not_above activation.time (now_of log)
         (λ late.
-        own.on_time activation.node activation.time (All-contains (λ a. a.node < length graph.nodes) trace activation nodes member)
+        faultless.on_time activation.node activation.time (All-contains (λ a. a.node < length graph.nodes) trace activation nodes member)
         (record { at = time_there trace rising activation member; late = late })));
-    from_set = All-from_members (λ activation. IsTrue (is_kind_at is_failure graph activation.node) → IsMember graph set activation.node) trace
+    from_set =
+        All-from_members (λ activation. IsTrue (is_kind_at is_failure graph activation.node) → IsMember graph set activation.node) trace
         (λ activation member failure.
         member_or_not graph set activation.node failure
         (λ outside.
-        own.from_set activation.node activation.time (All-contains (λ a. a.node < length graph.nodes) trace activation nodes member)
+        faultless.from_set activation.node activation.time (All-contains (λ a. a.node < length graph.nodes) trace activation nodes member)
         (record { at = time_there trace rising activation member; failure = failure; outside = outside })));
-    rules = rules;
+    rules = faultless.rules;
     shows = shows;
   }
 
@@ -60,17 +63,22 @@ module _ (graph : Tfpg) (log : Logbook) (set : List ℕ) (trace : List Activatio
   pub only_yes : (said : Verdict) → IsVerdict graph log set trace said → Explains graph log set trace → said ≡ verdict.Yes
   only_yes verdict.Yes fault explains = refl
   only_yes (verdict.Late node time) fault explains =
-      let by_now = All-contains (λ a. a.time ≤ now_of log) trace (record { node = node; time = time }) explains.by_now (activation_there trace node time fault.late.at) in
-      absurd (omega (arith, by_now, fault.late.late))
+      let by_now =
+      All-contains (λ a. a.time ≤ now_of log) trace (record { node = node; time = time }) explains.by_now
+      (activation_there trace node time fault.has.at) in
+      absurd (omega (arith, by_now, fault.has.late))
   only_yes (verdict.Stranger node time) fault explains =
       absurd
-      (fault.stranger.outside
-      (All-contains (λ a. IsTrue (is_kind_at is_failure graph a.node) → IsMember graph set a.node) trace (record { node = node; time = time }) explains.from_set
-      (activation_there trace node time fault.stranger.at) fault.stranger.failure))
+      (fault.1.has.outside
+      (All-contains (λ a. IsTrue (is_kind_at is_failure graph a.node) → IsMember graph set a.node) trace
+      (record { node = node; time = time }) explains.from_set
+      (activation_there trace node time fault.1.has.at) fault.1.has.failure))
   only_yes (verdict.May node time) fault explains =
-      absurd (fault.breaks.broken ((explains.rules node fault.in_graph).may time fault.breaks.by_now))
+      absurd (fault.2.broken ((explains.rules node fault.0).may time fault.2.by_now))
   only_yes (verdict.Must node time) fault explains =
-      absurd (fault.breaks.broken ((explains.rules node fault.in_graph).must time fault.breaks.by_now))
-  only_yes (verdict.Alarm node time) fault explains = absurd (fault.not_shown (explains.shows fault.index (Alarm time node) fault.event))
+      absurd (fault.3.broken ((explains.rules node fault.0).must time fault.3.by_now))
+  only_yes (verdict.Alarm node time) fault explains = absurd (fault.2 (explains.shows fault.0 (Alarm time node) fault.1.at))
   only_yes (verdict.Silence node time) fault explains =
-      absurd (fault.not_shown (shows_quiet graph (first_events log fault.index) trace fault.event node time (explains.shows fault.index fault.event fault.at) fault.silent))
+      absurd
+      (fault.3.not_shown
+      (shows_quiet graph (first_events log fault.0) trace fault.1 node time (explains.shows fault.0 fault.1 fault.2.at) fault.3.silent))

@@ -32,12 +32,16 @@ module _ (graph : Tfpg) where
   no_failure node none failure = by (slice_get_cases graph.nodes node)
     where
       by : (slice_get graph.nodes node ≡ slice_get graph.nodes node)
-          × (((item : Node) × (node < length graph.nodes) × (slice_get graph.nodes node ≡ Some item) × (get_or graph.nodes node item ≡ item)) ⊎ ((length graph.nodes ≤ node) × (slice_get graph.nodes node ≡ None)))
+          × (((item : Node) × (node < length graph.nodes) × (slice_get graph.nodes node ≡ Some item)
+          × (get_or graph.nodes node item ≡ item)) ⊎ ((length graph.nodes ≤ node) × (slice_get graph.nodes node ≡ None)))
           → ⊥
       by (same, inl there) =
-          let at = number_of (λ n. is_failure n.kind) 0 graph.nodes node there.0 there.2 (sym (is_kind_at-item graph node is_failure there.0 there.2) ∙ failure) in
+          let at =
+          number_of (λ n. is_failure n.kind) 0 graph.nodes node there.0 there.2
+          (sym (is_kind_at-item graph node is_failure there.0 there.2) ∙ failure) in
           let found : slice_get (failures graph) at.0 ≡ Some node = at.1 ∙ ap Some (omega arith) in
-          let fails = All-get_or (λ other. nat_eq other node ≡ false) (failures graph) at.0 0 (slice_get_within (failures graph) at.0 node found)
+          let fails =
+          All-get_or (λ other. nat_eq other node ≡ false) (failures graph) at.0 0 (slice_get_within (failures graph) at.0 node found)
           (All-none (λ other. nat_eq other node) (failures graph) none) in
           eqb-false (get_or (failures graph) at.0 0) node fails (get_or_from_slice_get (failures graph) at.0 node 0 found)
       by (same, inr past) =
@@ -45,15 +49,18 @@ module _ (graph : Tfpg) where
 
   module _ (set : List ℕ) where
     -- a failure mode is a member exactly where its position is
-    pub member_by_position : (position node : ℕ) → position_of_failure graph node ≡ Some position → IsMember graph set node ↔ Contains set position
+    pub member_by_position : (position node : ℕ) → position_of_failure graph node ≡ Some position
+        → IsMember graph set node ↔ Contains set position
     member_by_position position node at = (
       λ member.
-          subst (Contains set) (one_index (λ n. is_failure n.kind) 0 graph.nodes member.0 position node member.2 (stands_there position node at)) member.1,
+          subst (Contains set)
+          (one_index (λ n. is_failure n.kind) 0 graph.nodes member.0 position node member.2 (stands_there position node at)) member.1,
       λ has. (position, has, stands_there position node at),
     )
 
     -- a failure mode is outside exactly where its position is no member
-    pub outside_by_position : (position node : ℕ) (has : Bool) → position_of_failure graph node ≡ Some position → IsTrue has ↔ Contains set position
+    pub outside_by_position : (position node : ℕ) (has : Bool) → position_of_failure graph node ≡ Some position
+        → IsTrue has ↔ Contains set position
         → IsTrue (not has) ↔ IsOutside graph set node
     outside_by_position position node true at member = (
       λ no. absurd (false≢true no),

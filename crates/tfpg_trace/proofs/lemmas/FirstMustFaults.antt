@@ -14,7 +14,8 @@ use Rattle.tfpg_trace.proofs.lemmas.MustFaults.{keeps_active}
 
 module _ (log : Logbook) where
   -- what a look-up says of an instant up to now
-  numbered : (horizon : ℕ) (found : Option ℕ) → horizon ≤ now_of log → found ≡ cond (leb horizon (now_of log)) (Some (span_number log horizon)) None
+  numbered : (horizon : ℕ) (found : Option ℕ) → horizon ≤ now_of log
+      → found ≡ cond (leb horizon (now_of log)) (Some (span_number log horizon)) None
       → found ≡ Some (span_number log horizon)
   numbered horizon found by_now e = e ∙ cond-true (leb horizon (now_of log)) _ _ (le-leb horizon (now_of log) by_now)
 
@@ -24,14 +25,16 @@ module _ (log : Logbook) where
     KeepsMustBefore end = (instant : ℕ) → instant ≤ now_of log → span_number log instant < end → KeepsMust graph log trace node instant
 
     -- one span more
-    pub one_span_more : (number : ℕ) → KeepsMustBefore number → IsFirstFaultIn graph log trace node number None → KeepsMustBefore (number + 1)
+    pub one_span_more : (number : ℕ) → KeepsMustBefore number → IsFirstFaultIn graph log trace node number None
+        → KeepsMustBefore (number + 1)
     one_span_more number before here = λ instant within below. elim (cases_lt (span_number log instant) number) [
       | inl earlier ↦ before instant within earlier
       | inr upto ↦ here instant within (omega arith)
     ]
 
     -- The first fault of the first span that has one is the first of all.
-    pub first_of_all : (number instant : ℕ) → KeepsMustBefore number → FirstBreaksIn graph log trace node number instant → FirstBreaksMust graph log trace node instant
+    pub first_of_all : (number instant : ℕ) → KeepsMustBefore number → FirstBreaksIn graph log trace node number instant
+        → FirstBreaksMust graph log trace node instant
     first_of_all number instant before fault = record {
       by_now = fault.by_now;
       broken = fault.broken;
@@ -44,7 +47,8 @@ module _ (log : Logbook) where
     }
 
     -- Where no span up to an instant has one, and the node is active after it, there is none.
-    pub none_at_all : (horizon last end : ℕ) → horizon ≤ now_of log → Some last ≡ cond (leb horizon (now_of log)) (Some (span_number log horizon)) None
+    pub none_at_all : (horizon last end : ℕ) → horizon ≤ now_of log
+        → Some last ≡ cond (leb horizon (now_of log)) (Some (span_number log horizon)) None
         → ((instant : ℕ) → horizon < instant → instant ≤ now_of log → IsActive trace node instant) → last < end → KeepsMustBefore end
         → IsFirstMustFault graph log trace node None
     none_at_all horizon last end by_now e rest enough before = λ instant within. elim (cases_lt horizon instant) [

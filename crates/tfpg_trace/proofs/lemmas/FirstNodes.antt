@@ -5,8 +5,8 @@ use Rattle.tfpg_base.specs.declared.activation.Activation.{Activation}
 use Rattle.tfpg_graph.specs.Graph.{Tfpg}
 use Rattle.tfpg_log.specs.Log.{Logbook}
 use Rattle.tfpg_log.specs.Rules.{KeepsRulesOf}
-use Rattle.tfpg_trace.specs.Broken.{KeepRulesBefore}
 use Rattle.tfpg_trace.specs.FirstFault.{NoneBefore}
+use Rattle.tfpg_trace.specs.inside.RuleFaults.{KeepRulesBefore}
 
 -- one node more that has it not
 pub NoneBefore-more : (Has : ℕ → ℕ → Type 0) (end : ℕ) → NoneBefore Has end → ((time : ℕ) → Has end time → ⊥) → NoneBefore Has (end + 1)
@@ -17,7 +17,8 @@ NoneBefore-more Has end before here node time within has =
     ]
 
 -- one node more that keeps the rules
-pub KeepRulesBefore-more : (graph : Tfpg) (log : Logbook) (trace : List Activation) (end : ℕ) → KeepRulesBefore graph log trace end → KeepsRulesOf graph log trace end
+pub KeepRulesBefore-more : (graph : Tfpg) (log : Logbook) (trace : List Activation) (end : ℕ) → KeepRulesBefore graph log trace end
+    → KeepsRulesOf graph log trace end
     → KeepRulesBefore graph log trace (end + 1)
 KeepRulesBefore-more graph log trace end before here node within =
     elim (below_or_last node end within) [

@@ -15,7 +15,8 @@ use Rattle.tfpg_trace.proofs.lemmas.SpanOrder.{none_inside, numbered, in_mode, i
 
 -- the gap at an index is that of the edge there
 pub gap_at : (graph : Tfpg) (log : Logbook) (node number index : ℕ) (numbers : List ℕ) (gaps : List (Option ℕ)) (default : Option ℕ)
-    → numbers ≡ incoming graph node → index < length numbers → length (incoming graph node) ≤ length gaps → AreGaps graph log node number gaps
+    → numbers ≡ incoming graph node → index < length numbers → length (incoming graph node) ≤ length gaps
+    → AreGaps graph log node number gaps
     → IsGapOf graph log (get_or numbers index 0) number (get_or gaps index default)
 gap_at graph log node number index numbers gaps default are below room all =
     let into : index < length (incoming graph node) = omega (arith, ap length are, below) in
@@ -24,14 +25,17 @@ gap_at graph log node number index numbers gaps default are below room all =
     (subst (λ (ns : List ℕ). IsGapOf graph log (get_or ns index 0) number (get_or gaps index None)) (sym are) (all index into))
 
 -- Before all spans there are no gaps.
-pub no_gaps : (graph : Tfpg) (log : Logbook) (node count : ℕ) → length (incoming graph node) ≤ count → AreGaps graph log node 0 (replicate count None)
+pub no_gaps : (graph : Tfpg) (log : Logbook) (node count : ℕ) → length (incoming graph node) ≤ count
+    → AreGaps graph log node 0 (replicate count None)
 no_gaps graph log node count room index below =
-    subst (λ gap. IsGapOf graph log (get_or (incoming graph node) index 0) 0 gap) (sym (get_or-replicate {A = Option ℕ} count index None None (omega arith)))
+    subst (λ gap. IsGapOf graph log (get_or (incoming graph node) index 0) 0 gap)
+    (sym (get_or-replicate {A = Option ℕ} count index None None (omega arith)))
     (λ edge at instant within before. absurd (omega (arith, before)))
 
 module _ (log : Logbook) (edge : Edge) (number : ℕ) where
   -- Where no instant of the next span adds to it, a gap stays.
-  same_gap : (gap : Option ℕ) → ((instant : ℕ) → instant ≤ now_of log → span_number log instant ≡ number → IsTrue (is_active_at log edge instant))
+  same_gap : (gap : Option ℕ)
+      → ((instant : ℕ) → instant ≤ now_of log → span_number log instant ≡ number → IsTrue (is_active_at log edge instant))
       → IsGap log edge number gap → IsGap log edge (number + 1) gap
   same_gap None active is = λ instant within below. elim (cases_lt (span_number log instant) number) [
     | inl earlier ↦ is instant within earlier
@@ -63,7 +67,8 @@ module _ (log : Logbook) (edge : Edge) (number : ℕ) where
               absurd (omega (arith, since, lies.1));
         }
 
-    by_mode : (gap : Option ℕ) (b : Bool) → is_active_in edge span.mode ≡ b → IsGap log edge number gap → IsGap log edge (number + 1) (cond b gap (Some span.hi))
+    by_mode : (gap : Option ℕ) (b : Bool) → is_active_in edge span.mode ≡ b → IsGap log edge number gap
+        → IsGap log edge (number + 1) (cond b gap (Some span.hi))
     by_mode gap true active is =
         same_gap gap
         (λ instant within at.
@@ -73,7 +78,8 @@ module _ (log : Logbook) (edge : Edge) (number : ℕ) where
     by_mode gap false shut is = new_gap shut
 
     -- The gap once a span is over.
-    pub gap_over : (gap : Option ℕ) → IsGap log edge number gap → IsGap log edge (number + 1) (cond (is_active_in edge span.mode) gap (Some span.hi))
+    pub gap_over : (gap : Option ℕ) → IsGap log edge number gap
+        → IsGap log edge (number + 1) (cond (is_active_in edge span.mode) gap (Some span.hi))
     gap_over gap is = by_mode gap (is_active_in edge span.mode) (λ i. is_active_in edge span.mode) is
 
   -- Where there is no such span, a gap stays.
@@ -88,9 +94,11 @@ module _ (graph : Tfpg) (log : Logbook) (node number : ℕ) where
       → AreGaps graph log node number gaps → AreGaps graph log node (number + 1) after
   gaps_over span gaps after here passed are index below edge at =
       let gap : Option ℕ = get_or gaps index None in
-      let over : IsGap log edge (number + 1) (cond (is_active_in edge span.mode) gap (Some span.hi)) = gap_over log edge number span here gap (are index below edge at) in
+      let over : IsGap log edge (number + 1) (cond (is_active_in edge span.mode) gap (Some span.hi)) =
+      gap_over log edge number span here gap (are index below edge at) in
       let is : get_or after index None ≡ cond (is_active_in edge span.mode) gap (Some span.hi) =
-      passed index below ∙ ap (λ (there : Option Edge). option_map_or (λ (e : Edge). cond (is_active_in e span.mode) gap (Some span.hi)) there gap) at in
+      passed index below
+      ∙ ap (λ (there : Option Edge). option_map_or (λ (e : Edge). cond (is_active_in e span.mode) gap (Some span.hi)) there gap) at in
       subst (IsGap log edge (number + 1)) (sym is) over
 
   -- Where there is no such span, they stay.

@@ -23,7 +23,8 @@ span_reported log number now found now_is e = sym (e ∙ ap (span_at log number)
 
 module _ (graph : Tfpg) (log : Logbook) (trace : List Activation) (node : ℕ) where
   -- An OR node must be active where some edge into it is due.
-  pub must_by_some : (lo hi : ℕ) (lag : Option Lag) (found : Option ℕ) → kind_at graph node ≡ Some (Or lag) → Begins (SomeDue graph log trace node) lo hi found
+  pub must_by_some : (lo hi : ℕ) (lag : Option Lag) (found : Option ℕ) → kind_at graph node ≡ Some (Or lag)
+      → Begins (SomeDue graph log trace node) lo hi found
       → Begins (MustBeActive graph log trace node) lo hi found
   must_by_some lo hi lag found kind begins =
       carried (SomeDue graph log trace node) (MustBeActive graph log trace node) lo hi found
@@ -35,7 +36,8 @@ module _ (graph : Tfpg) (log : Logbook) (trace : List Activation) (node : ℕ) w
       begins
 
   -- An AND node must be active where all edges into it are due.
-  pub must_by_all : (lo hi : ℕ) (lag : Option Lag) (found : Option ℕ) → kind_at graph node ≡ Some (And lag) → Begins (AllDue graph log trace node) lo hi found
+  pub must_by_all : (lo hi : ℕ) (lag : Option Lag) (found : Option ℕ) → kind_at graph node ≡ Some (And lag)
+      → Begins (AllDue graph log trace node) lo hi found
       → Begins (MustBeActive graph log trace node) lo hi found
   must_by_all lo hi lag found kind begins =
       carried (AllDue graph log trace node) (MustBeActive graph log trace node) lo hi found
@@ -61,7 +63,8 @@ module _ (graph : Tfpg) (log : Logbook) (trace : List Activation) (node : ℕ) w
   }
 
   -- and nowhere else.
-  pub active_where_must : (instant : ℕ) → KeepsMust graph log trace node instant → MustBeActive graph log trace node instant → IsActive trace node instant
+  pub active_where_must : (instant : ℕ) → KeepsMust graph log trace node instant → MustBeActive graph log trace node instant
+      → IsActive trace node instant
   active_where_must instant keeps must = elim must [
     | inl some ↦ keeps.or_node some.0 some.1.0 some.1.1 some.1.2
     | inr all ↦ keeps.and_node all.0 all.1

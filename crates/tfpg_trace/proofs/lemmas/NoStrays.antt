@@ -15,15 +15,20 @@ not_both : (time now : ℕ) → nat_le time now ≡ true → now < time → ⊥
 not_both time now by_now late = grind (arith, nat_tests)
 
 -- no node is late where no activation is after now
-pub none_late : (log : Logbook) (trace : List Activation) (now : ℕ) (activations : List Activation) (node time : ℕ) → now ≡ now_of log → activations ≡ trace
+pub none_late : (log : Logbook) (trace : List Activation) (now : ℕ) (activations : List Activation) (node time : ℕ) → now ≡ now_of log
+    → activations ≡ trace
     → list_all (λ (a : Activation). nat_le a.time now) activations ≡ true → IsLate log trace node time → ⊥
 none_late log trace now activations node time is same all late =
-    let each = subst (All (λ (a : Activation). nat_le a.time now ≡ true)) same (AllPass-from_list_all (λ (a : Activation). nat_le a.time now) activations all) in
-    not_both time now (time_holds (λ (a : Activation). nat_le a.time now ≡ true) trace node time each late.at) (subst (λ (n : ℕ). n < time) (sym is) late.late)
+    let each =
+    subst (All (λ (a : Activation). nat_le a.time now ≡ true)) same
+    (AllPass-from_list_all (λ (a : Activation). nat_le a.time now) activations all) in
+    not_both time now (time_holds (λ (a : Activation). nat_le a.time now ≡ true) trace node time each late.at)
+    (subst (λ (n : ℕ). n < time) (sym is) late.late)
 
 -- no node is a stranger where no activation is of a failure mode outside the set
 pub no_stranger : (graph : Tfpg) (set : List ℕ) (trace activations : List Activation) (node time : ℕ) → activations ≡ trace
-    → All (λ (a : Activation). a.node < length graph.nodes → IsOutside graph set a.node → ⊥) activations → node < length graph.nodes → IsStranger graph set trace node time → ⊥
+    → All (λ (a : Activation). a.node < length graph.nodes → IsOutside graph set a.node → ⊥) activations → node < length graph.nodes
+    → IsStranger graph set trace node time → ⊥
 no_stranger graph set trace activations node time same each within stranger =
     time_holds (λ (a : Activation). a.node < length graph.nodes → IsOutside graph set a.node → ⊥) trace node time
     (subst (All (λ (a : Activation). a.node < length graph.nodes → IsOutside graph set a.node → ⊥)) same each) stranger.at within

@@ -21,7 +21,8 @@ module _ (log : Logbook) (node : ℕ) where
       absurd (cc (none, there))
 
   -- the times of the first alarm and of the last
-  pub alarm_times_are : IsOrdered log → (first number : ℕ) (last : Event) → alarm_of log node ≡ Some first → IsLastAlarm log node (Some number) → event_at log number ≡ Some last
+  pub alarm_times_are : IsOrdered log → (first number : ℕ) (last : Event) → alarm_of log node ≡ Some first
+      → IsLastAlarm log node (Some number) → event_at log number ≡ Some last
       → AreAlarmTimes log node first (time_of_event last)
   alarm_times_are ordered first number last first_at is at =
       let event = alarm_event_of log node first first_at in
@@ -33,13 +34,15 @@ module _ (log : Logbook) (node : ℕ) where
         last_is = (number, subst (λ t. event_at log number ≡ Some (Alarm t node)) (ap time_of_event time) is.alarm);
         between = λ other alarm. (
           first_is_earliest log ordered node first alarm.0 other first_at alarm.1,
-          subst (λ t. other ≤ t) (ap time_of_event time) (last_alarm_is_latest log node number is ordered is.time alarm.0 other is.alarm alarm.1),
+          subst (λ t. other ≤ t) (ap time_of_event time)
+              (last_alarm_is_latest log node number is ordered is.time alarm.0 other is.alarm alarm.1),
         );
       }
 
 module _ (graph : Tfpg) (log : Logbook) (node : ℕ) where
   -- the instant that the last silence says
-  pub longest_is : IsOrdered log → (number : ℕ) (result : Option ℕ) → IsLastQuiet graph log node (Some number) → quiet_at graph log number node ≡ result
+  pub longest_is : IsOrdered log → (number : ℕ) (result : Option ℕ) → IsLastQuiet graph log node (Some number)
+      → quiet_at graph log number node ≡ result
       → MatchOption result ((until : ℕ) → IsQuietUpto graph log node until → ⊥) (IsQuietLongest graph log node)
   longest_is ordered number None last at = let silent = last.silent in absurd (cc (silent, at))
   longest_is ordered number (Some until) last at = record {

@@ -24,7 +24,8 @@ module _ (graph : Tfpg) (log : Logbook) (trace : List Activation) (node instant 
   }
 
   -- what is due at an instant before a time can become due before it
-  due_can : (until : Option ℕ) (edge : Edge) → IfSome until (λ time. instant < time) → IsDue log trace edge instant → CanBeDue trace until edge
+  due_can : (until : Option ℕ) (edge : Edge) → IfSome until (λ time. instant < time) → IsDue log trace edge instant
+      → CanBeDue trace until edge
   due_can None edge below due = record { delay = due.0; finite = due.1; start = due.2.start; source = due.2.source; before = tt }
   due_can (Some time) edge below due = record {
     delay = due.0;
@@ -43,7 +44,8 @@ module _ (graph : Tfpg) (log : Logbook) (trace : List Activation) (node instant 
   ]
 
   -- an OR node
-  pub kept_at_or : (lag : Option Lag) (until : Option ℕ) → until ≡ time_of trace node → kind_at graph node ≡ Some (Or lag) → (SomeCanBeDue graph trace node until → ⊥)
+  pub kept_at_or : (lag : Option Lag) (until : Option ℕ) → until ≡ time_of trace node → kind_at graph node ≡ Some (Or lag)
+      → (SomeCanBeDue graph trace node until → ⊥)
       → KeepsMust graph log trace node instant
   kept_at_or lag until at kind never = record {
     or_node = λ is edge member due. active_or until at (λ below. never (edge, member, due_can until edge below due));
@@ -51,7 +53,8 @@ module _ (graph : Tfpg) (log : Logbook) (trace : List Activation) (node instant 
   }
 
   -- an AND node
-  pub kept_at_and : (lag : Option Lag) (until : Option ℕ) → until ≡ time_of trace node → kind_at graph node ≡ Some (And lag) → (AllCanBeDue graph trace node until → ⊥)
+  pub kept_at_and : (lag : Option Lag) (until : Option ℕ) → until ≡ time_of trace node → kind_at graph node ≡ Some (And lag)
+      → (AllCanBeDue graph trace node until → ⊥)
       → KeepsMust graph log trace node instant
   kept_at_and lag until at kind never = record {
     or_node = λ is edge member due. absurd (not_so graph node is_or (And lag) kind refl is);

@@ -26,13 +26,15 @@ module _ (log : Logbook) (trace : List Activation) (edge : Edge) (instant : ℕ)
   active_since_decided : (age : ℕ) → IsDecided (IsActiveSince age)
   active_since_decided age =
       all_below (λ x. instant ≤ x + age → IsTrue (is_active_at log edge x))
-      (λ x. implied_decided (instant ≤ x + age) (IsTrue (is_active_at log edge x)) (le_decided instant (x + age)) (test_decided (is_active_at log edge x)))
+      (λ x. implied_decided (instant ≤ x + age) (IsTrue (is_active_at log edge x)) (le_decided instant (x + age))
+      (test_decided (is_active_at log edge x)))
       (suc instant)
 
   -- Whether the edge has an age is decided.
   age_decided : (age : ℕ) → IsDecided (HasAge log trace edge instant age)
   age_decided age =
-      same_decided (((start : ℕ) × (time_of trace edge.source ≡ Some start) × (start + age ≤ instant)) × IsActiveSince age) (HasAge log trace edge instant age)
+      same_decided (((start : ℕ) × (time_of trace edge.source ≡ Some start) × (start + age ≤ instant)) × IsActiveSince age)
+      (HasAge log trace edge instant age)
       (λ is. record { start = is.0.0; source = is.0.1; since = is.0.2; active_since = λ x from upto. is.1 x (omega (arith, upto)) from })
       (λ has. ((has.start, has.source, has.since), λ x below from. has.active_since x from (omega (arith, below))))
       (both_decided ((start : ℕ) × (time_of trace edge.source ≡ Some start) × (start + age ≤ instant)) (IsActiveSince age)
@@ -47,11 +49,13 @@ module _ (graph : Tfpg) (log : Logbook) (trace : List Activation) (node : ℕ) w
   module _ (instant : ℕ) where
     some_arrives_decided : IsDecided (SomeArrives graph log trace node instant)
     some_arrives_decided =
-        some_member_decided (λ (edge : Edge). HasAge log trace edge instant edge.tmin) (λ (edge : Edge). age_decided log trace edge instant edge.tmin) (edges_into graph node)
+        some_member_decided (λ (edge : Edge). HasAge log trace edge instant edge.tmin)
+        (λ (edge : Edge). age_decided log trace edge instant edge.tmin) (edges_into graph node)
 
     all_arrive_decided : IsDecided (AllArrive graph log trace node instant)
     all_arrive_decided =
-        all_members_decided (λ (edge : Edge). HasAge log trace edge instant edge.tmin) (λ (edge : Edge). age_decided log trace edge instant edge.tmin) (edges_into graph node)
+        all_members_decided (λ (edge : Edge). HasAge log trace edge instant edge.tmin)
+        (λ (edge : Edge). age_decided log trace edge instant edge.tmin) (edges_into graph node)
 
     -- what the may rule says at a node of a kind
     abbrev IsMayOf : Type 0 → Type 0 → Type 0
@@ -65,34 +69,47 @@ module _ (graph : Tfpg) (log : Logbook) (trace : List Activation) (node : ℕ) w
     -- Whether the node keeps the may rule at an instant is decided.
     may_decided : IsDecided (KeepsMay graph log trace node instant)
     may_decided =
-        same_decided (IsMayOf (IsTrue (is_kind_at is_or graph node)) (SomeArrives graph log trace node instant) × IsMayOf (IsTrue (is_kind_at is_and graph node)) (AllArrive graph log trace node instant))
+        same_decided
+        (IsMayOf (IsTrue (is_kind_at is_or graph node)) (SomeArrives graph log trace node instant)
+        × IsMayOf (IsTrue (is_kind_at is_and graph node)) (AllArrive graph log trace node instant))
         (KeepsMay graph log trace node instant)
         (λ both. record { or_node = both.0; and_node = both.1 })
         (λ keeps. (keeps.or_node, keeps.and_node))
-        (both_decided (IsMayOf (IsTrue (is_kind_at is_or graph node)) (SomeArrives graph log trace node instant)) (IsMayOf (IsTrue (is_kind_at is_and graph node)) (AllArrive graph log trace node instant))
-        (may_of_decided (IsTrue (is_kind_at is_or graph node)) (SomeArrives graph log trace node instant) (test_decided (is_kind_at is_or graph node)) some_arrives_decided)
-        (may_of_decided (IsTrue (is_kind_at is_and graph node)) (AllArrive graph log trace node instant) (test_decided (is_kind_at is_and graph node)) all_arrive_decided))
+        (both_decided (IsMayOf (IsTrue (is_kind_at is_or graph node)) (SomeArrives graph log trace node instant))
+        (IsMayOf (IsTrue (is_kind_at is_and graph node)) (AllArrive graph log trace node instant))
+        (may_of_decided (IsTrue (is_kind_at is_or graph node)) (SomeArrives graph log trace node instant)
+        (test_decided (is_kind_at is_or graph node)) some_arrives_decided)
+        (may_of_decided (IsTrue (is_kind_at is_and graph node)) (AllArrive graph log trace node instant)
+        (test_decided (is_kind_at is_and graph node)) all_arrive_decided))
 
     -- what the must rule says at an OR node, and at an AND node
     abbrev IsMustOfOr : Type 0
-    IsMustOfOr = IsTrue (is_kind_at is_or graph node) → (edge : Edge) → Contains (edges_into graph node) edge → IsDue log trace edge instant → IsActive trace node instant
+    IsMustOfOr =
+        IsTrue (is_kind_at is_or graph node) → (edge : Edge) → Contains (edges_into graph node) edge → IsDue log trace edge instant
+        → IsActive trace node instant
 
     abbrev IsMustOfAnd : Type 0
-    IsMustOfAnd = IsTrue (is_kind_at is_and graph node) → All (λ (edge : Edge). IsDue log trace edge instant) (edges_into graph node) → IsActive trace node instant
+    IsMustOfAnd =
+        IsTrue (is_kind_at is_and graph node) → All (λ (edge : Edge). IsDue log trace edge instant) (edges_into graph node)
+        → IsActive trace node instant
 
     must_of_or_decided : IsDecided IsMustOfOr
     must_of_or_decided =
-        implied_decided (IsTrue (is_kind_at is_or graph node)) ((edge : Edge) → Contains (edges_into graph node) edge → IsDue log trace edge instant → IsActive trace node instant)
+        implied_decided (IsTrue (is_kind_at is_or graph node))
+        ((edge : Edge) → Contains (edges_into graph node) edge → IsDue log trace edge instant → IsActive trace node instant)
         (test_decided (is_kind_at is_or graph node))
-        (from_each_decided (λ (edge : Edge). IsDue log trace edge instant) (λ (edge : Edge). due_decided log trace edge instant) (IsActive trace node instant) (edges_into graph node)
+        (from_each_decided (λ (edge : Edge). IsDue log trace edge instant) (λ (edge : Edge). due_decided log trace edge instant)
+        (IsActive trace node instant) (edges_into graph node)
         (active_decided trace node instant))
 
     must_of_and_decided : IsDecided IsMustOfAnd
     must_of_and_decided =
-        implied_decided (IsTrue (is_kind_at is_and graph node)) (All (λ (edge : Edge). IsDue log trace edge instant) (edges_into graph node) → IsActive trace node instant)
+        implied_decided (IsTrue (is_kind_at is_and graph node))
+        (All (λ (edge : Edge). IsDue log trace edge instant) (edges_into graph node) → IsActive trace node instant)
         (test_decided (is_kind_at is_and graph node))
         (implied_decided (All (λ (edge : Edge). IsDue log trace edge instant) (edges_into graph node)) (IsActive trace node instant)
-        (all_members_decided (λ (edge : Edge). IsDue log trace edge instant) (λ (edge : Edge). due_decided log trace edge instant) (edges_into graph node))
+        (all_members_decided (λ (edge : Edge). IsDue log trace edge instant) (λ (edge : Edge). due_decided log trace edge instant)
+        (edges_into graph node))
         (active_decided trace node instant))
 
     -- Whether the node keeps the must rule at an instant is decided.
@@ -111,7 +128,8 @@ module _ (graph : Tfpg) (log : Logbook) (trace : List Activation) (node : ℕ) w
   ]
 
   -- at no instant up to now, or at all of them
-  first_upto_now : (P Q : ℕ → Type 0) → ((instant : ℕ) → P instant ⊎ Q instant) → ((instant : ℕ) × (instant ≤ now_of log) × P instant × ((earlier : ℕ) → earlier < instant → Q earlier))
+  first_upto_now : (P Q : ℕ → Type 0) → ((instant : ℕ) → P instant ⊎ Q instant)
+      → ((instant : ℕ) × (instant ≤ now_of log) × P instant × ((earlier : ℕ) → earlier < instant → Q earlier))
       ⊎ ((instant : ℕ) → instant ≤ now_of log → Q instant)
   first_upto_now P Q choice = elim (first_below P Q choice (suc (now_of log))) [
     | inl found ↦ inl (found.0, omega (arith, found.1.below), found.1.holds, found.1.before)
@@ -120,18 +138,24 @@ module _ (graph : Tfpg) (log : Logbook) (trace : List Activation) (node : ℕ) w
 
   -- Something is said of a node that does not keep the rules.
   pub rules_decided : ((said : Verdict) × IsBroken graph log trace node said) ⊎ KeepsRulesOf graph log trace node
-  rules_decided = elim (first_upto_now (λ instant. KeepsMay graph log trace node instant → ⊥) (KeepsMay graph log trace node) (λ instant. ⊎_swap (may_decided instant))) [
-    | inl may ↦ inl (verdict.May node may.0, inl (record { time = may.0; is = refl; breaks = breaks_may may.0 may.1 may.2 }))
-    | inr may ↦ elim (first_upto_now (λ instant. KeepsMust graph log trace node instant → ⊥) (KeepsMust graph log trace node) (λ instant. ⊎_swap (must_decided instant))) [
-      | inl must ↦ inl (
-        verdict.Must node must.0,
-        inr (record {
-          time = must.0;
-          is = refl;
-          may = λ instant breaks. breaks.broken (may instant breaks.by_now);
-          breaks = record { by_now = must.1; broken = must.2; first = must.3 };
-        }),
-      )
-      | inr must ↦ inr (record { may = may; must = must })
-    ]
-  ]
+  rules_decided =
+      elim
+      (first_upto_now (λ instant. KeepsMay graph log trace node instant → ⊥) (KeepsMay graph log trace node)
+      (λ instant. ⊎_swap (may_decided instant))) [
+        | inl may ↦ inl (verdict.May node may.0, inl (record { time = may.0; is = refl; breaks = breaks_may may.0 may.1 may.2 }))
+        | inr may ↦
+            elim
+            (first_upto_now (λ instant. KeepsMust graph log trace node instant → ⊥) (KeepsMust graph log trace node)
+            (λ instant. ⊎_swap (must_decided instant))) [
+              | inl must ↦ inl (
+                verdict.Must node must.0,
+                inr (record {
+                  time = must.0;
+                  is = refl;
+                  may = λ instant breaks. breaks.broken (may instant breaks.by_now);
+                  breaks = record { by_now = must.1; broken = must.2; first = must.3 };
+                }),
+              )
+              | inr must ↦ inr (record { may = may; must = must })
+            ]
+      ]

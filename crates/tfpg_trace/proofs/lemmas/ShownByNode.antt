@@ -25,7 +25,8 @@ module _ (graph : Tfpg) (log : Logbook) (trace : List Activation) where
     -- ---- alarms
 
     -- Where the first and the last alarm are shown, so are those between.
-    pub alarms_shown : (first last : ℕ) → AreAlarmTimes log node first last → ShowsAlarm graph log trace node first → ShowsAlarm graph log trace node last
+    pub alarms_shown : (first last : ℕ) → AreAlarmTimes log node first last → ShowsAlarm graph log trace node first
+        → ShowsAlarm graph log trace node last
         → ShowsAlarmsOf graph log trace node
     alarms_shown first last are shows_first shows_last time alarm =
         shows_alarm_from_interval graph log trace node time shows_first.0
@@ -40,14 +41,16 @@ module _ (graph : Tfpg) (log : Logbook) (trace : List Activation) where
     -- ---- silences
 
     -- Where the last silence is shown, so are those before: where the node becomes active after it.
-    pub silences_shown : (start until : ℕ) → Some start ≡ time_of trace node → IsQuietLongest graph log node until → until < start → ShowsSilencesOf graph log trace node
+    pub silences_shown : (start until : ℕ) → Some start ≡ time_of trace node → IsQuietLongest graph log node until → until < start
+        → ShowsSilencesOf graph log trace node
     silences_shown start until at longest later other is active =
         let upto = longest.last other is in
         let same : start ≡ active.0 = cc (at, active.1) in
         absurd (omega (arith, upto, later, same, active.2))
 
     -- Where all are shown, it becomes active after the last.
-    pub active_after : (start until : ℕ) → Some start ≡ time_of trace node → IsQuietLongest graph log node until → ShowsSilencesOf graph log trace node → until < start
+    pub active_after : (start until : ℕ) → Some start ≡ time_of trace node → IsQuietLongest graph log node until
+        → ShowsSilencesOf graph log trace node → until < start
     active_after start until at longest shows = elim (cases_lt until start) [
       | inl lt ↦ lt
       | inr ge ↦ absurd (shows until longest.is (start, sym at, ge))
@@ -68,7 +71,8 @@ module _ (graph : Tfpg) (log : Logbook) (trace : List Activation) where
       ]
 
   -- an event that is a silence of a node
-  silence_there : (index node : ℕ) (event : Event) → slice_get log.events index ≡ Some event → IsTrue (is_silence_of graph (first_events log index) node event)
+  silence_there : (index node : ℕ) (event : Event) → slice_get log.events index ≡ Some event
+      → IsTrue (is_silence_of graph (first_events log index) node event)
       → silence_at graph log (suc index) node ≡ Some (time_of_event event)
   silence_there index node event at is =
       let same : suc index - 1 ≡ index = omega arith in
@@ -77,14 +81,16 @@ module _ (graph : Tfpg) (log : Logbook) (trace : List Activation) where
       ∙ cond-true (is_silence_of graph (first_events log index) node event) (Some (time_of_event event)) None is
 
   module _ (of : IsLogOf graph log) (nodes : ShowNodesBefore (length graph.nodes)) where
-    silence_shown : (number node time : ℕ) → IsTrue (is_monitored graph node) → silence_at graph log number node ≡ Some time → ShowsSilence graph log trace node time
+    silence_shown : (number node time : ℕ) → IsTrue (is_monitored graph node) → silence_at graph log number node ≡ Some time
+        → ShowsSilence graph log trace node time
     silence_shown number node time monitored silent =
         shows_silence_from_instant graph log trace node time
         (λ until said.
         (nodes node (monitored_within graph node monitored)).silences until
         (number, ap (option_and_then (inactive_until graph log node)) silent ∙ said))
 
-    event_shown : (index : ℕ) (event : Event) → slice_get log.events index ≡ Some event → IsEventOf graph event → Shows graph (first_events log index) trace event
+    event_shown : (index : ℕ) (event : Event) → slice_get log.events index ≡ Some event → IsEventOf graph event
+        → Shows graph (first_events log index) trace event
     event_shown index (Alarm time node) at own = (nodes node (monitored_within graph node own)).alarms time (suc index, at)
     event_shown index (Silent time node) at own =
         silence_shown (suc index) node time own (silence_there index node (Silent time node) at (eq-eqb node node refl))
@@ -108,7 +114,8 @@ module _ (graph : Tfpg) (log : Logbook) (trace : List Activation) where
     quiet_shown zero time is = absurd cc
     quiet_shown (suc index) time is =
         let same : suc index - 1 ≡ index = omega arith in
-        option_and_then_some (λ (e : Event). silence_time graph (first_events log (suc index - 1)) e node) (event_at log (suc index)) time is
+        option_and_then_some (λ (e : Event). silence_time graph (first_events log (suc index - 1)) e node)
+        (event_at log (suc index)) time is
         (λ event at rest. shows_quiet graph (first_events log index) trace event node time (shows index event at)
         (ap (λ (n : ℕ). silence_time graph (first_events log n) event node) (sym same) ∙ rest))
 

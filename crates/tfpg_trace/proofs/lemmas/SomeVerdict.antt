@@ -12,12 +12,12 @@ use Rattle.tfpg_log.specs.Rules.{KeepsRulesOf, IsTraceOf}
 use Rattle.tfpg_log.specs.Explains.{IsMember, Shows}
 use Rattle.tfpg_trace.specs.declared.verdict.Verdict.{Verdict}
 use Rattle.tfpg_trace.specs.declared.verdict.Verdict.TheVariants as verdict
-use Rattle.tfpg_trace.specs.FirstFault.{IsLate, IsStranger, IsOnTimeFromSet, IsFaultlessBeforeEvents, ShowsBefore, IsMayFault, IsMustFault, IsAlarmFault, IsSilenceFault, IsVerdict}
+use Rattle.tfpg_trace.specs.FirstFault.{IsLate, IsStranger, NoneBefore, IsFaultlessBefore, IsVerdict}
 use Rattle.tfpg_trace.specs.inside.RuleFaults.{IsBroken}
-use Rattle.tfpg_trace.specs.inside.Shown.{IsNotShown}
-use Rattle.tfpg_trace.specs.Broken.{KeepRulesBefore}
+use Rattle.tfpg_trace.specs.inside.Shown.{ShowsBefore, IsNotShown}
 use Rattle.tfpg_base.proofs.lemmas.lists.Decided.{IsDecided, first_below, same_decided, test_decided, le_decided, some_decided, some_member_decided}
 use Rattle.tfpg_trace.proofs.lemmas.Explained.{explained}
+use Rattle.tfpg_trace.proofs.lemmas.FirstEventsShown.{first_shown}
 use Rattle.tfpg_trace.proofs.lemmas.FailureModes.{member_by_position, no_failure}
 use Rattle.tfpg_trace.proofs.lemmas.RulesDecided.{rules_decided}
 use Rattle.tfpg_trace.proofs.lemmas.EventsDecided.{event_decided}
@@ -64,7 +64,8 @@ module _ (graph : Tfpg) (log : Logbook) (set : List ℕ) (trace : List Activatio
       by_time None none failure outside = inr (λ time stranger. let at = stranger.at in absurd cc)
       by_time (Some time) at failure outside = inl (time, record { at = at; failure = failure; outside = outside })
 
-      by_kind : IsDecided (IsTrue (is_kind_at is_failure graph node)) → AtSomeTime (IsStranger graph set trace) node ⊎ AtNoTime (IsStranger graph set trace) node
+      by_kind : IsDecided (IsTrue (is_kind_at is_failure graph node))
+          → AtSomeTime (IsStranger graph set trace) node ⊎ AtNoTime (IsStranger graph set trace) node
       by_kind (inr other) = inr (λ time stranger. other stranger.failure)
       by_kind (inl failure) = elim (member_decided graph set node failure) [
         | inl member ↦ inr (λ time stranger. stranger.outside member)
@@ -75,7 +76,9 @@ module _ (graph : Tfpg) (log : Logbook) (set : List ℕ) (trace : List Activatio
 
   -- something is said of the event at this index
   abbrev IsNotShownAt : ℕ → Type 0
-  IsNotShownAt index = (event : Event) × (slice_get log.events index ≡ Some event) × ((said : Verdict) × IsNotShown graph (first_events log index) trace event said)
+  IsNotShownAt index =
+      (event : Event) × (slice_get log.events index ≡ Some event)
+      × ((said : Verdict) × IsNotShown graph (first_events log index) trace event said)
 
   -- the event at this index is shown
   abbrev IsShownAt : ℕ → Type 0
@@ -98,49 +101,62 @@ module _ (graph : Tfpg) (log : Logbook) (set : List ℕ) (trace : List Activatio
   HasVerdict = (said : Verdict) × IsVerdict graph log set trace said
 
   -- What is said of the first event that is not shown is the verdict.
-  pub by_event : IsFaultlessBeforeEvents graph log set trace → (index : ℕ) (event : Event) → slice_get log.events index ≡ Some event → ShowsBefore graph log trace index
+  pub by_event : IsFaultlessBefore graph log set trace (length graph.nodes) → (index : ℕ) (event : Event)
+      → slice_get log.events index ≡ Some event → ShowsBefore graph log trace index
       → (said : Verdict) → IsNotShown graph (first_events log index) trace event said → IsVerdict graph log set trace said
-  by_event rules index event at before said (inl alarm) =
-      let fault = alarm.3 in
-      let is : IsAlarmFault graph log set trace alarm.0 alarm.1 =
-      record { rules = rules; index = index; event = at ∙ ap Some fault.alarm; before = before; not_shown = fault.not_shown } in
+  by_event nodes index event at before said (inl alarm) =
+      let is : IsVerdict graph log set trace (verdict.Alarm alarm.0 alarm.1) = (
+        index,
+        record { nodes = nodes; at = at ∙ ap Some alarm.3.alarm; before = first_shown graph log trace index before },
+        alarm.3.not_shown,
+      ) in
       subst (IsVerdict graph log set trace) (sym alarm.2) is
-  by_event rules index event at before said (inr silence) =
-      let fault = silence.3 in
-      let is : IsSilenceFault graph log set trace silence.0 silence.1 =
-      record { rules = rules; index = index; event = event; at = at; before = before; silent = fault.silent; not_shown = fault.not_shown; first = fault.first } in
+  by_event nodes index event at before said (inr silence) =
+      let is : IsVerdict graph log set trace (verdict.Silence silence.0 silence.1) = (
+        index,
+        event,
+        record { nodes = nodes; at = at; before = first_shown graph log trace index before },
+        silence.3,
+      ) in
       subst (IsVerdict graph log set trace) (sym silence.2) is
 
-  -- what is said of the first node that breaks a rule is the verdict
-  by_rules : IsOnTimeFromSet graph log set trace → (node : ℕ) → node < length graph.nodes → KeepRulesBefore graph log trace node → (said : Verdict)
+  -- What is said of the first node that breaks a rule is the verdict.
+  pub by_rules : (node : ℕ) → node < length graph.nodes → IsFaultlessBefore graph log set trace node → (said : Verdict)
       → IsBroken graph log trace node said → IsVerdict graph log set trace said
-  by_rules own node within before said (inl fault) =
-      let is : IsMayFault graph log set trace node fault.time = record { own = own; in_graph = within; before = before; breaks = fault.breaks } in
+  by_rules node within before said (inl fault) =
+      let is : IsVerdict graph log set trace (verdict.May node fault.time) = (within, before, fault.breaks) in
       subst (IsVerdict graph log set trace) (sym fault.is) is
-  by_rules own node within before said (inr fault) =
-      let is : IsMustFault graph log set trace node fault.time =
-      record { own = own; in_graph = within; before = before; may = fault.may; breaks = fault.breaks } in
+  by_rules node within before said (inr fault) =
+      let is : IsVerdict graph log set trace (verdict.Must node fault.time) = (within, before, fault.may, fault.breaks) in
       subst (IsVerdict graph log set trace) (sym fault.is) is
 
   module _ (of : IsTraceOf graph trace) where
-    of_events : IsFaultlessBeforeEvents graph log set trace → HasVerdict
-    of_events rules = elim (first_below IsNotShownAt IsShownAt fault_or_shown (length log.events)) [
+    of_events : IsFaultlessBefore graph log set trace (length graph.nodes) → HasVerdict
+    of_events nodes = elim (first_below IsNotShownAt IsShownAt fault_or_shown (length log.events)) [
       | inl found ↦ (
         found.1.holds.2.0,
-        by_event rules found.0 found.1.holds.0 found.1.holds.1 (λ index event below at. found.1.before index below event at) found.1.holds.2.0 found.1.holds.2.1,
+        by_event nodes found.0 found.1.holds.0 found.1.holds.1
+            (λ index event below at. found.1.before index below event at) found.1.holds.2.0 found.1.holds.2.1,
       )
       | inr shown ↦ (
         verdict.Yes,
-        explained graph log set trace of.0 of.1 rules.own rules.rules
+        explained graph log set trace of.0 of.1 nodes
             (λ index event at. shown index (slice_get_within log.events index event at) event at),
       )
     ]
 
-    of_rules : IsOnTimeFromSet graph log set trace → HasVerdict
-    of_rules own =
-        elim (first_below (λ node. (said : Verdict) × IsBroken graph log trace node said) (KeepsRulesOf graph log trace) (rules_decided graph log trace) (length graph.nodes)) [
-          | inl found ↦ (found.1.holds.0, by_rules own found.0 found.1.below found.1.before found.1.holds.0 found.1.holds.1)
-          | inr keeps ↦ of_events (record { own = own; rules = keeps })
+    of_rules : NoneBefore (IsLate log trace) (length graph.nodes) → NoneBefore (IsStranger graph set trace) (length graph.nodes)
+        → HasVerdict
+    of_rules on_time from_set =
+        elim
+        (first_below (λ node. (said : Verdict) × IsBroken graph log trace node said) (KeepsRulesOf graph log trace)
+        (rules_decided graph log trace) (length graph.nodes)) [
+          | inl found ↦ (
+            found.1.holds.0,
+            by_rules found.0 found.1.below
+                (record { on_time = on_time; from_set = from_set; rules = found.1.before }) found.1.holds.0 found.1.holds.1,
+          )
+          | inr keeps ↦ of_events (record { on_time = on_time; from_set = from_set; rules = keeps })
         ]
 
     -- A trace has a verdict.
@@ -149,24 +165,26 @@ module _ (graph : Tfpg) (log : Logbook) (set : List ℕ) (trace : List Activatio
       | inl late ↦ (
         verdict.Late late.0 late.1.holds.0,
         record {
-          in_graph = late.1.below;
-          late = late.1.holds.1;
+          in_range = late.1.below;
+          has = late.1.holds.1;
           first = λ node time below has. late.1.before node below time has;
         },
       )
-      | inr on_time ↦ elim (first_below (AtSomeTime (IsStranger graph set trace)) (AtNoTime (IsStranger graph set trace)) stranger_or_not (length graph.nodes)) [
-        | inl stranger ↦ (
-          verdict.Stranger stranger.0 stranger.1.holds.0,
-          record {
-            on_time = λ node time below has. on_time node below time has;
-            in_graph = stranger.1.below;
-            stranger = stranger.1.holds.1;
-            first = λ node time below has. stranger.1.before node below time has;
-          },
-        )
-        | inr from_set ↦ of_rules (record {
-          on_time = λ node time below has. on_time node below time has;
-          from_set = λ node time below has. from_set node below time has;
-        })
-      ]
+      | inr on_time ↦
+          elim
+          (first_below (AtSomeTime (IsStranger graph set trace)) (AtNoTime (IsStranger graph set trace)) stranger_or_not
+          (length graph.nodes)) [
+            | inl stranger ↦ (
+              verdict.Stranger stranger.0 stranger.1.holds.0,
+              (
+                λ node time below has. on_time node below time has,
+                record {
+                  in_range = stranger.1.below;
+                  has = stranger.1.holds.1;
+                  first = λ node time below has. stranger.1.before node below time has;
+                },
+              ),
+            )
+            | inr from_set ↦ of_rules (λ node time below has. on_time node below time has) (λ node time below has. from_set node below time has)
+          ]
     ]

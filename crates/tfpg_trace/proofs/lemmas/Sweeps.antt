@@ -10,17 +10,18 @@ use Rattle.tfpg_log.specs.declared.event.Event.TheVariants.{Sweep}
 use Rattle.tfpg_log.specs.Log.{Logbook, event_at, first_events, alarm_among, silence_time, silence_at}
 use Rattle.tfpg_log.specs.Explains.{Shows}
 use Rattle.tfpg_log.proofs.lemmas.events.ShownByLookUp.{shows_silence_unless}
-use Rattle.tfpg_trace.specs.FirstFault.{NoneBefore}
-use Rattle.tfpg_trace.specs.inside.Strays.{IsFirstNode}
-use Rattle.tfpg_trace.specs.inside.Shown.{IsNotQuiet, IsSilenceNotShown}
+use Rattle.tfpg_trace.specs.FirstFault.{NoneBefore, IsFirstNode, IsSilenceNotShown}
+use Rattle.tfpg_trace.specs.inside.Shown.{IsNotQuiet}
 
 module _ (graph : Tfpg) (log : Logbook) (trace : List Activation) (number : ℕ) where
   -- the silence of an event, after those before it
-  silence_by_event : (event : Event) (node : ℕ) → event_at log number ≡ Some event → silence_at graph log number node ≡ silence_time graph (first_events log (number - 1)) event node
+  silence_by_event : (event : Event) (node : ℕ) → event_at log number ≡ Some event
+      → silence_at graph log number node ≡ silence_time graph (first_events log (number - 1)) event node
   silence_by_event event node at = ap (option_and_then (λ said. silence_time graph (first_events log (number - 1)) said node)) at
 
   -- where each node that a sweep asks is quiet, it is shown
-  pub sweep_shown : (event : Event) (time : ℕ) → event_at log number ≡ Some event → event ≡ Sweep time → NoneBefore (IsNotQuiet graph log trace number) (length graph.nodes)
+  pub sweep_shown : (event : Event) (time : ℕ) → event_at log number ≡ Some event → event ≡ Sweep time
+      → NoneBefore (IsNotQuiet graph log trace number) (length graph.nodes)
       → Shows graph (first_events log (number - 1)) trace event
   sweep_shown event time at is none =
       subst (Shows graph (first_events log (number - 1)) trace) (sym is)
@@ -35,12 +36,14 @@ module _ (graph : Tfpg) (log : Logbook) (trace : List Activation) (number : ℕ)
       })))
 
   -- the first node that is not quiet is what is said of the event
-  pub silence_not_shown : (event : Event) (node time : ℕ) → event_at log number ≡ Some event → IsFirstNode (IsNotQuiet graph log trace number) (length graph.nodes) node time
+  pub silence_not_shown : (event : Event) (node time : ℕ) → event_at log number ≡ Some event
+      → IsFirstNode (IsNotQuiet graph log trace number) (length graph.nodes) node time
       → IsSilenceNotShown graph (first_events log (number - 1)) trace event node time
   silence_not_shown event node time at found = record {
     silent = sym (silence_by_event event node at) ∙ found.has.silent;
     not_shown = found.has.not_shown;
     first = λ earlier before silent.
         shows_silence_unless graph log trace earlier time
-        (λ not_shown. found.first earlier time before (record { silent = silence_by_event event earlier at ∙ silent; not_shown = not_shown }));
+        (λ not_shown. found.first earlier time before
+        (record { silent = silence_by_event event earlier at ∙ silent; not_shown = not_shown }));
   }

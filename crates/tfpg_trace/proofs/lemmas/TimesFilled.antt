@@ -38,7 +38,8 @@ same_item one other same = cc
 
 module _ (by_node : List (Option ℕ)) (trace : List Activation) where
   -- one activation more
-  pub filled_more : (end : ℕ) (activation : Activation) → IsRisingByNode trace → slice_get trace end ≡ Some activation → activation.node < length by_node → AreFilledUpto by_node trace end
+  pub filled_more : (end : ℕ) (activation : Activation) → IsRisingByNode trace → slice_get trace end ≡ Some activation
+      → activation.node < length by_node → AreFilledUpto by_node trace end
       → AreFilledUpto (set by_node activation.node (Some activation.time)) trace (end + 1)
   filled_more end activation rising at within filled node = elim (eqb_tells node activation.node) [
     | inl (_, same) ↦ inl (
@@ -46,12 +47,14 @@ module _ (by_node : List (Option ℕ)) (trace : List Activation) where
         ∙ sym (time_there trace rising activation (Contains-at trace end activation at))
         ∙ ap (time_of trace) (sym same))
     | inr (_, other) ↦ ⊎_elim
-        (λ (has : get_or by_node node None ≡ time_of trace node). inl (get_or-set_other by_node activation.node node (Some activation.time) None other ∙ has))
+        (λ (has : get_or by_node node None ≡ time_of trace node). inl
+        (get_or-set_other by_node activation.node node (Some activation.time) None other ∙ has))
         (λ left. inr (
           get_or-set_other by_node activation.node node (Some activation.time) None other ∙ left.0,
           λ index found below there. ⊎_elim
               (λ earlier. left.1 index found earlier there)
-              (λ last. λ is. other (sym is ∙ ap (λ (a : Activation). a.node) (same_item found activation (sym there ∙ ap (slice_get trace) last ∙ at))))
+              (λ last. λ is. other
+              (sym is ∙ ap (λ (a : Activation). a.node) (same_item found activation (sym there ∙ ap (slice_get trace) last ∙ at))))
               (below_or_last index end below),
         ))
         (filled node)
@@ -62,9 +65,12 @@ module _ (by_node : List (Option ℕ)) (trace : List Activation) where
   all_filled end upto filled node = ⊎_elim (λ has. has) (λ left. left.0 ∙ sym (by (time_of trace node) refl left.1)) (filled node)
     where
       by : (found : Option ℕ) → time_of trace node ≡ found
-          → ((index : ℕ) (activation : Activation) → index < end → slice_get trace index ≡ Some activation → activation.node ≢ node) → time_of trace node ≡ None
+          → ((index : ℕ) (activation : Activation) → index < end → slice_get trace index ≡ Some activation → activation.node ≢ node)
+          → time_of trace node ≡ None
       by None at others = at
       by (Some time) at others =
           let member = activation_there trace node time at in
           let within : member.0 < end = omega (arith, member.1, upto) in
-          absurd (others member.0 (record { node = node; time = time }) within (slice_get-contains trace (record { node = node; time = time }) member) refl)
+          absurd
+          (others member.0 (record { node = node; time = time }) within
+          (slice_get-contains trace (record { node = node; time = time }) member) refl)

@@ -3,9 +3,14 @@ use Rattle.std.specs.Prelude.{◌≡◌, ℕ, ◌<◌, List, length, ◌⊎◌}
 use Rattle.tfpg_base.specs.declared.activation.Activation.{Activation}
 use Rattle.tfpg_graph.specs.Graph.{Tfpg}
 use Rattle.tfpg_log.specs.Log.{Logbook}
-use Rattle.tfpg_trace.specs.Broken.{KeepRulesBefore, BreaksMay, FirstBreaksMust}
+use Rattle.tfpg_log.specs.Rules.{KeepsRulesOf}
+use Rattle.tfpg_trace.specs.Broken.{BreaksMay, FirstBreaksMust}
 use Rattle.tfpg_trace.specs.declared.verdict.Verdict.{Verdict}
 use Rattle.tfpg_trace.specs.declared.verdict.Verdict.TheVariants as verdict
+
+-- No node before this one breaks a rule.
+abbrev pub KeepRulesBefore : Tfpg → Logbook → List Activation → ℕ → Type 0
+KeepRulesBefore graph log trace end = (node : ℕ) → node < end → KeepsRulesOf graph log trace node
 
 -- It is said that the node breaks the may rule at this time, and so it does.
 pub record IsMayBroken (graph : Tfpg) (log : Logbook) (trace : List Activation) (node : ℕ)

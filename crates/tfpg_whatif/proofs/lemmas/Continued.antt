@@ -13,6 +13,7 @@ use Rattle.tfpg_search.specs.declared.found.Found.TheVariants.{Shown, Closed, Sp
 use Rattle.tfpg_search.specs.SearchState.{SearchState}
 use Rattle.tfpg_search.specs.Represents.{RepresentsSome}
 use Rattle.tfpg_search.specs.Searched.{IsSearched, call_of}
+use Rattle.tfpg_search.proofs.lemmas.calls.CopyRepresents.{copy_represents}
 use Rattle.tfpg_engine.specs.EngineState.{EngineState, IsLentSearch}
 use Rattle.tfpg_whatif.specs.inside.Asking.{CanContinue, HasEventsOf, IsShown, trace_found}
 use Rattle.tfpg_whatif.specs.declared.outcome.Outcome.TheVariants.{Fits}
@@ -30,10 +31,10 @@ can_continue engine lent hypothesis search log own same goes_on is kept = record
 }
 
 -- What a copy that can continue has found is a trace from the set, where it is one.
-pub continues : (graph : Tfpg) (log : Logbook) (set : List ℕ) (budget : ℕ) (kept copy after : SearchState) (before steps : List Step) (found : Found) → CanContinue graph log set kept → copy ≡ kept → after.set ≡ copy.set
+pub continues : (graph : Tfpg) (log : Logbook) (set : List ℕ) (budget : ℕ) (kept copy after : SearchState) (before steps : List Step) (found : Found) → CanContinue graph log set kept → copy ≡ record kept { leaf = record kept.leaf { identity = copy.leaf.identity } } → after.set ≡ copy.set
     → IsSearched graph log budget (call_of copy after before steps) (Ok found) → IfSome (trace_found found) (λ trace. Explains graph log set trace)
 continues graph log set budget kept copy after before steps (Shown trace) can is same searched =
-    let own : RepresentsSome graph log copy = subst (RepresentsSome graph log) (sym is) can.represents in
+    let own = copy_represents graph log kept copy is can.represents in
     subst (λ (members : List ℕ). Explains graph log members trace) (same ∙ ap (λ (s : SearchState). s.set) is ∙ can.set_is) (searched.found own.0 own.1).0
 continues graph log set budget kept copy after before steps Closed can is same searched = tt
 continues graph log set budget kept copy after before steps Spent can is same searched = tt

@@ -1,10 +1,10 @@
 -- What outcomes and questions say of later logs and of the rounds to come.
-use Rattle.std.proofs.Common.{◌≡◌, ℕ, suc, ◌+◌, ◌<◌, ◌≤◌, Bool, false, cond, List, [], ◌∷◌, length, map, Option, refl, sym, ap, subst, ◌∙◌, arith}
-use Rattle.std.specs.Prelude.{IsTrue, Some, slice_get, count_by, option_map, unwrap_or, nat_lt}
+use Rattle.std.proofs.Common.{◌≡◌, ℕ, suc, ◌+◌, ◌<◌, ◌≤◌, Bool, true, false, cond, List, [], ◌∷◌, length, map, Option, refl, sym, ap, subst, ◌∙◌, arith}
+use Rattle.std.specs.Prelude.{IsTrue, Some, slice_get, count_by, option_map, unwrap_or}
 use Rattle.std.proofs.lemmas.List.Elements.{All-push}
 use Rattle.std.proofs.lemmas.List.Sums.{sum_by-cons}
 use Rattle.std.specs.List.{list_any}
-use Rattle.std.proofs.lemmas.Bool.{false_from_ne_true}
+use Rattle.std.proofs.lemmas.Bool.{false_from_ne_true, false≢true}
 use Rattle.std.proofs.lemmas.List.{append-nil}
 use Rattle.std.proofs.lemmas.Option.{same_Some}
 use Rattle.tfpg_base.specs.declared.terms.Terms.{Terms}
@@ -56,15 +56,6 @@ RoundsSayWhichFit =
 -- and that there is one table is a law of tables.
 abbrev pub TablesAreOne : Type 0
 TablesAreOne = (graph : Tfpg) (terms : Terms) (hypotheses others : List Hypothesis) → IsTable graph terms hypotheses → IsTable graph terms others → hypotheses ≡ others
-
--- Two lists of one length have equal images, where the images are equal at each index.
-same_images : {X Y Z : Type 0} (f : X → Z) (g : Y → Z) (xs : List X) (ys : List Y) → length xs ≡ length ys
-    → ((index : ℕ) (x : X) (y : Y) → slice_get ys index ≡ Some y → slice_get xs index ≡ Some x → f x ≡ g y) → map f xs ≡ map g ys
-same_images f g [] [] long same = refl
-same_images f g [] (y ∷ ys) long same = absurd (omega (arith, long))
-same_images f g (x ∷ xs) [] long same = absurd (omega (arith, long))
-same_images f g (x ∷ xs) (y ∷ ys) long same =
-    λ i. same 0 x y refl refl i ∷ same_images f g xs ys (omega (arith, long)) (λ index a b at_b at_a. same (suc index) a b at_b at_a) i
 
 module _ (leaves_none : LeavesNoTrace) (which_fit : RoundsSayWhichFit) (one_table : TablesAreOne) (asked : Asked) (well : IsWellAsked asked) where
   is_hypothesis : (number : ℕ) (hypothesis : Hypothesis) → slice_get asked.hypotheses number ≡ Some hypothesis → IsHypothesis asked.graph asked.terms hypothesis
@@ -135,12 +126,9 @@ module _ (leaves_none : LeavesNoTrace) (which_fit : RoundsSayWhichFit) (one_tabl
       fits = λ index number trace at outcome round is_round.
           let own = hypothesis_of_number index number at in
           fits_not_rejected round is_round number own.0 own.1 (trace, (are.each index number (Fits trace) at outcome own.0 own.1).evidence);
-      exact = λ round is_round none_open none_unknown.
-          same_images is_out (λ (number : ℕ). has_status is_rejected number round) outcomes asked.among are.one_each
-          (λ index outcome number at there.
+      exact = λ round is_round none_open index number outcome at there known.
           let own = hypothesis_of_number index number at in
-          exact_by round is_round none_open number own.0 own.1 outcome (are.each index number outcome at there own.0 own.1)
-          (All-at (λ (o : Outcome). is_unknown o ≡ false) outcomes index outcome (All-list_any_none is_unknown outcomes none_unknown) there));
+          exact_by round is_round none_open number own.0 own.1 outcome (are.each index number outcome at there own.0 own.1) known;
     }
 
 -- ---- questions
@@ -159,26 +147,47 @@ well_after asked event well own at_now = record {
   among = well.among;
 }
 
--- what passes none of them is counted 0 times
-none_counted : {X : Type 0} (test : X → Bool) (xs : List X) → count_by test xs ≡ 0 → list_any test xs ≡ false
-none_counted test xs none = list_any-count test xs ∙ ap (nat_lt 0) none
+-- One more item is counted within the bounds: where it is not unknown it counts on both sides, and else on one side at most.
+counts_one_more : (out unknown rejected : Bool) (outs unknowns rejects : ℕ) → (IsTrue unknown → out ≡ false) → (unknown ≡ false → out ≡ rejected)
+    → (outs ≤ rejects) × (rejects ≤ outs + unknowns)
+    → (cond out 1 0 + outs ≤ cond rejected 1 0 + rejects) × (cond rejected 1 0 + rejects ≤ (cond out 1 0 + outs) + (cond unknown 1 0 + unknowns))
+counts_one_more true true rejected outs unknowns rejects apart known within = absurd (false≢true (sym (apart refl)))
+counts_one_more false true true outs unknowns rejects apart known within = (omega (arith, within.0), omega (arith, within.1))
+counts_one_more false true false outs unknowns rejects apart known within = (omega (arith, within.0), omega (arith, within.1))
+counts_one_more true false true outs unknowns rejects apart known within = (omega (arith, within.0), omega (arith, within.1))
+counts_one_more true false false outs unknowns rejects apart known within = absurd (false≢true (sym (known refl)))
+counts_one_more false false true outs unknowns rejects apart known within = absurd (false≢true (known refl))
+counts_one_more false false false outs unknowns rejects apart known within = (omega (arith, within.0), omega (arith, within.1))
 
--- as many pass a test as are true in its image
-count_in_image : {X : Type 0} (test : X → Bool) (xs : List X) → count_by test xs ≡ count_by (λ (b : Bool). b) (map test xs)
-count_in_image test [] = refl
-count_in_image test (x ∷ xs) =
-    sum_by-cons (λ y. cond (test y) 1 0) x xs ∙ ap (λ (n : ℕ). cond (test x) 1 0 + n) (count_in_image test xs) ∙ sym (sum_by-cons (λ (b : Bool). cond b 1 0) (test x) (map test xs))
+-- Where two lists agree but for the unknown items of the first, their counts differ at most by the number of these.
+counts_within : {X Y : Type 0} (out unknown : X → Bool) (rejected : Y → Bool) (xs : List X) (ys : List Y) → length xs ≡ length ys
+    → ((x : X) → IsTrue (unknown x) → out x ≡ false)
+    → ((index : ℕ) (x : X) (y : Y) → slice_get ys index ≡ Some y → slice_get xs index ≡ Some x → unknown x ≡ false → out x ≡ rejected y)
+    → (count_by out xs ≤ count_by rejected ys) × (count_by rejected ys ≤ count_by out xs + count_by unknown xs)
+counts_within out unknown rejected [] [] long apart same = (omega arith, omega arith)
+counts_within out unknown rejected [] (y ∷ ys) long apart same = absurd (omega (arith, long))
+counts_within out unknown rejected (x ∷ xs) [] long apart same = absurd (omega (arith, long))
+counts_within out unknown rejected (x ∷ xs) (y ∷ ys) long apart same =
+    let others = counts_within out unknown rejected xs ys (omega (arith, long)) apart (λ index a b at_b at_a known. same (suc index) a b at_b at_a known) in
+    let both = counts_one_more (out x) (unknown x) (rejected y) (count_by out xs) (count_by unknown xs) (count_by rejected ys) (apart x) (same 0 x y refl refl) others in
+    let outs : count_by out (x ∷ xs) ≡ cond (out x) 1 0 + count_by out xs = sum_by-cons (λ a. cond (out a) 1 0) x xs in
+    let unknowns : count_by unknown (x ∷ xs) ≡ cond (unknown x) 1 0 + count_by unknown xs = sum_by-cons (λ a. cond (unknown a) 1 0) x xs in
+    let rejects : count_by rejected (y ∷ ys) ≡ cond (rejected y) 1 0 + count_by rejected ys = sum_by-cons (λ b. cond (rejected b) 1 0) y ys in
+    (omega (arith, both.0, outs, rejects), omega (arith, both.1, outs, unknowns, rejects))
 
--- equal images have as many that are true
-same_counts : {X Y : Type 0} (f : X → Bool) (g : Y → Bool) (xs : List X) (ys : List Y) → map f xs ≡ map g ys → count_by f xs ≡ count_by g ys
-same_counts f g xs ys same = count_in_image f xs ∙ ap (count_by (λ (b : Bool). b)) same ∙ sym (count_in_image g ys)
+-- an unknown outcome is not out
+unknown_not_out : (outcome : Outcome) → IsTrue (is_unknown outcome) → is_out outcome ≡ false
+unknown_not_out (Fits trace) unknown = refl
+unknown_not_out (Out steps) unknown = absurd (false≢true unknown)
+unknown_not_out (Unknown steps) unknown = refl
 
--- Outcomes of which none is unknown count what a round rejects.
+-- Outcomes count what a round rejects, but for the unknown ones.
 counts_rejected : OutcomesForeseeRounds → (asked : Asked) (outcomes : List Outcome) (unknown out : ℕ) → IsWellAsked asked → AreOutcomes asked outcomes
     → count_by is_unknown outcomes ≤ unknown → out ≡ count_by is_out outcomes → CountsRejected asked unknown out
-counts_rejected foresees asked outcomes unknown out well are within is round is_round none_open none =
-    is ∙ same_counts is_out (λ (number : ℕ). has_status is_rejected number round) outcomes asked.among
-    ((foresees asked outcomes well are).exact round is_round none_open (none_counted is_unknown outcomes (omega (arith, within, none))))
+counts_rejected foresees asked outcomes unknown out well are within is round is_round none_open =
+    let counted = counts_within is_out is_unknown (λ (number : ℕ). has_status is_rejected number round) outcomes asked.among are.one_each unknown_not_out
+    (λ index outcome number at there known. (foresees asked outcomes well are).exact round is_round none_open index number outcome at there known) in
+    (omega (arith, is, counted.0), omega (arith, is, within, counted.1))
 
 pub question_foresees : OutcomesForeseeRounds → (asked : Asked) (question : Question) → IsWellAsked asked → IsQuestion asked question → ForeseesRounds asked question
 question_foresees foresees asked question well is = record {

@@ -33,7 +33,7 @@ module _ (graph : Tfpg) (text : List ℕ) (before now : SourceState) (left : bef
   -- the map that was read is that of the text
   pub map_of_text : (map : Map) → ReadsMap graph before now map → SpellsMap graph (lines_of text) map.hypothesis map.trace
   map_of_text map reads =
-      subst (λ (bytes : List ℕ). SpellsMap graph (lines_of bytes) map.hypothesis map.trace) (sym (all_taken before now text reads.taken left reads.takes reads.gives.at_end)) reads.gives.spells
+      subst (λ (bytes : List ℕ). SpellsMap graph (lines_of bytes) map.hypothesis map.trace) (sym (all_taken before now text reads.taken left reads.takes reads.at_end)) reads.spells
 
   module _ (taken : List ℕ) (takes : IfSome before.left (λ had. (rest : List ℕ) × (now.left ≡ Some rest) × (had ≡ taken ++ rest))) where
     split : (rest : List ℕ) × (now.left ≡ Some rest) × (text ≡ taken ++ rest)

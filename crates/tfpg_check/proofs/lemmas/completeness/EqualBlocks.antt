@@ -14,7 +14,8 @@ use Rattle.tfpg_log.specs.Log.{with_event}
 use Rattle.tfpg_log.specs.declared.refused_line.RefusedLine.{RefusedLine}
 use Rattle.tfpg_report.specs.declared.report_line.ReportLine.{ReportLine}
 use Rattle.tfpg_report.specs.declared.report_line.ReportLine.TheVariants.{Head, OldHead}
-use Rattle.tfpg_report.specs.Blocks.{Block, RoundBlock, Loss, block_lines, loss_line, round_lines}
+use Rattle.tfpg_report.specs.Blocks.{Block, RoundBlock, Loss, block_lines, round_lines}
+use Rattle.tfpg_report.specs.inside.LineNames.{loss_line}
 use Rattle.tfpg_report.specs.Reading.{IsHead, begun_in}
 use Rattle.tfpg_check.specs.Report.{AreBlocks, IsBlock, IsBlockOf, Progress, event_of_line, progress_of}
 use Rattle.tfpg_check.specs.Causes.{AreRightSoFar, DiagnosisProblem}

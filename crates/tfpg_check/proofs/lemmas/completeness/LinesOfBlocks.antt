@@ -12,7 +12,8 @@ use Rattle.tfpg_evidence.specs.declared.step.Step.TheVariants as step
 use Rattle.tfpg_evidence.specs.Findings.{newly_rejected, open_in, ranked_in_order, hypothesis_of}
 use Rattle.tfpg_report.specs.declared.report_line.ReportLine.{ReportLine}
 use Rattle.tfpg_report.specs.declared.report_line.ReportLine.TheVariants.{Head, OldHead, Refused, Round, Hyp, Split, Cycle, Why, Again, Ranked, At, Open, Rejected, Counts, Panel}
-use Rattle.tfpg_report.specs.Blocks.{Block, RefusedBlock, RoundBlock, Loss, block_lines, lines_of_finding, lines_if_ranked, loss_line, open_line, rejected_line, round_lines}
+use Rattle.tfpg_report.specs.Blocks.{Block, RefusedBlock, RoundBlock, Loss, block_lines, lines_of_finding, lines_if_ranked, round_lines}
+use Rattle.tfpg_report.specs.inside.LineNames.{loss_line, open_line, rejected_line}
 use Rattle.tfpg_report.specs.ReadRounds.{step_lines}
 use Rattle.tfpg_report.specs.Reading.{begun_with, is_last}
 use Rattle.tfpg_check.proofs.lemmas.completeness.MappedLists.{All-flat_map}

@@ -23,7 +23,8 @@ use Rattle.tfpg_hyp.proofs.lemmas.FindingsOfRound.{evidence}
 use Rattle.tfpg_report.specs.declared.report_line.ReportLine.{ReportLine}
 use Rattle.tfpg_report.specs.declared.report_line.ReportLine.TheVariants.{Head, OldHead, Refused, Round, Hyp, Split, Cycle, Why, Again, Ranked, At, Open, Rejected, Counts, Panel}
 use Rattle.tfpg_report.specs.SetText.{IsHypothesisOf}
-use Rattle.tfpg_report.specs.Blocks.{Block, RefusedBlock, RoundBlock, block_lines, lines_of_finding, lines_if_ranked, loss_line, open_line, rejected_line, round_lines}
+use Rattle.tfpg_report.specs.Blocks.{Block, RefusedBlock, RoundBlock, block_lines, lines_of_finding, lines_if_ranked, round_lines}
+use Rattle.tfpg_report.specs.inside.LineNames.{loss_line, open_line, rejected_line}
 use Rattle.tfpg_report.specs.ReadRounds.{step_lines}
 use Rattle.tfpg_check.specs.Report.{AreBlocks}
 use Rattle.tfpg_check.proofs.lemmas.EqualSayings.{RoundsAreOfTheirGraph}

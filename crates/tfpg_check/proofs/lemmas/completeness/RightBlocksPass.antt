@@ -18,7 +18,8 @@ use Rattle.tfpg_hyp.specs.Rounds.{IsRound}
 use Rattle.tfpg_log.specs.declared.refused_line.RefusedLine.{RefusedLine}
 use Rattle.tfpg_report.specs.declared.report_line.ReportLine.{ReportLine}
 use Rattle.tfpg_report.specs.declared.report_line.ReportLine.TheVariants.{Refused, Counts}
-use Rattle.tfpg_report.specs.Blocks.{Block, RoundBlock, Loss, block_lines, loss_line, round_lines}
+use Rattle.tfpg_report.specs.Blocks.{Block, RoundBlock, Loss, block_lines, round_lines}
+use Rattle.tfpg_report.specs.inside.LineNames.{loss_line}
 use Rattle.tfpg_report.specs.Reading.{IsReadFrom, begun_in, begun_with, is_last}
 use Rattle.tfpg_check.specs.Tests.{Passes}
 use Rattle.tfpg_check.specs.Report.{IsBlock, IsBlockOf, Progress, event_of_line, progress_of}

@@ -19,7 +19,8 @@ use Rattle.tfpg_evidence.specs.declared.round.Round.{Round as RoundOf}
 use Rattle.tfpg_log.specs.declared.refused_line.RefusedLine.{RefusedLine}
 use Rattle.tfpg_report.specs.declared.report_line.ReportLine.{ReportLine}
 use Rattle.tfpg_report.specs.declared.report_line.ReportLine.TheVariants.{Refused, Counts}
-use Rattle.tfpg_report.specs.Blocks.{Block, RefusedBlock, RoundBlock, Loss, block_lines, loss_line, round_lines}
+use Rattle.tfpg_report.specs.Blocks.{Block, RefusedBlock, RoundBlock, Loss, block_lines, round_lines}
+use Rattle.tfpg_report.specs.inside.LineNames.{loss_line}
 use Rattle.tfpg_report.specs.Reading.{IsHead, begun_in, begun_with, is_last}
 use Rattle.tfpg_check.specs.Report.{AreBlocks, AreLosses, HasReports, IsBlock, IsBlockOf, Progress, event_of_line, progress_of}
 use Rattle.tfpg_check.specs.Causes.{AreRightSoFar, BlockFails, DiagnosisProblem, next_event, progress_after_blocks}

@@ -14,7 +14,8 @@ use Rattle.tfpg_report.specs.declared.read_round.RankedLine.{RankedLine}
 use Rattle.tfpg_report.specs.declared.read_round.ReadRound.{ReadRound}
 use Rattle.tfpg_report.specs.declared.report_line.ReportLine.{ReportLine}
 use Rattle.tfpg_report.specs.declared.report_line.ReportLine.TheVariants.{Round, Counts}
-use Rattle.tfpg_report.specs.Blocks.{lines_if_ranked, open_line, rejected_line, round_lines}
+use Rattle.tfpg_report.specs.Blocks.{lines_if_ranked, round_lines}
+use Rattle.tfpg_report.specs.inside.LineNames.{open_line, rejected_line}
 use Rattle.tfpg_report.specs.ReadRounds.{NumberedLine, lines_of_part, lines_of_ranked, line_of_open, line_of_rejected, hypothesis_ranked}
 use Rattle.tfpg_report.specs.Reading.{IsReadFrom}
 use Rattle.tfpg_check.specs.Judging.{key_read, named_hypothesis}

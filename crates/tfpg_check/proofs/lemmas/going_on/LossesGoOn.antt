@@ -17,7 +17,8 @@ use Rattle.tfpg_report.specs.declared.stand.Stand.{Stand}
 use Rattle.tfpg_report.specs.declared.stand.Stand.TheVariants as stand
 use Rattle.tfpg_report.specs.declared.report_line.ReportLine.{ReportLine}
 use Rattle.tfpg_report.specs.declared.report_line.ReportLine.TheVariants.{Refused, Counts, Panel}
-use Rattle.tfpg_report.specs.Blocks.{Block, Loss, RefusedBlock, RoundBlock, block_lines, lines_before_counts, loss_line, round_lines}
+use Rattle.tfpg_report.specs.Blocks.{Block, Loss, RefusedBlock, RoundBlock, block_lines, lines_before_counts, round_lines}
+use Rattle.tfpg_report.specs.inside.LineNames.{loss_line}
 use Rattle.tfpg_report.specs.Reading.{IsHead}
 use Rattle.tfpg_report.specs.Stands.{after_loss, is_later, may_begin_block, may_reject, stand_after_all, stand_of}
 use Rattle.tfpg_check.specs.Report.{AreBlocks, AreLosses, IsBlockOf, Progress, event_of_line, rounds_of}

@@ -16,7 +16,8 @@ use Rattle.tfpg_clause.specs.Trees.{Judged}
 use Rattle.tfpg_hyp.specs.Rounds.{steps_in, steps_so_far}
 use Rattle.tfpg_report.specs.declared.report_line.ReportLine.{ReportLine}
 use Rattle.tfpg_report.specs.declared.report_line.ReportLine.TheVariants.{Hyp, Counts}
-use Rattle.tfpg_report.specs.Blocks.{Block, RefusedBlock, RoundBlock, Loss, block_lines, lines_of_finding, lines_if_ranked, loss_line, open_line, rejected_line, round_lines}
+use Rattle.tfpg_report.specs.Blocks.{Block, RefusedBlock, RoundBlock, Loss, block_lines, lines_of_finding, lines_if_ranked, round_lines}
+use Rattle.tfpg_report.specs.inside.LineNames.{loss_line, open_line, rejected_line}
 use Rattle.tfpg_report.specs.ReadRounds.{step_lines}
 use Rattle.tfpg_check.specs.Report.{rounds_of}
 

@@ -22,7 +22,8 @@ use Rattle.tfpg_hyp.specs.Views.{case_for}
 use Rattle.tfpg_hyp.proofs.lemmas.FindingsOfRound.{evidence}
 use Rattle.tfpg_log.specs.declared.refused_line.RefusedLine.{RefusedLine}
 use Rattle.tfpg_report.specs.declared.report_line.ReportLine.TheVariants.{Refused}
-use Rattle.tfpg_report.specs.Blocks.{Block, Loss, RefusedBlock, RoundBlock, block_lines, loss_line, round_lines}
+use Rattle.tfpg_report.specs.Blocks.{Block, Loss, RefusedBlock, RoundBlock, block_lines, round_lines}
+use Rattle.tfpg_report.specs.inside.LineNames.{loss_line}
 use Rattle.tfpg_report.specs.InOrder.{HasRisingTrace, HasRisingTraces, IsInOrder}
 use Rattle.tfpg_report.specs.ReportLines.{IsCauseWithin}
 use Rattle.tfpg_check.specs.Report.{AreBlocks, AreLosses, HasReports, IsBlockOf, Progress, event_of_line, progress_of, rounds_of}

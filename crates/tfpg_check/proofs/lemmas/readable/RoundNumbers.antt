@@ -44,8 +44,9 @@ use Rattle.tfpg_hyp.specs.Views.{case_for, log_for}
 use Rattle.tfpg_hyp.proofs.lemmas.FindingsOfRound.{evidence, steps_so_far-push}
 use Rattle.tfpg_report.specs.declared.report_line.ReportLine.{ReportLine}
 use Rattle.tfpg_report.specs.declared.report_line.ReportLine.TheVariants.{Hyp, Split, Cycle, Why, Again, Ranked, At, Counts}
-use Rattle.tfpg_report.specs.ReportLines.{AreCountsWithin, Has32Bits}
-use Rattle.tfpg_report.specs.Blocks.{lines_of_finding, lines_if_ranked, open_line, rejected_line, round_lines}
+use Rattle.tfpg_report.specs.ReportLines.{Has32Bits}
+use Rattle.tfpg_report.specs.Blocks.{lines_of_finding, lines_if_ranked, round_lines}
+use Rattle.tfpg_report.specs.inside.LineNames.{open_line, rejected_line}
 use Rattle.tfpg_report.specs.ReadRounds.{step_lines}
 use Rattle.tfpg_check.specs.Report.{HasReports}
 use Rattle.tfpg_check.proofs.lemmas.completeness.LinesOfBlocks.{middle, round_line}
@@ -147,16 +148,15 @@ module _ (graph : Tfpg) (valid : IsValid graph) (terms : Terms) (has_reports : H
         let few = has_reports.within.few_members in
         omega (arith, size, few)
 
-    counts_small : AreCountsWithin round.counts
+    counts_small : HasSmallNumbers (Counts round.counts)
     counts_small =
         let few = hypotheses_few in
-        subst AreCountsWithin (sym is_round.counts)
-        (record {
-          ranked = omega (arith, few, count_by-le-length (λ (f : Finding). is_ranked f.status) round.findings);
-          covered = omega (arith, few, count_by-le-length (λ (f : Finding). is_covered f.status) round.findings);
-          rejected = omega (arith, few, count_by-le-length (λ (f : Finding). is_rejected f.status) round.findings);
-          unsettled = omega (arith, few, count_by-le-length (λ (f : Finding). is_open f.status) round.findings);
-        })
+        subst (λ counts. HasSmallNumbers (Counts counts)) (sym is_round.counts) (
+          omega (arith, few, count_by-le-length (λ (f : Finding). is_ranked f.status) round.findings),
+          omega (arith, few, count_by-le-length (λ (f : Finding). is_covered f.status) round.findings),
+          omega (arith, few, count_by-le-length (λ (f : Finding). is_rejected f.status) round.findings),
+          omega (arith, few, count_by-le-length (λ (f : Finding). is_open f.status) round.findings),
+        )
 
     -- the lines of a finding, if it is ranked
     ranked_small : (finding : Finding) (hypothesis : Hypothesis) (reach : List ℕ) (steps : List Judged) (s : Status) → Has32Bits finding.number → HasFewMembers (hypothesis_of finding)

@@ -299,10 +299,10 @@ module _ (graph : Tfpg) (valid : IsValid graph) where
       (by_recursion (codes "rejected" ∷ decimal number ∷ codes "set" ∷ []) (keyword (codes "rejected") refl, (number_short number (omega (arith, one)), (keyword (codes "set") refl, tt))) (omega arith))
       (set_short hypothesis small.1)
   line_short (Counts counts) small =
-      let one = small.ranked in
-      let two = small.covered in
-      let three = small.rejected in
-      let four = small.unsettled in
+      let one = small.0 in
+      let two = small.1 in
+      let three = small.2 in
+      let four = small.3 in
       few_words (line_words graph (Counts counts))
       (by_recursion (line_words graph (Counts counts)) (
         keyword (codes "counts") refl,

@@ -11,7 +11,7 @@ use Rattle.tfpg_evidence.specs.declared.reason.Reason.TheVariants.{Zero, Top, Un
 use Rattle.tfpg_clause.specs.Order.{horizon_of, span_of}
 use Rattle.tfpg_report.specs.declared.report_line.ReportLine.{ReportLine}
 use Rattle.tfpg_report.specs.declared.report_line.ReportLine.TheVariants.{Head, OldHead, Refused, Round, Hyp, Split, Cycle, Why, Again, Ranked, At, Open, Rejected, Counts, Panel}
-use Rattle.tfpg_report.specs.ReportLines.{AreCountsWithin, IsCauseWithin, IsLineWithin, IsNameWithin, IsReasonWithin, Has32Bits}
+use Rattle.tfpg_report.specs.ReportLines.{IsCauseWithin, IsLineWithin, IsNameWithin, IsReasonWithin, Has32Bits}
 use Rattle.tfpg_check.proofs.lemmas.completeness.NamedLines.{NamesOfGraph}
 
 -- The span and the horizon of a clause are within their limits.
@@ -48,7 +48,8 @@ HasSmallNumbers (Ranked number cost alarmed monitored hypothesis) =
 HasSmallNumbers (At activation) = activation.time ≤ MAX_TIME
 HasSmallNumbers (Open number hypothesis) = Has32Bits number × HasFewMembers hypothesis
 HasSmallNumbers (Rejected number hypothesis) = Has32Bits number × HasFewMembers hypothesis
-HasSmallNumbers (Counts counts) = AreCountsWithin counts
+HasSmallNumbers (Counts counts) =
+    Has32Bits counts.ranked × Has32Bits counts.covered × Has32Bits counts.rejected × Has32Bits counts.unsettled
 HasSmallNumbers (Panel panel memory) = panel ≤ MAX_PANEL_NUMBER
 
 module _ (graph : Tfpg) where

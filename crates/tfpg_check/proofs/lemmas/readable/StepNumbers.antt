@@ -35,7 +35,8 @@ use Rattle.tfpg_evidence.specs.declared.finding.Status.TheVariants.{Ranked, Cove
 use Rattle.tfpg_base.specs.Bounds.{at_least}
 use Rattle.tfpg_graph.specs.Reach.{is_among}
 use Rattle.tfpg_clause.specs.Case.{Case, case_of}
-use Rattle.tfpg_clause.specs.Clauses.{IsSmall, alternatives, and_may, constraint_at, or_must}
+use Rattle.tfpg_clause.specs.Clauses.{IsSmall, alternatives, constraint_at}
+use Rattle.tfpg_clause.specs.inside.ClausesByKind.{and_may, or_must}
 use Rattle.tfpg_clause.specs.declared.limits.TheConstants.{MAX_CONSTRAINTS}
 use Rattle.tfpg_clause.specs.Facts.{from_alarm, upto_alarm}
 use Rattle.tfpg_clause.specs.Order.{span_of}

@@ -10,7 +10,10 @@ use Rattle.tfpg_clause.proofs.clauses.and_may_alternative.Goals as goal
 pub returns : goal.returns
 returns c =
     let graph = c.args.site.now.graph.now in
-    let there = target_there is_and graph c.in_ok-target.target (slice_get graph.edges c.args.edge) (sym (sym c.and_target.ensures.value ∙ c.in_ok-target.ensures.ok_part)) in
+    let there =
+    target_there is_and graph c.in_ok-target.target (slice_get graph.edges c.args.edge)
+    (sym (sym c.and_target.ensures.value ∙ c.in_ok-target.ensures.ok_part)) in
     c.may_alternative_in.ensures
     ∙ sym (ap (option_map (λ (clause : List (List Constraint)). item_at clause c.args.alternative))
-    (and_may_over graph c.args.site.now.log.now [] c.args.site.now.horizon c.args.edge c.in_ok-target.target c.args.site.now.span (slice_get graph.edges c.args.edge) there.0 there.1))
+    (and_may_over graph c.args.site.now.log.now [] c.args.site.now.horizon c.args.edge c.in_ok-target.target c.args.site.now.span
+    (slice_get graph.edges c.args.edge) there.0 there.1))

@@ -16,8 +16,10 @@ returns c =
     ∙ ap
     (λ edges.
     option_map (λ (clause : List (List Constraint)). item_at clause c.args.alternative)
-    (option_and_then (λ dues. must_in c.args.node c.args.site.now.span window dues) (dues_over graph log c.args.site.now.span c.args.site.now.horizon edges)))
+    (option_and_then (λ dues. must_in c.args.node c.args.site.now.span window dues)
+    (dues_over graph log c.args.site.now.span c.args.site.now.horizon edges)))
     c.incoming-edges.ensures.edges
     ∙ sym (ap (option_map (λ (clause : List (List Constraint)). item_at clause c.args.alternative))
-    (and_must_found graph log c.args.node c.args.site.now.span c.args.site.now.horizon window (sym c.is_and.ensures.value ∙ c.if-not-is_and.false)
+    (and_must_found graph log c.args.node c.args.site.now.span c.args.site.now.horizon window
+    (sym c.is_and.ensures.value ∙ c.if-not-is_and.false)
     (sym c.find_joint.ensures.value ∙ c.in_ok-window.ensures.ok_part)))

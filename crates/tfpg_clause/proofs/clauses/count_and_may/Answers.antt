@@ -9,7 +9,8 @@ pub returns-in_err-target : goal.returns-in_err-target
 returns-in_err-target c =
     rw c.from_residual.ensures
     (sym (ap (option_map length)
-    (no_may_of_edge c.args.site.now.graph.now c.args.site.now.log.now c.args.site.now.span c.args.site.now.horizon (slice_get c.args.site.now.graph.now.edges c.args.edge) c.in_err-target.ensures.value)))
+    (no_may_of_edge c.args.site.now.graph.now c.args.site.now.log.now c.args.site.now.span c.args.site.now.horizon
+    (slice_get c.args.site.now.graph.now.edges c.args.edge) c.in_err-target.ensures.value)))
 
 pub returns : goal.returns
 returns c =
@@ -17,4 +18,5 @@ returns c =
     let there = target_there is_and graph c.in_ok-target.target (slice_get graph.edges c.args.edge) c.in_ok-target.ensures.value in
     c.may_count.ensures c.in_ok-target.target
     ∙ sym (ap (option_map length)
-    (and_may_over graph c.args.site.now.log.now [] c.args.site.now.horizon c.args.edge c.in_ok-target.target c.args.site.now.span (slice_get graph.edges c.args.edge) there.0 there.1))
+    (and_may_over graph c.args.site.now.log.now [] c.args.site.now.horizon c.args.edge c.in_ok-target.target c.args.site.now.span
+    (slice_get graph.edges c.args.edge) there.0 there.1))

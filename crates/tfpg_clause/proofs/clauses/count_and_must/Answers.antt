@@ -13,7 +13,10 @@ returns c =
     c.must_count.ensures c.args.node
     ∙ ap
     (λ edges.
-    option_map length (option_and_then (λ dues. must_in c.args.node c.args.site.now.span window dues) (dues_over graph log c.args.site.now.span c.args.site.now.horizon edges)))
+    option_map length
+    (option_and_then (λ dues. must_in c.args.node c.args.site.now.span window dues)
+    (dues_over graph log c.args.site.now.span c.args.site.now.horizon edges)))
     c.incoming.ensures.edges
     ∙ sym (ap (option_map length)
-    (and_must_found graph log c.args.node c.args.site.now.span c.args.site.now.horizon window (sym c.is_and.ensures.value ∙ c.if-not-is_and.false) (sym c.in_ok-window.ensures.value)))
+    (and_must_found graph log c.args.node c.args.site.now.span c.args.site.now.horizon window
+    (sym c.is_and.ensures.value ∙ c.if-not-is_and.false) (sym c.in_ok-window.ensures.value)))

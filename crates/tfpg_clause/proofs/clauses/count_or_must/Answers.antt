@@ -8,7 +8,8 @@ pub returns-in_err-target : goal.returns-in_err-target
 returns-in_err-target c =
     rw c.from_residual.ensures
     (sym (ap (option_map length)
-    (no_must_of_edge c.args.site.now.graph.now c.args.site.now.log.now c.args.site.now.span c.args.site.now.horizon (slice_get c.args.site.now.graph.now.edges c.args.edge) c.in_err-target.ensures.value)))
+    (no_must_of_edge c.args.site.now.graph.now c.args.site.now.log.now c.args.site.now.span c.args.site.now.horizon
+    (slice_get c.args.site.now.graph.now.edges c.args.edge) c.in_err-target.ensures.value)))
 
 pub returns : goal.returns
 returns c =
@@ -16,4 +17,5 @@ returns c =
     let there = target_there is_or graph c.in_ok-target.target (slice_get graph.edges c.args.edge) c.in_ok-target.ensures.value in
     c.must_count.ensures c.in_ok-target.target
     ∙ sym (ap (option_map length)
-    (or_must_found graph c.args.site.now.log.now c.args.site.now.span c.args.site.now.horizon c.in_ok-target.target c.in_ok-window.window (slice_get graph.edges c.args.edge) there.0 there.1 c.in_ok-window.ensures.value))
+    (or_must_found graph c.args.site.now.log.now c.args.site.now.span c.args.site.now.horizon c.in_ok-target.target c.in_ok-window.window
+    (slice_get graph.edges c.args.edge) there.0 there.1 c.in_ok-window.ensures.value))

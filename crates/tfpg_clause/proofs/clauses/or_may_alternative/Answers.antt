@@ -12,14 +12,17 @@ pub returns-then-not-is_or : goal.returns-then-not-is_or
 returns-then-not-is_or c =
     let graph = c.args.site.now.graph.now in
     sym (ap (option_map (λ (clause : List (List Constraint)). item_at clause c.args.alternative))
-    (no_may c.args.site.now.log.now (is_kind_at is_or graph c.args.node) c.args.node (edges_into graph c.args.node) c.args.site.now.span c.args.site.now.horizon (sym c.is_or.ensures.value ∙ c.if-not-is_or.true)))
+    (no_may c.args.site.now.log.now (is_kind_at is_or graph c.args.node) c.args.node
+    (edges_into graph c.args.node) c.args.site.now.span c.args.site.now.horizon (sym c.is_or.ensures.value ∙ c.if-not-is_or.true)))
 
 pub returns : goal.returns
 returns c =
     let graph = c.args.site.now.graph.now in
     let log = c.args.site.now.log.now in
     c.may_alternative_in.ensures
-    ∙ ap (λ (edges : List ℕ). option_map (λ (clause : List (List Constraint)). item_at clause c.args.alternative) (may_over graph log c.args.node edges c.args.site.now.horizon c.args.site.now.span))
+    ∙ ap
+    (λ (edges : List ℕ). option_map (λ (clause : List (List Constraint)). item_at clause c.args.alternative)
+    (may_over graph log c.args.node edges c.args.site.now.horizon c.args.site.now.span))
     c.incoming-edges.ensures.edges
     ∙ sym (ap (option_map (λ (clause : List (List Constraint)). item_at clause c.args.alternative))
     (or_may_over graph log [] c.args.site.now.horizon c.args.node (sym c.is_or.ensures.value ∙ c.if-not-is_or.false) c.args.site.now.span))

@@ -10,4 +10,5 @@ loop-kind-preserved c =
     kind_at_index c.args.graph.now c.args.log.now c.args.times.now c.loop-kind.kind-index c.loop-kind-test.true c.loop-kind.invariant c.in_default.ensures
 
 pub returns : goal.returns
-returns c = met_at_indexes c.args.graph.now c.args.log.now c.args.times.now c.loop-kind.kind-index c.loop-kind-test.false c.loop-kind.invariant
+returns c =
+    met_at_indexes c.args.graph.now c.args.log.now c.args.times.now c.loop-kind.kind-index c.loop-kind-test.false c.loop-kind.invariant

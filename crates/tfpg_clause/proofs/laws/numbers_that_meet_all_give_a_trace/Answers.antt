@@ -12,11 +12,13 @@ pub returns : goal.returns
 returns c = record {
   rules = λ graph log numbers valid are.
       let agree = of_cut (length graph.nodes) (now_of log) numbers are.one_each in (
-        λ rules name clause at_now allowed. clause_is_met graph log (cut (now_of log) numbers) numbers valid agree rules name clause allowed,
+        λ rules name clause at_now allowed. clause_is_met graph log
+            (cut (now_of log) numbers) numbers valid agree rules name clause allowed,
         λ met. rules_are_kept graph log (cut (now_of log) numbers) numbers valid agree met,
       );
   shown = λ graph log set reach numbers of ordered is_reach are met.
-      events_are_shown graph log set reach is_reach of ordered (cut (now_of log) numbers) numbers (of_cut (length graph.nodes) (now_of log) numbers are.one_each) met;
+      events_are_shown graph log set reach is_reach of ordered (cut (now_of log) numbers) numbers
+      (of_cut (length graph.nodes) (now_of log) numbers are.one_each) met;
   from_set = λ graph log set reach numbers of ordered is_reach are met.
       only_members graph log set reach is_reach of ordered numbers are met;
   explains = λ graph log set reach numbers valid of ordered is_reach are met_facts met_clauses.

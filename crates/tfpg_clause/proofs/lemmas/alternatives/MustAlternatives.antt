@@ -13,19 +13,24 @@ module _ (target hi : ℕ) (ds : List Due) where
   -- one of the first alternatives,
   pub late_there : (due : Due) → Contains ds due → Contains (must_alternatives target hi ds) (starts_late hi due)
   late_there due member =
-      Contains-append_left (map (starts_late hi) ds ++ map follows_in_time ds) ((at_most target (pos (latest_of ds)) ∷ []) ∷ []) (starts_late hi due)
-      (Contains-append_left (map (starts_late hi) ds) (map follows_in_time ds) (starts_late hi due) (Contains-map (starts_late hi) ds due member))
+      Contains-append_left (map (starts_late hi) ds ++ map follows_in_time ds) ((at_most target (pos (latest_of ds)) ∷ []) ∷ [])
+      (starts_late hi due)
+      (Contains-append_left (map (starts_late hi) ds) (map follows_in_time ds) (starts_late hi due)
+      (Contains-map (starts_late hi) ds due member))
 
   -- one of the next,
   pub follows_there : (due : Due) → Contains ds due → Contains (must_alternatives target hi ds) (follows_in_time due)
   follows_there due member =
-      Contains-append_left (map (starts_late hi) ds ++ map follows_in_time ds) ((at_most target (pos (latest_of ds)) ∷ []) ∷ []) (follows_in_time due)
-      (Contains-append_right (map (starts_late hi) ds) (map follows_in_time ds) (follows_in_time due) (Contains-map follows_in_time ds due member))
+      Contains-append_left (map (starts_late hi) ds ++ map follows_in_time ds) ((at_most target (pos (latest_of ds)) ∷ []) ∷ [])
+      (follows_in_time due)
+      (Contains-append_right (map (starts_late hi) ds) (map follows_in_time ds) (follows_in_time due)
+      (Contains-map follows_in_time ds due member))
 
   -- and the last
   pub last_there : Contains (must_alternatives target hi ds) (at_most target (pos (latest_of ds)) ∷ [])
   last_there =
-      Contains-append_right (map (starts_late hi) ds ++ map follows_in_time ds) ((at_most target (pos (latest_of ds)) ∷ []) ∷ []) (at_most target (pos (latest_of ds)) ∷ [])
+      Contains-append_right (map (starts_late hi) ds ++ map follows_in_time ds) ((at_most target (pos (latest_of ds)) ∷ []) ∷ [])
+      (at_most target (pos (latest_of ds)) ∷ [])
       (Contains-head (at_most target (pos (latest_of ds)) ∷ []) [])
 
   -- There are no others.
@@ -33,7 +38,9 @@ module _ (target hi : ℕ) (ds : List Due) where
       → ((due : Due) × Contains ds due × (starts_late hi due ≡ alternative))
       ⊎ (((due : Due) × Contains ds due × (follows_in_time due ≡ alternative)) ⊎ ((at_most target (pos (latest_of ds)) ∷ []) ≡ alternative))
   alternative_cases alternative member =
-      elim (Contains-append_cases (map (starts_late hi) ds ++ map follows_in_time ds) ((at_most target (pos (latest_of ds)) ∷ []) ∷ []) alternative member) [
+      elim
+      (Contains-append_cases (map (starts_late hi) ds ++ map follows_in_time ds)
+      ((at_most target (pos (latest_of ds)) ∷ []) ∷ []) alternative member) [
         | inl groups ↦ elim (Contains-append_cases (map (starts_late hi) ds) (map follows_in_time ds) alternative groups) [
           | inl first ↦ inl (Contains-map_only (starts_late hi) ds alternative first)
           | inr next ↦ inr (inl (Contains-map_only follows_in_time ds alternative next))

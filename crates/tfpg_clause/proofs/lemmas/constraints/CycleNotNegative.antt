@@ -13,7 +13,8 @@ sum_from total constraints = fold (λ sum constraint. sum +ℤ constraint.most) 
 
 module _ (times : List ℕ) where
   -- along a chain the values fall by no more than the sum of the bounds
-  along : (total : ℤ) (end : ℕ) (first : Constraint) (others : List Constraint) → IsChainTo end (first ∷ others) → All (Meets times) (first ∷ others)
+  along : (total : ℤ) (end : ℕ) (first : Constraint) (others : List Constraint) → IsChainTo end (first ∷ others)
+      → All (Meets times) (first ∷ others)
       → (total +ℤ (value_of times first.left -ℤ value_of times end)) ≤ℤ sum_from total (first ∷ others)
   along total end first [] chain met =
       omega (arith, ints, met 0 first (omega arith), ap (value_of times) chain)

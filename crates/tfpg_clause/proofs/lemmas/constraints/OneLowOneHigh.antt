@@ -90,10 +90,12 @@ module _ (node : ℕ) where
         )
   ]
     where
-      further : (reason : Reason) → Contains (by_events count) reason → Contains (From (suc count) ∷ Upto (suc count) ∷ Quiet (suc count) node ∷ by_events count) reason
+      further : (reason : Reason) → Contains (by_events count) reason
+          → Contains (From (suc count) ∷ Upto (suc count) ∷ Quiet (suc count) node ∷ by_events count) reason
       further reason more =
           Contains-tail (From (suc count)) (Upto (suc count) ∷ Quiet (suc count) node ∷ by_events count) reason
-          (Contains-tail (Upto (suc count)) (Quiet (suc count) node ∷ by_events count) reason (Contains-tail (Quiet (suc count) node) (by_events count) reason more))
+          (Contains-tail (Upto (suc count)) (Quiet (suc count) node ∷ by_events count) reason
+          (Contains-tail (Quiet (suc count) node) (by_events count) reason more))
 
 module _ (graph : Tfpg) (log : Logbook) (reach : List ℕ) (node : ℕ) where
   -- the bounds of a reason
@@ -103,19 +105,27 @@ module _ (graph : Tfpg) (log : Logbook) (reach : List ℕ) (node : ℕ) where
   high_of : Reason → Option ℕ
   high_of reason = option_and_then (high_in node) (fact (case_of graph log reach) reason)
 
-  low_stated : (reason : Reason) (bound : ℕ) → low_of reason ≡ Some bound → fact (case_of graph log reach) reason ≡ Some (at_least node bound)
+  low_stated : (reason : Reason) (bound : ℕ) → low_of reason ≡ Some bound
+      → fact (case_of graph log reach) reason ≡ Some (at_least node bound)
   unfolding low_of
-  low_stated reason bound is = option_and_then_some (low_in node) (fact (case_of graph log reach) reason) bound is (λ c at rest. at ∙ ap Some (low_is node c bound rest))
+  low_stated reason bound is =
+      option_and_then_some (low_in node) (fact (case_of graph log reach) reason) bound is
+      (λ c at rest. at ∙ ap Some (low_is node c bound rest))
 
-  low_given : (reason : Reason) (bound : ℕ) → fact (case_of graph log reach) reason ≡ Some (at_least node bound) → low_of reason ≡ Some bound
+  low_given : (reason : Reason) (bound : ℕ) → fact (case_of graph log reach) reason ≡ Some (at_least node bound)
+      → low_of reason ≡ Some bound
   unfolding low_of
   low_given reason bound at = ap (option_and_then (low_in node)) at ∙ low_read node bound
 
-  high_stated : (reason : Reason) (bound : ℕ) → high_of reason ≡ Some bound → fact (case_of graph log reach) reason ≡ Some (at_most node (pos bound))
+  high_stated : (reason : Reason) (bound : ℕ) → high_of reason ≡ Some bound
+      → fact (case_of graph log reach) reason ≡ Some (at_most node (pos bound))
   unfolding high_of
-  high_stated reason bound is = option_and_then_some (high_in node) (fact (case_of graph log reach) reason) bound is (λ c at rest. at ∙ ap Some (high_is node c bound rest))
+  high_stated reason bound is =
+      option_and_then_some (high_in node) (fact (case_of graph log reach) reason) bound is
+      (λ c at rest. at ∙ ap Some (high_is node c bound rest))
 
-  high_given : (reason : Reason) (bound : ℕ) → fact (case_of graph log reach) reason ≡ Some (at_most node (pos bound)) → high_of reason ≡ Some bound
+  high_given : (reason : Reason) (bound : ℕ) → fact (case_of graph log reach) reason ≡ Some (at_most node (pos bound))
+      → high_of reason ≡ Some bound
   unfolding high_of
   high_given reason bound at = ap (option_and_then (high_in node)) at ∙ high_read node bound
 
@@ -129,28 +139,42 @@ module _ (graph : Tfpg) (log : Logbook) (reach : List ℕ) (node : ℕ) where
       (Contains-tail (Unreached node (now_of log)) (by_events node (length log.events)) reason member)
 
   -- an event that is there has a number
-  numbered : {X : Type 0} (f : _ → Option X) (event : ℕ) (x : X) → option_and_then f (event_at log event) ≡ Some x → (0 < event) × (event ≤ length log.events)
+  numbered : {X : Type 0} (f : _ → Option X) (event : ℕ) (x : X) → option_and_then f (event_at log event) ≡ Some x
+      → (0 < event) × (event ≤ length log.events)
   numbered f zero x at = absurd cc
-  numbered f (suc before) x at = option_and_then_some f (slice_get log.events before) x at (λ e there rest. let within = slice_get_within log.events before e there in (omega arith, omega arith))
+  numbered f (suc before) x at =
+      option_and_then_some f (slice_get log.events before) x at
+      (λ e there rest. let within = slice_get_within log.events before e there in (omega arith, omega arith))
 
   -- each lower bound is at most 0, or at most that of one of these reasons
   low_covered : (reason : Reason) (bound : ℕ) → fact (case_of graph log reach) reason ≡ Some (at_least node bound)
       → (bound ≡ 0) ⊎ ((other : Reason) × (more : ℕ) × Contains all_reasons other
       × (fact (case_of graph log reach) other ≡ Some (at_least node more)) × (bound ≤ more))
-  low_covered (Zero other) bound at = inl (sym (at_least-same other node 0 bound (then_some-true (ltb other (length graph.nodes)) (at_least other 0) (at_least node bound) at).1).1)
-  low_covered (Top other) bound at = absurd (at_most-least other node bound (pos NEVER) (then_some-true (ltb other (length graph.nodes)) (at_most other (pos NEVER)) (at_least node bound) at).1)
+  low_covered (Zero other) bound at =
+      inl
+      (sym
+      (at_least-same other node 0 bound (then_some-true (ltb other (length graph.nodes)) (at_least other 0) (at_least node bound) at).1).1)
+  low_covered (Top other) bound at =
+      absurd
+      (at_most-least other node bound (pos NEVER)
+      (then_some-true (ltb other (length graph.nodes)) (at_most other (pos NEVER)) (at_least node bound) at).1)
   low_covered (Unreached other horizon) bound at =
-      let parts = then_some-true (ltb other (length graph.nodes) && (leb horizon (now_of log) && not (is_among reach other))) (at_least other (horizon + 1)) (at_least node bound) at in
+      let parts =
+      then_some-true (ltb other (length graph.nodes) && (leb horizon (now_of log) && not (is_among reach other)))
+      (at_least other (horizon + 1)) (at_least node bound) at in
       let both = and_parts (ltb other (length graph.nodes)) (leb horizon (now_of log) && not (is_among reach other)) parts.0 in
       let rest = and_parts (leb horizon (now_of log)) (not (is_among reach other)) both.1 in
       let same : other ≡ node = (at_least-same other node (horizon + 1) bound parts.1).0 in
       let test : (ltb node (length graph.nodes) && (leb (now_of log) (now_of log) && not (is_among reach node))) ≡ true =
-      and_from (ltb node (length graph.nodes)) (leb (now_of log) (now_of log) && not (is_among reach node)) (ap (λ n. ltb n (length graph.nodes)) (sym same) ∙ both.0)
-      (and_from (leb (now_of log) (now_of log)) (not (is_among reach node)) (le-leb (now_of log) (now_of log) (omega arith)) (ap (λ n. not (is_among reach n)) (sym same) ∙ rest.1)) in
+      and_from (ltb node (length graph.nodes)) (leb (now_of log) (now_of log) && not (is_among reach node))
+      (ap (λ n. ltb n (length graph.nodes)) (sym same) ∙ both.0)
+      (and_from (leb (now_of log) (now_of log)) (not (is_among reach node)) (le-leb (now_of log) (now_of log) (omega arith))
+      (ap (λ n. not (is_among reach n)) (sym same) ∙ rest.1)) in
       inr (
         Unreached node (now_of log),
         now_of log + 1,
-        Contains-tail (Top node) (Unreached node (now_of log) ∷ by_events node (length log.events)) (Unreached node (now_of log)) (Contains-head (Unreached node (now_of log)) (by_events node (length log.events))),
+        Contains-tail (Top node) (Unreached node (now_of log) ∷ by_events node (length log.events)) (Unreached node (now_of log))
+            (Contains-head (Unreached node (now_of log)) (by_events node (length log.events))),
         ap (λ (b : Bool). then_some b (at_least node (now_of log + 1))) test,
         omega (arith, (at_least-same other node (horizon + 1) bound parts.1).1, leb-true horizon (now_of log) rest.0),
       )
@@ -162,7 +186,8 @@ module _ (graph : Tfpg) (log : Logbook) (reach : List ℕ) (node : ℕ) where
       inr (Upto event, bound, by_event (Upto event) (event_there node (length log.events) event there.0 there.1).1, at, omega arith)
   low_covered (Quiet event other) bound at = by event (quiet_at graph log event other) refl at
     where
-      by : (event : ℕ) (time : Option ℕ) → quiet_at graph log event other ≡ time → option_map (λ t. at_least other (t + 1)) time ≡ Some (at_least node bound)
+      by : (event : ℕ) (time : Option ℕ) → quiet_at graph log event other ≡ time
+          → option_map (λ t. at_least other (t + 1)) time ≡ Some (at_least node bound)
           → (bound ≡ 0) ⊎ ((other : Reason) × (more : ℕ) × Contains all_reasons other
           × (fact (case_of graph log reach) other ≡ Some (at_least node more)) × (bound ≤ more))
       by event None is at = absurd cc
@@ -170,24 +195,41 @@ module _ (graph : Tfpg) (log : Logbook) (reach : List ℕ) (node : ℕ) where
       by (suc before) (Some time) is at =
           let stated : at_least other (time + 1) ≡ at_least node bound = cc in
           let same : other ≡ node = (at_least-same other node (time + 1) bound stated).0 in
-          let whole : fact (case_of graph log reach) (Quiet (suc before) other) ≡ Some (at_least node bound) = ap (option_map (λ t. at_least other (t + 1))) is ∙ at in
-          let own : fact (case_of graph log reach) (Quiet (suc before) node) ≡ Some (at_least node bound) = ap (λ n. fact (case_of graph log reach) (Quiet (suc before) n)) (sym same) ∙ whole in
+          let whole : fact (case_of graph log reach) (Quiet (suc before) other) ≡ Some (at_least node bound) =
+          ap (option_map (λ t. at_least other (t + 1))) is ∙ at in
+          let own : fact (case_of graph log reach) (Quiet (suc before) node) ≡ Some (at_least node bound) =
+          ap (λ n. fact (case_of graph log reach) (Quiet (suc before) n)) (sym same) ∙ whole in
           let within = silence_within graph log (suc before) other (at_least node bound) whole in
-          inr (Quiet (suc before) node, bound, by_event (Quiet (suc before) node) (event_there node (length log.events) (suc before) (omega arith) within).2, own, omega arith)
+          inr (
+            Quiet (suc before) node,
+            bound,
+            by_event (Quiet (suc before) node) (event_there node (length log.events) (suc before) (omega arith) within).2,
+            own,
+            omega arith,
+          )
   low_covered (Pick split index) bound at = absurd cc
 
   -- each upper bound is that of one of these reasons
   high_covered : (reason : Reason) (bound : ℕ) → fact (case_of graph log reach) reason ≡ Some (at_most node (pos bound))
       → (other : Reason) × Contains all_reasons other × (fact (case_of graph log reach) other ≡ Some (at_most node (pos bound)))
   high_covered (Zero other) bound at =
-      absurd (at_most-least node other 0 (pos bound) (sym (then_some-true (ltb other (length graph.nodes)) (at_least other 0) (at_most node (pos bound)) at).1))
+      absurd
+      (at_most-least node other 0 (pos bound)
+      (sym (then_some-true (ltb other (length graph.nodes)) (at_least other 0) (at_most node (pos bound)) at).1))
   high_covered (Top other) bound at =
-      let same : other ≡ node = (at_most-same other node NEVER bound (then_some-true (ltb other (length graph.nodes)) (at_most other (pos NEVER)) (at_most node (pos bound)) at).1).0 in
-      (Top node, Contains-head (Top node) (Unreached node (now_of log) ∷ by_events node (length log.events)), ap (λ n. fact (case_of graph log reach) (Top n)) (sym same) ∙ at)
+      let same : other ≡ node =
+      (at_most-same other node NEVER bound
+      (then_some-true (ltb other (length graph.nodes)) (at_most other (pos NEVER)) (at_most node (pos bound)) at).1).0 in (
+        Top node,
+        Contains-head (Top node) (Unreached node (now_of log) ∷ by_events node (length log.events)),
+        ap (λ n. fact (case_of graph log reach) (Top n)) (sym same) ∙ at,
+      )
   high_covered (Unreached other horizon) bound at =
       absurd
       (at_most-least node other (horizon + 1) (pos bound)
-      (sym (then_some-true (ltb other (length graph.nodes) && (leb horizon (now_of log) && not (is_among reach other))) (at_least other (horizon + 1)) (at_most node (pos bound)) at).1))
+      (sym
+      (then_some-true (ltb other (length graph.nodes) && (leb horizon (now_of log) && not (is_among reach other)))
+      (at_least other (horizon + 1)) (at_most node (pos bound)) at).1))
   high_covered (From event) bound at =
       let there = numbered (from_alarm graph log) event (at_most node (pos bound)) at in
       (From event, by_event (From event) (event_there node (length log.events) event there.0 there.1).0, at)
@@ -199,14 +241,20 @@ module _ (graph : Tfpg) (log : Logbook) (reach : List ℕ) (node : ℕ) where
       by : (time : Option ℕ) → option_map (λ t. at_least other (t + 1)) time ≡ Some (at_most node (pos bound))
           → (other : Reason) × Contains all_reasons other × (fact (case_of graph log reach) other ≡ Some (at_most node (pos bound)))
       by None at = absurd cc
-      by (Some time) at = absurd (let stated : at_least other (time + 1) ≡ at_most node (pos bound) = cc in at_most-least node other (time + 1) (pos bound) (sym stated))
+      by (Some time) at =
+          absurd
+          (let stated : at_least other (time + 1) ≡ at_most node (pos bound) = cc in
+          at_most-least node other (time + 1) (pos bound) (sym stated))
   high_covered (Pick split index) bound at = absurd cc
 
   -- The facts give the node a greatest lower bound,
   pub low_there : node < length graph.nodes → (low : ℕ) × IsLow (case_of graph log reach) node low
   low_there within =
-      let zero_stated : fact (case_of graph log reach) (Zero node) ≡ Some (at_least node 0) = ap (λ (b : Bool). then_some b (at_least node 0)) (lt-ltb node (length graph.nodes) within) in
-      let best = best_from (λ (one other : ℕ). one ≤ other) rises (λ one middle other first second. omega arith) low_of all_reasons 0 (Zero node) (low_given (Zero node) 0 zero_stated) in (
+      let zero_stated : fact (case_of graph log reach) (Zero node) ≡ Some (at_least node 0) =
+      ap (λ (b : Bool). then_some b (at_least node 0)) (lt-ltb node (length graph.nodes) within) in
+      let best =
+      best_from (λ (one other : ℕ). one ≤ other) rises (λ one middle other first second. omega arith) low_of all_reasons 0 (Zero node)
+      (low_given (Zero node) 0 zero_stated) in (
         best.0,
         record {
           reason = best.1.item;
@@ -224,13 +272,18 @@ module _ (graph : Tfpg) (log : Logbook) (reach : List ℕ) (node : ℕ) where
   -- and a least upper one.
   pub high_there : node < length graph.nodes → (high : ℕ) × IsHigh (case_of graph log reach) node high
   high_there within =
-      let top_stated : fact (case_of graph log reach) (Top node) ≡ Some (at_most node (pos NEVER)) = ap (λ (b : Bool). then_some b (at_most node (pos NEVER))) (lt-ltb node (length graph.nodes) within) in
-      let best = best_from (λ (one other : ℕ). other ≤ one) falls (λ one middle other first second. omega arith) high_of all_reasons NEVER (Top node) (high_given (Top node) NEVER top_stated) in (
+      let top_stated : fact (case_of graph log reach) (Top node) ≡ Some (at_most node (pos NEVER)) =
+      ap (λ (b : Bool). then_some b (at_most node (pos NEVER))) (lt-ltb node (length graph.nodes) within) in
+      let best =
+      best_from (λ (one other : ℕ). other ≤ one) falls (λ one middle other first second. omega arith) high_of all_reasons NEVER (Top node)
+      (high_given (Top node) NEVER top_stated) in (
         best.0,
         record {
           reason = best.1.item;
           stated = high_stated best.1.item best.0 best.1.is;
-          least = λ other bound at. let cover = high_covered other bound at in best.1.others cover.0 bound cover.1 (high_given cover.0 bound cover.2);
+          least =
+              λ other bound at. let cover =
+              high_covered other bound at in best.1.others cover.0 bound cover.1 (high_given cover.0 bound cover.2);
         },
       )
     where

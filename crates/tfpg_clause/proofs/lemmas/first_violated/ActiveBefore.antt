@@ -20,7 +20,8 @@ use Rattle.tfpg_clause.proofs.lemmas.constraints.BoundsMet.{met_at_most}
 use Rattle.tfpg_clause.proofs.lemmas.rules.LastDue.{by_latest}
 use Rattle.tfpg_clause.proofs.lemmas.rules.MustClauses.{InCommon, due_of}
 
-module _ (log : Logbook) (times : List ℕ) (target number horizon : ℕ) (edges : List Edge) (window : Window) (common : InCommon log edges number horizon window)
+module _ (log : Logbook) (times : List ℕ) (target number horizon : ℕ) (edges : List Edge) (window : Window)
+    (common : InCommon log edges number horizon window)
     (early : get_or times target 0 ≤ window.lo) where
   -- what is due over some edge is so after the beginning of the window
   active_by_latest : (ds : List Due) → each_of (map (due_over log number horizon) edges) ≡ Some ds → get_or times target 0 ≤ latest_of ds
@@ -36,14 +37,19 @@ module _ (log : Logbook) (times : List ℕ) (target number horizon : ℕ) (edges
     | inr zero ↦ omega (arith, early, zero)
   ]
 
-  pub met_when_active : (holds : Bool) (clause : List (List Constraint)) → must_by holds target number (Some window) (dues_of log number horizon edges) ≡ Some clause → MeetsClause times clause
+  -- Where the target is active by the beginning of the window, the times meet the clause.
+  pub met_when_active : (holds : Bool) (clause : List (List Constraint))
+      → must_by holds target number (Some window) (dues_of log number horizon edges) ≡ Some clause → MeetsClause times clause
   met_when_active true clause allowed =
-      option_and_then_some (λ (ds : List Due). must_in target number window ds) (each_of (map (due_over log number horizon) edges)) clause allowed
+      option_and_then_some (λ (ds : List Due). must_in target number window ds)
+      (each_of (map (due_over log number horizon) edges)) clause allowed
       (λ ds are rest.
-      let parts = then_some-true (eqb window.first number && list_all (fits window.hi) ds) (must_alternatives target window.hi ds) clause rest in
+      let parts =
+      then_some-true (eqb window.first number && list_all (fits window.hi) ds) (must_alternatives target window.hi ds) clause rest in
       subst (MeetsClause times) parts.1 (
         at_most target (pos (latest_of ds)) ∷ [],
         last_there target window.hi ds,
-        All-cons (Meets times) (at_most target (pos (latest_of ds))) [] (met_at_most times target (latest_of ds) (active_by_latest ds are)) (All-nil (Meets times)),
+        All-cons (Meets times) (at_most target (pos (latest_of ds))) [] (met_at_most times target (latest_of ds) (active_by_latest ds are))
+            (All-nil (Meets times)),
       ))
   met_when_active false clause allowed = absurd cc

@@ -16,10 +16,13 @@ use Rattle.tfpg_clause.proofs.lemmas.rules.MustClauses.{due_of}
 
 module _ (graph : Tfpg) (times : List ℕ) (edge : ℕ) (own : Edge) (at : slice_get graph.edges edge ≡ Some own) where
   -- What is due over the edge is excused, where it is for each window that it may be due in.
-  each_due : (hi : ℕ) → ((due : Due) → due.source ≡ own.source → due.target ≡ own.target → own.tmax ≡ Some due.tmax → due.tmax ≤ due.by → due.by ≤ hi → IsExcused times hi due)
+  each_due : (hi : ℕ)
+      → ((due : Due) → due.source ≡ own.source → due.target ≡ own.target → own.tmax ≡ Some due.tmax → due.tmax ≤ due.by → due.by ≤ hi
+      → IsExcused times hi due)
       → IsExcusedOver graph times edge hi
   each_due hi each log number horizon =
-      IfSome-option_and_then (λ (due : Due). due.by ≤ hi → IsExcused times hi due) (due_over log number horizon) (slice_get graph.edges edge)
+      IfSome-option_and_then (λ (due : Due). due.by ≤ hi → IsExcused times hi due) (due_over log number horizon)
+      (slice_get graph.edges edge)
       (λ e there.
       IfSome-from (λ (due : Due). due.by ≤ hi → IsExcused times hi due) (due_over log number horizon e)
       (λ due is room.
@@ -40,7 +43,9 @@ module _ (graph : Tfpg) (times : List ℕ) (edge : ℕ) (own : Edge) (at : slice
         let same : tmax ≡ due.tmax = cc (finite, of_due) in
         let early : get_or times due.target 0 ≤ get_or times due.source 0 + due.tmax =
         omega (arith, follows, same, ap (λ n. get_or times n 0) source, ap (λ n. get_or times n 0) target) in
-        inr (All-cons (Meets times) (at_most_after due.target due.source due.tmax) [] (met_at_most_after times due.target due.source due.tmax early) (All-nil (Meets times))))
+        inr
+        (All-cons (Meets times) (at_most_after due.target due.source due.tmax) []
+        (met_at_most_after times due.target due.source due.tmax early) (All-nil (Meets times))))
 
     -- In any case it is in a window that ends before the source has been active for the greatest delay.
     pub excused_before : (hi : ℕ) → hi < get_or times own.source 0 + tmax → IsExcusedOver graph times edge hi
@@ -48,17 +53,22 @@ module _ (graph : Tfpg) (times : List ℕ) (edge : ℕ) (own : Edge) (at : slice
         each_due hi
         (λ due source target of_due from room.
         let same : tmax ≡ due.tmax = cc (finite, of_due) in
-        let late : hi - due.tmax + 1 ≤ get_or times due.source 0 = omega (arith, before, same, from, room, ap (λ n. get_or times n 0) source) in
-        inl (All-cons (Meets times) (at_least due.source (hi - due.tmax + 1)) [] (met_at_least times due.source (hi - due.tmax + 1) late) (All-nil (Meets times))))
+        let late : hi - due.tmax + 1 ≤ get_or times due.source 0 =
+        omega (arith, before, same, from, room, ap (λ n. get_or times n 0) source) in
+        inl
+        (All-cons (Meets times) (at_least due.source (hi - due.tmax + 1)) [] (met_at_least times due.source (hi - due.tmax + 1) late)
+        (All-nil (Meets times))))
 
 -- What is excused over one of the edges is so by some,
-pub excused_by_one : (graph : Tfpg) (times : List ℕ) (edges : List ℕ) (index : ℕ) → index < length edges → (hi : ℕ) → IsExcusedOver graph times (get_or edges index 0) hi
+pub excused_by_one : (graph : Tfpg) (times : List ℕ) (edges : List ℕ) (index : ℕ) → index < length edges → (hi : ℕ)
+    → IsExcusedOver graph times (get_or edges index 0) hi
     → IsExcusedBySome graph times edges hi
 excused_by_one graph times edges index within hi excused = (get_or edges index 0, Contains-get_or edges index 0 within, excused)
 
 -- before the later of two instants.
 pub excused_before_later : (graph : Tfpg) (times : List ℕ) (edges : List ℕ) (index latest overdue : ℕ) → index < length edges
-    → ((hi : ℕ) → hi < latest → IsExcusedBySome graph times edges hi) → ((hi : ℕ) → hi < overdue → IsExcusedOver graph times (get_or edges index 0) hi)
+    → ((hi : ℕ) → hi < latest → IsExcusedBySome graph times edges hi)
+    → ((hi : ℕ) → hi < overdue → IsExcusedOver graph times (get_or edges index 0) hi)
     → (hi : ℕ) → hi < max latest overdue → IsExcusedBySome graph times edges hi
 excused_before_later graph times edges index latest overdue within before own hi early = elim (cases_lt hi latest) [
   | inl earlier ↦ before hi earlier

@@ -14,7 +14,8 @@ use Rattle.tfpg_evidence.specs.declared.clause_name.ClauseName.{ClauseName}
 use Rattle.tfpg_evidence.specs.declared.clause_name.ClauseName.TheVariants.{OrMay, AndMay, OrMust, AndMust}
 use Rattle.tfpg_clause.specs.declared.clause_kind.ClauseKind.{ClauseKind}
 use Rattle.tfpg_clause.specs.declared.clause_kind.ClauseKind.TheVariants as kind
-use Rattle.tfpg_clause.specs.Clauses.{alternatives, and_may, or_must}
+use Rattle.tfpg_clause.specs.Clauses.{alternatives}
+use Rattle.tfpg_clause.specs.inside.ClausesByKind.{and_may, or_must}
 use Rattle.tfpg_clause.specs.Cut.{cut, AreNumbers}
 use Rattle.tfpg_clause.specs.Order.{horizon_of, subject_of, span_of, kind_index_of, ComesBefore, MeetsNamed, IsFirstViolated, MeetAllNow}
 use Rattle.tfpg_clause.specs.inside.FirstSpan.{MeetsIfAny, MeetsEach, IsFirstOfKind, MeetsKind, clauses_of, named, subject_count}
@@ -66,7 +67,8 @@ same_kind : (one other : ClauseKind) → index_of_kind one ≡ index_of_kind oth
 same_kind one other is = sym (of_own_index one) ∙ ap kind_of_index is ∙ of_own_index other
 
 -- names of the same parts are the same,
-pub same_parts : (one other : ClauseName) → kind_index_of one ≡ kind_index_of other → subject_of one ≡ subject_of other → span_of one ≡ span_of other → horizon_of one ≡ horizon_of other → one ≡ other
+pub same_parts : (one other : ClauseName) → kind_index_of one ≡ kind_index_of other → subject_of one ≡ subject_of other
+    → span_of one ≡ span_of other → horizon_of one ≡ horizon_of other → one ≡ other
 same_parts one other kind_index subject span horizon =
     let alike = same_kind (kind_of one) (kind_of other) (sym (kind_index_is one) ∙ kind_index ∙ kind_index_is other) in
     sym (name_is one) ∙ (λ i. named (alike i) (subject i) (span i) (horizon i)) ∙ name_is other
@@ -87,40 +89,59 @@ all_kinds = kind.OrMay ∷ kind.AndMay ∷ kind.OrMust ∷ kind.AndMust ∷ []
 
 module _ (graph : Tfpg) (log : Logbook) (times : List ℕ) where
   -- a node or an edge past the last has no clause
-  none_past : (kind : ClauseKind) (subject span : ℕ) (all : List (List Constraint)) → subject_count graph kind ≤ subject → clauses_of graph log kind subject span ≡ Some all → ⊥
+  none_past : (kind : ClauseKind) (subject span : ℕ) (all : List (List Constraint)) → subject_count graph kind ≤ subject
+      → clauses_of graph log kind subject span ≡ Some all → ⊥
   none_past kind.OrMay subject span all past at =
-      omega (arith, past, kind_within graph is_or subject (may_holds log (is_kind_at is_or graph subject) subject (edges_into graph subject) span (now_of log) all at))
+      omega (
+        arith,
+        past,
+        kind_within graph is_or subject
+            (may_holds log (is_kind_at is_or graph subject) subject (edges_into graph subject) span (now_of log) all at),
+      )
   none_past kind.AndMay subject span all past at =
-      option_and_then_some (λ e. and_may graph log e span (now_of log)) (slice_get graph.edges subject) all at (λ e there rest. omega (arith, past, slice_get_within graph.edges subject e there))
+      option_and_then_some (λ e. and_may graph log e span (now_of log)) (slice_get graph.edges subject) all at
+      (λ e there rest. omega (arith, past, slice_get_within graph.edges subject e there))
   none_past kind.OrMust subject span all past at =
-      option_and_then_some (λ e. or_must graph log e span (now_of log)) (slice_get graph.edges subject) all at (λ e there rest. omega (arith, past, slice_get_within graph.edges subject e there))
+      option_and_then_some (λ e. or_must graph log e span (now_of log)) (slice_get graph.edges subject) all at
+      (λ e there rest. omega (arith, past, slice_get_within graph.edges subject e there))
   none_past kind.AndMust subject span all past at =
-      omega
-      (arith, past, kind_within graph is_and subject (must_holds log (is_kind_at is_and graph subject) subject (edges_into graph subject) (joint_of graph log subject span (now_of log)) span (now_of log) all at))
+      omega (
+        arith,
+        past,
+        kind_within graph is_and subject
+            (must_holds log (is_kind_at is_and graph subject) subject (edges_into graph subject)
+            (joint_of graph log subject span (now_of log)) span (now_of log) all at),
+      )
 
   -- The clauses of a kind are met where those of its nodes or edges are.
-  pub kind_met : (kind : ClauseKind) → ((subject : ℕ) → subject < subject_count graph kind → MeetsEach times (clauses_of graph log kind subject)) → MeetsKind graph log times kind
+  pub kind_met : (kind : ClauseKind)
+      → ((subject : ℕ) → subject < subject_count graph kind → MeetsEach times (clauses_of graph log kind subject))
+      → MeetsKind graph log times kind
   kind_met kind each subject = elim (cases_lt subject (subject_count graph kind)) [
     | inl within ↦ each subject within
     | inr past ↦ (λ span all at. absurd (none_past kind subject span all past at))
   ]
 
   -- The clauses of one more node or edge, or of one more kind.
-  pub subjects_more : (kind : ClauseKind) (subject : ℕ) → ((other : ℕ) → other < subject → MeetsEach times (clauses_of graph log kind other)) → MeetsEach times (clauses_of graph log kind subject)
+  pub subjects_more : (kind : ClauseKind) (subject : ℕ)
+      → ((other : ℕ) → other < subject → MeetsEach times (clauses_of graph log kind other))
+      → MeetsEach times (clauses_of graph log kind subject)
       → (other : ℕ) → other < subject + 1 → MeetsEach times (clauses_of graph log kind other)
   subjects_more kind subject before here other below = elim (cases_eq other subject) [
     | inl same ↦ subst (λ s. MeetsEach times (clauses_of graph log kind s)) (sym same) here
     | inr apart ↦ before other (omega (arith, below, apart))
   ]
 
-  kinds_more : (index : ℕ) (kind : ClauseKind) → index_of_kind kind ≡ index → ((other : ClauseKind) → index_of_kind other < index → MeetsKind graph log times other) → MeetsKind graph log times kind
+  kinds_more : (index : ℕ) (kind : ClauseKind) → index_of_kind kind ≡ index
+      → ((other : ClauseKind) → index_of_kind other < index → MeetsKind graph log times other) → MeetsKind graph log times kind
       → (other : ClauseKind) → index_of_kind other < index + 1 → MeetsKind graph log times other
   kinds_more index kind is before here other below = elim (cases_eq (index_of_kind other) index) [
     | inl same ↦ subst (MeetsKind graph log times) (sym (same_kind other kind (same ∙ sym is))) here
     | inr apart ↦ before other (omega (arith, below, apart))
   ]
 
-  met_named : (kind : ClauseKind) (subject span : ℕ) (name : ClauseName) → named kind subject span (now_of log) ≡ name → MeetsIfAny times (clauses_of graph log kind subject span)
+  met_named : (kind : ClauseKind) (subject span : ℕ) (name : ClauseName) → named kind subject span (now_of log) ≡ name
+      → MeetsIfAny times (clauses_of graph log kind subject span)
       → MeetsNamed graph log times name
   met_named kind subject span name is met = subst (MeetsNamed graph log times) is met
 
@@ -131,10 +152,12 @@ module _ (graph : Tfpg) (log : Logbook) (times : List ℕ) where
   -- All clauses are met where those of each kind are.
   all_met : ((kind : ClauseKind) → MeetsKind graph log times kind) → MeetAllNow graph log times
   all_met each name at_now =
-      met_named (kind_of name) (subject_of name) (span_of name) name (own_name name at_now) (each (kind_of name) (subject_of name) (span_of name))
+      met_named (kind_of name) (subject_of name) (span_of name) name (own_name name at_now)
+      (each (kind_of name) (subject_of name) (span_of name))
 
   -- The first of a kind is the first of all, where those of each kind before are met.
-  first_of_all : (kind : ClauseKind) (name : ClauseName) → ((other : ClauseKind) → index_of_kind other < index_of_kind kind → MeetsKind graph log times other)
+  first_of_all : (kind : ClauseKind) (name : ClauseName)
+      → ((other : ClauseKind) → index_of_kind other < index_of_kind kind → MeetsKind graph log times other)
       → IsFirstOfKind graph log times kind name → IsFirstViolated graph log times name
   first_of_all kind name before is = record {
     at_now = ap horizon_of is.is ∙ (named_parts kind is.subject is.span (now_of log)).3;
@@ -156,8 +179,10 @@ module _ (graph : Tfpg) (log : Logbook) (times : List ℕ) where
       span : span_of name ≡ is.span
       span = ap span_of is.is ∙ (named_parts kind is.subject is.span (now_of log)).2
 
-      by : (other : ClauseName) → ComesBefore other name → MeetsIfAny times (clauses_of graph log (kind_of other) (subject_of other) (span_of other))
-      by other (inl earlier) = before (kind_of other) (omega (arith, earlier, kind_index, kind_index_is other)) (subject_of other) (span_of other)
+      by : (other : ClauseName) → ComesBefore other name
+          → MeetsIfAny times (clauses_of graph log (kind_of other) (subject_of other) (span_of other))
+      by other (inl earlier) =
+          before (kind_of other) (omega (arith, earlier, kind_index, kind_index_is other)) (subject_of other) (span_of other)
       by other (inr (same, rest)) =
           let own : kind_of other ≡ kind = same_kind (kind_of other) kind (sym (kind_index_is other) ∙ same ∙ kind_index) in
           subst (λ k. MeetsIfAny times (clauses_of graph log k (subject_of other) (span_of other))) (sym own) (within rest)
@@ -166,13 +191,16 @@ module _ (graph : Tfpg) (log : Logbook) (times : List ℕ) where
               → MeetsIfAny times (clauses_of graph log kind (subject_of other) (span_of other))
           within (inl lesser) = is.before (subject_of other) (omega (arith, lesser, subject)) (span_of other)
           within (inr (equal, early)) =
-              subst (λ s. MeetsIfAny times (clauses_of graph log kind s (span_of other))) (sym (equal ∙ subject)) (is.first.before (span_of other) (omega (arith, early, span)))
+              subst (λ s. MeetsIfAny times (clauses_of graph log kind s (span_of other))) (sym (equal ∙ subject))
+              (is.first.before (span_of other) (omega (arith, early, span)))
 
   -- Nothing is violated exactly where the times, cut at now, keep the rules.
-  pub none_where_kept : IsValid graph → AreNumbers graph times → (result : Option ClauseName) → MatchOption result (MeetAllNow graph log times) (IsFirstViolated graph log times)
+  pub none_where_kept : IsValid graph → AreNumbers graph times → (result : Option ClauseName)
+      → MatchOption result (MeetAllNow graph log times) (IsFirstViolated graph log times)
       → (result ≡ None) ↔ KeepsRules graph log (cut (now_of log) times)
   none_where_kept valid are None met = (
-    λ none. rules_are_kept graph log (cut (now_of log) times) times valid (of_cut (length graph.nodes) (now_of log) times are.one_each) (λ name clause at_now allowed. met name at_now clause allowed),
+    λ none. rules_are_kept graph log (cut (now_of log) times) times valid (of_cut (length graph.nodes) (now_of log) times are.one_each)
+        (λ name clause at_now allowed. met name at_now clause allowed),
     λ kept. refl,
   )
   none_where_kept valid are (Some name) first = (
@@ -180,7 +208,8 @@ module _ (graph : Tfpg) (log : Logbook) (times : List ℕ) where
     λ kept.
         absurd
         (first.violated.not_met
-        (clause_is_met graph log (cut (now_of log) times) times valid (of_cut (length graph.nodes) (now_of log) times are.one_each) kept name first.violated.clause first.violated.allowed)),
+        (clause_is_met graph log (cut (now_of log) times) times valid
+        (of_cut (length graph.nodes) (now_of log) times are.one_each) kept name first.violated.clause first.violated.allowed)),
   )
 
   -- ---- the kinds in their order
@@ -194,18 +223,22 @@ module _ (graph : Tfpg) (log : Logbook) (times : List ℕ) where
   at_index (suc (suc (suc (suc more)))) within = absurd (omega arith)
 
   -- the first of that kind is the first of all, where those before are met;
-  pub first_at_index : (index : ℕ) (name : ClauseName) → index < 4 → ((other : ClauseKind) → index_of_kind other < index → MeetsKind graph log times other)
+  pub first_at_index : (index : ℕ) (name : ClauseName) → index < 4
+      → ((other : ClauseKind) → index_of_kind other < index → MeetsKind graph log times other)
       → IsFirstOfKind graph log times (get_or all_kinds index kind.OrMay) name → IsFirstViolated graph log times name
   first_at_index index name within before is =
-      first_of_all (get_or all_kinds index kind.OrMay) name (λ other earlier. before other (omega (arith, earlier, at_index index within))) is
+      first_of_all (get_or all_kinds index kind.OrMay) name
+      (λ other earlier. before other (omega (arith, earlier, at_index index within))) is
 
   -- with that kind, one more is met;
   pub kind_at_index : (index : ℕ) → index < 4 → ((other : ClauseKind) → index_of_kind other < index → MeetsKind graph log times other)
-      → MeetsKind graph log times (get_or all_kinds index kind.OrMay) → (other : ClauseKind) → index_of_kind other < index + 1 → MeetsKind graph log times other
+      → MeetsKind graph log times (get_or all_kinds index kind.OrMay) → (other : ClauseKind) → index_of_kind other < index + 1
+      → MeetsKind graph log times other
   kind_at_index index within before here = kinds_more index (get_or all_kinds index kind.OrMay) (at_index index within) before here
 
   -- and after the last, all are.
-  pub met_at_indexes : (index : ℕ) → 4 ≤ index → ((other : ClauseKind) → index_of_kind other < index → MeetsKind graph log times other) → MeetAllNow graph log times
+  pub met_at_indexes : (index : ℕ) → 4 ≤ index → ((other : ClauseKind) → index_of_kind other < index → MeetsKind graph log times other)
+      → MeetAllNow graph log times
   met_at_indexes index past before = all_met (λ kind. before kind (omega (arith, four kind, past)))
     where
       four : (k : ClauseKind) → index_of_kind k < 4

@@ -21,20 +21,25 @@ use Rattle.tfpg_clause.proofs.lemmas.alternatives.MustAlternatives.{late_there, 
 
 module _ (f : ℕ → Option Due) (edges : List ℕ) (times : List ℕ) (node number : ℕ) (window : Window) where
   -- where there is one, the window begins with the span, and has room for what is due over each edge
-  pub must_there : (all : List (List Constraint)) → option_and_then (λ dues. must_in node number window dues) (each_of (map f edges)) ≡ Some all
-      → (ds : List Due) × (each_of (map f edges) ≡ Some ds) × (window.first ≡ number) × (list_all (fits window.hi) ds ≡ true) × (must_alternatives node window.hi ds ≡ all)
+  pub must_there : (all : List (List Constraint))
+      → option_and_then (λ dues. must_in node number window dues) (each_of (map f edges)) ≡ Some all
+      → (ds : List Due) × (each_of (map f edges) ≡ Some ds) × (window.first ≡ number) × (list_all (fits window.hi) ds ≡ true)
+      × (must_alternatives node window.hi ds ≡ all)
   must_there all at = by (each_of (map f edges)) refl at
     where
       by : (dues : Option (List Due)) → each_of (map f edges) ≡ dues → option_and_then (λ ds. must_in node number window ds) dues ≡ Some all
-          → (ds : List Due) × (each_of (map f edges) ≡ Some ds) × (window.first ≡ number) × (list_all (fits window.hi) ds ≡ true) × (must_alternatives node window.hi ds ≡ all)
+          → (ds : List Due) × (each_of (map f edges) ≡ Some ds) × (window.first ≡ number) × (list_all (fits window.hi) ds ≡ true)
+          × (must_alternatives node window.hi ds ≡ all)
       by None are at = absurd cc
       by (Some ds) are at =
-          let parts = then_some-true (eqb window.first number && list_all (fits window.hi) ds) (must_alternatives node window.hi ds) all at in
+          let parts =
+          then_some-true (eqb window.first number && list_all (fits window.hi) ds) (must_alternatives node window.hi ds) all at in
           let both = and_parts (eqb window.first number) (list_all (fits window.hi) ds) parts.0 in
           (ds, are, eqb-true window.first number both.0, both.1, parts.1)
 
   -- The times meet it where over an edge what is due is excused, if the window has room for it.
-  pub met_if_excused : (edge : ℕ) × Contains edges edge × IfSome (f edge) (λ (due : Due). due.by ≤ window.hi → IsExcused times window.hi due)
+  pub met_if_excused : (edge : ℕ) × Contains edges edge
+      × IfSome (f edge) (λ (due : Due). due.by ≤ window.hi → IsExcused times window.hi due)
       → MeetsIfAny times (option_and_then (λ dues. must_in node number window dues) (each_of (map f edges)))
   met_if_excused excuse all at =
       let parts = must_there all at in
@@ -64,14 +69,17 @@ module _ (f : ℕ → Option Due) (edges : List ℕ) (times : List ℕ) (node nu
         ])
 
     -- and only then, where the window begins with the span
-    pub not_met : window.first ≡ number → latest < get_or times node 0 → ((edge : ℕ) × Contains edges edge × IsSomeAnd (f edge) (IsExcused times window.hi) → ⊥)
+    pub not_met : window.first ≡ number → latest < get_or times node 0
+        → ((edge : ℕ) × Contains edges edge × IsSomeAnd (f edge) (IsExcused times window.hi) → ⊥)
         → MeetsIfAny times (option_and_then (λ dues. must_in node number window dues) (each_of (map f edges))) → ⊥
     not_met first late none meets =
         let own = within_opened window.hi latest (each_of (map f edges)) room in
         let test : (eqb window.first number && list_all (fits window.hi) own.0) ≡ true =
         and_from (eqb window.first number) (list_all (fits window.hi) own.0) (eq-eqb window.first number first) own.2 in
-        let there : option_and_then (λ dues. must_in node number window dues) (each_of (map f edges)) ≡ Some (must_alternatives node window.hi own.0) =
-        ap (option_and_then (λ dues. must_in node number window dues)) own.1 ∙ ap (λ (b : Bool). then_some b (must_alternatives node window.hi own.0)) test in
+        let there : option_and_then (λ dues. must_in node number window dues) (each_of (map f edges))
+        ≡ Some (must_alternatives node window.hi own.0) =
+        ap (option_and_then (λ dues. must_in node number window dues)) own.1
+        ∙ ap (λ (b : Bool). then_some b (must_alternatives node window.hi own.0)) test in
         let met = meets (must_alternatives node window.hi own.0) there in
         elim (alternative_cases node window.hi own.0 met.0 met.1) [
           | inl starts ↦ excused own.0 own.1 starts.0 starts.1 (inl (subst (All (Meets times)) (sym starts.2) met.2))

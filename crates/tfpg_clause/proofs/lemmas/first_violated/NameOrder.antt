@@ -27,7 +27,8 @@ goes_through one middle other (inr (same, one_rest)) (inr (equal, other_rest)) =
     through (inr (equal, early)) (inr (alike, later)) = inr (equal ∙ alike, omega (arith, early, later))
 
 -- Of two names of one horizon one comes before the other, or they are the same.
-pub one_comes_first : (one other : ClauseName) → horizon_of one ≡ horizon_of other → (one ≡ other) ⊎ (ComesBefore one other ⊎ ComesBefore other one)
+pub one_comes_first : (one other : ClauseName) → horizon_of one ≡ horizon_of other
+    → (one ≡ other) ⊎ (ComesBefore one other ⊎ ComesBefore other one)
 one_comes_first one other horizon = elim (cases_order (kind_index_of one) (kind_index_of other)) [
   | inr (inl less) ↦ inr (inl (inl less))
   | inr (inr more) ↦ inr (inr (inl more))

@@ -8,7 +8,8 @@ use Rattle.tfpg_log.specs.Spans.{span_number}
 
 module _ (log : Logbook) where
   -- an instant with a span is up to now, and the span has its number;
-  pub numbered_so : (instant number : ℕ) → Some number ≡ cond (leb instant (now_of log)) (Some (span_number log instant)) None → (instant ≤ now_of log) × (span_number log instant ≡ number)
+  pub numbered_so : (instant number : ℕ) → Some number ≡ cond (leb instant (now_of log)) (Some (span_number log instant)) None
+      → (instant ≤ now_of log) × (span_number log instant ≡ number)
   numbered_so instant number at =
       let parts = cond_some (leb instant (now_of log)) (span_number log instant) number (sym at) in
       (leb-true instant (now_of log) parts.0, parts.1)

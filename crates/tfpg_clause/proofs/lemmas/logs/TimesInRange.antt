@@ -22,34 +22,58 @@ pub now_in_range : (log : Logbook) → IsOrdered log → now_of log ≤ MAX_TIME
 now_in_range log ordered = last_upto log.events 0 MAX_TIME (omega arith) ordered.in_range
 
 -- a span of an ordered log is small
-pub small_span : (log : Logbook) (number horizon : ℕ) (span : Span) → IsOrdered log → span_at log number horizon ≡ Some span → IsSmallSpan span
+pub small_span : (log : Logbook) (number horizon : ℕ) (span : Span) → IsOrdered log → span_at log number horizon ≡ Some span
+    → IsSmallSpan span
 small_span log number horizon span ordered at =
     let is = is_span log number horizon span at in
     record { in_order = is.run.in_order; in_range = omega (arith, is.run.in_range, is.by_now, now_in_range log ordered) }
 
 -- so is a window of an edge,
-pub small_window : (log : Logbook) (edge : Edge) (number horizon : ℕ) (window : Window) → IsOrdered log → window_of log edge number horizon ≡ Some window → IsSmallWindow window
+pub small_window : (log : Logbook) (edge : Edge) (number horizon : ℕ) (window : Window) → IsOrdered log
+    → window_of log edge number horizon ≡ Some window → IsSmallWindow window
 small_window log edge number horizon window ordered at =
     let is = is_window log edge number horizon window at in
-    record { in_order = is.run.in_order; in_range = omega (arith, is.run.in_range, window_by_now log edge number horizon window at, now_in_range log ordered) }
+    record {
+      in_order = is.run.in_order;
+      in_range = omega (
+        arith,
+        is.run.in_range,
+        window_by_now log edge number horizon window at,
+        now_in_range log ordered,
+      );
+    }
 
 -- and a joint window
-pub small_joint : (graph : Tfpg) (log : Logbook) (node number horizon : ℕ) (window : Window) → IsOrdered log → joint_of graph log node number horizon ≡ Some window → IsSmallWindow window
+pub small_joint : (graph : Tfpg) (log : Logbook) (node number horizon : ℕ) (window : Window) → IsOrdered log
+    → joint_of graph log node number horizon ≡ Some window → IsSmallWindow window
 small_joint graph log node number horizon window ordered at =
     let is = is_joint graph log node number horizon window at in
-    record { in_order = is.run.in_order; in_range = omega (arith, is.run.in_range, joint_by_now graph log node number horizon window at, now_in_range log ordered) }
+    record {
+      in_order = is.run.in_order;
+      in_range = omega (
+        arith,
+        is.run.in_range,
+        joint_by_now graph log node number horizon window at,
+        now_in_range log ordered,
+      );
+    }
 
 -- What a look-up of a span finds is in order and in range;
-pub small_span_if : (log : Logbook) (number horizon : ℕ) (result : Option Span) → IsOrdered log → result ≡ span_at log number horizon → IfSome result IsSmallSpan
-small_span_if log number horizon result ordered is = IfSome-from IsSmallSpan result (λ span at. small_span log number horizon span ordered (sym is ∙ at))
+pub small_span_if : (log : Logbook) (number horizon : ℕ) (result : Option Span) → IsOrdered log → result ≡ span_at log number horizon
+    → IfSome result IsSmallSpan
+small_span_if log number horizon result ordered is =
+    IfSome-from IsSmallSpan result (λ span at. small_span log number horizon span ordered (sym is ∙ at))
 
 -- so is what a look-up of a joint window finds,
-pub small_joint_if : (graph : Tfpg) (log : Logbook) (node number horizon : ℕ) (result : Option Window) → IsOrdered log → result ≡ joint_of graph log node number horizon → IfSome result IsSmallWindow
-small_joint_if graph log node number horizon result ordered is = IfSome-from IsSmallWindow result (λ window at. small_joint graph log node number horizon window ordered (sym is ∙ at))
+pub small_joint_if : (graph : Tfpg) (log : Logbook) (node number horizon : ℕ) (result : Option Window) → IsOrdered log
+    → result ≡ joint_of graph log node number horizon → IfSome result IsSmallWindow
+small_joint_if graph log node number horizon result ordered is =
+    IfSome-from IsSmallWindow result (λ window at. small_joint graph log node number horizon window ordered (sym is ∙ at))
 
 -- and what a look-up of the window of an edge finds.
 pub small_window_if : (log : Logbook) (edge : Option Edge) (number horizon : ℕ) (result : Option Window) → IsOrdered log
     → result ≡ option_and_then (λ e. window_of log e number horizon) edge → IfSome result IsSmallWindow
 small_window_if log edge number horizon result ordered is =
     IfSome-from IsSmallWindow result
-    (λ window at. option_and_then_some (λ e. window_of log e number horizon) edge window (sym is ∙ at) (λ e there rest. small_window log e number horizon window ordered rest))
+    (λ window at. option_and_then_some (λ e. window_of log e number horizon) edge window (sym is ∙ at)
+    (λ e there rest. small_window log e number horizon window ordered rest))

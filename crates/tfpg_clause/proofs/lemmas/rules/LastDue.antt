@@ -35,7 +35,8 @@ module _ (numbers : List ℕ) where
   ]
 
   -- which is no later than each is due by,
-  pub last_within : (end : ℕ) (ds : List Due) → ((due : Due) → Contains ds due → (due.by ≤ end) × (since_source due ≤ end)) → last_due ds ≤ end
+  pub last_within : (end : ℕ) (ds : List Due) → ((due : Due) → Contains ds due → (due.by ≤ end) × (since_source due ≤ end))
+      → last_due ds ≤ end
   last_within end [] each = omega arith
   last_within end (d ∷ ds) each =
       let here = each d (Contains-head d ds) in
@@ -43,7 +44,8 @@ module _ (numbers : List ℕ) where
       omega (arith, here.0, here.1, rest)
 
   -- and what is no later is so of one of them.
-  pub reached : (n : ℕ) (ds : List Due) → n ≤ last_due ds → (n ≤ 0) ⊎ ((due : Due) × Contains ds due × ((n ≤ due.by) ⊎ (n ≤ since_source due)))
+  pub reached : (n : ℕ) (ds : List Due) → n ≤ last_due ds
+      → (n ≤ 0) ⊎ ((due : Due) × Contains ds due × ((n ≤ due.by) ⊎ (n ≤ since_source due)))
   reached n [] upto = inl upto
   reached n (d ∷ ds) upto = elim (cases_lt d.by n) [
     | inr early ↦ inr (d, Contains-head d ds, inl early)
@@ -57,7 +59,8 @@ module _ (numbers : List ℕ) where
   ]
 
   -- Some source starts too late for a time, or each in time.
-  pub some_late : (end : ℕ) (ds : List Due) → ((due : Due) × Contains ds due × (end < since_source due)) ⊎ ((due : Due) → Contains ds due → since_source due ≤ end)
+  pub some_late : (end : ℕ) (ds : List Due)
+      → ((due : Due) × Contains ds due × (end < since_source due)) ⊎ ((due : Due) → Contains ds due → since_source due ≤ end)
   some_late end [] = inr (λ due member. absurd (Contains-nil due member))
   some_late end (d ∷ ds) = elim (cases_lt end (since_source d)) [
     | inl late ↦ inl (d, Contains-head d ds, late)

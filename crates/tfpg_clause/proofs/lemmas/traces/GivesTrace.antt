@@ -24,15 +24,18 @@ pub record IsCutItem (first end now : ℕ) (activation : Activation) : Type 0 wh
   pub within : activation.node < end
   pub early : activation.time ≤ now
 
-cut_items : (first end now : ℕ) (numbers : List ℕ) → first + length numbers ≤ end → All (IsCutItem first end now) (cut_from first now numbers)
+cut_items : (first end now : ℕ) (numbers : List ℕ) → first + length numbers ≤ end
+    → All (IsCutItem first end now) (cut_from first now numbers)
 cut_items first end now [] many = All-nil (IsCutItem first end now)
 cut_items first end now (number ∷ numbers) many = by (leb number now) refl (cut_items (first + 1) end now numbers (omega (arith, many)))
   where
-    weaker : All (IsCutItem (first + 1) end now) (cut_from (first + 1) now numbers) → All (IsCutItem first end now) (cut_from (first + 1) now numbers)
+    weaker : All (IsCutItem (first + 1) end now) (cut_from (first + 1) now numbers)
+        → All (IsCutItem first end now) (cut_from (first + 1) now numbers)
     weaker all k d within = let is = all k d within in record { from = omega (arith, is.from); within = is.within; early = is.early }
 
     by : (b : Bool) → leb number now ≡ b → All (IsCutItem (first + 1) end now) (cut_from (first + 1) now numbers)
-        → All (IsCutItem first end now) (cond b (record { node = first; time = number } ∷ cut_from (first + 1) now numbers) (cut_from (first + 1) now numbers))
+        → All (IsCutItem first end now)
+        (cond b (record { node = first; time = number } ∷ cut_from (first + 1) now numbers) (cut_from (first + 1) now numbers))
     by true kept all =
         All-cons (IsCutItem first end now) (record { node = first; time = number }) (cut_from (first + 1) now numbers)
         (record { from = omega arith; within = omega (arith, many); early = leb-true number now kept }) (weaker all)
@@ -40,12 +43,16 @@ cut_items first end now (number ∷ numbers) many = by (leb number now) refl (cu
 
 cut_rises : (first now : ℕ) (numbers : List ℕ) → IsRisingByNode (cut_from first now numbers)
 cut_rises first now [] = λ i j d before within. absurd (omega (arith, within))
-cut_rises first now (number ∷ numbers) = by (leb number now) (cut_rises (first + 1) now numbers) (cut_items (first + 1) (first + 1 + length numbers) now numbers (omega arith))
+cut_rises first now (number ∷ numbers) =
+    by (leb number now) (cut_rises (first + 1) now numbers) (cut_items (first + 1) (first + 1 + length numbers) now numbers (omega arith))
   where
-    by : (b : Bool) → IsRisingByNode (cut_from (first + 1) now numbers) → All (IsCutItem (first + 1) (first + 1 + length numbers) now) (cut_from (first + 1) now numbers)
-        → IsRisingByNode (cond b (record { node = first; time = number } ∷ cut_from (first + 1) now numbers) (cut_from (first + 1) now numbers))
+    by : (b : Bool) → IsRisingByNode (cut_from (first + 1) now numbers)
+        → All (IsCutItem (first + 1) (first + 1 + length numbers) now) (cut_from (first + 1) now numbers)
+        → IsRisingByNode
+        (cond b (record { node = first; time = number } ∷ cut_from (first + 1) now numbers) (cut_from (first + 1) now numbers))
     by true rest items =
-        AllPairs-cons (λ (earlier later : Activation). earlier.node < later.node) (record { node = first; time = number }) (cut_from (first + 1) now numbers)
+        AllPairs-cons (λ (earlier later : Activation). earlier.node < later.node) (record { node = first; time = number })
+        (cut_from (first + 1) now numbers)
         (λ k d within. omega (arith, (items k d within).from)) rest
     by false rest items = rest
 
@@ -68,12 +75,14 @@ module _ (graph : Tfpg) (set : List ℕ) where
   abbrev is_own : ℕ → Bool
   is_own node = not (is_kind_at is_failure graph node) || list_any (λ index. is_node (failure_at graph index) node) set
 
-  own_listed : (index node : ℕ) → Contains set index → failure_at graph index ≡ Some node → list_any (λ p. is_node (failure_at graph p) node) set ≡ true
+  own_listed : (index node : ℕ) → Contains set index → failure_at graph index ≡ Some node
+      → list_any (λ p. is_node (failure_at graph p) node) set ≡ true
   own_listed index node member at =
       list_any_at (λ p. is_node (failure_at graph p) node) set member.0 index member.1
       (ap (λ p. is_node (failure_at graph p) node) member.2 ∙ ap (λ f. is_node f node) at ∙ eq-eqb node node refl)
 
-  no_failure : (test : Kind → Bool) (node : ℕ) → ((kind : Kind) → test kind ≡ true → is_failure kind ≡ false) → is_kind_at test graph node ≡ true → not (is_kind_at is_failure graph node) ≡ true
+  no_failure : (test : Kind → Bool) (node : ℕ) → ((kind : Kind) → test kind ≡ true → is_failure kind ≡ false)
+      → is_kind_at test graph node ≡ true → not (is_kind_at is_failure graph node) ≡ true
   no_failure test node apart is = by (kind_at graph node) is
     where
       by : (kind : Option Kind) → option_map_or test kind false ≡ true → not (option_map_or is_failure kind false) ≡ true
@@ -99,10 +108,12 @@ module _ (graph : Tfpg) (set : List ℕ) where
     and_nodes = λ node and all. or_left (not (is_kind_at is_failure graph node)) _ (no_failure is_and node and_apart and);
   }
     where
-      by : (index : ℕ) → Contains set index → (failure : Option ℕ) → failure_at graph index ≡ failure → IfSome failure (λ node. IsTrue (is_own node))
+      by : (index : ℕ) → Contains set index → (failure : Option ℕ) → failure_at graph index ≡ failure
+          → IfSome failure (λ node. IsTrue (is_own node))
       by index member None none = tt
       by index member (Some node) at =
-          or_right (not (is_kind_at is_failure graph node)) (list_any (λ p. is_node (failure_at graph p) node) set) (own_listed index node member at)
+          or_right (not (is_kind_at is_failure graph node)) (list_any (λ p. is_node (failure_at graph p) node) set)
+          (own_listed index node member at)
 
   named : (failure : Option ℕ) (node : ℕ) → is_node failure node ≡ true → failure ≡ Some node
   named None node is = absurd (false≢true is)
@@ -111,15 +122,20 @@ module _ (graph : Tfpg) (set : List ℕ) where
   -- So a failure mode that the set reaches is a member of it.
   pub reached_member : (node : ℕ) → Reaches graph set node → IsTrue (is_kind_at is_failure graph node) → IsMember graph set node
   reached_member node reaches failure =
-      elim (or_cases (not (is_kind_at is_failure graph node)) (list_any (λ p. is_node (failure_at graph p) node) set) (reaches is_own own_is_closed)) [
+      elim
+      (or_cases (not (is_kind_at is_failure graph node)) (list_any (λ p. is_node (failure_at graph p) node) set)
+      (reaches is_own own_is_closed)) [
         | inl other ↦ absurd (false≢true (sym (ap not failure) ∙ other))
-        | inr among ↦ (let found = list_any-found (λ p. is_node (failure_at graph p) node) set among in (found.0, found.1, named (failure_at graph found.0) node found.2))
+        | inr among ↦
+            (let found = list_any-found (λ p. is_node (failure_at graph p) node) set among in
+            (found.0, found.1, named (failure_at graph found.0) node found.2))
       ]
 
 -- ---- what the cut has
 
 -- its nodes are nodes of the graph
-pub within : (graph : Tfpg) (now : ℕ) (numbers : List ℕ) → length numbers ≡ length graph.nodes → All (λ activation. activation.node < length graph.nodes) (cut now numbers)
+pub within : (graph : Tfpg) (now : ℕ) (numbers : List ℕ) → length numbers ≡ length graph.nodes
+    → All (λ activation. activation.node < length graph.nodes) (cut now numbers)
 within graph now numbers many k d inside = omega (arith, (items now numbers k d inside).within, many)
 
 -- its times are up to the instant

@@ -22,33 +22,40 @@ unfolding numbers_of
 numbers_length trace node zero = refl
 numbers_length trace node (suc more) = ap (λ (n : ℕ). suc n) (numbers_length trace (node + 1) more)
 
-number_at : (trace : List Activation) (node count k : ℕ) → k < count → get_or (numbers_of trace node count) k 0 ≡ unwrap_or (time_of trace (node + k)) NEVER
+number_at : (trace : List Activation) (node count k : ℕ) → k < count
+    → get_or (numbers_of trace node count) k 0 ≡ unwrap_or (time_of trace (node + k)) NEVER
 unfolding numbers_of
 number_at trace node zero k within = absurd (omega arith)
-number_at trace node (suc more) zero within = let same : node ≡ node + 0 = omega arith in ap (λ (n : ℕ). unwrap_or (time_of trace n) NEVER) same
+number_at trace node (suc more) zero within =
+    let same : node ≡ node + 0 = omega arith in ap (λ (n : ℕ). unwrap_or (time_of trace n) NEVER) same
 number_at trace node (suc more) (suc k) within =
     let same : node + 1 + k ≡ node + suc k = omega arith in
     number_at trace (node + 1) more k (omega arith) ∙ ap (λ (n : ℕ). unwrap_or (time_of trace n) NEVER) same
 
-in_range : (trace : List Activation) → ((node time : ℕ) → time_of trace node ≡ Some time → time ≤ NEVER) → (node count : ℕ) → All (λ number. number ≤ NEVER) (numbers_of trace node count)
+in_range : (trace : List Activation) → ((node time : ℕ) → time_of trace node ≡ Some time → time ≤ NEVER) → (node count : ℕ)
+    → All (λ number. number ≤ NEVER) (numbers_of trace node count)
 unfolding numbers_of
 in_range trace upto node zero = All-nil (λ number. number ≤ NEVER)
 in_range trace upto node (suc more) =
-    All-cons (λ number. number ≤ NEVER) (unwrap_or (time_of trace node) NEVER) (numbers_of trace (node + 1) more) (by (time_of trace node) refl) (in_range trace upto (node + 1) more)
+    All-cons (λ number. number ≤ NEVER) (unwrap_or (time_of trace node) NEVER) (numbers_of trace (node + 1) more)
+    (by (time_of trace node) refl) (in_range trace upto (node + 1) more)
   where
     by : (found : Option ℕ) → time_of trace node ≡ found → unwrap_or found NEVER ≤ NEVER
     by None is = omega arith
     by (Some time) is = upto node time is
 
 -- A trace that explains a log has numbers.
-pub numbers_of_trace : (graph : Tfpg) (log : Logbook) (set : List ℕ) (trace : List Activation) → IsOrdered log → Explains graph log set trace
+pub numbers_of_trace : (graph : Tfpg) (log : Logbook) (set : List ℕ) (trace : List Activation) → IsOrdered log
+    → Explains graph log set trace
     → (numbers : List ℕ) × AreNumbersOf graph (now_of log) trace numbers
 numbers_of_trace graph log set trace ordered explains =
     let late : now_of log ≤ MAX_TIME = now_in_range log ordered in
     let by_now = λ (node : ℕ) (time : ℕ) (at : time_of trace node ≡ Some time).
-    All-contains (λ (activation : Activation). activation.time ≤ now_of log) trace (record { node = node; time = time }) explains.by_now (activation_there trace node time at) in
+    All-contains (λ (activation : Activation). activation.time ≤ now_of log) trace (record { node = node; time = time }) explains.by_now
+    (activation_there trace node time at) in
     let within = λ (node : ℕ) (time : ℕ) (at : time_of trace node ≡ Some time).
-    All-contains (λ (activation : Activation). activation.node < length graph.nodes) trace (record { node = node; time = time }) explains.trace_of.1 (activation_there trace node time at) in
+    All-contains (λ (activation : Activation). activation.node < length graph.nodes) trace
+    (record { node = node; time = time }) explains.trace_of.1 (activation_there trace node time at) in
     let number = λ (node : ℕ) (inside : node < length graph.nodes).
     let same : 0 + node ≡ node = omega arith in
     number_at trace 0 (length graph.nodes) node inside ∙ ap (λ (n : ℕ). unwrap_or (time_of trace n) NEVER) same in (
@@ -60,7 +67,8 @@ numbers_of_trace graph log set trace ordered explains =
         };
         active = λ node time at. number node (within node time at) ∙ ap (λ (o : Option ℕ). unwrap_or o NEVER) at;
         inactive = λ node inside none.
-            let is : get_or (numbers_of trace 0 (length graph.nodes)) node 0 ≡ NEVER = number node inside ∙ ap (λ (o : Option ℕ). unwrap_or o NEVER) none in
+            let is : get_or (numbers_of trace 0 (length graph.nodes)) node 0 ≡ NEVER =
+            number node inside ∙ ap (λ (o : Option ℕ). unwrap_or o NEVER) none in
             omega (arith, is, late);
       },
     )

@@ -45,7 +45,8 @@ fresh_places path (Grown tree) = marked_places path tree
 fresh_places path (Again seen) = again_place path seen ∷ []
 
 -- It begins the subtrees of an alternative and of so many others.
-fresh_in : (path : List PathSplit) (split : PathSplit) (others : ℕ) (fresh : Fresh) → GraftedIn path split (suc others) [] (fresh_places (path ++ split ∷ []) fresh)
+fresh_in : (path : List PathSplit) (split : PathSplit) (others : ℕ) (fresh : Fresh)
+    → GraftedIn path split (suc others) [] (fresh_places (path ++ split ∷ []) fresh)
 fresh_in path split others (Grown tree) = record {
   subtrees = Next tree (some_leaves others);
   rest = marked_from (cited_by (reasons_in tree) path) (after_subtree (length path + 1) (reasons_in tree) split) (some_leaves others);
@@ -68,20 +69,27 @@ fresh_here path split others here fresh same =
 -- ---- the place
 
 -- the first place of a tree has the path of the tree
-first_here : (path : List PathSplit) (tree : Tree) (here : MarkedPlace) (back : List MarkedPlace) → marked_places path tree ≡ here ∷ back → here.path ≡ path
-first_here path (Leaf seen reasons) here back same = let head : here ≡ leaf_place path seen reasons = cc in ap (λ (p : MarkedPlace). p.path) head
+first_here : (path : List PathSplit) (tree : Tree) (here : MarkedPlace) (back : List MarkedPlace) → marked_places path tree ≡ here ∷ back
+    → here.path ≡ path
+first_here path (Leaf seen reasons) here back same =
+    let head : here ≡ leaf_place path seen reasons = cc in ap (λ (p : MarkedPlace). p.path) head
 first_here path (Branch seen name subtrees) here back same =
     let head : here ≡ branch_place path seen name (how_many subtrees) = cc in
     ap (λ (p : MarkedPlace). p.path) head
 
 -- in the first of some subtrees, where one knows of the places below its first
-graft_within : (path : List PathSplit) (split : PathSplit) (tree : Tree) (others : Subtrees) (front : List MarkedPlace) (here : MarkedPlace) (back : List MarkedPlace) (fresh : Fresh)
-    → ((first : MarkedPlace) (more : List MarkedPlace) → marked_places (path ++ split ∷ []) tree ≡ first ∷ (more ++ here ∷ back) → Grafted (path ++ split ∷ []) (first ∷ more) (fresh_places here.path fresh))
-    → marked_places (path ++ split ∷ []) tree ≡ front ++ here ∷ back → GraftedIn path split (suc (how_many others)) front (fresh_places here.path fresh)
-graft_within path split tree others [] here back fresh below same = fresh_here path split (how_many others) here fresh (first_here (path ++ split ∷ []) tree here back same)
+graft_within : (path : List PathSplit) (split : PathSplit) (tree : Tree) (others : Subtrees) (front : List MarkedPlace) (here : MarkedPlace)
+    (back : List MarkedPlace) (fresh : Fresh)
+    → ((first : MarkedPlace) (more : List MarkedPlace) → marked_places (path ++ split ∷ []) tree ≡ first ∷ (more ++ here ∷ back)
+    → Grafted (path ++ split ∷ []) (first ∷ more) (fresh_places here.path fresh))
+    → marked_places (path ++ split ∷ []) tree ≡ front ++ here ∷ back
+    → GraftedIn path split (suc (how_many others)) front (fresh_places here.path fresh)
+graft_within path split tree others [] here back fresh below same =
+    fresh_here path split (how_many others) here fresh (first_here (path ++ split ∷ []) tree here back same)
 graft_within path split tree others (f ∷ front) here back fresh below same =
     let grafted = below f front same in
-    let later : List MarkedPlace = marked_from (cited_by (reasons_in grafted.tree) path) (after_subtree (length path + 1) (reasons_in grafted.tree) split) others in
+    let later : List MarkedPlace =
+    marked_from (cited_by (reasons_in grafted.tree) path) (after_subtree (length path + 1) (reasons_in grafted.tree) split) others in
     record {
       subtrees = Next grafted.tree others;
       rest = grafted.rest ++ later;
@@ -94,7 +102,8 @@ graft_within path split tree others (f ∷ front) here back fresh below same =
 
 mutual
   -- below the first place of a tree
-  graft_below : (path : List PathSplit) (tree : Tree) (first : MarkedPlace) (front : List MarkedPlace) (here : MarkedPlace) (back : List MarkedPlace) (fresh : Fresh)
+  graft_below : (path : List PathSplit) (tree : Tree) (first : MarkedPlace) (front : List MarkedPlace) (here : MarkedPlace)
+      (back : List MarkedPlace) (fresh : Fresh)
       → marked_places path tree ≡ first ∷ (front ++ here ∷ back) → Grafted path (first ∷ front) (fresh_places here.path fresh)
   graft_below path (Leaf seen reasons) first front here back fresh same =
       let tail : [] ≡ front ++ here ∷ back = cc in absurd (append_cons-not_nil front here back tail)
@@ -113,8 +122,10 @@ mutual
       }
 
   -- among subtrees
-  graft_in : (path : List PathSplit) (split : PathSplit) (subtrees : Subtrees) (front : List MarkedPlace) (here : MarkedPlace) (back : List MarkedPlace) (fresh : Fresh)
-      → marked_from path split subtrees ≡ front ++ here ∷ back → GraftedIn path split (how_many subtrees) front (fresh_places here.path fresh)
+  graft_in : (path : List PathSplit) (split : PathSplit) (subtrees : Subtrees) (front : List MarkedPlace) (here : MarkedPlace)
+      (back : List MarkedPlace) (fresh : Fresh)
+      → marked_from path split subtrees ≡ front ++ here ∷ back
+      → GraftedIn path split (how_many subtrees) front (fresh_places here.path fresh)
   graft_in path split NoMore front here back fresh same = absurd (append_cons-not_nil front here back same)
   graft_in path split (Reused seen others) [] here back fresh same =
       let head : here ≡ again_place (path ++ split ∷ []) seen = cc in
@@ -141,7 +152,8 @@ mutual
         | inr within ↦
             let back_is : here ∷ back ≡ within.here ∷ (within.mid ++ marked_from next_path next_split others) = within.back_is in
             let head : within.here ≡ here = cc in
-            graft_within path split tree others front here within.mid fresh (λ first more whole. graft_below own tree first more here within.mid fresh whole)
+            graft_within path split tree others front here within.mid fresh
+            (λ first more whole. graft_below own tree first more here within.mid fresh whole)
             (within.xs_is ∙ ap (λ (p : MarkedPlace). front ++ p ∷ within.mid) head)
       ]
 
@@ -151,7 +163,9 @@ pub graft : (path : List PathSplit) (tree : Tree) (front : List MarkedPlace) (he
 graft path tree [] here back new same = record {
   tree = new;
   rest = [];
-  is = ap (λ (p : List PathSplit). marked_places p new) (sym (first_here path tree here back same)) ∙ sym (append-nil (marked_places here.path new));
+  is =
+      ap (λ (p : List PathSplit). marked_places p new) (sym (first_here path tree here back same))
+      ∙ sym (append-nil (marked_places here.path new));
 }
 graft path tree (f ∷ front) here back new same = graft_below path tree f front here back (Grown new) same
 

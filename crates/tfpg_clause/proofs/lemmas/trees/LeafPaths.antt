@@ -12,27 +12,34 @@ use Rattle.tfpg_clause.specs.declared.path.PathSplit.{PathSplit}
 
 -- the next leaf with one more split before it
 abbrev pub with_first : PathSplit → Option (List PathSplit) → Option (List PathSplit)
-with_first split deeper = option_or (option_map (λ (path : List PathSplit). split ∷ path) deeper) (then_some (nat_lt split.alternative split.alternatives) (next_alternative split ∷ []))
+with_first split deeper =
+    option_or (option_map (λ (path : List PathSplit). split ∷ path) deeper)
+    (then_some (nat_lt split.alternative split.alternatives) (next_alternative split ∷ []))
 
 -- the deepest split has an alternative left
-pub closed_more : (path : List PathSplit) (split : PathSplit) → split.alternative < split.alternatives → next_leaf (path ++ split ∷ []) ≡ Some (path ++ next_alternative split ∷ [])
+pub closed_more : (path : List PathSplit) (split : PathSplit) → split.alternative < split.alternatives
+    → next_leaf (path ++ split ∷ []) ≡ Some (path ++ next_alternative split ∷ [])
 closed_more [] split less = ap (λ (b : Bool). then_some b (next_alternative split ∷ [])) (lt-ltb split.alternative split.alternatives less)
 closed_more (first ∷ path) split less = ap (with_first first) (closed_more path split less)
 
 -- the deepest split has no alternative left
-pub closed_last : (path : List PathSplit) (split : PathSplit) → split.alternatives ≤ split.alternative → next_leaf (path ++ split ∷ []) ≡ next_leaf path
+pub closed_last : (path : List PathSplit) (split : PathSplit) → split.alternatives ≤ split.alternative
+    → next_leaf (path ++ split ∷ []) ≡ next_leaf path
 closed_last [] split most = ap (λ (b : Bool). then_some b (next_alternative split ∷ [])) (le-ltb split.alternative split.alternatives most)
 closed_last (first ∷ path) split most = ap (with_first first) (closed_last path split most)
 
 -- A last split with no alternative left does not matter.
-pub shorter : (path : List PathSplit) (kept : ℕ) (d : PathSplit) → kept < length path → (get_or path kept d).alternatives ≤ (get_or path kept d).alternative
+pub shorter : (path : List PathSplit) (kept : ℕ) (d : PathSplit) → kept < length path
+    → (get_or path kept d).alternatives ≤ (get_or path kept d).alternative
     → next_leaf (take (suc kept) path) ≡ next_leaf (take kept path)
 shorter [] kept d within most = absurd (omega arith)
-shorter (split ∷ path) zero d within most = ap (λ (b : Bool). then_some b (next_alternative split ∷ [])) (le-ltb split.alternative split.alternatives most)
+shorter (split ∷ path) zero d within most =
+    ap (λ (b : Bool). then_some b (next_alternative split ∷ [])) (le-ltb split.alternative split.alternatives most)
 shorter (split ∷ path) (suc kept) d within most = ap (with_first split) (shorter path kept d (omega arith) most)
 
 -- A last split with an alternative left goes on to it.
-pub moved_on : (path : List PathSplit) (before : ℕ) (split : PathSplit) → slice_get path before ≡ Some split → split.alternative < split.alternatives
+pub moved_on : (path : List PathSplit) (before : ℕ) (split : PathSplit) → slice_get path before ≡ Some split
+    → split.alternative < split.alternatives
     → next_leaf (take (suc before) path) ≡ Some (slice_set (take (suc before) path) before (next_alternative split))
 moved_on [] before split at less = cc
 moved_on (first ∷ path) zero split at less =
@@ -62,7 +69,8 @@ module _ (case : Case) where
   after_none (step ∷ steps) = refl
 
   -- The leaf after steps and more steps is that after the later ones from the leaf after the earlier ones.
-  pub after_both : (leaf : Option (List PathSplit)) (one other : List Judged) → leaf_after case leaf (one ++ other) ≡ leaf_after case (leaf_after case leaf one) other
+  pub after_both : (leaf : Option (List PathSplit)) (one other : List Judged)
+      → leaf_after case leaf (one ++ other) ≡ leaf_after case (leaf_after case leaf one) other
   after_both leaf [] other = refl
   after_both None (step ∷ one) other = sym (after_none other)
   after_both (Some path) (step ∷ one) other = after_both (leaf_next case path step.seen step.step) one other

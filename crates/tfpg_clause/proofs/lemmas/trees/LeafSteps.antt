@@ -26,31 +26,38 @@ module _ (case : Case) where
   pub leaf_begins : HasPath case [] []
   leaf_begins = path_of_cut [] [] (first_cut case)
 
-  moves_now : (path : List PathSplit) (step : Step) (next : Option (List PathSplit)) → MovesTo case path step next → MovesTo (case_at case (length case.log.events)) path step next
+  moves_now : (path : List PathSplit) (step : Step) (next : Option (List PathSplit)) → MovesTo case path step next
+      → MovesTo (case_at case (length case.log.events)) path step next
   moves_now path step next moves = subst (λ (c : Case). MovesTo c path step next) (sym (whole_case case)) moves
 
   -- the path goes on to the next leaf
-  pub leaf_moves : (steps : List Judged) (path next : List PathSplit) (step : Step) → HasPath case steps path → MovesTo case path step (Some next) → HasPath case (with_step steps case.log step) next
+  pub leaf_moves : (steps : List Judged) (path next : List PathSplit) (step : Step) → HasPath case steps path
+      → MovesTo case path step (Some next) → HasPath case (with_step steps case.log step) next
   leaf_moves steps path next (Split name) has moves =
       let counted = moves_now path (Split name) (Some next) moves in
-      let same : next ≡ path ++ new_split name counted.0 ∷ [] = (let is : Some next ≡ Some (path ++ new_split name counted.0 ∷ []) = counted.2 in cc) in
+      let same : next ≡ path ++ new_split name counted.0 ∷ [] =
+      (let is : Some next ≡ Some (path ++ new_split name counted.0 ∷ []) = counted.2 in cc) in
       path_of_cut (with_step steps case.log (Split name)) next
       (subst (Cut case (with_step steps case.log (Split name))) (sym same)
       (split_step case steps path (length case.log.events) name counted.0 (cut_of_path steps path has) counted.1))
   leaf_moves steps path next (Cycle reasons) has moves =
       let closed = moves_now path (Cycle reasons) (Some next) moves in
       path_of_cut (with_step steps case.log (Cycle reasons)) next
-      (cycle_step case steps path next (length case.log.events) reasons (cut_of_path steps path has) (closed_on (case_at case (length case.log.events)) path reasons closed.0) (sym closed.1))
+      (cycle_step case steps path next (length case.log.events) reasons (cut_of_path steps path has)
+      (closed_on (case_at case (length case.log.events)) path reasons closed.0) (sym closed.1))
   leaf_moves steps path next Again has moves =
       path_of_cut (with_step steps case.log Again) next
       (again_step case steps path next (length case.log.events) (cut_of_path steps path has) moves.0 (sym moves.1))
 
   -- or there is none left
-  pub leaf_ends : (steps : List Judged) (path : List PathSplit) (step : Step) → HasPath case steps path → MovesTo case path step None → IsRefutation case (with_step steps case.log step)
+  pub leaf_ends : (steps : List Judged) (path : List PathSplit) (step : Step) → HasPath case steps path → MovesTo case path step None
+      → IsRefutation case (with_step steps case.log step)
   leaf_ends steps path (Split name) has moves = let is : None ≡ Some (path ++ new_split name moves.0 ∷ []) = moves.2 in cc
   leaf_ends steps path (Cycle reasons) has moves =
       let closed = moves_now path (Cycle reasons) None moves in
       refutation_unmarked case (with_step steps case.log (Cycle reasons))
-      (last_cycle case steps path (length case.log.events) reasons (cut_of_path steps path has) (closed_on (case_at case (length case.log.events)) path reasons closed.0) (sym closed.1))
+      (last_cycle case steps path (length case.log.events) reasons (cut_of_path steps path has)
+      (closed_on (case_at case (length case.log.events)) path reasons closed.0) (sym closed.1))
   leaf_ends steps path Again has moves =
-      refutation_unmarked case (with_step steps case.log Again) (last_again case steps path (length case.log.events) (cut_of_path steps path has) moves.0 (sym moves.1))
+      refutation_unmarked case (with_step steps case.log Again)
+      (last_again case steps path (length case.log.events) (cut_of_path steps path has) moves.0 (sym moves.1))

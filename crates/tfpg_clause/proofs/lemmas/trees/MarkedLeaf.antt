@@ -12,7 +12,13 @@ module _ (case : Case) where
   -- a partial tree has more places than steps
   pub more_places : (steps : List Judged) (partial : IsMarkedPartial case steps) → length steps < length (marked_places_of partial.tree)
   more_places steps partial =
-      omega (arith, length-append steps partial.more, ap length partial.steps_are, length-map (marked_places_of partial.tree) (λ (place : MarkedPlace). place.step), partial.unfinished)
+      omega (
+        arith,
+        length-append steps partial.more,
+        ap length partial.steps_are,
+        length-map (marked_places_of partial.tree) (λ (place : MarkedPlace). place.step),
+        partial.unfinished,
+      )
 
   -- So a partial tree has a present leaf.
   pub leaf_there : (steps : List Judged) → IsMarkedPartial case steps → (path : List PathSplit) × IsMarkedLeaf case steps path

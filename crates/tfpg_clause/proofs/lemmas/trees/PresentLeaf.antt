@@ -10,7 +10,13 @@ module _ (case : Case) where
   -- a partial tree has more places than steps
   pub more_places : (steps : List Judged) (partial : IsPartial case steps) → length steps < length (places_of partial.tree)
   more_places steps partial =
-      omega (arith, length-append steps partial.more, ap length partial.steps_are, length-map (places_of partial.tree) (λ (place : StepPlace). place.step), partial.unfinished)
+      omega (
+        arith,
+        length-append steps partial.more,
+        ap length partial.steps_are,
+        length-map (places_of partial.tree) (λ (place : StepPlace). place.step),
+        partial.unfinished,
+      )
 
   -- So a partial tree has a present leaf.
   pub leaf_there : (steps : List Judged) → IsPartial case steps → (place : TreePlace) × IsPresentLeaf case steps place

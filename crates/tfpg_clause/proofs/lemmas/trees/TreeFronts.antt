@@ -23,7 +23,8 @@ module _ (case : Case) where
       }
 
   -- What a refutation begins with, and goes on from, is a partial tree.
-  pub refutation_front : (front : List Judged) (next : Judged) (back : List Judged) → IsRefutation case (front ++ next ∷ back) → IsPartial case front
+  pub refutation_front : (front : List Judged) (next : Judged) (back : List Judged) → IsRefutation case (front ++ next ∷ back)
+      → IsPartial case front
   refutation_front front next back refutation = record {
     tree = refutation.tree;
     more = next ∷ back;

@@ -35,9 +35,11 @@ module _ (case : Case) where
   after leaf steps = leaf_after case leaf steps
 
   -- after the subtree of an alternative: on to the next, if there is one
-  past_first : (path : List PathSplit) (split : PathSplit) (others : Subtrees) (mid back : List MarkedPlace) → split.alternative + suc (how_many others) ≡ split.alternatives + 1
+  past_first : (path : List PathSplit) (split : PathSplit) (others : Subtrees) (mid back : List MarkedPlace)
+      → split.alternative + suc (how_many others) ≡ split.alternatives + 1
       → marked_from path (next_alternative split) others ≡ mid ++ back
-      → (0 < how_many others → after (Some (path ++ next_alternative split ∷ [])) (steps_of_places mid) ≡ first_path (next_leaf (cited_by (reasons_in_all others) path)) back)
+      → (0 < how_many others → after (Some (path ++ next_alternative split ∷ [])) (steps_of_places mid) ≡ first_path
+      (next_leaf (cited_by (reasons_in_all others) path)) back)
       → after (next_leaf (path ++ split ∷ [])) (steps_of_places mid) ≡ first_path (next_leaf (cited_by (reasons_in_all others) path)) back
   past_first path split NoMore [] [] last same next = closed_last path split (omega arith) ∙ ap next_leaf (sym (cited_none 1 path))
   past_first path split NoMore [] (b ∷ back) last same next = absurd cc
@@ -48,7 +50,8 @@ module _ (case : Case) where
       ap (λ (leaf : Option (List PathSplit)). after leaf (steps_of_places mid)) (closed_more path split (omega arith)) ∙ next (omega arith)
 
   -- where a subtree is reused, the deepest split is left
-  walk_again : (path : List PathSplit) (split : PathSplit) (seen : ℕ) (front back : List MarkedPlace) → again_place (path ++ split ∷ []) seen ∷ [] ≡ front ++ back
+  walk_again : (path : List PathSplit) (split : PathSplit) (seen : ℕ) (front back : List MarkedPlace)
+      → again_place (path ++ split ∷ []) seen ∷ [] ≡ front ++ back
       → after (Some (path ++ split ∷ [])) (steps_of_places front) ≡ first_path (next_leaf (cited_by [] path)) back
   walk_again path split seen [] back same = ap (first_path (next_leaf (cited_by [] path))) same
   walk_again path split seen (f ∷ []) [] same =
@@ -60,7 +63,8 @@ module _ (case : Case) where
 
   mutual
     -- Where the places of a tree are cut in two, the steps of the front lead to the path of the first place of the back.
-    pub walk_tree : (path : List PathSplit) (tree : Tree) (front back : List MarkedPlace) → marked_places path tree ≡ front ++ back → All (IsMarkedRight case) front
+    pub walk_tree : (path : List PathSplit) (tree : Tree) (front back : List MarkedPlace) → marked_places path tree ≡ front ++ back
+        → All (IsMarkedRight case) front
         → after (Some path) (steps_of_places front) ≡ first_path (next_leaf (cited_by (reasons_in tree) path)) back
     walk_tree path (Leaf seen reasons) [] back same right = ap (first_path (next_leaf (cited_by reasons path))) same
     walk_tree path (Leaf seen reasons) (f ∷ []) [] same right =
@@ -68,15 +72,18 @@ module _ (case : Case) where
         ap (λ (p : MarkedPlace). leaf_next case path p.step.seen p.step.step) (sym head)
     walk_tree path (Leaf seen reasons) (f ∷ []) (b ∷ back) same right = absurd cc
     walk_tree path (Leaf seen reasons) (f ∷ g ∷ front) back same right = absurd cc
-    walk_tree path (Branch seen name subtrees) [] back same right = ap (first_path (next_leaf (cited_by (reasons_in_all subtrees) path))) same
+    walk_tree path (Branch seen name subtrees) [] back same right =
+        ap (first_path (next_leaf (cited_by (reasons_in_all subtrees) path))) same
     walk_tree path (Branch seen name subtrees) (f ∷ front) back same right =
         let head : f ≡ branch_place path seen name (how_many subtrees) = cc in
         let split : PathSplit = new_split name (how_many subtrees) in
         let tail : marked_from path split subtrees ≡ front ++ back = cc in
-        let count : count_of case.graph (first_events case.log seen) name ≡ Some (how_many subtrees) = subst (IsMarkedRight case) head (All-head (IsMarkedRight case) f front right) in
+        let count : count_of case.graph (first_events case.log seen) name ≡ Some (how_many subtrees) =
+        subst (IsMarkedRight case) head (All-head (IsMarkedRight case) f front right) in
         ap (λ (p : MarkedPlace). after (leaf_next case path p.step.seen p.step.step) (steps_of_places front)) head
         ∙ ap (λ (c : Option ℕ). after (option_map (λ (n : ℕ). path ++ new_split name n ∷ []) c) (steps_of_places front)) count
-        ∙ walk_from path split subtrees front back tail (All-tail (IsMarkedRight case) f front right) (omega arith) (some_alternative case.graph (first_events case.log seen) name (how_many subtrees) count)
+        ∙ walk_from path split subtrees front back tail (All-tail (IsMarkedRight case) f front right) (omega arith)
+        (some_alternative case.graph (first_events case.log seen) name (how_many subtrees) count)
 
     walk_from : (path : List PathSplit) (split : PathSplit) (subtrees : Subtrees) (front back : List MarkedPlace)
         → marked_from path split subtrees ≡ front ++ back → All (IsMarkedRight case) front
@@ -89,16 +96,20 @@ module _ (case : Case) where
         let reasons : List Reason = reasons_in tree in
         let cited : List PathSplit = cited_by reasons path in
         let taken : PathSplit = also_cited (cites reasons (length path + 1)) split in
-        let both : cited_by (reasons_in_all others) cited ≡ cited_by (reasons ++ reasons_in_all others) path = cited_both 1 reasons (reasons_in_all others) path in
+        let both : cited_by (reasons_in_all others) cited ≡ cited_by (reasons ++ reasons_in_all others) path =
+        cited_both 1 reasons (reasons_in_all others) path in
         elim (cut_twice (marked_places own tree) (marked_from cited (next_alternative taken) others) front back same) [
           | inl past ↦
-              let split_right : All (IsMarkedRight case) (marked_places own tree ++ past.mid) = subst (All (IsMarkedRight case)) past.front_is right in
-              let own_right : All (IsMarkedRight case) (marked_places own tree) = All-front (IsMarkedRight case) (marked_places own tree) past.mid split_right in
+              let split_right : All (IsMarkedRight case) (marked_places own tree ++ past.mid) =
+              subst (All (IsMarkedRight case)) past.front_is right in
+              let own_right : All (IsMarkedRight case) (marked_places own tree) =
+              All-front (IsMarkedRight case) (marked_places own tree) past.mid split_right in
               ap (λ (f : List MarkedPlace). after (Some own) (steps_of_places f)) past.front_is
               ∙ ap (after (Some own)) (map-append (λ (place : MarkedPlace). place.step) (marked_places own tree) past.mid)
               ∙ after_both case (Some own) (steps_of_places (marked_places own tree)) (steps_of_places past.mid)
               ∙ ap (λ (leaf : Option (List PathSplit)). after leaf (steps_of_places past.mid))
-              (walk_tree own tree (marked_places own tree) [] (sym (append-nil (marked_places own tree))) own_right ∙ ap next_leaf (cited_push 1 reasons path split))
+              (walk_tree own tree (marked_places own tree) [] (sym (append-nil (marked_places own tree))) own_right
+              ∙ ap next_leaf (cited_push 1 reasons path split))
               ∙ past_first cited taken others past.mid back (omega arith) past.rest_is
               (λ more. walk_from cited (next_alternative taken) others past.mid back past.rest_is
               (All-back (IsMarkedRight case) (marked_places own tree) past.mid split_right) (omega arith) more)

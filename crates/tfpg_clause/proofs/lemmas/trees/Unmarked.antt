@@ -29,7 +29,8 @@ abbrev pub chosen_at : PathSplit → Chosen
 chosen_at split = record { name = split.name; alternative = split.alternative }
 
 -- Marks leave the alternatives as they are.
-pub chosen_cited : (number : ℕ) (reasons : List Reason) (path : List PathSplit) → chosen_on (cited_from number reasons path) ≡ chosen_on path
+pub chosen_cited : (number : ℕ) (reasons : List Reason) (path : List PathSplit)
+    → chosen_on (cited_from number reasons path) ≡ chosen_on path
 chosen_cited number reasons [] = refl
 chosen_cited number reasons (split ∷ deeper) = ap (λ (cs : List Chosen). chosen_at split ∷ cs) (chosen_cited (number + 1) reasons deeper)
 
@@ -37,14 +38,19 @@ chosen_cited number reasons (split ∷ deeper) = ap (λ (cs : List Chosen). chos
 
 module _ (graph : Tfpg) (log : Logbook) where
   found_on : (path : List PathSplit) (index number : ℕ)
-      → option_and_then (λ (taken : Chosen). option_and_then (λ clause. constraint_at clause taken.alternative number) (alternatives graph log taken.name)) (slice_get (chosen_on path) index)
-      ≡ option_and_then (λ (taken : PathSplit). option_and_then (λ clause. constraint_at clause taken.alternative number) (alternatives graph log taken.name)) (slice_get path index)
+      → option_and_then
+      (λ (taken : Chosen). option_and_then (λ clause. constraint_at clause taken.alternative number) (alternatives graph log taken.name))
+      (slice_get (chosen_on path) index)
+      ≡ option_and_then
+      (λ (taken : PathSplit). option_and_then (λ clause. constraint_at clause taken.alternative number) (alternatives graph log taken.name))
+      (slice_get path index)
   found_on [] index number = refl
   found_on (split ∷ deeper) zero number = refl
   found_on (split ∷ deeper) (suc index) number = found_on deeper index number
 
   -- What is picked on a path does not depend on marks,
-  pub picked_same : (path : List PathSplit) (split number : ℕ) → picked graph log (chosen_on path) split number ≡ picked_on graph log path split number
+  pub picked_same : (path : List PathSplit) (split number : ℕ)
+      → picked graph log (chosen_on path) split number ≡ picked_on graph log path split number
   picked_same path zero number = refl
   picked_same path (suc index) number = found_on path index number
 
@@ -53,10 +59,13 @@ pub stated_same : (case : Case) (path : List PathSplit) → stated case (chosen_
 stated_same case path = λ i reason. stated_with (λ split number. picked_same case.graph case.log path split number i) (fact case) reason
 
 -- So reasons close the leaf of a path by its alternatives, and the other way round.
-pub closed_on : (case : Case) (path : List PathSplit) (reasons : List Reason) → IsClosedLeaf case (chosen_on path) reasons → IsClosedOn case path reasons
+pub closed_on : (case : Case) (path : List PathSplit) (reasons : List Reason) → IsClosedLeaf case (chosen_on path) reasons
+    → IsClosedOn case path reasons
 closed_on case path reasons closed = subst (λ (s : Reason → Option Constraint). IsClosedBy s reasons) (stated_same case path) closed
 
-pub closed_by : (case : Case) (path : List PathSplit) (reasons : List Reason) → IsClosedOn case path reasons → IsClosedLeaf case (chosen_on path) reasons
+-- Reasons that close the leaf of a path with marks close it by its alternatives.
+pub closed_by : (case : Case) (path : List PathSplit) (reasons : List Reason) → IsClosedOn case path reasons
+    → IsClosedLeaf case (chosen_on path) reasons
 closed_by case path reasons closed = subst (λ (s : Reason → Option Constraint). IsClosedBy s reasons) (sym (stated_same case path)) closed
 
 -- ---- what is reusable
@@ -90,7 +99,8 @@ not_cited (reason ∷ reasons) split none =
 
 cited_none : (reasons : List Reason) (split : ℕ) → not (cites reasons split) ≡ true → PickNone reasons split
 cited_none reasons split not_cites number member =
-    let cites_it : cites reasons split ≡ true = list_any-passes (is_pick_of split) reasons (Pick split number) member (grind (arith, nat_tests)) in
+    let cites_it : cites reasons split ≡ true =
+    list_any-passes (is_pick_of split) reasons (Pick split number) member (grind (arith, nat_tests)) in
     cc
 
 -- ---- the places
@@ -108,7 +118,8 @@ SamePlaces [] (next ∷ others) = ⊥
 SamePlaces (marked ∷ more) [] = ⊥
 SamePlaces (marked ∷ more) (next ∷ others) = SamePlace marked next × SamePlaces more others
 
-both_same : (front : List MarkedPlace) (front_places : List StepPlace) (back : List MarkedPlace) (back_places : List StepPlace) → SamePlaces front front_places → SamePlaces back back_places
+both_same : (front : List MarkedPlace) (front_places : List StepPlace) (back : List MarkedPlace) (back_places : List StepPlace)
+    → SamePlaces front front_places → SamePlaces back back_places
     → SamePlaces (front ++ back) (front_places ++ back_places)
 both_same [] [] back back_places same later = later
 both_same [] (next ∷ others) back back_places same later = absurd same
@@ -117,7 +128,8 @@ both_same (marked ∷ more) (next ∷ others) back back_places same later = (sam
 
 -- a split whose mark is right makes the path of its alternative
 path_in : (path : List PathSplit) (chosen : List Chosen) (split : PathSplit) (before : Option (List Reason)) → chosen_on path ≡ chosen
-    → IsTrue split.reusable ↔ IsReusable (place_in chosen split.name split.alternative before) → IsPathOf (path ++ split ∷ []) (place_in chosen split.name split.alternative before)
+    → IsTrue split.reusable ↔ IsReusable (place_in chosen split.name split.alternative before)
+    → IsPathOf (path ++ split ∷ []) (place_in chosen split.name split.alternative before)
 path_in path chosen split before same reuse =
     let last : last_of (path ++ split ∷ []) ≡ Some split = last_push path split in
     record {
@@ -129,11 +141,14 @@ path_in path chosen split before same reuse =
     }
 
 -- the next alternative is marked as reusable exactly where no cycle of the subtree before picks from the split
-next_reusable : (path : List PathSplit) (chosen : List Chosen) (split : PathSplit) (reasons : List Reason) → chosen_on path ≡ chosen → split.cited ≡ false
-    → IsTrue (after_subtree (length path + 1) reasons split).reusable ↔ IsReusable (place_in chosen split.name (split.alternative + 1) (Some reasons))
+next_reusable : (path : List PathSplit) (chosen : List Chosen) (split : PathSplit) (reasons : List Reason) → chosen_on path ≡ chosen
+    → split.cited ≡ false
+    → IsTrue (after_subtree (length path + 1) reasons split).reusable
+    ↔ IsReusable (place_in chosen split.name (split.alternative + 1) (Some reasons))
 next_reusable path chosen split reasons same uncited =
     let next : Chosen = record { name = split.name; alternative = split.alternative + 1 } in
-    let long : length path + 1 ≡ length (chosen ++ next ∷ []) = omega (arith, length-append chosen (next ∷ []), ap length same, length-map path chosen_at) in
+    let long : length path + 1 ≡ length (chosen ++ next ∷ []) =
+    omega (arith, length-append chosen (next ∷ []), ap length same, length-map path chosen_at) in
     let mark : (after_subtree (length path + 1) reasons split).reusable ≡ not (cites reasons (length (chosen ++ next ∷ []))) =
     (λ i. not (uncited i || cites reasons (long i))) in (
       λ marked. cited_none reasons (length (chosen ++ next ∷ [])) (sym mark ∙ marked),
@@ -142,16 +157,20 @@ next_reusable path chosen split reasons same uncited =
 
 mutual
   -- The places of a tree are its marked places.
-  pub tree_same : (path : List PathSplit) (place : TreePlace) (tree : Tree) → IsPathOf path place → SamePlaces (marked_places path tree) (places place tree)
+  pub tree_same : (path : List PathSplit) (place : TreePlace) (tree : Tree) → IsPathOf path place
+      → SamePlaces (marked_places path tree) (places place tree)
   tree_same path place (Leaf seen reasons) of = (record { path_of = of; step = refl; subtrees = refl }, tt)
   tree_same path place (Branch seen name subtrees) of = (
     record { path_of = of; step = refl; subtrees = refl },
-    subtrees_same path place.path (new_split name (how_many subtrees)) None of.chosen refl (λ marked. absurd (false≢true marked), λ reusable. absurd reusable) subtrees,
+    subtrees_same path place.path (new_split name (how_many subtrees)) None of.chosen refl
+        (λ marked. absurd (false≢true marked), λ reusable. absurd reusable) subtrees,
   )
 
-  subtrees_same : (path : List PathSplit) (chosen : List Chosen) (split : PathSplit) (before : Option (List Reason)) → chosen_on path ≡ chosen → split.cited ≡ false
+  subtrees_same : (path : List PathSplit) (chosen : List Chosen) (split : PathSplit) (before : Option (List Reason))
+      → chosen_on path ≡ chosen → split.cited ≡ false
       → IsTrue split.reusable ↔ IsReusable (place_in chosen split.name split.alternative before)
-      → (subtrees : Subtrees) → SamePlaces (marked_from path split subtrees) (places_from chosen split.name split.alternative before subtrees)
+      → (subtrees : Subtrees) → SamePlaces (marked_from path split subtrees)
+      (places_from chosen split.name split.alternative before subtrees)
   subtrees_same path chosen split before same uncited reuse NoMore = tt
   subtrees_same path chosen split before same uncited reuse (Reused seen others) =
       (record { path_of = path_in path chosen split before same reuse; step = refl; subtrees = refl }, tt)
@@ -162,7 +181,8 @@ mutual
       both_same (marked_places (path ++ split ∷ []) tree) (places own tree) (marked_from (cited_by reasons path) next others)
       (places_from chosen split.name (split.alternative + 1) (Some reasons) others)
       (tree_same (path ++ split ∷ []) own tree (path_in path chosen split before same reuse))
-      (subtrees_same (cited_by reasons path) chosen next (Some reasons) (chosen_cited 1 reasons path ∙ same) refl (next_reusable path chosen split reasons same uncited) others)
+      (subtrees_same (cited_by reasons path) chosen next (Some reasons) (chosen_cited 1 reasons path ∙ same) refl
+      (next_reusable path chosen split reasons same uncited) others)
 
 -- So are those of a whole tree.
 pub whole_same : (tree : Tree) → SamePlaces (marked_places_of tree) (places_of tree)
@@ -170,14 +190,16 @@ whole_same tree = tree_same [] root tree (record { chosen = refl; reusable = (λ
 
 -- ---- what is the same of the same places
 
-take_same : (count : ℕ) (marked : List MarkedPlace) (all : List StepPlace) → SamePlaces marked all → SamePlaces (take count marked) (take count all)
+take_same : (count : ℕ) (marked : List MarkedPlace) (all : List StepPlace) → SamePlaces marked all
+    → SamePlaces (take count marked) (take count all)
 take_same zero marked all same = tt
 take_same (suc count) [] [] same = tt
 take_same (suc count) [] (next ∷ others) same = absurd same
 take_same (suc count) (marked ∷ more) [] same = absurd same
 take_same (suc count) (marked ∷ more) (next ∷ others) same = (same.0, take_same count more others same.1)
 
-steps_same : (marked : List MarkedPlace) (all : List StepPlace) → SamePlaces marked all → map (λ (place : MarkedPlace). place.step) marked ≡ map (λ (next : StepPlace). next.step) all
+steps_same : (marked : List MarkedPlace) (all : List StepPlace) → SamePlaces marked all
+    → map (λ (place : MarkedPlace). place.step) marked ≡ map (λ (next : StepPlace). next.step) all
 steps_same [] [] same = refl
 steps_same [] (next ∷ others) same = absurd same
 steps_same (marked ∷ more) [] same = absurd same
@@ -185,7 +207,8 @@ steps_same (marked ∷ more) (next ∷ others) same = λ i. same.0.step i ∷ st
 
 module _ (case : Case) where
   -- a step is right in a place where it is right at the leaf of its path
-  pub right_step : (path : List PathSplit) (place : TreePlace) (subtrees : ℕ) → IsPathOf path place → (step : Step) → IsMarkedStep case path subtrees step ↔ IsRightStep case place subtrees step
+  pub right_step : (path : List PathSplit) (place : TreePlace) (subtrees : ℕ) → IsPathOf path place → (step : Step)
+      → IsMarkedStep case path subtrees step ↔ IsRightStep case place subtrees step
   right_step path place subtrees of (Split name) = (λ right. right, λ right. right)
   right_step path place subtrees of (Cycle reasons) = (
     λ closed. subst (λ (chosen : List Chosen). IsClosedLeaf case chosen reasons) of.chosen (closed_by case path reasons closed),
@@ -226,7 +249,8 @@ module _ (case : Case) where
             (subst (λ (n : ℕ). IsMarkedStep (case_at case next.step.seen) marked.path n next.step.step) (sym same.subtrees) (right.1 own)),
       )
 
-  all_right : (marked : List MarkedPlace) (all : List StepPlace) → SamePlaces marked all → All (IsMarkedRight case) marked → All (IsRight case) all
+  all_right : (marked : List MarkedPlace) (all : List StepPlace) → SamePlaces marked all → All (IsMarkedRight case) marked
+      → All (IsRight case) all
   all_right [] [] same right = All-nil (IsRight case)
   all_right [] (next ∷ others) same right = absurd same
   all_right (marked ∷ more) [] same right = absurd same
@@ -234,7 +258,8 @@ module _ (case : Case) where
       All-cons (IsRight case) next others ((right_place marked next same.0).0 (All-head (IsMarkedRight case) marked more right))
       (all_right more others same.1 (All-tail (IsMarkedRight case) marked more right))
 
-  all_marked : (marked : List MarkedPlace) (all : List StepPlace) → SamePlaces marked all → All (IsRight case) all → All (IsMarkedRight case) marked
+  all_marked : (marked : List MarkedPlace) (all : List StepPlace) → SamePlaces marked all → All (IsRight case) all
+      → All (IsMarkedRight case) marked
   all_marked [] [] same right = All-nil (IsMarkedRight case)
   all_marked [] (next ∷ others) same right = absurd same
   all_marked (marked ∷ more) [] same right = absurd same
@@ -252,6 +277,7 @@ module _ (case : Case) where
     right = all_marked (marked_places_of is.tree) (places_of is.tree) (whole_same is.tree) is.right;
   }
 
+  -- Steps that are a refutation by their marked places are one.
   pub refutation_unmarked : (steps : List Judged) → IsMarkedRefutation case steps → IsRefutation case steps
   refutation_unmarked steps is = record {
     tree = is.tree;
@@ -270,6 +296,7 @@ module _ (case : Case) where
         (take_same (length steps) (marked_places_of is.tree) (places_of is.tree) (whole_same is.tree)) is.right;
   }
 
+  -- Steps that are a partial tree by their marked places are one.
   pub partial_unmarked : (steps : List Judged) → IsMarkedPartial case steps → IsPartial case steps
   partial_unmarked steps is = record {
     tree = is.tree;
@@ -283,7 +310,8 @@ module _ (case : Case) where
   -- ---- the present leaf
 
   -- The leaf of a marked path is the present leaf,
-  pub leaf_unmarked : (steps : List Judged) (path : List PathSplit) → IsMarkedLeaf case steps path → (place : TreePlace) × IsPresentLeaf case steps place × IsPathOf path place
+  pub leaf_unmarked : (steps : List Judged) (path : List PathSplit) → IsMarkedLeaf case steps path
+      → (place : TreePlace) × IsPresentLeaf case steps place × IsPathOf path place
   unfolding partial_unmarked
   leaf_unmarked steps path leaf =
       let tree : Tree = leaf.partial.tree in
@@ -291,7 +319,8 @@ module _ (case : Case) where
       (there.0, record { partial = partial_unmarked steps leaf.partial; here = there.1 }, there.2)
 
   -- and the present leaf has a marked path.
-  pub leaf_marked : (steps : List Judged) (place : TreePlace) → IsPresentLeaf case steps place → (path : List PathSplit) × IsMarkedLeaf case steps path × IsPathOf path place
+  pub leaf_marked : (steps : List Judged) (place : TreePlace) → IsPresentLeaf case steps place
+      → (path : List PathSplit) × IsMarkedLeaf case steps path × IsPathOf path place
   unfolding partial_marked
   leaf_marked steps place leaf =
       let tree : Tree = leaf.partial.tree in

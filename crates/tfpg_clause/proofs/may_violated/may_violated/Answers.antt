@@ -28,7 +28,9 @@ returns-then-has_arrived c =
     met_by_arrival c.args.graph.now c.args.log.now c.args.times.now c.args.node c.args.edges.now number
     (numbered_so c.args.log.now (get_or c.args.times.now c.args.node 0) number c.in_ok-number.ensures).1 span
     (sym (c.in_ok-span.ensures.value ∙ ap (span_at c.args.log.now number) c.now.ensures.now))
-    (subst (λ horizon. MeetsClause c.args.times.now (arrivals_over c.args.graph.now c.args.log.now number horizon span c.args.edges.now)) c.now.ensures.now
+    (subst
+    (λ horizon. MeetsClause c.args.times.now
+    (arrivals_over c.args.graph.now c.args.log.now number horizon span c.args.edges.now)) c.now.ensures.now
     (c.has_arrived.ensures.0 c.if-has_arrived.true))
 
 pub returns : goal.returns
@@ -42,4 +44,5 @@ returns c =
     both_ways c.has_arrived.result
     c.if-has_arrived.false
     (c.has_arrived.ensures.1
-    (subst (λ horizon. MeetsClause c.args.times.now (arrivals_over c.args.graph.now c.args.log.now number horizon span c.args.edges.now)) (sym c.now.ensures.now) met)))
+    (subst (λ horizon. MeetsClause c.args.times.now (arrivals_over c.args.graph.now c.args.log.now number horizon span c.args.edges.now))
+    (sym c.now.ensures.now) met)))

@@ -16,11 +16,13 @@ returns-in_err-number-clause-met c =
 pub returns-in-Some-clause-met : goal.returns-in-Some-clause-met
 returns-in-Some-clause-met c =
     must_met_before_window c.args.graph.now c.args.log.now c.args.times.now c.args.must.now.node c.args.must.now.edges.now c.args.must.now.edge c.requires.must.due c.in_ok-overdue.overdue
-    c.in_ok-overdue.ensures c.in_ok-number.number c.now.result (numbered_so c.args.log.now c.in_ok-overdue.overdue c.in_ok-number.number c.in_ok-number.ensures).1 c.now.ensures.now c.in-Some.window
+    c.in_ok-overdue.ensures c.in_ok-number.number c.now.result
+    (numbered_so c.args.log.now c.in_ok-overdue.overdue c.in_ok-number.number c.in_ok-number.ensures).1 c.now.ensures.now c.in-Some.window
     c.in-Some.ensures.value
 
 pub returns-in-None-clause-met : goal.returns-in-None-clause-met
 returns-in-None-clause-met c =
     must_met_before c.args.graph.now c.args.log.now c.args.times.now c.args.must.now.node c.args.must.now.edges.now c.args.must.now.edge c.requires.must.due c.in_ok-overdue.overdue
-    c.in_ok-overdue.ensures c.in_ok-number.number c.now.result (numbered_so c.args.log.now c.in_ok-overdue.overdue c.in_ok-number.number c.in_ok-number.ensures).1 c.now.ensures.now
+    c.in_ok-overdue.ensures c.in_ok-number.number c.now.result
+    (numbered_so c.args.log.now c.in_ok-overdue.overdue c.in_ok-number.number c.in_ok-number.ensures).1 c.now.ensures.now
     c.in-None.ensures.value

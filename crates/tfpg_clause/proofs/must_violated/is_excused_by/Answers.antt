@@ -11,7 +11,9 @@ returns-else-meets c =
     subst (λ due. IsTrue c.meets-else-meets.result ↔ IsSomeAnd due (IsExcused times c.args.hi)) c.in-Some.ensures.value (
       λ yes. inr (subst (All (Meets times)) c.follows_in_time.ensures (c.meets-else-meets.ensures.0 yes)),
       λ excuse. elim excuse [
-        | inl late ↦ absurd (both_ways c.meets.result c.if-meets.false (c.meets.ensures.1 (subst (All (Meets times)) (sym c.starts_late.ensures) late)))
+        | inl late ↦
+            absurd
+            (both_ways c.meets.result c.if-meets.false (c.meets.ensures.1 (subst (All (Meets times)) (sym c.starts_late.ensures) late)))
         | inr soon ↦ c.meets-else-meets.ensures.1 (subst (All (Meets times)) (sym c.follows_in_time.ensures) soon)
       ],
     )

@@ -9,7 +9,8 @@ returns-else-times-must c =
     let edges = c.args.must.now.edges.now in
     let f = due_by_number c.args.site.now.graph.now c.args.site.now.log.now c.args.site.now.span c.args.site.now.horizon in
     let room = sym c.in-Some.ensures.value in (
-      λ yes. met_by_excuse f edges c.args.times.now c.args.must.now.node c.args.site.now.span c.args.window c.in-Some.latest room (c.is_excused.ensures.0 yes),
+      λ yes. met_by_excuse f edges c.args.times.now c.args.must.now.node c.args.site.now.span c.args.window c.in-Some.latest room
+          (c.is_excused.ensures.0 yes),
       λ met.
           true_from_ne_false c.is_excused.result
           (λ no.

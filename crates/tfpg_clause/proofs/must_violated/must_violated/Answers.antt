@@ -15,7 +15,9 @@ returns-then-until-last c =
 
 pub loop-until-preserved : goal.loop-until-preserved
 loop-until-preserved c = record {
-  met = met_below c.args.times.now (musts_of c.args.graph.now c.args.log.now c.args.must.now.node c.args.must.now.edge) c.loop-until.number c.in-Some.until
+  met =
+      met_below c.args.times.now
+      (musts_of c.args.graph.now c.args.log.now c.args.must.now.node c.args.must.now.edge) c.loop-until.number c.in-Some.until
       c.loop-until.invariant.met c.in-Some.ensures.met.1;
   known = c.must_met_up_to.ensures.known;
   room = omega (arith, c.must_met_up_to.auto.known, c.loop-until.invariant.room);

@@ -10,4 +10,5 @@ loop-edge-preserved c =
 pub returns-in_err-overdue : goal.returns-in_err-overdue
 returns-in_err-overdue c =
     rw c.from_residual.ensures
-    (λ hi. excused_by_one c.args.graph.now c.args.times.now c.args.edges.now c.loop-edge.edge-index c.loop-edge-test.true hi (c.in_err-overdue.ensures hi))
+    (λ hi. excused_by_one c.args.graph.now c.args.times.now c.args.edges.now c.loop-edge.edge-index c.loop-edge-test.true hi
+    (c.in_err-overdue.ensures hi))

@@ -5,7 +5,8 @@ use Rattle.tfpg_clause.proofs.overdue.overdue_over.Goals as goal
 pub returns-in_err-tmax : goal.returns-in_err-tmax
 returns-in_err-tmax c =
     rw c.from_residual.ensures
-    (excused_without c.args.graph.now c.args.times.now c.args.edge c.edge_of-propagation.result c.edge_of-propagation.ensures.value (sym c.in_err-tmax.was))
+    (excused_without c.args.graph.now c.args.times.now c.args.edge c.edge_of-propagation.result c.edge_of-propagation.ensures.value
+    (sym c.in_err-tmax.was))
 
 pub returns-then-time_of-overdue : goal.returns-then-time_of-overdue
 returns-then-time_of-overdue c =

@@ -13,4 +13,6 @@ loop-reason-preserved c =
     cited_more c.args.reasons.now c.args.path.now c.loop-reason.path c.cite_one.new.path c.loop-reason.reason-index _ c.loop-reason-test.true c.loop-reason.invariant c.cite_one.ensures
 
 pub returns : goal.returns
-returns c = c.loop-reason.invariant ∙ ap (λ (reasons : List Reason). cited_by reasons c.args.path.now) (take_all c.loop-reason.reason-index c.args.reasons.now c.loop-reason-test.false)
+returns c =
+    c.loop-reason.invariant ∙ ap (λ (reasons : List Reason). cited_by reasons c.args.path.now)
+    (take_all c.loop-reason.reason-index c.args.reasons.now c.loop-reason-test.false)

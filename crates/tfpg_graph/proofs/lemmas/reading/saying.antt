@@ -1,4 +1,5 @@
 -- What lines say, and that they say it alone.
+pub mod KeywordShapes
 pub mod StatementLines
 pub mod SaidWords
 pub mod SaidModes

@@ -19,8 +19,8 @@ use Rattle.tfpg_graph.specs.declared.version.Version.{Version}
 use Rattle.tfpg_graph.specs.declared.version.Version.TheVariants.{One, Two}
 use Rattle.tfpg_graph.specs.Statements.{words_of_lag}
 use Rattle.tfpg_graph.specs.Graph.{Tfpg, Node, name_word}
-use Rattle.tfpg_graph.specs.Text.{header, mode_line, lag_words, node_words, tmax_word, edge_line, modes_word, all_modes}
-use Rattle.tfpg_graph.specs.inside.writing.Written.{watch_words, modes_before, mode_names_before}
+use Rattle.tfpg_graph.specs.Text.{header, mode_line, lag_words, tmax_word, edge_line, modes_word, all_modes}
+use Rattle.tfpg_graph.specs.inside.writing.Written.{node_words, watch_words, modes_before, mode_names_before}
 use Rattle.tfpg_base.specs.declared.limits.TheConstants.{MAX_TIME}
 use Rattle.tfpg_graph.specs.Valid.{HasValidNumber, IsValidLag, IsValidEdge}
 

@@ -17,8 +17,8 @@ use Rattle.tfpg_graph.specs.declared.version.Version.{Version}
 use Rattle.tfpg_graph.specs.declared.version.Version.TheVariants.{One, Two}
 use Rattle.tfpg_graph.specs.declared.limits.TheConstants.{MAX_MODES}
 use Rattle.tfpg_graph.specs.Graph.{Tfpg, Node, name_word}
-use Rattle.tfpg_graph.specs.Text.{header, mode_line, node_words, tmax_word, edge_line, modes_word, all_modes}
-use Rattle.tfpg_graph.specs.inside.writing.Written.{watch_words, modes_before, mode_names_before}
+use Rattle.tfpg_graph.specs.Text.{header, mode_line, tmax_word, edge_line, modes_word, all_modes}
+use Rattle.tfpg_graph.specs.inside.writing.Written.{node_words, watch_words, modes_before, mode_names_before}
 use Rattle.tfpg_graph.specs.Valid.{HasValidNumber, IsValidLag, IsValidEdge}
 use Rattle.tfpg_graph.proofs.lemmas.writing.ModeBits.{modes_before-few}
 use Rattle.tfpg_base.proofs.lemmas.lists.Passing.{length-filter_map, All-filter_map-slice_get}

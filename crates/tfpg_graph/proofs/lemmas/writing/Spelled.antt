@@ -13,13 +13,13 @@ use Rattle.tfpg_graph.specs.declared.kind.Kind.{Kind}
 use Rattle.tfpg_graph.specs.declared.kind.Kind.TheVariants.{Failure, Or, And}
 use Rattle.tfpg_graph.specs.Graph.{Tfpg}
 use Rattle.tfpg_graph.specs.declared.version.Version.{Version}
-use Rattle.tfpg_graph.specs.Text.{header, version_for, mode_line, node_words, node_line, edge_line, modes_word, all_modes, SpellsModes, SpellsEdge, Spells, content_lines, canonical_lines, canonical_text}
+use Rattle.tfpg_graph.specs.Text.{header, version_for, mode_line, node_line, edge_line, modes_word, all_modes, SpellsModes, SpellsEdge, Spells, content_lines, canonical_lines, canonical_text}
 use Rattle.tfpg_graph.specs.Statements.{is_empty_or_comment}
 use Rattle.tfpg_graph.specs.Valid.{IsValid, IsValidEdge}
-use Rattle.tfpg_graph.specs.inside.writing.Written.{modes_before, mode_names_before}
+use Rattle.tfpg_graph.specs.inside.writing.Written.{node_words, modes_before, mode_names_before}
 use Rattle.tfpg_graph.proofs.lemmas.writing.ModeBits.{worth-all, modes_before-some, modes_before-within, modes_before-differ}
 use Rattle.tfpg_graph.proofs.lemmas.writing.LineLengths.{short_header, short_mode, short_node, short_modes, short_edge}
-use Rattle.tfpg_graph.proofs.lemmas.writing.WrittenVersion.{can_spell}
+use Rattle.tfpg_graph.proofs.lemmas.writing.WrittenVersion.{zero_least_for}
 use Rattle.tfpg_graph.proofs.lemmas.writing.CleanLines.{clean_header, clean_mode, clean_node, clean_edge, clean_end}
 
 -- the canonical word for some of the graph's modes spells them
@@ -95,7 +95,7 @@ module _ (graph : Tfpg) (valid : IsValid graph) where
     version = version_for graph;
     after = lines_after graph;
     lines = lines;
-    said = record { edge_lines = edge_lines_of graph; edges = spelled_edges; all = content_lines-after graph; kinds = can_spell graph };
+    said = record { edge_lines = edge_lines_of graph; edges = spelled_edges; all = content_lines-after graph; zero_least = zero_least_for graph };
     short = All-same (λ line. length line ≤ LONGEST_LINE) (lines_of text) (canonical_lines graph) lines short;
   }
 

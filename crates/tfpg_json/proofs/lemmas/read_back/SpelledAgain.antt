@@ -19,10 +19,10 @@ use Rattle.tfpg_graph.specs.declared.kind.Kind.TheVariants.{Failure, Or, And}
 use Rattle.tfpg_graph.specs.declared.edge.Edge.{Edge}
 use Rattle.tfpg_graph.specs.declared.version.Version.TheVariants.{Two}
 use Rattle.tfpg_graph.specs.Graph.{Tfpg, name_word}
-use Rattle.tfpg_graph.specs.Text.{header, mode_line, node_words, node_line, tmax_word, SpellsModes, SpellsEdge, Spells, CanSpell, content_lines}
+use Rattle.tfpg_graph.specs.Text.{header, mode_line, node_line, tmax_word, SpellsModes, SpellsEdge, Spells, content_lines}
 use Rattle.tfpg_graph.specs.Statements.{is_empty_or_comment}
 use Rattle.tfpg_graph.specs.Valid.{IsValid, IsValidEdge}
-use Rattle.tfpg_graph.specs.inside.writing.Written.{modes_before}
+use Rattle.tfpg_graph.specs.inside.writing.Written.{node_words, modes_before}
 use Rattle.tfpg_graph.proofs.lemmas.writing.ModeBits.{worth-all, modes_before-some, modes_before-within, modes_before-differ, modes_before-few}
 use Rattle.tfpg_graph.proofs.lemmas.writing.LineLengths.{short_header, short_mode, short_node, short_edge}
 use Rattle.tfpg_graph.proofs.lemmas.writing.CleanLines.{clean_header, clean_mode, clean_node, clean_end, clean_name, clean_number, clean_words}
@@ -167,13 +167,6 @@ module _ (graph : Tfpg) (valid : IsValid graph) where
       (All-weaker (IsValidEdge graph) (λ edge. SpellsEdge graph edge (edge_said_line (edge_said graph edge)))
       (λ edge own. (word_for graph edge.modes, spelled_word edge own, refl)) graph.edges valid.so_far.edges))
 
-  can_spell : (kind : Kind) → CanSpell Two kind
-  can_spell (Failure rarity) = tt
-  can_spell (Or None) = tt
-  can_spell (Or (Some lag)) = tt
-  can_spell (And None) = tt
-  can_spell (And (Some lag)) = tt
-
   -- The text that is said spells the graph.
   pub Spells-said : Spells (text_said (said_of graph)) graph
   unfolding lines lines_after edge_lines
@@ -183,6 +176,6 @@ module _ (graph : Tfpg) (valid : IsValid graph) where
         version = Two;
         after = lines_after;
         lines = there;
-        said = record { edge_lines = edge_lines; edges = spelled_edges; all = content; kinds = λ k d within. can_spell (get_or graph.nodes k d).kind };
+        said = record { edge_lines = edge_lines; edges = spelled_edges; all = content; zero_least = λ one. absurd cc };
         short = All-same (λ line. length line ≤ LONGEST_LINE) (lines_of (text_said (said_of graph))) lines there short;
       }

@@ -9,7 +9,8 @@ pub edge-requires : goal.edge-requires
 edge-requires c =
     let edges = c.args.graph.now.edges in
     All-get_or (λ number. number < length edges) _ _ 0 c.loop-number-test.true
-    (All-same (λ number. number < length edges) _ _ c.incoming-incoming.ensures.edges (All-below-numbers_from (λ edge. nat_eq edge.target c.args.node) edges))
+    (All-same (λ number. number < length edges) _ _ c.incoming-incoming.ensures.edges
+    (All-below-numbers_from (λ edge. nat_eq edge.target c.args.node) edges))
 
 pub loop-number-preserved : goal.loop-number-preserved
 loop-number-preserved c =
@@ -20,5 +21,6 @@ pub returns : goal.returns
 returns c mode =
     let numbers = c.incoming-incoming.result.now in
     let all : take c.loop-number.number-index numbers ≡ numbers = take_all c.loop-number.number-index numbers c.loop-number-test.false in
-    c.loop-number.invariant mode ∙ ap (λ (taken : List ℕ). are_active_in c.args.graph.now.edges taken mode) (all ∙ c.incoming-incoming.ensures.edges)
+    c.loop-number.invariant mode ∙ ap (λ (taken : List ℕ). are_active_in c.args.graph.now.edges taken mode)
+    (all ∙ c.incoming-incoming.ensures.edges)
     ∙ all_into c.args.graph.now c.args.node mode

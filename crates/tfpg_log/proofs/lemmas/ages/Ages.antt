@@ -39,11 +39,13 @@ module _ (log : Logbook) (trace : List Activation) (edge : Edge) where
   has_lesser instant age has = has_less instant (age + 1) age (omega arith) has
 
   -- No age is more than the time since the source became active.
-  pub age_since_start : (instant age start : ℕ) → time_of trace edge.source ≡ Some start → HasAge log trace edge instant age → start + age ≤ instant
+  pub age_since_start : (instant age start : ℕ) → time_of trace edge.source ≡ Some start → HasAge log trace edge instant age
+      → start + age ≤ instant
   age_since_start instant age start at has = let same : start ≡ has.start = cc in omega (arith, same, has.since)
 
   -- From an instant to the next the age grows by one, where the edge is active at the next.
-  pub grows : (instant age : ℕ) → HasAge log trace edge (instant + 1) (age + 1) ↔ (HasAge log trace edge instant age × IsEdgeActiveAt (instant + 1))
+  pub grows : (instant age : ℕ)
+      → HasAge log trace edge (instant + 1) (age + 1) ↔ (HasAge log trace edge instant age × IsEdgeActiveAt (instant + 1))
   grows instant age = (
     λ has. (
       record {
@@ -75,7 +77,8 @@ module _ (log : Logbook) (trace : List Activation) (edge : Edge) where
     IsEdgeActiveFor age = (other : ℕ) → instant ≤ other + age → other ≤ instant → IsEdgeActiveAt other
 
     -- from an age on to the greatest, where so many instants are left
-    to_greatest : (left age : ℕ) → start + age + left ≡ instant → IsEdgeActiveFor age → (greatest : ℕ) × IsAge log trace edge instant greatest
+    to_greatest : (left age : ℕ) → start + age + left ≡ instant → IsEdgeActiveFor age
+        → (greatest : ℕ) × IsAge log trace edge instant greatest
     to_greatest zero age sum active = (
       age,
       record {
@@ -94,7 +97,9 @@ module _ (log : Logbook) (trace : List Activation) (edge : Edge) where
         record {
           has = record { start = start; source = at; since = omega arith; active_since = active };
           greatest = λ other more. elim (cases_lt age other) [
-            | inl above ↦ absurd (both_ways (is_active_at log edge (start + left)) inactive (more.active_since (start + left) (omega arith) (omega arith)))
+            | inl above ↦
+                absurd
+                (both_ways (is_active_at log edge (start + left)) inactive (more.active_since (start + left) (omega arith) (omega arith)))
             | inr upto ↦ upto
           ];
         },

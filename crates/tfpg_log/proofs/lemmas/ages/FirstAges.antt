@@ -13,12 +13,14 @@ use Rattle.tfpg_log.proofs.lemmas.ages.WindowAges.{at_least, exactly}
 
 module _ (log : Logbook) (trace : List Activation) (edge : Edge) where
   -- A node is active at all instants of a window at which the edge has an age where it is so at the first.
-  pub in_one : (number horizon age start node : ℕ) (window : Window) → window_of log edge number horizon ≡ Some window → time_of trace edge.source ≡ Some start
+  pub in_one : (number horizon age start node : ℕ) (window : Window) → window_of log edge number horizon ≡ Some window
+      → time_of trace edge.source ≡ Some start
       → ((instant : ℕ) → window.lo ≤ instant → instant ≤ window.hi → HasAge log trace edge instant age → IsActive trace node instant)
       ↔ (max window.lo start + age ≤ window.hi → IsActive trace node (max window.lo start + age))
   in_one number horizon age start node window e at =
       let soonest : ℕ = max window.lo start + age in (
-        λ each room. each soonest (omega arith) room ((at_least log trace edge number horizon soonest age start window e (omega arith) room at).1 (omega arith, omega arith)),
+        λ each room. each soonest (omega arith) room
+            ((at_least log trace edge number horizon soonest age start window e (omega arith) room at).1 (omega arith, omega arith)),
         λ then instant from upto has.
             let both = (at_least log trace edge number horizon instant age start window e from upto at).0 has in
             let by_then : soonest ≤ instant = omega (arith, both.0, both.1) in

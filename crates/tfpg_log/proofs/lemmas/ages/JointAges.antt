@@ -16,7 +16,8 @@ use Rattle.tfpg_log.proofs.lemmas.instants.MaximalRuns.{holds_since}
 use Rattle.tfpg_log.proofs.lemmas.ages.WindowAges.{by_window}
 use Rattle.tfpg_log.proofs.lemmas.instants.JointWindows.{is_joint, active_throughout, of_each}
 
-module _ (graph : Tfpg) (log : Logbook) (trace : List Activation) (node number horizon instant age : ℕ) (joint : Window) (e : joint_of graph log node number horizon ≡ Some joint) (from : joint.lo ≤ instant) (upto : instant ≤ joint.hi) where
+module _ (graph : Tfpg) (log : Logbook) (trace : List Activation) (node number horizon instant age : ℕ) (joint : Window)
+    (e : joint_of graph log node number horizon ≡ Some joint) (from : joint.lo ≤ instant) (upto : instant ≤ joint.hi) where
   -- In it an edge has an age exactly where its own window and the activation of its source have it.
   pub each_its_own : (edge : Edge) → Contains (edges_into graph node) edge
       → HasAge log trace edge instant age ↔ HasAgeInWindow (window_of log edge number horizon) trace edge instant age
@@ -29,8 +30,10 @@ module _ (graph : Tfpg) (log : Logbook) (trace : List Activation) (node number h
       ↔ ((joint.lo + age ≤ instant) × All (λ edge. IsActive trace edge.source (instant - age)) (edges_into graph node))
   all_at_least short = (
     λ all. (
-      (holds_since (λ x. IsTrue (are_active_at graph log node x)) horizon joint.lo joint.hi instant age (is_joint graph log node number horizon joint e).run from upto short).0
-          (λ x after before. list_all-from_AllPass (λ edge. is_active_at log edge x) (edges_into graph node) (λ k d within. (all k d within).active_since x after before)),
+      (holds_since (λ x. IsTrue (are_active_at graph log node x)) horizon joint.lo joint.hi instant age
+          (is_joint graph log node number horizon joint e).run from upto short).0
+          (λ x after before. list_all-from_AllPass (λ edge. is_active_at log edge x) (edges_into graph node)
+          (λ k d within. (all k d within).active_since x after before)),
       λ k d within. let has = all k d within in (has.start, has.source, omega (arith, has.since)),
     ),
     λ both. All-from_members (λ edge. HasAge log trace edge instant age) (edges_into graph node)
@@ -40,6 +43,8 @@ module _ (graph : Tfpg) (log : Logbook) (trace : List Activation) (node number h
           start = active.0;
           source = active.1;
           since = omega (arith, active.2, short);
-          active_since = λ x after before. active_throughout graph log node number horizon joint e edge member x (omega (arith, both.0)) (omega (arith, upto));
+          active_since =
+              λ x after before. active_throughout graph log node number horizon joint e edge member x (omega (arith, both.0))
+              (omega (arith, upto));
         }),
   )

@@ -15,7 +15,8 @@ use Rattle.tfpg_log.proofs.lemmas.instants.WindowInstants.{is_window, inside, wi
 
 module _ (log : Logbook) (trace : List Activation) (edge : Edge) where
   -- In a window the edge has an age exactly where the window and the activation of its source have it.
-  pub at_least : (number horizon instant age start : ℕ) (window : Window) → window_of log edge number horizon ≡ Some window → window.lo ≤ instant → instant ≤ window.hi
+  pub at_least : (number horizon instant age start : ℕ) (window : Window) → window_of log edge number horizon ≡ Some window
+      → window.lo ≤ instant → instant ≤ window.hi
       → time_of trace edge.source ≡ Some start → HasAge log trace edge instant age ↔ ((window.lo + age ≤ instant) × (start + age ≤ instant))
   at_least number horizon instant age start window e from upto at =
       let run = (is_window log edge number horizon window e).run in
@@ -32,7 +33,8 @@ module _ (log : Logbook) (trace : List Activation) (edge : Edge) where
       )
 
   -- So it has the age exactly where it has it by the window.
-  pub by_window : (number horizon instant age : ℕ) (window : Window) → window_of log edge number horizon ≡ Some window → window.lo ≤ instant → instant ≤ window.hi
+  pub by_window : (number horizon instant age : ℕ) (window : Window) → window_of log edge number horizon ≡ Some window → window.lo ≤ instant
+      → instant ≤ window.hi
       → HasAge log trace edge instant age ↔ HasAgeInWindow (window_of log edge number horizon) trace edge instant age
   by_window number horizon instant age window e from upto = (
     λ has.
@@ -41,7 +43,8 @@ module _ (log : Logbook) (trace : List Activation) (edge : Edge) where
     λ has.
         let same : has.window ≡ window = cc (has.there, e) in
         let lo : has.window.lo ≡ window.lo = ap (λ (w : Window). w.lo) same in
-        (at_least number horizon instant age has.start window e from upto has.source).1 (omega (arith, lo, has.since_window), has.since_source),
+        (at_least number horizon instant age has.start window e from upto has.source).1
+        (omega (arith, lo, has.since_window), has.since_source),
   )
 
   -- So it is with the window round the instant's span.
@@ -62,7 +65,8 @@ module _ (log : Logbook) (trace : List Activation) (edge : Edge) where
   only_there instant age has = (has.active_since instant (omega arith) (omega arith), has.start, has.source, has.since)
 
   -- The greatest age in a window is the time since the later of the two.
-  pub age : (number horizon instant start : ℕ) (window : Window) → window_of log edge number horizon ≡ Some window → window.lo ≤ instant → instant ≤ window.hi
+  pub age : (number horizon instant start : ℕ) (window : Window) → window_of log edge number horizon ≡ Some window → window.lo ≤ instant
+      → instant ≤ window.hi
       → time_of trace edge.source ≡ Some start → start ≤ instant → IsAge log trace edge instant (instant - max window.lo start)
   age number horizon instant start window e from upto at active = record {
     has = (at_least number horizon instant (instant - max window.lo start) start window e from upto at).1 (omega arith, omega arith);
@@ -72,8 +76,10 @@ module _ (log : Logbook) (trace : List Activation) (edge : Edge) where
   }
 
   -- An age that is reached stays to the end of the window.
-  pub stays : (number horizon instant later age : ℕ) (window : Window) → window_of log edge number horizon ≡ Some window → window.lo ≤ instant
+  pub stays : (number horizon instant later age : ℕ) (window : Window) → window_of log edge number horizon ≡ Some window
+      → window.lo ≤ instant
       → instant ≤ later → later ≤ window.hi → HasAge log trace edge instant age → HasAge log trace edge later age
   stays number horizon instant later age window e from behind upto has =
       let both = (at_least number horizon instant age has.start window e from (omega (arith, behind, upto)) has.source).0 has in
-      (at_least number horizon later age has.start window e (omega (arith, from, behind)) upto has.source).1 (omega (arith, both.0, behind), omega (arith, both.1, behind))
+      (at_least number horizon later age has.start window e (omega (arith, from, behind)) upto has.source).1
+      (omega (arith, both.0, behind), omega (arith, both.1, behind))

@@ -11,7 +11,8 @@ use Rattle.tfpg_graph.specs.Valid.{IsValid}
 abbrev pub HasFirst : ℕ → List Edge → Type 0
 HasFirst node edges = (edge : Edge) × (others : List Edge) × (filter (λ e. eqb e.target node) edges ≡ edge ∷ others)
 
-first_by : (node : ℕ) (edge : Edge) (edges : List Edge) (b : Bool) → eqb edge.target node ≡ b → (b ≡ false → HasFirst node edges) → HasFirst node (edge ∷ edges)
+first_by : (node : ℕ) (edge : Edge) (edges : List Edge) (b : Bool) → eqb edge.target node ≡ b → (b ≡ false → HasFirst node edges)
+    → HasFirst node (edge ∷ edges)
 first_by node edge edges true h others = (edge, filter (λ x. eqb x.target node) edges, rw h refl)
 first_by node edge edges false h others = let more = others refl in (more.0, more.1, rw h more.2)
 

@@ -33,15 +33,21 @@ HasCause graph log set trace node time =
     ⊎ (IsTrue (is_kind_at is_and graph node) × AllArrive graph log trace node time))
 
 -- Each active node has a cause.
-pub caused : (graph : Tfpg) (log : Logbook) (set : List ℕ) (trace : List Activation) (node time : ℕ) → Explains graph log set trace → time_of trace node ≡ Some time
+pub caused : (graph : Tfpg) (log : Logbook) (set : List ℕ) (trace : List Activation) (node time : ℕ) → Explains graph log set trace
+    → time_of trace node ≡ Some time
     → HasCause graph log set trace node time
 caused graph log set trace node time explains at =
     let active : Activation = record { node = node; time = time } in
     let member : Contains trace active = activation_there trace node time at in
     let in_graph : node < length graph.nodes = All-contains (λ a. a.node < length graph.nodes) trace active explains.trace_of.1 member in
     let may = (explains.rules node in_graph).may time (All-contains (λ a. a.time ≤ now_of log) trace active explains.by_now member) in
-    elim (kinds (kind_at graph node) (is_some-option_map (λ n. n.kind) (slice_get graph.nodes node) ∙ ap is_some (slice_get-there graph.nodes node in_graph).1)) [
-      | inl failure ↦ inl (All-contains (λ a. IsTrue (is_kind_at is_failure graph a.node) → IsMember graph set a.node) trace active explains.from_set member failure)
+    elim
+    (kinds (kind_at graph node)
+    (is_some-option_map (λ n. n.kind) (slice_get graph.nodes node) ∙ ap is_some (slice_get-there graph.nodes node in_graph).1)) [
+      | inl failure ↦
+          inl
+          (All-contains
+          (λ a. IsTrue (is_kind_at is_failure graph a.node) → IsMember graph set a.node) trace active explains.from_set member failure)
       | inr (inl or) ↦ inr (inl (or, may.or_node or at))
       | inr (inr and) ↦ inr (inr (and, may.and_node and at))
     ]

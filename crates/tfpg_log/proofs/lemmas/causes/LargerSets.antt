@@ -14,7 +14,8 @@ module _ (graph : Tfpg) (log : Logbook) (set larger : List ℕ) where
   larger_explains trace subset explains = record {
     trace_of = explains.trace_of;
     by_now = explains.by_now;
-    from_set = All-weaker (λ (activation : Activation). IsTrue (is_kind_at is_failure graph activation.node) → IsMember graph set activation.node)
+    from_set =
+        All-weaker (λ (activation : Activation). IsTrue (is_kind_at is_failure graph activation.node) → IsMember graph set activation.node)
         (λ (activation : Activation). IsTrue (is_kind_at is_failure graph activation.node) → IsMember graph larger activation.node)
         (λ activation own failure. let member = own failure in
         (member.0, All-contains (Contains larger) set member.0 subset member.1, member.2))

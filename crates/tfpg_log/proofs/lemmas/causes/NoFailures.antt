@@ -21,7 +21,10 @@ closed_without graph valid = record {
 }
 
 -- No trace from the empty set activates a node.
-pub none_active : (graph : Tfpg) (log : Logbook) (trace : List Activation) → IsValid graph → HasZeroOrder graph → Explains graph log [] trace → trace ≡ []
+pub none_active : (graph : Tfpg) (log : Logbook) (trace : List Activation) → IsValid graph → HasZeroOrder graph
+    → Explains graph log [] trace → trace ≡ []
 none_active graph log [] valid order explains = refl
 none_active graph log (first ∷ others) valid order explains =
-    absurd (false≢true (trace_in_reach graph log [] (first ∷ others) order explains 0 first (omega arith) (λ node. false) (closed_without graph valid)))
+    absurd
+    (false≢true
+    (trace_in_reach graph log [] (first ∷ others) order explains 0 first (omega arith) (λ node. false) (closed_without graph valid)))

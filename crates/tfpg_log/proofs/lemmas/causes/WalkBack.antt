@@ -15,14 +15,17 @@ use Rattle.tfpg_log.specs.Log.{Logbook}
 use Rattle.tfpg_log.specs.Rules.{HasAge}
 
 -- An edge into a node that may take no time rises to it.
-pub rises_into : (graph : Tfpg) (order : HasZeroOrder graph) (node : ℕ) (edge : Edge) → Contains (edges_into graph node) edge → edge.tmin ≡ 0
+pub rises_into : (graph : Tfpg) (order : HasZeroOrder graph) (node : ℕ) (edge : Edge) → Contains (edges_into graph node) edge
+    → edge.tmin ≡ 0
     → order.rank edge.source < order.rank node
 rises_into graph order node edge into no_time =
     let ends : eqb edge.target node ≡ true =
-    All-contains (λ (e : Edge). eqb e.target node ≡ true) (edges_into graph node) edge (filter_passes (λ e. eqb e.target node) graph.edges) into in
+    All-contains (λ (e : Edge). eqb e.target node ≡ true) (edges_into graph node) edge
+    (filter_passes (λ e. eqb e.target node) graph.edges) into in
     let rises : edge.tmin ≡ 0 → order.rank edge.source < order.rank edge.target =
     All-contains (λ (e : Edge). e.tmin ≡ 0 → order.rank e.source < order.rank e.target) (edges_into graph node) edge
-    (All-filter (λ e. eqb e.target node) (λ (e : Edge). e.tmin ≡ 0 → order.rank e.source < order.rank e.target) graph.edges order.rises) into in
+    (All-filter (λ e. eqb e.target node)
+    (λ (e : Edge). e.tmin ≡ 0 → order.rank e.source < order.rank e.target) graph.edges order.rises) into in
     subst (λ n. order.rank edge.source < order.rank n) (eqb-true edge.target node ends) (rises no_time)
 
 module _ (graph : Tfpg) (log : Logbook) (trace : List Activation) (order : HasZeroOrder graph) where
@@ -30,13 +33,15 @@ module _ (graph : Tfpg) (log : Logbook) (trace : List Activation) (order : HasZe
   came_before : (node time : ℕ) (edge : Edge) → Contains (edges_into graph node) edge → (age : HasAge log trace edge time edge.tmin)
       → (age.start < time) ⊎ ((age.start ≡ time) × (order.rank edge.source < order.rank node))
   came_before node time edge into age =
-      ⊎_elim (λ earlier. inl earlier) (λ not_earlier. inr (omega (arith, age.since), rises_into graph order node edge into (omega (arith, age.since))))
+      ⊎_elim (λ earlier. inl earlier)
+      (λ not_earlier. inr (omega (arith, age.since), rises_into graph order node edge into (omega (arith, age.since))))
       (cases_lt age.start time)
 
   -- What holds of an active node, wherever it holds of the sources that the failure came from, holds of each active node.
   pub traced_back : (P : ℕ → ℕ → Type 0)
       → ((node time : ℕ) → time_of trace node ≡ Some time
-      → ((edge : Edge) → Contains (edges_into graph node) edge → (age : HasAge log trace edge time edge.tmin) → P edge.source age.start) → P node time)
+      → ((edge : Edge) → Contains (edges_into graph node) edge → (age : HasAge log trace edge time edge.tmin) → P edge.source age.start)
+      → P node time)
       → (node time : ℕ) → time_of trace node ≡ Some time → P node time
   traced_back P step =
       by_number_and_rank order.rank (λ node time. time_of trace node ≡ Some time → P node time)

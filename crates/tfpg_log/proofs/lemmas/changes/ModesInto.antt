@@ -19,7 +19,8 @@ are_active_in edges numbers mode = list_all (λ number. is_there_active (slice_g
 
 -- one edge more
 pub active_more : (edges : List Edge) (numbers : List ℕ) (index : ℕ) (edge : Edge) (modes more : ActiveModes) → index < length numbers
-    → slice_get edges (get_or numbers index 0) ≡ Some edge → ((mode : ℕ) → has_mode modes mode ≡ are_active_in edges (take index numbers) mode)
+    → slice_get edges (get_or numbers index 0) ≡ Some edge
+    → ((mode : ℕ) → has_mode modes mode ≡ are_active_in edges (take index numbers) mode)
     → ((mode : ℕ) → has_mode more mode ≡ (has_mode modes mode && is_active_in edge mode))
     → (mode : ℕ) → has_mode more mode ≡ are_active_in edges (take (index + 1) numbers) mode
 active_more edges numbers index edge modes more within at so_far with_it mode =
@@ -28,7 +29,10 @@ active_more edges numbers index edge modes more within at so_far with_it mode =
     ∙ sym (list_all_more (λ number. is_there_active (slice_get edges number) mode) numbers index 0 within)
 
 -- The edges of the numbers of those into a node are the edges into it.
-pub all_into : (graph : Tfpg) (node mode : ℕ) → are_active_in graph.edges (incoming graph node) mode ≡ list_all (λ edge. is_active_in edge mode) (edges_into graph node)
+pub all_into : (graph : Tfpg) (node mode : ℕ)
+    → are_active_in graph.edges (incoming graph node) mode ≡ list_all (λ edge. is_active_in edge mode) (edges_into graph node)
 all_into graph node mode =
-    list_all-numbers_from (λ edge. eqb edge.target node) (λ edge. is_active_in edge mode) (λ number. is_there_active (slice_get graph.edges number) mode) 0 graph.edges
-    (λ i edge at. ap (λ number. is_there_active (slice_get graph.edges number) mode) (omega arith) ∙ ap (λ there. is_there_active there mode) at)
+    list_all-numbers_from (λ edge. eqb edge.target node) (λ edge. is_active_in edge mode)
+    (λ number. is_there_active (slice_get graph.edges number) mode) 0 graph.edges
+    (λ i edge at. ap (λ number. is_there_active (slice_get graph.edges number) mode) (omega arith)
+    ∙ ap (λ there. is_there_active there mode) at)

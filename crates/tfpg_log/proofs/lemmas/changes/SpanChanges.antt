@@ -9,7 +9,9 @@ use Rattle.tfpg_log.specs.inside.SpanIndex.{change_at, begin_of_span, mode_of_sp
 
 -- ---- the beginnings rise
 
-module _ (changes : List ModeChange) (rise : (number : ℕ) → number < length changes → begin_of_span changes number < begin_of_span changes (suc number)) where
+module _ (changes : List ModeChange)
+    (rise : (number : ℕ) → number < length changes → begin_of_span changes number < begin_of_span changes (suc number)) where
+  -- A later span does not begin before an earlier one.
   pub begins_rise : (one other : ℕ) → one ≤ other → other ≤ length changes → begin_of_span changes one ≤ begin_of_span changes other
   begins_rise one zero upto within = let same : one ≡ 0 = omega arith in omega (arith, ap (begin_of_span changes) same)
   begins_rise one (suc before) upto within = elim (cases_lt before one) [
@@ -31,9 +33,11 @@ module _ (changes : List ModeChange) (rise : (number : ℕ) → number < length 
   -- An instant lies in one span alone.
   pub one_span : (one other instant : ℕ) → IsInSpan changes one instant → IsInSpan changes other instant → one ≡ other
   one_span one other instant is also = elim (cases_lt one other) [
-    | inl below ↦ absurd (omega (arith, begins_rise (suc one) other (omega arith) also.counted, also.begun, is.unended (omega (arith, also.counted))))
+    | inl below ↦
+        absurd (omega (arith, begins_rise (suc one) other (omega arith) also.counted, also.begun, is.unended (omega (arith, also.counted))))
     | inr upto ↦ elim (cases_lt other one) [
-      | inl above ↦ absurd (omega (arith, begins_rise (suc other) one (omega arith) is.counted, is.begun, also.unended (omega (arith, is.counted))))
+      | inl above ↦
+          absurd (omega (arith, begins_rise (suc other) one (omega arith) is.counted, is.begun, also.unended (omega (arith, is.counted))))
       | inr same ↦ omega arith
     ]
   ]
@@ -47,12 +51,14 @@ record BeginSpansUpTo (modes : ℕ → ℕ) (time : ℕ) (changes : List ModeCha
   hold : (number instant : ℕ) → instant ≤ time → IsInSpan changes number instant → modes instant ≡ mode_of_span changes number
   begun : begin_of_span changes (length changes) ≤ time
 
-begin_of_span-take : (changes : List ModeChange) (count number : ℕ) → number ≤ count → begin_of_span (take count changes) number ≡ begin_of_span changes number
+begin_of_span-take : (changes : List ModeChange) (count number : ℕ) → number ≤ count
+    → begin_of_span (take count changes) number ≡ begin_of_span changes number
 begin_of_span-take changes count zero within = refl
 begin_of_span-take changes count (suc index) within =
     ap (λ (change : ModeChange). change.time + 1) (get_or-take count changes index (record { time = 0; mode = 0 }) (omega arith))
 
-mode_of_span-take : (changes : List ModeChange) (count number : ℕ) → number ≤ count → mode_of_span (take count changes) number ≡ mode_of_span changes number
+mode_of_span-take : (changes : List ModeChange) (count number : ℕ) → number ≤ count
+    → mode_of_span (take count changes) number ≡ mode_of_span changes number
 mode_of_span-take changes count zero within = refl
 mode_of_span-take changes count (suc index) within =
     ap (λ (change : ModeChange). change.mode) (get_or-take count changes index (record { time = 0; mode = 0 }) (omega arith))
@@ -68,15 +74,22 @@ module _ (modes : ℕ → ℕ) (changes : List ModeChange) (spans : BeginSpans m
   }
 
   -- else all but the last
-  front_kept : (count : ℕ) → length changes ≡ suc count → begin_of_span changes (suc count) ≡ time + 1 → BeginSpansUpTo modes time (take count changes)
+  front_kept : (count : ℕ) → length changes ≡ suc count → begin_of_span changes (suc count) ≡ time + 1
+      → BeginSpansUpTo modes time (take count changes)
   front_kept count more last =
       let long : length (take count changes) ≡ count = length-take-le count changes (omega arith) in
       record {
         rise = λ number lt.
-            omega (arith, spans.rise number (omega arith), begin_of_span-take changes count number (omega arith), begin_of_span-take changes count (suc number) (omega arith));
+            omega (
+              arith,
+              spans.rise number (omega arith),
+              begin_of_span-take changes count number (omega arith),
+              begin_of_span-take changes count (suc number) (omega arith),
+            );
         differ = λ number lt same.
             spans.differ number (omega arith)
-            (sym (mode_of_span-take changes count number (omega arith)) ∙ same ∙ mode_of_span-take changes count (suc number) (omega arith));
+            (sym (mode_of_span-take changes count number (omega arith)) ∙ same
+            ∙ mode_of_span-take changes count (suc number) (omega arith));
         hold = λ number instant by within.
             spans.hold number instant (record {
               counted = omega (arith, within.counted);
@@ -87,7 +100,13 @@ module _ (modes : ℕ → ℕ) (changes : List ModeChange) (spans : BeginSpans m
               ];
             })
             ∙ sym (mode_of_span-take changes count number (omega (arith, within.counted)));
-        begun = omega (arith, ap (begin_of_span (take count changes)) long, begin_of_span-take changes count count (omega arith), spans.rise count (omega arith));
+        begun =
+            omega (
+              arith,
+              ap (begin_of_span (take count changes)) long,
+              begin_of_span-take changes count count (omega arith),
+              spans.rise count (omega arith),
+            );
       }
 
   some_last : (count : ℕ) → begin_of_span changes count ≡ time + 1 → (before : ℕ) × (count ≡ suc before)
@@ -100,27 +119,36 @@ module _ (modes : ℕ → ℕ) (changes : List ModeChange) (spans : BeginSpans m
         let more = some_last (length changes) last in
         let front : length changes - 1 ≡ more.0 = omega (arith, more.1) in
         rw (again, front) (front_kept more.0 more.1 (sym (ap (begin_of_span changes) more.1) ∙ last)))
-    | inr new ↦ rw new (all_kept (let unlike = eqb-false (begin_of_span changes (length changes)) (time + 1) new in omega (arith, upto, unlike)))
+    | inr new ↦
+        rw new (all_kept (let unlike = eqb-false (begin_of_span changes (length changes)) (time + 1) new in omega (arith, upto, unlike)))
   ]
 
 -- ---- with the change
 
-begin_of_span-push : (changes : List ModeChange) (change : ModeChange) (number : ℕ) → number ≤ length changes → begin_of_span (changes ++ change ∷ []) number ≡ begin_of_span changes number
+begin_of_span-push : (changes : List ModeChange) (change : ModeChange) (number : ℕ) → number ≤ length changes
+    → begin_of_span (changes ++ change ∷ []) number ≡ begin_of_span changes number
 begin_of_span-push changes change zero within = refl
 begin_of_span-push changes change (suc index) within =
     ap (λ (c : ModeChange). c.time + 1) (get_or_append_left changes (change ∷ []) (record { time = 0; mode = 0 }) index (omega arith))
 
-mode_of_span-push : (changes : List ModeChange) (change : ModeChange) (number : ℕ) → number ≤ length changes → mode_of_span (changes ++ change ∷ []) number ≡ mode_of_span changes number
+mode_of_span-push : (changes : List ModeChange) (change : ModeChange) (number : ℕ) → number ≤ length changes
+    → mode_of_span (changes ++ change ∷ []) number ≡ mode_of_span changes number
 mode_of_span-push changes change zero within = refl
 mode_of_span-push changes change (suc index) within =
     ap (λ (c : ModeChange). c.mode) (get_or_append_left changes (change ∷ []) (record { time = 0; mode = 0 }) index (omega arith))
 
 module _ (modes : ℕ → ℕ) (time mode : ℕ) (changes : List ModeChange) (spans : BeginSpansUpTo modes time changes) (newer : ℕ → ℕ)
-    (before : (instant : ℕ) → instant ≤ time → newer instant ≡ modes instant) (behind : (instant : ℕ) → time < instant → newer instant ≡ mode) where
+    (before : (instant : ℕ) → instant ≤ time → newer instant ≡ modes instant)
+    (behind : (instant : ℕ) → time < instant → newer instant ≡ mode) where
   -- an instant of a span that is not the last is not after the time
   by_time : (number instant : ℕ) → IsInSpan changes number instant → number < length changes → instant ≤ time
   by_time number instant within more =
-      omega (arith, within.unended more, begins_rise changes spans.rise (suc number) (length changes) (omega arith) (omega arith), spans.begun)
+      omega (
+        arith,
+        within.unended more,
+        begins_rise changes spans.rise (suc number) (length changes) (omega arith) (omega arith),
+        spans.begun,
+      )
 
   same_mode : mode_of_span changes (length changes) ≡ mode → BeginSpans newer changes
   same_mode same = record {
@@ -147,14 +175,32 @@ module _ (modes : ℕ → ℕ) (time mode : ℕ) (changes : List ModeChange) (sp
       let its_mode : mode_of_span all (suc count) ≡ mode = ap (λ (c : ModeChange). c.mode) last in
       record {
         rise = λ number lt. elim (cases_lt number count) [
-          | inl below ↦ omega (arith, spans.rise number below, begin_of_span-push changes change number (omega arith), begin_of_span-push changes change (suc number) (omega arith))
+          | inl below ↦
+              omega (
+                arith,
+                spans.rise number below,
+                begin_of_span-push changes change number (omega arith),
+                begin_of_span-push changes change (suc number) (omega arith),
+              )
           | inr upto ↦ (let same : number ≡ count = omega arith in
-              omega (arith, ap (begin_of_span all) same, ap (λ n. begin_of_span all (suc n)) same, begins, begin_of_span-push changes change count (omega arith), spans.begun))
+              omega (
+                arith,
+                ap (begin_of_span all) same,
+                ap (λ n. begin_of_span all (suc n)) same,
+                begins,
+                begin_of_span-push changes change count (omega arith),
+                spans.begun,
+              ))
         ];
         differ = λ number lt same. elim (cases_lt number count) [
-          | inl below ↦ spans.differ number below (sym (mode_of_span-push changes change number (omega arith)) ∙ same ∙ mode_of_span-push changes change (suc number) (omega arith))
+          | inl below ↦
+              spans.differ number below
+              (sym (mode_of_span-push changes change number (omega arith)) ∙ same
+              ∙ mode_of_span-push changes change (suc number) (omega arith))
           | inr upto ↦ (let at : number ≡ count = omega arith in
-              other (sym (ap (mode_of_span all) at ∙ mode_of_span-push changes change count (omega arith)) ∙ same ∙ ap (λ n. mode_of_span all (suc n)) at ∙ its_mode))
+              other
+              (sym (ap (mode_of_span all) at ∙ mode_of_span-push changes change count (omega arith)) ∙ same
+              ∙ ap (λ n. mode_of_span all (suc n)) at ∙ its_mode))
         ];
         hold = λ number instant within. elim (cases_lt count number) [
           | inl above ↦ (let at : number ≡ suc count = omega (arith, within.counted) in
@@ -167,7 +213,8 @@ module _ (modes : ℕ → ℕ) (time mode : ℕ) (changes : List ModeChange) (sp
               } in
               let by : instant ≤ time = elim (cases_lt number count) [
                 | inl more ↦ by_time number instant earlier more
-                | inr all_of ↦ (let at : number ≡ count = omega arith in omega (arith, below, ap (λ n. begin_of_span all (suc n)) at, begins))
+                | inr all_of ↦
+                    (let at : number ≡ count = omega arith in omega (arith, below, ap (λ n. begin_of_span all (suc n)) at, begins))
               ] in
               before instant by ∙ spans.hold number instant by earlier ∙ sym (mode_of_span-push changes change number upto))
         ];
@@ -193,16 +240,19 @@ begun_with_it modes time mode changes spans = elim (cases_Bool (eqb (mode_of_spa
 
 -- After one more change, of a time that no earlier one is after, they begin the spans of the modes: up to that time as
 -- before, and then the change's.
-pub spans_with_change : (modes newer : ℕ → ℕ) (changes : List ModeChange) (time mode : ℕ) → BeginSpans modes changes → begin_of_span changes (length changes) ≤ time + 1
+pub spans_with_change : (modes newer : ℕ → ℕ) (changes : List ModeChange) (time mode : ℕ) → BeginSpans modes changes
+    → begin_of_span changes (length changes) ≤ time + 1
     → ((instant : ℕ) → instant ≤ time → newer instant ≡ modes instant) → ((instant : ℕ) → time < instant → newer instant ≡ mode)
     → BeginSpans newer (with_change changes time mode)
 spans_with_change modes newer changes time mode spans upto before behind =
     with_it modes time mode (kept_at changes time) (kept modes changes spans time upto) newer before behind
 
 -- The last of them then begins at the instant after that time or earlier.
-pub begun_with_change : (modes : ℕ → ℕ) (changes : List ModeChange) (time mode : ℕ) → BeginSpans modes changes → begin_of_span changes (length changes) ≤ time + 1
+pub begun_with_change : (modes : ℕ → ℕ) (changes : List ModeChange) (time mode : ℕ) → BeginSpans modes changes
+    → begin_of_span changes (length changes) ≤ time + 1
     → begin_of_span (with_change changes time mode) (length (with_change changes time mode)) ≤ time + 1
-begun_with_change modes changes time mode spans upto = begun_with_it modes time mode (kept_at changes time) (kept modes changes spans time upto)
+begun_with_change modes changes time mode spans upto =
+    begun_with_it modes time mode (kept_at changes time) (kept modes changes spans time upto)
 
 fewer_kept : (changes : List ModeChange) (time : ℕ) → length (kept_at changes time) ≤ length changes
 fewer_kept changes time = elim (cases_Bool (eqb (begin_of_span changes (length changes)) (time + 1))) [

@@ -16,7 +16,8 @@ use Rattle.tfpg_log.proofs.lemmas.instants.SpanRuns.{is_span, found_span}
 use Rattle.tfpg_log.proofs.lemmas.changes.SpanStarts.{number_within, number_is, IsEnd, is_end, begins_by, span_in_is}
 use Rattle.tfpg_log.proofs.lemmas.instants.WindowRuns.{whole, window_is_found}
 
-begin_by_test : (lo hi mode : ℕ) (span : Span) (b : Bool) → Some span ≡ cond b (Some (record { lo = lo; hi = hi; mode = mode })) None → span.lo ≡ lo
+begin_by_test : (lo hi mode : ℕ) (span : Span) (b : Bool) → Some span ≡ cond b (Some (record { lo = lo; hi = hi; mode = mode })) None
+    → span.lo ≡ lo
 begin_by_test lo hi mode span true some =
     let found : Span = record { lo = lo; hi = hi; mode = mode } in
     let same : span ≡ found = cc in
@@ -24,7 +25,8 @@ begin_by_test lo hi mode span true some =
 begin_by_test lo hi mode span false some = absurd cc
 
 -- the span begins where the changes say
-begin_is : (changes : List ModeChange) (number horizon : ℕ) (span : Span) → Some span ≡ span_in changes number horizon → span.lo ≡ begin_of_span changes number
+begin_is : (changes : List ModeChange) (number horizon : ℕ) (span : Span) → Some span ≡ span_in changes number horizon
+    → span.lo ≡ begin_of_span changes number
 begin_is changes number horizon span some =
     begin_by_test (begin_of_span changes number) (end_of_span changes number horizon) (mode_of_span changes number) span
     (leb number (length changes) && leb (begin_of_span changes number) horizon) some
@@ -39,15 +41,19 @@ module _ (log : Logbook) (changes : List ModeChange) (spans : BeginSpans (mode_a
 
   -- the window that the definition finds round the span of a number
   abbrev found_round : ℕ → ℕ → Option Window
-  found_round number horizon = option_and_then (λ span. window_round log (λ instant. has_mode modes (mode_at log instant)) span horizon) (span_at log number horizon)
+  found_round number horizon =
+      option_and_then (λ span. window_round log (λ instant. has_mode modes (mode_at log instant)) span horizon) (span_at log number horizon)
 
   -- Without a span there is no window.
-  pub none_without_span : (number horizon : ℕ) → horizon ≤ now_of log → None ≡ span_in changes number horizon → None ≡ found_round number horizon
+  pub none_without_span : (number horizon : ℕ) → horizon ≤ now_of log → None ≡ span_in changes number horizon
+      → None ≡ found_round number horizon
   none_without_span number horizon by_now none =
-      ap (option_and_then (λ span. window_round log (λ instant. has_mode modes (mode_at log instant)) span horizon)) (none ∙ span_in_is log changes spans number horizon by_now)
+      ap (option_and_then (λ span. window_round log (λ instant. has_mode modes (mode_at log instant)) span horizon))
+      (none ∙ span_in_is log changes spans number horizon by_now)
 
   -- Nor is there one round a span of another mode.
-  pub none_in_other_mode : (number horizon : ℕ) (span : Span) → horizon ≤ now_of log → Some span ≡ span_in changes number horizon → has_mode modes span.mode ≡ false
+  pub none_in_other_mode : (number horizon : ℕ) (span : Span) → horizon ≤ now_of log → Some span ≡ span_in changes number horizon
+      → has_mode modes span.mode ≡ false
       → None ≡ found_round number horizon
   none_in_other_mode number horizon span by_now some other =
       let there : Some span ≡ span_at log number horizon = some ∙ span_in_is log changes spans number horizon by_now in
@@ -55,7 +61,8 @@ module _ (log : Logbook) (changes : List ModeChange) (spans : BeginSpans (mode_a
       sym (cond-false (passes span.lo) _ None fails)
       ∙ ap (option_and_then (λ s. window_round log (λ instant. has_mode modes (mode_at log instant)) s horizon)) there
 
-  before_first : (first instant : ℕ) → first ≤ length changes → is_active_before modes changes first ≡ false → instant + 1 ≡ begin_of_span changes first
+  before_first : (first instant : ℕ) → first ≤ length changes → is_active_before modes changes first ≡ false
+      → instant + 1 ≡ begin_of_span changes first
       → passes instant ≡ true → ⊥
   before_first zero instant counted alone before passing = absurd (omega arith)
   before_first (suc first) instant counted alone before passing =
@@ -70,7 +77,8 @@ module _ (log : Logbook) (changes : List ModeChange) (spans : BeginSpans (mode_a
     by : (number ≤ length changes) × (begin_of_span changes number ≤ horizon)
     by = begins_by log changes spans number horizon span (sym there)
 
-    module _ (first last : ℕ) (is_first : IsRunStart modes changes number first) (is_last : IsRunEnd modes changes number horizon last) where
+    module _ (first last : ℕ) (is_first : IsRunStart modes changes number first)
+        (is_last : IsRunEnd modes changes number horizon last) where
       end : IsEnd log changes spans last horizon (end_of_span changes last horizon)
       end = is_end log changes spans last horizon is_last.begun
 
@@ -106,7 +114,8 @@ module _ (log : Logbook) (changes : List ModeChange) (spans : BeginSpans (mode_a
         | inr by_last ↦ by_last
       ]
 
-      throughout : (instant : ℕ) → begin_of_span changes first ≤ instant → instant ≤ end_of_span changes last horizon → passes instant ≡ true
+      throughout : (instant : ℕ) → begin_of_span changes first ≤ instant → instant ≤ end_of_span changes last horizon
+          → passes instant ≡ true
       throughout instant from upto =
           ap (has_mode modes) (spans.hold (span_number log instant) instant (number_within log changes spans instant))
           ∙ active (span_number log instant) (from_first instant from) (upto_last instant upto)
@@ -115,19 +124,31 @@ module _ (log : Logbook) (changes : List ModeChange) (spans : BeginSpans (mode_a
       after_last instant behind upto passing =
           let next = end.next (omega arith) in
           let within : IsInSpan changes (suc last) instant =
-          record { counted = omega (arith, next.0); begun = omega (arith, next.1); unended = λ more. omega (arith, next.1, spans.rise (suc last) more) } in
-          let mode : has_mode modes (change_at changes last).mode ≡ true = sym (ap (has_mode modes) (spans.hold (suc last) instant within)) ∙ passing in
+          record {
+            counted = omega (arith, next.0);
+            begun = omega (arith, next.1);
+            unended = λ more. omega (
+              arith,
+              next.1,
+              spans.rise (suc last) more,
+            );
+          } in
+          let mode : has_mode modes (change_at changes last).mode ≡ true =
+          sym (ap (has_mode modes) (spans.hold (suc last) instant within)) ∙ passing in
           both_ways (is_active_after modes changes last horizon) is_last.alone
-          (and_from (ltb last (length changes)) (ltb (change_at changes last).time horizon && has_mode modes (change_at changes last).mode) (lt-ltb last (length changes) next.0)
+          (and_from (ltb last (length changes)) (ltb (change_at changes last).time horizon && has_mode modes (change_at changes last).mode)
+          (lt-ltb last (length changes) next.0)
           (and_from (ltb (change_at changes last).time horizon) (has_mode modes (change_at changes last).mode)
           (lt-ltb (change_at changes last).time horizon (omega (arith, next.1))) mode))
 
       run : IsMaximalRun (λ instant. IsTrue (passes instant)) (begin_of_span changes first) (end_of_span changes last horizon) horizon
       run = record {
-        in_order = omega (arith, begins_rise changes spans.rise first last (omega (arith, is_first.upto, is_last.from)) is_last.counted, end.from);
+        in_order =
+            omega (arith, begins_rise changes spans.rise first last (omega (arith, is_first.upto, is_last.from)) is_last.counted, end.from);
         in_range = end.in_range;
         throughout = throughout;
-        not_before = λ instant before passing. before_first first instant (omega (arith, is_first.upto, by.0)) is_first.alone before passing;
+        not_before =
+            λ instant before passing. before_first first instant (omega (arith, is_first.upto, by.0)) is_first.alone before passing;
         not_after = after_last;
       }
 
@@ -142,7 +163,8 @@ module _ (log : Logbook) (changes : List ModeChange) (spans : BeginSpans (mode_a
             omega (arith, begins_rise changes spans.rise number last is_last.from is_last.counted, begins, end.from),
           )
 
-      is_window : IsWindowRound log (λ instant. has_mode modes (mode_at log instant)) number horizon (record { first = first; lo = begin_of_span changes first; hi = end_of_span changes last horizon })
+      is_window : IsWindowRound log (λ instant. has_mode modes (mode_at log instant)) number horizon
+          (record { first = first; lo = begin_of_span changes first; hi = end_of_span changes last horizon })
       is_window =
           let found : Window = record { first = first; lo = begin_of_span changes first; hi = end_of_span changes last horizon } in
           let lies = whole log passes horizon passes_alike found run in
@@ -156,14 +178,20 @@ module _ (log : Logbook) (changes : List ModeChange) (spans : BeginSpans (mode_a
       -- So the beginning of the first span is not missed.
       pub no_beginning : None ≡ cond (leb (begin_of_span changes first) horizon) (Some (begin_of_span changes first)) None → ⊥
       no_beginning none =
-          let begins = cond-true (leb (begin_of_span changes first) horizon) (Some (begin_of_span changes first)) None (le-leb (begin_of_span changes first) horizon first_begins) in
+          let begins =
+          cond-true (leb (begin_of_span changes first) horizon) (Some (begin_of_span changes first)) None
+          (le-leb (begin_of_span changes first) horizon first_begins) in
           absurd cc
 
       -- What the walk over the spans finds is the window.
-      pub window_walked : (lo hi : ℕ) → Some lo ≡ cond (leb (begin_of_span changes first) horizon) (Some (begin_of_span changes first)) None → hi ≡ end_of_span changes last horizon
+      pub window_walked : (lo hi : ℕ) → Some lo ≡ cond (leb (begin_of_span changes first) horizon) (Some (begin_of_span changes first)) None
+          → hi ≡ end_of_span changes last horizon
           → Some (record { first = first; lo = lo; hi = hi }) ≡ found_round number horizon
       window_walked lo hi begun ended =
-          let begins = cond-true (leb (begin_of_span changes first) horizon) (Some (begin_of_span changes first)) None (le-leb (begin_of_span changes first) horizon first_begins) in
+          let begins =
+          cond-true (leb (begin_of_span changes first) horizon) (Some (begin_of_span changes first)) None
+          (le-leb (begin_of_span changes first) horizon first_begins) in
           let from : lo ≡ begin_of_span changes first = cc in
           let found : Window = record { first = first; lo = begin_of_span changes first; hi = end_of_span changes last horizon } in
-          (λ i. Some (record { first = first; lo = from i; hi = ended i })) ∙ sym (window_is_found log passes horizon passes_alike number found is_window)
+          (λ i. Some (record { first = first; lo = from i; hi = ended i }))
+          ∙ sym (window_is_found log passes horizon passes_alike number found is_window)

@@ -29,6 +29,7 @@ alarm_index_new events time node none =
     position-push_yes (is_alarm_of node) events (Alarm time node) (no_index events node none) (eq-eqb node node refl)
 
 -- None of the first events is an alarm of the node exactly where its index is not among theirs.
-pub none_before : (events : List Event) (count node : ℕ) → is_none (alarm_among (take count events) node) ≡ is_from count (alarm_index events node)
+pub none_before : (events : List Event) (count node : ℕ)
+    → is_none (alarm_among (take count events) node) ≡ is_from count (alarm_index events node)
 none_before events count node =
     is_none-option_map time_of_event (find (is_alarm_of node) (take count events)) ∙ find-take_none (is_alarm_of node) events count

@@ -15,7 +15,8 @@ pub record LeavesInterval (graph : Tfpg) (log : Logbook) (node time : ℕ) (inte
 
 module _ (graph : Tfpg) (log : Logbook) (node : ℕ) where
   -- The instants that are left are those that the lag says.
-  pub interval_is : (time : ℕ) (interval : Interval) → alarm_interval graph log node time ≡ Some interval → LeavesInterval graph log node time interval
+  pub interval_is : (time : ℕ) (interval : Interval) → alarm_interval graph log node time ≡ Some interval
+      → LeavesInterval graph log node time interval
   interval_is time interval e =
       let parts = then_some-true (not (is_ignored log node)) (interval_before (lag_or_zero graph node) time) interval e in
       record {
@@ -25,7 +26,8 @@ module _ (graph : Tfpg) (log : Logbook) (node : ℕ) where
       }
 
   -- Where one alarm of a node leaves no instants, none leaves any.
-  pub none_left : (time other : ℕ) (interval : Interval) → alarm_interval graph log node time ≡ None → alarm_interval graph log node other ≡ Some interval → ⊥
+  pub none_left : (time other : ℕ) (interval : Interval) → alarm_interval graph log node time ≡ None
+      → alarm_interval graph log node other ≡ Some interval → ⊥
   none_left time other interval none some =
       let there : alarm_interval graph log node time ≡ Some (interval_before (lag_or_zero graph node) time) =
       ap (λ b. then_some (not b) (interval_before (lag_or_zero graph node) time)) (interval_is other interval some).heard in

@@ -15,7 +15,8 @@ pub now-with_event : (log : Logbook) (event : Event) → now_of (with_event log 
 now-with_event log event = fold_push (λ last e. time_of_event e) 0 log.events event
 
 -- an event stays in a log that goes on
-pub event_at-with_event : (log : Logbook) (number : ℕ) (event last : Event) → event_at log number ≡ Some event → event_at (with_event log last) number ≡ Some event
+pub event_at-with_event : (log : Logbook) (number : ℕ) (event last : Event) → event_at log number ≡ Some event
+    → event_at (with_event log last) number ≡ Some event
 event_at-with_event log zero event last e = absurd cc
 event_at-with_event log (suc before) event last e = slice_get-append_some log.events (last ∷ []) before event e
 

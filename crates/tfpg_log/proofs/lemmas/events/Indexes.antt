@@ -21,7 +21,8 @@ use Rattle.tfpg_log.proofs.lemmas.changes.ModeChanges.{mode_after-append, mode_b
 use Rattle.tfpg_log.proofs.lemmas.changes.SpanChanges.{times_rise, spans_with_change, begun_with_change, one_more_change}
 
 -- a change of mode apart, one more event leaves the spans as they are
-same_spans : (events : List Event) (changes : List ModeChange) (event : Event) → ((held instant : ℕ) → mode_after held (event ∷ []) instant ≡ held)
+same_spans : (events : List Event) (changes : List ModeChange) (event : Event)
+    → ((held instant : ℕ) → mode_after held (event ∷ []) instant ≡ held)
     → BeginSpans (mode_after 0 events) changes → BeginSpans (mode_after 0 (events ++ event ∷ [])) changes
 same_spans events changes event no_change spans = record {
   rise = spans.rise;
@@ -34,7 +35,8 @@ same_spans events changes event no_change spans = record {
 abbrev AreNodesEvents : Logbook → Event → List NodeEvents → Type 0
 AreNodesEvents log event nodes = (node : ℕ) → IsNodeEvents (with_event log event) node (events_of nodes node)
 
-indexed_by : (log : Logbook) (nodes longer : List NodeEvents) (sweep last : Option ℕ) (changes : List ModeChange) (count : ℕ) (event : Event) → IsLogIndex log nodes sweep changes count
+indexed_by : (log : Logbook) (nodes longer : List NodeEvents) (sweep last : Option ℕ) (changes : List ModeChange) (count : ℕ)
+    (event : Event) → IsLogIndex log nodes sweep changes count
     → length log.events < MAX_EVENTS → now_of log ≤ time_of_event event → time_of_event event ≤ MAX_TIME → is_mode_change event ≡ false
     → ((held instant : ℕ) → mode_after held (event ∷ []) instant ≡ held)
     → AreNodesEvents log event longer → IsLast (IsSweep (with_event log event)) last
@@ -72,7 +74,8 @@ own_set log nodes longer event index entry own same lt is others node = elim (eq
       (node_kept log event node (events_of nodes node) (others node apart).0 (others node apart).1 (own node)))
 ]
 
-module _ (log : Logbook) (nodes : List NodeEvents) (sweep : Option ℕ) (changes : List ModeChange) (count : ℕ) (index : IsLogIndex log nodes sweep changes count)
+module _ (log : Logbook) (nodes : List NodeEvents) (sweep : Option ℕ) (changes : List ModeChange) (count : ℕ)
+    (index : IsLogIndex log nodes sweep changes count)
     (room : length log.events < MAX_EVENTS) (time : ℕ) (not_back : now_of log ≤ time) (in_range : time ≤ MAX_TIME) where
   -- A tick leaves the index as it is.
   pub indexed_tick : IsLogIndex (with_event log (Tick time)) nodes sweep changes count
@@ -82,14 +85,16 @@ module _ (log : Logbook) (nodes : List NodeEvents) (sweep : Option ℕ) (changes
       (last_sweep_kept log (Tick time) sweep (λ t e. absurd cc) index.swept)
 
   -- A sweep is the last.
-  pub indexed_sweep : (number : ℕ) → number ≡ suc (length log.events) → IsLogIndex (with_event log (Sweep time)) nodes (Some number) changes count
+  pub indexed_sweep : (number : ℕ) → number ≡ suc (length log.events)
+      → IsLogIndex (with_event log (Sweep time)) nodes (Some number) changes count
   indexed_sweep number at =
       indexed_by log nodes nodes sweep (Some number) changes count (Sweep time) index room not_back in_range refl (λ held instant. refl)
       (own_kept log nodes (Sweep time) index.own (λ node. refl) (λ node t e. absurd cc))
       (last_sweep_new log time number at)
 
   -- A change of mode may begin a span, and is counted.
-  pub indexed_mode : (mode : ℕ) → count < MAX_MODE_CHANGES → IsLogIndex (with_event log (Mode time mode)) nodes sweep (with_change changes time mode) (count + 1)
+  pub indexed_mode : (mode : ℕ) → count < MAX_MODE_CHANGES
+      → IsLogIndex (with_event log (Mode time mode)) nodes sweep (with_change changes time mode) (count + 1)
   indexed_mode mode mode_room =
       let last : begin_of_span changes (length changes) ≤ time + 1 = omega (arith, index.by_now, not_back) in
       let spans : BeginSpans (mode_after 0 (log.events ++ Mode time mode ∷ [])) (with_change changes time mode) =
@@ -104,19 +109,47 @@ module _ (log : Logbook) (nodes : List NodeEvents) (sweep : Option ℕ) (changes
         fewer = omega (arith, index.fewer, one_more_change changes time mode);
         spans = spans;
         in_order = times_rise (with_change changes time mode) spans.rise;
-        by_now = omega (arith, begun_with_change (mode_after 0 log.events) changes time mode index.spans last, now-with_event log (Mode time mode));
+        by_now =
+            omega (
+              arith,
+              begun_with_change (mode_after 0 log.events) changes time mode index.spans last,
+              now-with_event log (Mode time mode),
+            );
         ordered = ordered-with_event log (Mode time mode) index.ordered not_back in_range;
       }
 
-  module _ (longer : List NodeEvents) (same : AreSameOfNodes longer nodes) (node : ℕ) (lt : node < length longer) (before : NodeEvents) (is : IsNodeEvents log node before)
+  module _ (longer : List NodeEvents) (same : AreSameOfNodes longer nodes) (node : ℕ) (lt : node < length longer) (before : NodeEvents)
+      (is : IsNodeEvents log node before)
       (number : ℕ) (at : number ≡ suc (length log.events)) where
     -- A silence of a node is its last.
     pub indexed_silence : IsLogIndex (with_event log (Silent time node))
-        (set longer node (record { first_alarm = before.first_alarm; last_alarm = before.last_alarm; silence = Some number; sweep = before.sweep })) sweep changes count
+        (set longer node
+        (record {
+          first_alarm = before.first_alarm;
+          last_alarm = before.last_alarm;
+          silence = Some number;
+          sweep =
+              before.sweep;
+        })) sweep changes count
     indexed_silence =
-        indexed_by log nodes (set longer node (record { first_alarm = before.first_alarm; last_alarm = before.last_alarm; silence = Some number; sweep = before.sweep })) sweep sweep changes count (Silent time node)
+        indexed_by log nodes
+        (set longer node
+        (record {
+          first_alarm = before.first_alarm;
+          last_alarm = before.last_alarm;
+          silence = Some number;
+          sweep =
+              before.sweep;
+        })) sweep sweep changes count (Silent time node)
         index room not_back in_range refl (λ held instant. refl)
-        (own_set log nodes longer (Silent time node) node (record { first_alarm = before.first_alarm; last_alarm = before.last_alarm; silence = Some number; sweep = before.sweep }) index.own same lt
+        (own_set log nodes longer (Silent time node) node
+        (record {
+          first_alarm = before.first_alarm;
+          last_alarm = before.last_alarm;
+          silence = Some number;
+          sweep =
+              before.sweep;
+        }) index.own same lt
         (node_silenced log time number at node before is)
         (λ other apart. (refl, λ t e. (let it : node ≡ other = cc in apart (sym it)))))
         (last_sweep_kept log (Silent time node) sweep (λ t e. absurd cc) index.swept)
@@ -132,7 +165,8 @@ module _ (log : Logbook) (nodes : List NodeEvents) (sweep : Option ℕ) (changes
         (last_sweep_kept log (Alarm time node) sweep (λ t e. absurd cc) index.swept)
 
 -- What the log ignores does not bear on its index.
-pub indexed_ignoring : (log : Logbook) (ignored : List ℕ) (nodes : List NodeEvents) (sweep : Option ℕ) (changes : List ModeChange) (count : ℕ)
+pub indexed_ignoring : (log : Logbook) (ignored : List ℕ) (nodes : List NodeEvents) (sweep : Option ℕ) (changes : List ModeChange)
+    (count : ℕ)
     → IsLogIndex log nodes sweep changes count → IsLogIndex (ignoring log ignored) nodes sweep changes count
 indexed_ignoring log ignored nodes sweep changes count index = record {
   few = index.few;

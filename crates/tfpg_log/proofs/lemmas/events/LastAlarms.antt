@@ -45,5 +45,9 @@ pub last_alarm_never_falls : (earlier later : Logbook) → GoesOn earlier later 
     → (last : Option ℕ) → IsLastAlarm later node last → (other : ℕ) × (last ≡ Some other) × (number ≤ other)
 last_alarm_never_falls earlier later goes_on node number was None never =
     absurd (never number was.time (events_kept earlier later goes_on number (Alarm was.time node) was.alarm))
-last_alarm_never_falls earlier later goes_on node number was (Some other) is_last =
-    (other, refl, upto_last later node other is_last number was.time (events_kept earlier later goes_on number (Alarm was.time node) was.alarm))
+last_alarm_never_falls earlier later goes_on node number was (Some other) is_last = (
+  other,
+  refl,
+  upto_last later node other is_last number was.time
+      (events_kept earlier later goes_on number (Alarm was.time node) was.alarm),
+)

@@ -18,17 +18,21 @@ use Rattle.tfpg_log.proofs.lemmas.events.SilenceTimes.{quiet_by, says_inactive, 
 -- ---- sweeps
 
 module _ (graph : Tfpg) (log : Logbook) (node : ℕ) (monitored : is_monitored graph node ≡ true) where
-  swept_where : (number : ℕ) → IsSweep log number → is_none (alarm_among (take (number - 1) log.events) node) ≡ true → IsSwept graph log node number
-  swept_where number sweep none = (sweep, and_from (is_monitored graph node) (is_none (alarm_among (take (number - 1) log.events) node)) monitored none)
+  swept_where : (number : ℕ) → IsSweep log number → is_none (alarm_among (take (number - 1) log.events) node) ≡ true
+      → IsSwept graph log node number
+  swept_where number sweep none =
+      (sweep, and_from (is_monitored graph node) (is_none (alarm_among (take (number - 1) log.events) node)) monitored none)
 
   -- none of the events before it is an alarm, where it is before the alarm
-  before_alarm : (alarm number : ℕ) → alarm_event log node ≡ Some alarm → number < alarm → is_none (alarm_among (take (number - 1) log.events) node) ≡ true
+  before_alarm : (alarm number : ℕ) → alarm_event log node ≡ Some alarm → number < alarm
+      → is_none (alarm_among (take (number - 1) log.events) node) ≡ true
   before_alarm alarm number e lt = none_before_alarm log (number - 1) node alarm e ∙ lt-ltb (number - 1) alarm (omega (arith, lt))
 
   -- a sweep that silences the node is before its alarm
   swept_before : (alarm number : ℕ) → alarm_event log node ≡ Some alarm → IsSwept graph log node number → number < alarm
   swept_before alarm number e swept =
-      let none : is_none (alarm_among (take (number - 1) log.events) node) ≡ true = (and_parts (is_monitored graph node) (is_none (alarm_among (take (number - 1) log.events) node)) swept.1).1 in
+      let none : is_none (alarm_among (take (number - 1) log.events) node) ≡ true =
+      (and_parts (is_monitored graph node) (is_none (alarm_among (take (number - 1) log.events) node)) swept.1).1 in
       let lt : number - 1 < alarm = ltb-true (number - 1) alarm (sym (none_before_alarm log (number - 1) node alarm e) ∙ none) in
       let is = alarm_event_is log node alarm e in
       elim (cases_lt number alarm) [
@@ -40,14 +44,16 @@ module _ (graph : Tfpg) (log : Logbook) (node : ℕ) (monitored : is_monitored g
       ]
 
   -- The last sweep before the alarm is the last that silences the node.
-  pub last_swept_before : (alarm : ℕ) (result : Option ℕ) → alarm_event log node ≡ Some alarm → IsLast (IsSweepBefore log alarm) result → IsLast (IsSwept graph log node) result
+  pub last_swept_before : (alarm : ℕ) (result : Option ℕ) → alarm_event log node ≡ Some alarm → IsLast (IsSweepBefore log alarm) result
+      → IsLast (IsSwept graph log node) result
   last_swept_before alarm result e is =
       last_carried (IsSweepBefore log alarm) (IsSwept graph log node) result
       (λ number sweep. swept_where number sweep.0 (before_alarm alarm number e sweep.1))
       (λ number swept. (swept.0, swept_before alarm number e swept)) is
 
   -- Without an alarm it is the last sweep.
-  pub last_swept_ever : (result : Option ℕ) → alarm_event log node ≡ None → IsLast (IsSweep log) result → IsLast (IsSwept graph log node) result
+  pub last_swept_ever : (result : Option ℕ) → alarm_event log node ≡ None → IsLast (IsSweep log) result
+      → IsLast (IsSwept graph log node) result
   last_swept_ever result e is =
       last_carried (IsSweep log) (IsSwept graph log node) result
       (λ number sweep. swept_where number sweep (none_before_none log (number - 1) node e))
@@ -56,7 +62,8 @@ module _ (graph : Tfpg) (log : Logbook) (node : ℕ) (monitored : is_monitored g
 -- ---- the later of two
 
 module _ (P Q : ℕ → Type 0) where
-  later_of_both : (one other : ℕ) → IsLast P (Some one) → IsLast Q (Some other) → IsLast (λ number. P number ⊎ Q number) (Some (max one other))
+  later_of_both : (one other : ℕ) → IsLast P (Some one) → IsLast Q (Some other)
+      → IsLast (λ number. P number ⊎ Q number) (Some (max one other))
   later_of_both one other first second = (
     elim (cases_lt one other) [
       | inl lt ↦ (let at : other ≡ max one other = omega (arith, lt) in subst (λ number. P number ⊎ Q number) at (inr second.0))
@@ -108,13 +115,15 @@ module _ (graph : Tfpg) (log : Logbook) (node : ℕ) where
   )
 
   by_event : (number time : ℕ) (event : Option Event) → event_at log number ≡ event
-      → option_and_then (λ event. silence_time graph (first_events log (number - 1)) event node) event ≡ Some time → IsOwnSilence log node number ⊎ IsSwept graph log node number
+      → option_and_then (λ event. silence_time graph (first_events log (number - 1)) event node) event ≡ Some time
+      → IsOwnSilence log node number ⊎ IsSwept graph log node number
   by_event number time None at e = absurd cc
   by_event number time (Some (Alarm own alarmed)) at e = absurd cc
   by_event number time (Some (Silent own silent)) at e =
       let same : silent ≡ node = eqb-true silent node (cond_some (eqb silent node) own time e).0 in
       inl (own, at ∙ ap (λ n. Some (Silent own n)) same)
-  by_event number time (Some (Sweep own)) at e = inr ((own, at), (cond_some (is_monitored graph node && is_none (alarm_among (take (number - 1) log.events) node)) own time e).0)
+  by_event number time (Some (Sweep own)) at e =
+      inr ((own, at), (cond_some (is_monitored graph node && is_none (alarm_among (take (number - 1) log.events) node)) own time e).0)
   by_event number time (Some (Tick own)) at e = absurd cc
   by_event number time (Some (Mode own mode)) at e = absurd cc
 
@@ -122,7 +131,8 @@ module _ (graph : Tfpg) (log : Logbook) (node : ℕ) where
   silences_by number silence = by_event number silence.0 (event_at log number) refl silence.1
 
   -- The last silence of a node is the later of its own last one and of the last sweep that is one.
-  pub last_silence_is : (one other : Option ℕ) → IsLast (IsOwnSilence log node) one → IsLast (IsSwept graph log node) other → IsLast (IsSilence graph log node) (later_of one other)
+  pub last_silence_is : (one other : Option ℕ) → IsLast (IsOwnSilence log node) one → IsLast (IsSwept graph log node) other
+      → IsLast (IsSilence graph log node) (later_of one other)
   last_silence_is one other own swept =
       last_carried (λ number. IsOwnSilence log node number ⊎ IsSwept graph log node number) (IsSilence graph log node) (later_of one other)
       (λ number either. elim either [

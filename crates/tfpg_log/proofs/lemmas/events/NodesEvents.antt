@@ -18,7 +18,8 @@ use Rattle.tfpg_log.proofs.lemmas.events.PastKept.{alarm_events_kept}
 -- ---- the last number of which something holds
 
 -- what holds of the same numbers has the same last one
-pub last_carried : (P Q : ℕ → Type 0) (result : Option ℕ) → ((number : ℕ) → P number → Q number) → ((number : ℕ) → Q number → P number) → IsLast P result → IsLast Q result
+pub last_carried : (P Q : ℕ → Type 0) (result : Option ℕ) → ((number : ℕ) → P number → Q number) → ((number : ℕ) → Q number → P number)
+    → IsLast P result → IsLast Q result
 last_carried P Q None forth back none = λ number holds. none number (back number holds)
 last_carried P Q (Some last) forth back is = (forth last is.0, λ later above holds. is.1 later above (back later holds))
 
@@ -78,7 +79,8 @@ module _ (log : Logbook) (event : Event) where
   sweep_kept number sweep = (sweep.0, event_at-with_event log number (Sweep sweep.0) event sweep.1)
 
   -- An event that is no sweep leaves the last one.
-  pub last_sweep_kept : (result : Option ℕ) → ((time : ℕ) → event ≡ Sweep time → ⊥) → IsLast (IsSweep log) result → IsLast (IsSweep (with_event log event)) result
+  pub last_sweep_kept : (result : Option ℕ) → ((time : ℕ) → event ≡ Sweep time → ⊥) → IsLast (IsSweep log) result
+      → IsLast (IsSweep (with_event log event)) result
   last_sweep_kept result other is =
       last_carried (IsSweep log) (IsSweep (with_event log event)) result sweep_kept
       (λ number sweep. elim (event_cases log event (Sweep sweep.0) number sweep.1) [
@@ -112,7 +114,8 @@ module _ (log : Logbook) (event : Event) where
       last_sweep_before_kept alarm result ((alarm_event_within log node alarm at).1) (sweep alarm at)
 
   -- An event that is no alarm and no silence of the node leaves what is kept of it.
-  pub node_kept : (node : ℕ) (events : NodeEvents) → is_alarm_of node event ≡ false → ((time : ℕ) → event ≡ Silent time node → ⊥) → IsNodeEvents log node events
+  pub node_kept : (node : ℕ) (events : NodeEvents) → is_alarm_of node event ≡ false → ((time : ℕ) → event ≡ Silent time node → ⊥)
+      → IsNodeEvents log node events
       → IsNodeEvents (with_event log event) node events
   node_kept node events quiet other is = record {
     first_alarm = is.first_alarm ∙ sym (alarm_event_kept node quiet);
@@ -125,7 +128,8 @@ module _ (log : Logbook) (time number : ℕ) (at : number ≡ suc (length log.ev
   -- A sweep is the last one.
   pub last_sweep_new : IsLast (IsSweep (with_event log (Sweep time))) (Some number)
   last_sweep_new =
-      last_at (IsSweep (with_event log (Sweep time))) number (time, ap (event_at (with_event log (Sweep time))) at ∙ event_at-last log (Sweep time))
+      last_at (IsSweep (with_event log (Sweep time))) number
+      (time, ap (event_at (with_event log (Sweep time))) at ∙ event_at-last log (Sweep time))
       (λ other sweep. elim (event_cases log (Sweep time) (Sweep sweep.0) other sweep.1) [
         | inl old ↦ omega (arith, at, event_within log (Sweep sweep.0) other old)
         | inr new ↦ omega (arith, at, new.0)
@@ -165,7 +169,8 @@ module _ (log : Logbook) (time number : ℕ) (at : number ≡ suc (length log.ev
 
     -- at the first alarm of the node, the last sweep so far is the last before it
     first_alarmed : (sweep : Option ℕ) → events.first_alarm ≡ None → IsLast (IsSweep log) sweep
-        → IsNodeEvents (with_event log (Alarm time node)) node (record { first_alarm = Some number; last_alarm = Some number; silence = events.silence; sweep = sweep })
+        → IsNodeEvents (with_event log (Alarm time node)) node
+        (record { first_alarm = Some number; last_alarm = Some number; silence = events.silence; sweep = sweep })
     first_alarmed sweep none last = record {
       first_alarm = sym alarm;
       last_alarm = last_alarm_new;
@@ -196,7 +201,8 @@ module _ (log : Logbook) (time number : ℕ) (at : number ≡ suc (length log.ev
 
     -- a later alarm of the node leaves its first, and the last sweep before that
     alarmed_again : (first : ℕ) → events.first_alarm ≡ Some first
-        → IsNodeEvents (with_event log (Alarm time node)) node (record { first_alarm = Some first; last_alarm = Some number; silence = events.silence; sweep = events.sweep })
+        → IsNodeEvents (with_event log (Alarm time node)) node
+        (record { first_alarm = Some first; last_alarm = Some number; silence = events.silence; sweep = events.sweep })
     alarmed_again first there = record {
       first_alarm = sym kept;
       last_alarm = last_alarm_new;
@@ -211,7 +217,9 @@ module _ (log : Logbook) (time number : ℕ) (at : number ≡ suc (length log.ev
         was = sym is.first_alarm ∙ there
 
         kept : alarm_event (with_event log (Alarm time node)) node ≡ Some first
-        kept = alarm_events_kept log (with_event log (Alarm time node)) (record { more = Alarm time node ∷ []; events = refl; ignored = refl }) node first was
+        kept =
+            alarm_events_kept log (with_event log (Alarm time node))
+            (record { more = Alarm time node ∷ []; events = refl; ignored = refl }) node first was
 
     alarmed_by : (first sweep : Option ℕ) → events.first_alarm ≡ first → IsLast (IsSweep log) sweep
         → IsNodeEvents (with_event log (Alarm time node)) node (with_alarm_after first events number sweep)
@@ -219,5 +227,6 @@ module _ (log : Logbook) (time number : ℕ) (at : number ≡ suc (length log.ev
     alarmed_by (Some first) sweep there last = alarmed_again first there
 
     -- An alarm of the node is its last one.
-    pub node_alarmed : (sweep : Option ℕ) → IsLast (IsSweep log) sweep → IsNodeEvents (with_event log (Alarm time node)) node (with_alarm events number sweep)
+    pub node_alarmed : (sweep : Option ℕ) → IsLast (IsSweep log) sweep
+        → IsNodeEvents (with_event log (Alarm time node)) node (with_alarm events number sweep)
     node_alarmed sweep last = alarmed_by events.first_alarm sweep refl last

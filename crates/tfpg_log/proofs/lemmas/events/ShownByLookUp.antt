@@ -17,7 +17,8 @@ module _ (graph : Tfpg) (log : Logbook) (trace : List Activation) (node time : �
   -- ---- alarms
 
   -- An alarm that is shown of a node that is not ignored is shown by when the node became active.
-  pub shows_alarm_heard : is_ignored log node ≡ false → ShowsAlarm graph log trace node time → IsActivatedBefore trace node (lag_or_zero graph node) time
+  pub shows_alarm_heard : is_ignored log node ≡ false → ShowsAlarm graph log trace node time
+      → IsActivatedBefore trace node (lag_or_zero graph node) time
   shows_alarm_heard heard shows = ⊎_elim (λ ignored. absurd (false≢true (sym heard ∙ ignored))) (λ active. active) shows.1
 
   -- An alarm that is shown leaves only instants of which the node became active at one.
@@ -30,14 +31,17 @@ module _ (graph : Tfpg) (log : Logbook) (trace : List Activation) (node time : �
       (active.0, active.1, omega (arith, is.earliest, from), omega (arith, is.latest, upto))
 
   -- and the other way round
-  pub shows_alarm_from_interval : IsTrue (is_monitored graph node) → KeepsInterval graph log trace node time → ShowsAlarm graph log trace node time
+  pub shows_alarm_from_interval : IsTrue (is_monitored graph node) → KeepsInterval graph log trace node time
+      → ShowsAlarm graph log trace node time
   shows_alarm_from_interval monitored keeps = by (is_ignored log node) refl
     where
       by : (b : Bool) → is_ignored log node ≡ b → ShowsAlarm graph log trace node time
       by true ignored = (monitored, inl ignored)
       by false heard = (
         monitored,
-        inr (keeps (interval_before (lag_or_zero graph node) time) (ap (λ b. then_some (not b) (interval_before (lag_or_zero graph node) time)) heard)),
+        inr
+            (keeps (interval_before (lag_or_zero graph node) time)
+            (ap (λ b. then_some (not b) (interval_before (lag_or_zero graph node) time)) heard)),
       )
 
   -- An alarm is shown exactly where its node is monitored, and became active at one of the instants that it leaves, if it leaves any.
@@ -45,14 +49,16 @@ module _ (graph : Tfpg) (log : Logbook) (trace : List Activation) (node time : �
   alarm_is_shown = (λ shows. (shows.0, shows_alarm_by_interval shows), λ keeps. shows_alarm_from_interval keeps.0 keeps.1)
 
   -- Where an alarm leaves these instants, and the node became active at one of them, it is shown.
-  pub shows_alarm_in : IsTrue (is_monitored graph node) → (interval : Interval) → alarm_interval graph log node time ≡ Some interval → IsActivatedIn trace node interval
+  pub shows_alarm_in : IsTrue (is_monitored graph node) → (interval : Interval) → alarm_interval graph log node time ≡ Some interval
+      → IsActivatedIn trace node interval
       → ShowsAlarm graph log trace node time
   shows_alarm_in monitored interval left active =
       shows_alarm_from_interval monitored
       (λ other also. subst (IsActivatedIn trace node) (same_Some interval other (sym left ∙ also)) active)
 
   -- Where it leaves none, it is shown.
-  pub shows_alarm_unheard : IsTrue (is_monitored graph node) → alarm_interval graph log node time ≡ None → ShowsAlarm graph log trace node time
+  pub shows_alarm_unheard : IsTrue (is_monitored graph node) → alarm_interval graph log node time ≡ None
+      → ShowsAlarm graph log trace node time
   shows_alarm_unheard monitored none = shows_alarm_from_interval monitored (λ interval left. absurd cc)
 
   -- ---- silences
@@ -80,7 +86,8 @@ module _ (graph : Tfpg) (log : Logbook) (trace : List Activation) (node time : �
   silence_is_shown = (shows_silence_by_instant, shows_silence_from_instant)
 
   -- Where a silence says that the node is not active by this instant, and it is not, it is shown.
-  pub shows_silence_until : (until : ℕ) → inactive_until graph log node time ≡ Some until → (IsActive trace node until → ⊥) → ShowsSilence graph log trace node time
+  pub shows_silence_until : (until : ℕ) → inactive_until graph log node time ≡ Some until → (IsActive trace node until → ⊥)
+      → ShowsSilence graph log trace node time
   shows_silence_until until said quiet =
       shows_silence_from_instant (λ other also active. quiet (subst (IsActive trace node) (same_Some other until (sym also ∙ said)) active))
 
@@ -90,4 +97,5 @@ module _ (graph : Tfpg) (log : Logbook) (trace : List Activation) (node time : �
 
   -- A silence of which it cannot be that it is not shown is shown.
   pub shows_silence_unless : ((ShowsSilence graph log trace node time → ⊥) → ⊥) → ShowsSilence graph log trace node time
-  shows_silence_unless unless = shows_silence_from_instant (λ until said active. unless (λ shows. shows_silence_by_instant shows until said active))
+  shows_silence_unless unless =
+      shows_silence_from_instant (λ until said active. unless (λ shows. shows_silence_by_instant shows until said active))

@@ -23,7 +23,8 @@ module _ (graph : Tfpg) (log : Logbook) (node : ℕ) where
   is_joint number horizon joint e = (node_window graph log node number horizon joint).0 e
 
   -- The instant lies in the joint window round its span, and all edges are active there.
-  pub inside : (instant horizon : ℕ) (joint : Window) → instant ≤ horizon → joint_of graph log node (span_number log instant) horizon ≡ Some joint
+  pub inside : (instant horizon : ℕ) (joint : Window) → instant ≤ horizon
+      → joint_of graph log node (span_number log instant) horizon ≡ Some joint
       → (joint.lo ≤ instant) × (instant ≤ joint.hi) × IsTrue (are_active_at graph log node instant)
   inside instant horizon joint within e =
       let is = is_joint (span_number log instant) horizon joint e in
@@ -32,7 +33,8 @@ module _ (graph : Tfpg) (log : Logbook) (node : ℕ) where
 
   -- There is one round the span of each instant at which all edges are active.
   pub joint_there : (instant horizon : ℕ) → instant ≤ horizon → horizon ≤ now_of log → IsTrue (are_active_at graph log node instant)
-      → (joint : Window) × (joint_of graph log node (span_number log instant) horizon ≡ Some joint) × (joint.lo ≤ instant) × (instant ≤ joint.hi)
+      → (joint : Window) × (joint_of graph log node (span_number log instant) horizon ≡ Some joint) × (joint.lo ≤ instant)
+      × (instant ≤ joint.hi)
   joint_there instant horizon within by_now active =
       let number : ℕ = span_number log instant in
       let there = has_span log instant horizon within by_now in
@@ -44,7 +46,8 @@ module _ (graph : Tfpg) (log : Logbook) (node : ℕ) where
       (joint.0, joint.1, lies.0, lies.1)
 
   -- A joint window is the one round the span of each of its instants.
-  pub throughout : (number horizon instant : ℕ) (joint : Window) → joint_of graph log node number horizon ≡ Some joint → joint.lo ≤ instant → instant ≤ joint.hi
+  pub throughout : (number horizon instant : ℕ) (joint : Window) → joint_of graph log node number horizon ≡ Some joint → joint.lo ≤ instant
+      → instant ≤ joint.hi
       → joint_of graph log node (span_number log instant) horizon ≡ Some joint
   throughout number horizon instant joint e from upto =
       (node_window graph log node (span_number log instant) horizon joint).1
@@ -52,12 +55,15 @@ module _ (graph : Tfpg) (log : Logbook) (node : ℕ) where
 
   module _ (number horizon : ℕ) (joint : Window) (e : joint_of graph log node number horizon ≡ Some joint) where
     -- Each edge is active throughout.
-    pub active_throughout : (edge : Edge) → Contains (edges_into graph node) edge → (x : ℕ) → joint.lo ≤ x → x ≤ joint.hi → IsTrue (is_active_at log edge x)
+    pub active_throughout : (edge : Edge) → Contains (edges_into graph node) edge → (x : ℕ) → joint.lo ≤ x → x ≤ joint.hi
+        → IsTrue (is_active_at log edge x)
     active_throughout edge member x from upto =
-        list_all-each (λ other. is_active_at log other x) (edges_into graph node) edge ((is_joint number horizon joint e).run.throughout x from upto) member
+        list_all-each (λ other. is_active_at log other x) (edges_into graph node) edge
+        ((is_joint number horizon joint e).run.throughout x from upto) member
 
     -- it has a span in common with the window of each edge
-    meets_window : (edge : Edge) (window : Window) → IsWindowRound log (is_active_at log edge) number horizon window → (window.lo ≤ joint.hi) × (joint.lo ≤ window.hi)
+    meets_window : (edge : Edge) (window : Window) → IsWindowRound log (is_active_at log edge) number horizon window
+        → (window.lo ≤ joint.hi) × (joint.lo ≤ window.hi)
     meets_window edge window its =
         let span = (is_joint number horizon joint e).round in
         let order = (is_span log number horizon span.0 span.1).run.in_order in
@@ -83,32 +89,42 @@ module _ (graph : Tfpg) (log : Logbook) (node : ℕ) where
 
     -- It begins with the window of some edge, where it begins after 0.
     pub begins : 0 < joint.lo
-        → (edge : Edge) × Contains (edges_into graph node) edge × (window : Window) × (window_of log edge number horizon ≡ Some window) × (window.lo ≡ joint.lo)
+        → (edge : Edge) × Contains (edges_into graph node) edge × (window : Window) × (window_of log edge number horizon ≡ Some window)
+        × (window.lo ≡ joint.lo)
     begins behind =
         let is = is_joint number horizon joint e in
         let before : ℕ = joint.lo - 1 in
-        let fails : are_active_at graph log node before ≡ false = false_from_ne_true (are_active_at graph log node before) (is.run.not_before before (omega arith)) in
+        let fails : are_active_at graph log node before ≡ false =
+        false_from_ne_true (are_active_at graph log node before) (is.run.not_before before (omega arith)) in
         let some = list_all-fails (λ edge. is_active_at log edge before) (edges_into graph node) fails in
         let window = of_each some.0 some.1 in
         let run = (is_window log some.0 number horizon window.0 window.1).run in
         let from : joint.lo ≤ window.0.lo = elim (cases_lt window.0.lo joint.lo) [
-          | inl earlier ↦ absurd (both_ways (is_active_at log some.0 before) some.2 (run.throughout before (omega arith) (omega (arith, is.run.in_order, window.3))))
+          | inl earlier ↦
+              absurd
+              (both_ways (is_active_at log some.0 before) some.2
+              (run.throughout before (omega arith) (omega (arith, is.run.in_order, window.3))))
           | inr upto ↦ upto
         ] in
         (some.0, some.1, window.0, window.1, omega (arith, window.2, from))
 
     -- It ends with the window of some edge, where it ends before the horizon.
     pub ends : joint.hi < horizon
-        → (edge : Edge) × Contains (edges_into graph node) edge × (window : Window) × (window_of log edge number horizon ≡ Some window) × (window.hi ≡ joint.hi)
+        → (edge : Edge) × Contains (edges_into graph node) edge × (window : Window) × (window_of log edge number horizon ≡ Some window)
+        × (window.hi ≡ joint.hi)
     ends early =
         let is = is_joint number horizon joint e in
         let behind : ℕ = joint.hi + 1 in
-        let fails : are_active_at graph log node behind ≡ false = false_from_ne_true (are_active_at graph log node behind) (is.run.not_after behind refl (omega arith)) in
+        let fails : are_active_at graph log node behind ≡ false =
+        false_from_ne_true (are_active_at graph log node behind) (is.run.not_after behind refl (omega arith)) in
         let some = list_all-fails (λ edge. is_active_at log edge behind) (edges_into graph node) fails in
         let window = of_each some.0 some.1 in
         let run = (is_window log some.0 number horizon window.0 window.1).run in
         let upto : window.0.hi ≤ joint.hi = elim (cases_lt joint.hi window.0.hi) [
-          | inl later ↦ absurd (both_ways (is_active_at log some.0 behind) some.2 (run.throughout behind (omega (arith, is.run.in_order, window.2)) (omega arith)))
+          | inl later ↦
+              absurd
+              (both_ways (is_active_at log some.0 behind) some.2
+              (run.throughout behind (omega (arith, is.run.in_order, window.2)) (omega arith)))
           | inr within ↦ within
         ] in
         (some.0, some.1, window.0, window.1, omega (arith, window.3, upto))

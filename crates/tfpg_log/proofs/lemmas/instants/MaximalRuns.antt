@@ -6,7 +6,8 @@ use Rattle.tfpg_log.specs.Runs.{IsMaximalRun}
 
 module _ (Holds : ℕ → Type 0) (horizon : ℕ) where
   -- A maximal run takes in all instants from one to another, where it holds of all of them and one of them lies in it.
-  pub takes_in : (lo hi low high : ℕ) → IsMaximalRun Holds lo hi horizon → ((instant : ℕ) → low ≤ instant → instant ≤ high → Holds instant) → high ≤ horizon
+  pub takes_in : (lo hi low high : ℕ) → IsMaximalRun Holds lo hi horizon → ((instant : ℕ) → low ≤ instant → instant ≤ high → Holds instant)
+      → high ≤ horizon
       → lo ≤ high → low ≤ hi → (lo ≤ low) × (high ≤ hi)
   takes_in lo hi low high run holds within begun unended = (
     elim (cases_lt low lo) [
@@ -33,7 +34,8 @@ module _ (Holds : ℕ → Type 0) (horizon : ℕ) where
   holds_since lo hi instant age run from upto short = (
     λ holds.
         let takes : (lo ≤ instant - age) × (instant ≤ hi) =
-        takes_in lo hi (instant - age) instant run (λ x after before. holds x (omega arith) before) (omega (arith, run.in_range)) from (omega arith) in
+        takes_in lo hi (instant - age) instant run (λ x after before. holds x (omega arith) before) (omega (arith, run.in_range)) from
+        (omega arith) in
         omega (arith, takes.0),
     λ since x after before. run.throughout x (omega arith) (omega arith),
   )

@@ -25,15 +25,18 @@ module _ (log : Logbook) where
     | inl above ↦ (let same : suc hi ≡ lo = omega arith in ap (mode_at log) same)
     | inr below ↦ (let rises : span_number log lo ≤ span_number log hi = number_rises lo hi below in
         let kept : span_number log (suc hi) ≡ span_number log hi = omega (arith, e, rises, number_rises hi (suc hi) (omega arith)) in
-        let mode : mode_at log hi ≡ mode_at log (suc hi) = same-from_count (mode_at log hi) (mode_at log (suc hi)) (span_number log hi) kept in
+        let mode : mode_at log hi ≡ mode_at log (suc hi) =
+        same-from_count (mode_at log hi) (mode_at log (suc hi)) (span_number log hi) kept in
         sym mode ∙ one_mode lo hi below (sym kept ∙ e))
   ]
 
   -- two instants of one mode, one after the other, have one number
-  one_number : (before instant : ℕ) → before + 1 ≡ instant → mode_at log before ≡ mode_at log instant → span_number log before ≡ span_number log instant
+  one_number : (before instant : ℕ) → before + 1 ≡ instant → mode_at log before ≡ mode_at log instant
+      → span_number log before ≡ span_number log instant
   one_number before instant next mode =
       let same : suc before ≡ instant = omega arith in
-      sym (count-same (mode_at log before) (mode_at log (suc before)) (span_number log before) (mode ∙ sym (ap (mode_at log) same))) ∙ ap (span_number log) same
+      sym (count-same (mode_at log before) (mode_at log (suc before)) (span_number log before) (mode ∙ sym (ap (mode_at log) same)))
+      ∙ ap (span_number log) same
 
   module _ (number horizon : ℕ) where
     -- whether an instant has the number
@@ -47,8 +50,10 @@ module _ (log : Logbook) where
       pub last : IsGreatest has_number horizon span.hi
       pub mode_is : mode_at log span.lo ≡ span.mode
 
-    between : (span : Span) (lo hi : Option ℕ) → horizon ≤ now_of log → MatchOption lo (NonePassesUpTo has_number horizon) (IsLeast has_number horizon)
-        → MatchOption hi (NonePassesUpTo has_number horizon) (IsGreatest has_number horizon) → span_between log lo hi ≡ Some span → IsFoundSpan span
+    between : (span : Span) (lo hi : Option ℕ) → horizon ≤ now_of log
+        → MatchOption lo (NonePassesUpTo has_number horizon) (IsLeast has_number horizon)
+        → MatchOption hi (NonePassesUpTo has_number horizon) (IsGreatest has_number horizon) → span_between log lo hi ≡ Some span
+        → IsFoundSpan span
     between span None hi by_now first last e = absurd cc
     between span (Some lo) None by_now first last e = absurd cc
     between span (Some lo) (Some hi) by_now first last e =
@@ -59,10 +64,12 @@ module _ (log : Logbook) where
     by_test : (span : Span) (b : Bool) → leb horizon (now_of log) ≡ b
         → cond b (span_between log (least has_number horizon) (greatest has_number horizon)) None ≡ Some span → IsFoundSpan span
     by_test span true at e =
-        between span (least has_number horizon) (greatest has_number horizon) (leb-true horizon (now_of log) at) (least_found has_number horizon)
+        between span (least has_number horizon) (greatest has_number horizon) (leb-true horizon (now_of log) at)
+        (least_found has_number horizon)
         (greatest_found has_number horizon) e
     by_test span false at e = absurd cc
 
+    -- The span of a number is the one that the search finds.
     pub found_span : (span : Span) → span_at log number horizon ≡ Some span → IsFoundSpan span
     found_span span e = by_test span (leb horizon (now_of log)) refl e
 
@@ -73,6 +80,7 @@ module _ (log : Logbook) where
       last_number : span_number log span.hi ≡ number
       last_number = eqb-true (span_number log span.hi) number found.last.here
 
+      -- A span that is found ends at its first instant or after.
       pub in_order : span.lo ≤ span.hi
       in_order = elim (cases_lt span.hi span.lo) [
         | inl before ↦ absurd (both_ways (has_number span.hi) (found.first.none_below span.hi before) found.last.here)
@@ -80,8 +88,10 @@ module _ (log : Logbook) where
       ]
 
       numbered : (instant : ℕ) → span.lo ≤ instant → instant ≤ span.hi → span_number log instant ≡ number
-      numbered instant from upto = omega (arith, number_rises span.lo instant from, number_rises instant span.hi upto, first_number, last_number)
+      numbered instant from upto =
+          omega (arith, number_rises span.lo instant from, number_rises instant span.hi upto, first_number, last_number)
 
+      -- Each instant of a span that is found has its mode.
       pub in_mode : (instant : ℕ) → span.lo ≤ instant → instant ≤ span.hi → mode_at log instant ≡ span.mode
       in_mode instant from upto = one_mode span.lo instant from (numbered instant from upto ∙ sym first_number) ∙ found.mode_is
 
@@ -132,7 +142,8 @@ module _ (log : Logbook) where
       )
 
   -- So an instant up to now lies in the span of its number.
-  pub lies_inside : (number : ℕ) (span : Span) → span_at log number (now_of log) ≡ Some span → (instant : ℕ) → instant ≤ now_of log → span_number log instant ≡ number
+  pub lies_inside : (number : ℕ) (span : Span) → span_at log number (now_of log) ≡ Some span → (instant : ℕ) → instant ≤ now_of log
+      → span_number log instant ≡ number
       → (span.lo ≤ instant) × (instant ≤ span.hi)
   lies_inside number span here instant within numbered =
       let there = has_span instant (now_of log) within (omega arith) in
@@ -155,10 +166,13 @@ module _ (log : Logbook) where
       let first : span_number log span.lo ≡ number = is.numbered span.lo (omega arith) is.run.in_order in
       let at : span_at log number horizon ≡ Some there.0 = subst (λ n. span_at log n horizon ≡ Some there.0) first there.1 in
       let other = is_span number horizon there.0 at in
-      let mode : there.0.mode ≡ span.mode = sym (other.run.throughout span.lo there.2 there.3) ∙ is.run.throughout span.lo (omega arith) is.run.in_order in
+      let mode : there.0.mode ≡ span.mode =
+      sym (other.run.throughout span.lo there.2 there.3) ∙ is.run.throughout span.lo (omega arith) is.run.in_order in
       let run : IsMaximalRun (λ instant. mode_at log instant ≡ span.mode) there.0.lo there.0.hi horizon =
       subst (λ m. IsMaximalRun (λ instant. mode_at log instant ≡ m) there.0.lo there.0.hi horizon) mode other.run in
-      let ends = one_run (λ instant. mode_at log instant ≡ span.mode) horizon there.0.lo there.0.hi span.lo span.hi span.lo run is.run there.2 there.3 (omega arith) is.run.in_order in
+      let ends =
+      one_run (λ instant. mode_at log instant ≡ span.mode) horizon there.0.lo there.0.hi span.lo span.hi span.lo run is.run there.2 there.3
+      (omega arith) is.run.in_order in
       at ∙ ap Some (same_span there.0 span ends.0 ends.1 mode)
 
   -- The search finds a span exactly where it is the span of the number.

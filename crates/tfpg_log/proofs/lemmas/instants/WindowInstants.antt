@@ -22,7 +22,8 @@ lies_in log passes instant horizon window within is =
     (omega (arith, lies.0, there.2), omega (arith, lies.1, there.3))
 
 -- A window is the one round the span of each of its instants.
-pub round_each : (log : Logbook) (passes : ℕ → Bool) (number horizon instant : ℕ) (window : Window) → IsWindowRound log passes number horizon window
+pub round_each : (log : Logbook) (passes : ℕ → Bool) (number horizon instant : ℕ) (window : Window)
+    → IsWindowRound log passes number horizon window
     → window.lo ≤ instant → instant ≤ window.hi → IsWindowRound log passes (span_number log instant) horizon window
 round_each log passes number horizon instant window is from upto =
     let by_now = (is_span log number horizon is.round.0 is.round.1).by_now in
@@ -30,7 +31,12 @@ round_each log passes number horizon instant window is from upto =
     record {
       run = is.run;
       whole_spans = is.whole_spans;
-      round = (there.0, there.1, is.whole_spans (span_number log instant) there.0 there.1 (omega (arith, from, there.3), omega (arith, there.2, upto)));
+      round = (
+        there.0,
+        there.1,
+        is.whole_spans (span_number log instant) there.0 there.1
+            (omega (arith, from, there.3), omega (arith, there.2, upto)),
+      );
       first_span = is.first_span;
     }
 
@@ -41,7 +47,8 @@ module _ (log : Logbook) (edge : Edge) where
   is_window number horizon window e = (edge_window log edge number horizon window).0 e
 
   -- The instant lies in the window round its span, and the edge is active there.
-  pub inside : (instant horizon : ℕ) (window : Window) → instant ≤ horizon → window_of log edge (span_number log instant) horizon ≡ Some window
+  pub inside : (instant horizon : ℕ) (window : Window) → instant ≤ horizon
+      → window_of log edge (span_number log instant) horizon ≡ Some window
       → (window.lo ≤ instant) × (instant ≤ window.hi) × IsTrue (is_active_at log edge instant)
   inside instant horizon window within e =
       let is = is_window (span_number log instant) horizon window e in
@@ -50,7 +57,8 @@ module _ (log : Logbook) (edge : Edge) where
 
   -- There is a window round the span of each instant at which the edge is active.
   pub window_there : (instant horizon : ℕ) → instant ≤ horizon → horizon ≤ now_of log → IsTrue (is_active_at log edge instant)
-      → (window : Window) × (window_of log edge (span_number log instant) horizon ≡ Some window) × (window.lo ≤ instant) × (instant ≤ window.hi)
+      → (window : Window) × (window_of log edge (span_number log instant) horizon ≡ Some window) × (window.lo ≤ instant)
+      × (instant ≤ window.hi)
   window_there instant horizon within by_now active =
       let number : ℕ = span_number log instant in
       let there = has_span log instant horizon within by_now in
@@ -60,14 +68,16 @@ module _ (log : Logbook) (edge : Edge) where
       (window.0, window.1, lies.0, lies.1)
 
   -- A window is the one round the span of each of its instants.
-  pub throughout : (number horizon instant : ℕ) (window : Window) → window_of log edge number horizon ≡ Some window → window.lo ≤ instant → instant ≤ window.hi
+  pub throughout : (number horizon instant : ℕ) (window : Window) → window_of log edge number horizon ≡ Some window → window.lo ≤ instant
+      → instant ≤ window.hi
       → window_of log edge (span_number log instant) horizon ≡ Some window
   throughout number horizon instant window e from upto =
       (edge_window log edge (span_number log instant) horizon window).1
       (round_each log (is_active_at log edge) number horizon instant window (is_window number horizon window e) from upto)
 
   -- It begins at the same instant for each horizon.
-  pub begins : (instant horizon further : ℕ) (window other : Window) → instant ≤ horizon → window_of log edge (span_number log instant) horizon ≡ Some window
+  pub begins : (instant horizon further : ℕ) (window other : Window) → instant ≤ horizon
+      → window_of log edge (span_number log instant) horizon ≡ Some window
       → instant ≤ further → window_of log edge (span_number log instant) further ≡ Some other → window.lo ≡ other.lo
   begins instant horizon further window other within e within_further f =
       let lies = inside instant horizon window within e in

@@ -24,7 +24,8 @@ record BeginsRun (passes : ℕ → Bool) (start instant : ℕ) : Type 0 where
   not_before : (other : ℕ) → other + 1 ≡ start → passes other ≡ false
 
 module _ (passes : ℕ → Bool) where
-  start_more : (instant : ℕ) (b : Bool) → passes instant ≡ b → passes (suc instant) ≡ true → (passes instant ≡ true → BeginsRun passes (run_start passes instant) instant)
+  start_more : (instant : ℕ) (b : Bool) → passes instant ≡ b → passes (suc instant) ≡ true
+      → (passes instant ≡ true → BeginsRun passes (run_start passes instant) instant)
       → BeginsRun passes (cond b (run_start passes instant) (suc instant)) (suc instant)
   start_more instant true at here earlier = let is = earlier at in record {
     upto = omega (arith, is.upto);
@@ -52,16 +53,20 @@ module _ (passes : ℕ → Bool) where
   abbrev reaches : ℕ → ℕ → Bool
   reaches instant last = nat_le instant last && (passes last && nat_le (run_start passes last) instant)
 
-  reaches_next : (instant last : ℕ) → instant ≤ last → passes last ≡ true → run_start passes last ≤ instant → passes (suc last) ≡ true → reaches instant (suc last) ≡ true
+  reaches_next : (instant last : ℕ) → instant ≤ last → passes last ≡ true → run_start passes last ≤ instant → passes (suc last) ≡ true
+      → reaches instant (suc last) ≡ true
   reaches_next instant last upto here start next =
       let from : run_start passes (suc last) ≡ run_start passes last = cond-true (passes last) (run_start passes last) (suc last) here in
-      and_from (leb instant (suc last)) (passes (suc last) && leb (run_start passes (suc last)) instant) (le-leb instant (suc last) (omega arith))
-      (and_from (passes (suc last)) (leb (run_start passes (suc last)) instant) next (le-leb (run_start passes (suc last)) instant (omega (arith, from, start))))
+      and_from (leb instant (suc last)) (passes (suc last) && leb (run_start passes (suc last)) instant)
+      (le-leb instant (suc last) (omega arith))
+      (and_from (passes (suc last)) (leb (run_start passes (suc last)) instant) next
+      (le-leb (run_start passes (suc last)) instant (omega (arith, from, start))))
 
   reaches_itself : (instant : ℕ) → passes instant ≡ true → reaches instant instant ≡ true
   reaches_itself instant here =
       and_from (leb instant instant) (passes instant && leb (run_start passes instant) instant) (le-leb instant instant (omega arith))
-      (and_from (passes instant) (leb (run_start passes instant) instant) here (le-leb (run_start passes instant) instant (starts instant here).upto))
+      (and_from (passes instant) (leb (run_start passes instant) instant) here
+      (le-leb (run_start passes instant) instant (starts instant here).upto))
 
   -- what it is that the run of an instant reaches up to another
   record Reached (instant last : ℕ) : Type 0 where
@@ -121,21 +126,25 @@ module _ (log : Logbook) (passes : ℕ → Bool) (horizon : ℕ) where
       subst (IsFoundWindow span) same (record { here = here; start = refl; end = end; first = refl })
 
   by_test : (span : Span) (window : Window) (b : Bool) → passes span.lo ≡ b
-      → cond b (window_between log (run_start passes span.lo) (run_end passes span.lo horizon)) None ≡ Some window → IsFoundWindow span window
-  by_test span window true here e = between span window (run_end passes span.lo horizon) here (greatest_found (reaches passes span.lo) horizon) e
+      → cond b (window_between log (run_start passes span.lo) (run_end passes span.lo horizon)) None ≡ Some window
+      → IsFoundWindow span window
+  by_test span window true here e =
+      between span window (run_end passes span.lo horizon) here (greatest_found (reaches passes span.lo) horizon) e
   by_test span window false here e = absurd cc
 
   found_window : (span : Span) (window : Window) → window_round log passes span horizon ≡ Some window → IsFoundWindow span window
   found_window span window e = by_test span window (passes span.lo) refl e
 
-  run_of : (span : Span) (window : Window) → IsFoundWindow span window → IsMaximalRun (λ other. IsTrue (passes other)) window.lo window.hi horizon
+  run_of : (span : Span) (window : Window) → IsFoundWindow span window
+      → IsMaximalRun (λ other. IsTrue (passes other)) window.lo window.hi horizon
   run_of span window found =
       subst (λ lo. IsMaximalRun (λ other. IsTrue (passes other)) lo window.hi horizon) found.start
       (is_run passes span.lo horizon window.hi found.here found.end)
 
   window_there : (span : Span) (b : Bool) (hi : Option ℕ) (at : ℕ) → b ≡ true → hi ≡ Some at
       → (window : Window) × (cond b (window_between log (run_start passes span.lo) hi) None ≡ Some window)
-  window_there span b hi at here e = (record { first = span_number log (run_start passes span.lo); lo = run_start passes span.lo; hi = at }, rw (here, e) refl)
+  window_there span b hi at here e =
+      (record { first = span_number log (run_start passes span.lo); lo = run_start passes span.lo; hi = at }, rw (here, e) refl)
 
   -- There is a window round each span whose instants pass.
   pub has_window : (number : ℕ) (span : Span) → span_at log number horizon ≡ Some span → passes span.lo ≡ true
@@ -158,10 +167,13 @@ module _ (log : Logbook) (passes : ℕ → Bool) (horizon : ℕ) where
         takes_in (λ instant. IsTrue (passes instant)) horizon window.lo window.hi span.lo span.hi run
         (λ instant from upto. alike instant common (is.throughout instant from upto ∙ sym mode) ∙ here) is.in_range meets.0 meets.1
 
-    meets_own : (number : ℕ) (span : Span) (window : Window) → span_at log number horizon ≡ Some span → IsFoundWindow span window → Overlaps span window
+    meets_own : (number : ℕ) (span : Span) (window : Window) → span_at log number horizon ≡ Some span → IsFoundWindow span window
+        → Overlaps span window
     meets_own number span window e found =
-        let run = (is_span log number horizon span e).run in
-        (omega (arith, found.start, (starts passes span.lo found.here).upto, run.in_order), (reached passes span.lo window.hi found.end.here).upto)
+        let run = (is_span log number horizon span e).run in (
+          omega (arith, found.start, (starts passes span.lo found.here).upto, run.in_order),
+          (reached passes span.lo window.hi found.end.here).upto,
+        )
 
     by_span : (number : ℕ) (window : Window) (span : Option Span) → span_at log number horizon ≡ span
         → option_and_then (λ s. window_round log passes s horizon) span ≡ Some window → IsWindowRound log passes number horizon window
@@ -177,7 +189,8 @@ module _ (log : Logbook) (passes : ℕ → Bool) (horizon : ℕ) where
         }
 
     -- The window round the span of a number is a maximal run of whole spans.
-    pub is_window : (number : ℕ) (window : Window) → option_and_then (λ span. window_round log passes span horizon) (span_at log number horizon) ≡ Some window
+    pub is_window : (number : ℕ) (window : Window)
+        → option_and_then (λ span. window_round log passes span horizon) (span_at log number horizon) ≡ Some window
         → IsWindowRound log passes number horizon window
     is_window number window e = by_span number window (span_at log number horizon) refl e
 
@@ -190,7 +203,8 @@ module _ (log : Logbook) (passes : ℕ → Bool) (horizon : ℕ) where
         ∙ ap (λ f. let window : Window = record { first = f; lo = other.lo; hi = other.hi } in window) first
 
     -- two windows round the span of a number are one
-    one_window : (number : ℕ) (one other : Window) → IsWindowRound log passes number horizon one → IsWindowRound log passes number horizon other → one ≡ other
+    one_window : (number : ℕ) (one other : Window) → IsWindowRound log passes number horizon one
+        → IsWindowRound log passes number horizon other → one ≡ other
     one_window number one other is same =
         let span : Span = is.round.0 in
         let order = (is_span log number horizon span is.round.1).run.in_order in
@@ -211,30 +225,41 @@ module _ (log : Logbook) (passes : ℕ → Bool) (horizon : ℕ) where
 
 -- ---- the windows of an edge, and of all edges into a node
 
+-- The window of an edge is the one round the span of the number.
 pub edge_window : (log : Logbook) (edge : Edge) (number horizon : ℕ) (window : Window)
     → (window_of log edge number horizon ≡ Some window) ↔ IsWindowRound log (is_active_at log edge) number horizon window
 edge_window log edge number horizon window =
     let alike : (one other : ℕ) → mode_at log one ≡ mode_at log other → is_active_at log edge one ≡ is_active_at log edge other =
-    λ one other same. ap (is_active_in edge) same in
-    (is_window log (is_active_at log edge) horizon alike number window, window_is_found log (is_active_at log edge) horizon alike number window)
+    λ one other same. ap (is_active_in edge) same in (
+      is_window log (is_active_at log edge) horizon alike number window,
+      window_is_found log (is_active_at log edge) horizon alike number window,
+    )
 
-pub edge_window_there : (log : Logbook) (edge : Edge) (number horizon : ℕ) (span : Span) → span_at log number horizon ≡ Some span → IsTrue (is_active_in edge span.mode)
+-- An edge that is active in the mode of a span has a window round it.
+pub edge_window_there : (log : Logbook) (edge : Edge) (number horizon : ℕ) (span : Span) → span_at log number horizon ≡ Some span
+    → IsTrue (is_active_in edge span.mode)
     → (window : Window) × (window_of log edge number horizon ≡ Some window)
 edge_window_there log edge number horizon span e active =
     has_window log (is_active_at log edge) horizon number span e
     (subst (λ mode. IsTrue (is_active_in edge mode)) (sym (found_span log number horizon span e).mode_is) active)
 
+-- The window of all edges into a node is the one round the span of the number.
 pub node_window : (graph : Tfpg) (log : Logbook) (node number horizon : ℕ) (window : Window)
     → (joint_of graph log node number horizon ≡ Some window) ↔ IsWindowRound log (are_active_at graph log node) number horizon window
 node_window graph log node number horizon window =
-    let alike : (one other : ℕ) → mode_at log one ≡ mode_at log other → are_active_at graph log node one ≡ are_active_at graph log node other =
-    λ one other same. ap (λ mode. list_all (λ edge. is_active_in edge mode) (edges_into graph node)) same in
-    (is_window log (are_active_at graph log node) horizon alike number window, window_is_found log (are_active_at graph log node) horizon alike number window)
+    let alike : (one other : ℕ) → mode_at log one ≡ mode_at log other
+    → are_active_at graph log node one ≡ are_active_at graph log node other =
+    λ one other same. ap (λ mode. list_all (λ edge. is_active_in edge mode) (edges_into graph node)) same in (
+      is_window log (are_active_at graph log node) horizon alike number window,
+      window_is_found log (are_active_at graph log node) horizon alike number window,
+    )
 
+-- Edges into a node that are all active in the mode of a span have a window round it.
 pub node_window_there : (graph : Tfpg) (log : Logbook) (node number horizon : ℕ) (span : Span) → span_at log number horizon ≡ Some span
     → All (λ edge. IsTrue (is_active_in edge span.mode)) (edges_into graph node)
     → (window : Window) × (joint_of graph log node number horizon ≡ Some window)
 node_window_there graph log node number horizon span e active =
     has_window log (are_active_at graph log node) horizon number span e
-    (subst (λ mode. IsTrue (list_all (λ edge. is_active_in edge mode) (edges_into graph node))) (sym (found_span log number horizon span e).mode_is)
+    (subst (λ mode. IsTrue (list_all (λ edge. is_active_in edge mode) (edges_into graph node)))
+    (sym (found_span log number horizon span e).mode_is)
     (list_all-from_AllPass (λ edge. is_active_in edge span.mode) (edges_into graph node) active))

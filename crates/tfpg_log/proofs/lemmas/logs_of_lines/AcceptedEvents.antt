@@ -46,16 +46,19 @@ line_said graph e = line_of (event_words graph e)
 
 -- a line of a time and a keyword has no line end
 timed_clean : (time : ℕ) (word : List ℕ) → time ≤ MAX_TIME → HasNoLineEnd word → HasNoLineEnd (line_of (decimal time ∷ word ∷ []))
-timed_clean time word small own = clean_words (decimal time) (word ∷ []) (clean_number time small) (All-cons HasNoLineEnd word [] own (All-nil HasNoLineEnd))
+timed_clean time word small own =
+    clean_words (decimal time) (word ∷ []) (clean_number time small) (All-cons HasNoLineEnd word [] own (All-nil HasNoLineEnd))
 
 -- nor has one of a time, a keyword and a name
-pub named_clean : (time : ℕ) (word name : List ℕ) → time ≤ MAX_TIME → HasNoLineEnd word → IsTrue (is_name name) → HasNoLineEnd (line_of (decimal time ∷ word ∷ name ∷ []))
+pub named_clean : (time : ℕ) (word name : List ℕ) → time ≤ MAX_TIME → HasNoLineEnd word → IsTrue (is_name name)
+    → HasNoLineEnd (line_of (decimal time ∷ word ∷ name ∷ []))
 named_clean time word name small own named =
     clean_words (decimal time) (word ∷ name ∷ []) (clean_number time small)
     (All-cons HasNoLineEnd word (name ∷ []) own (All-cons HasNoLineEnd name [] (clean_name name named) (All-nil HasNoLineEnd)))
 
 -- and such a line is short
-named_short : (time : ℕ) (word name : List ℕ) → time ≤ MAX_TIME → length word ≤ 6 → IsTrue (is_name name) → length (line_of (decimal time ∷ word ∷ name ∷ [])) ≤ LONGEST_LINE
+named_short : (time : ℕ) (word name : List ℕ) → time ≤ MAX_TIME → length word ≤ 6 → IsTrue (is_name name)
+    → length (line_of (decimal time ∷ word ∷ name ∷ [])) ≤ LONGEST_LINE
 named_short time word name small short named =
     omega (
       arith,
@@ -73,7 +76,9 @@ module _ (graph : Tfpg) (valid : IsValid graph) (log : Logbook) where
   mode_at mode within = ap (λ o. unwrap_or o []) (slice_get-get_or graph.modes mode [] within)
 
   pub mode_found : (mode : ℕ) → mode < length graph.modes → mode_named graph (mode_word graph mode) ≡ Some mode
-  mode_found mode within = ap (mode_named graph) (mode_at mode within) ∙ position-bytes (λ (name : List ℕ). name) graph.modes mode [] valid.so_far.modes_differ within
+  mode_found mode within =
+      ap (mode_named graph) (mode_at mode within)
+      ∙ position-bytes (λ (name : List ℕ). name) graph.modes mode [] valid.so_far.modes_differ within
 
   node_name : (node : ℕ) → node < length graph.nodes → IsTrue (is_name (name_word graph node))
   node_name node within = is_name-name_word graph node within valid.so_far.node_names
@@ -88,7 +93,8 @@ module _ (graph : Tfpg) (valid : IsValid graph) (log : Logbook) where
       let found = node_named-name_word graph node (monitored_within graph node monitored) valid.so_far.nodes_differ in (
         ap (λ o. then_some (is_none o) UnknownName) found,
         (
-          ap (option_and_then (λ n. then_some (not (is_monitored graph n)) NotMonitored)) found ∙ ap (λ b. then_some (not b) NotMonitored) monitored,
+          ap (option_and_then (λ n. then_some (not (is_monitored graph n)) NotMonitored)) found
+              ∙ ap (λ b. then_some (not b) NotMonitored) monitored,
           (room, tt),
         ),
       )
@@ -120,7 +126,8 @@ module _ (graph : Tfpg) (valid : IsValid graph) (log : Logbook) where
     read statement words =
         let all : List (List ℕ) = decimal time ∷ words_of_log_statement statement in
         let are : AllByRecursion IsWord all = (IsWord-decimal time (let small = next.in_range in omega arith), words) in
-        (read_as_written (line_of all) (decimal time) statement).1 (record { words = refl; each = line_words all (no_empty_word all are) (no_space all are) })
+        (read_as_written (line_of all) (decimal time) statement).1
+        (record { words = refl; each = line_words all (no_empty_word all are) (no_space all are) })
 
     -- a line whose words these are, which no test refuses, is accepted
     accepted : (statement : LogStatement) (made : Event) → AllByRecursion IsWord (words_of_log_statement statement)
@@ -140,13 +147,15 @@ module _ (graph : Tfpg) (valid : IsValid graph) (log : Logbook) where
       let e = event.Alarm time node in
       let within = monitored_within graph node next.own in
       let found = node_named-name_word graph node within valid.so_far.nodes_differ in
-      accepted e next (Alarm (name_word graph node)) e (keyword (codes "alarm") refl refl, (IsWord-name (name_word graph node) (node_name node within), tt))
+      accepted e next (Alarm (name_word graph node)) e
+      (keyword (codes "alarm") refl refl, (IsWord-name (name_word graph node) (node_name node within), tt))
       (own_none node next.own (room e next)) (λ i. event.Alarm (value e next i) (unwrap_or (found i) 0))
   is_accepted (event.Silent time node) next =
       let e = event.Silent time node in
       let within = monitored_within graph node next.own in
       let found = node_named-name_word graph node within valid.so_far.nodes_differ in
-      accepted e next (Silent (name_word graph node)) e (keyword (codes "silent") refl refl, (IsWord-name (name_word graph node) (node_name node within), tt))
+      accepted e next (Silent (name_word graph node)) e
+      (keyword (codes "silent") refl refl, (IsWord-name (name_word graph node) (node_name node within), tt))
       (own_none node next.own (room e next)) (λ i. event.Silent (value e next i) (unwrap_or (found i) 0))
   is_accepted (event.Sweep time) next =
       let e = event.Sweep time in
@@ -157,9 +166,13 @@ module _ (graph : Tfpg) (valid : IsValid graph) (log : Logbook) where
   is_accepted (event.Mode time mode) next =
       let e = event.Mode time mode in
       let found = mode_found mode next.own in
-      accepted e next (Mode (mode_word graph mode)) e (keyword (codes "mode") refl refl, (IsWord-name (mode_word graph mode) (mode_name mode next.own), tt)) (
+      accepted e next (Mode (mode_word graph mode)) e
+      (keyword (codes "mode") refl refl, (IsWord-name (mode_word graph mode) (mode_name mode next.own), tt)) (
         ap (λ o. then_some (is_none o) NotAMode) found,
-        (room e next, (ap (λ b. then_some b ModesFull) (lt-leb MAX_MODE_CHANGES (count_by is_mode_change log.events) (next.mode_room refl)), tt)),
+        (
+          room e next,
+          (ap (λ b. then_some b ModesFull) (lt-leb MAX_MODE_CHANGES (count_by is_mode_change log.events) (next.mode_room refl)), tt),
+        ),
       ) (λ i. event.Mode (value e next i) (unwrap_or (found i) 0))
 
   -- It is not too long.
@@ -167,18 +180,25 @@ module _ (graph : Tfpg) (valid : IsValid graph) (log : Logbook) where
   is_short e next = le-ltb LONGEST_LINE (length (line_said graph e)) (by e next)
     where
       by : (e : Event) → IsNextEvent graph log e → length (line_said graph e) ≤ LONGEST_LINE
-      by (event.Alarm time node) next = named_short time (codes "alarm") (name_word graph node) next.in_range (omega arith) (node_name node (monitored_within graph node next.own))
-      by (event.Silent time node) next = named_short time (codes "silent") (name_word graph node) next.in_range (omega arith) (node_name node (monitored_within graph node next.own))
+      by (event.Alarm time node) next =
+          named_short time (codes "alarm") (name_word graph node) next.in_range (omega arith)
+          (node_name node (monitored_within graph node next.own))
+      by (event.Silent time node) next =
+          named_short time (codes "silent") (name_word graph node) next.in_range (omega arith)
+          (node_name node (monitored_within graph node next.own))
       by (event.Sweep time) next = omega (arith, length-append (decimal time) (32 ∷ codes "sweep"), number_short time next.in_range)
       by (event.Tick time) next = omega (arith, length-append (decimal time) (32 ∷ codes "tick"), number_short time next.in_range)
-      by (event.Mode time mode) next = named_short time (codes "mode") (mode_word graph mode) next.in_range (omega arith) (mode_name mode next.own)
+      by (event.Mode time mode) next =
+          named_short time (codes "mode") (mode_word graph mode) next.in_range (omega arith) (mode_name mode next.own)
 
   -- No byte of it ends a line.
   pub is_clean : (e : Event) → IsNextEvent graph log e → HasNoLineEnd (line_said graph e)
   is_clean (event.Alarm time node) next =
-      named_clean time (codes "alarm") (name_word graph node) next.in_range (lacks_checked 10 (codes "alarm") refl) (node_name node (monitored_within graph node next.own))
+      named_clean time (codes "alarm") (name_word graph node) next.in_range (lacks_checked 10 (codes "alarm") refl)
+      (node_name node (monitored_within graph node next.own))
   is_clean (event.Silent time node) next =
-      named_clean time (codes "silent") (name_word graph node) next.in_range (lacks_checked 10 (codes "silent") refl) (node_name node (monitored_within graph node next.own))
+      named_clean time (codes "silent") (name_word graph node) next.in_range (lacks_checked 10 (codes "silent") refl)
+      (node_name node (monitored_within graph node next.own))
   is_clean (event.Sweep time) next = timed_clean time (codes "sweep") next.in_range (lacks_checked 10 (codes "sweep") refl)
   is_clean (event.Tick time) next = timed_clean time (codes "tick") next.in_range (lacks_checked 10 (codes "tick") refl)
   is_clean (event.Mode time mode) next =

@@ -23,11 +23,13 @@ module _ (graph : Tfpg) (valid : IsValid graph) (events : List Event) (next : Ar
   one_step : (front back : List Event) (e : Event) → events ≡ front ++ e ∷ back
       → log_after graph (log_of_events front) (line_said graph e) ≡ log_of_events (front ++ e ∷ [])
   one_step front back e are =
-      cond-false (is_too_long (line_said graph e)) (log_of_events front) _ (is_short graph valid (log_of_events front) e (next front back e are))
+      cond-false (is_too_long (line_said graph e)) (log_of_events front) _
+      (is_short graph valid (log_of_events front) e (next front back e are))
       ∙ ap (log_after_reply (log_of_events front)) (is_accepted graph valid (log_of_events front) e (next front back e are))
 
   -- the lines of further events make these events
-  steps : (front more back : List Event) → events ≡ front ++ (more ++ back) → fold (log_after graph) (log_of_events front) (map (line_said graph) more) ≡ log_of_events (front ++ more)
+  steps : (front more back : List Event) → events ≡ front ++ (more ++ back)
+      → fold (log_after graph) (log_of_events front) (map (line_said graph) more) ≡ log_of_events (front ++ more)
   steps front [] back are = ap log_of_events (sym (append-nil front))
   steps front (e ∷ more) back are =
       ap (λ log. fold (log_after graph) log (map (line_said graph) more)) (one_step front (more ++ back) e are)
@@ -42,13 +44,15 @@ module _ (graph : Tfpg) (valid : IsValid graph) (events : List Event) (next : Ar
   clean_lines : (front more : List Event) → events ≡ front ++ more → All HasNoLineEnd (map (line_said graph) more)
   clean_lines front [] are = All-nil HasNoLineEnd
   clean_lines front (e ∷ more) are =
-      All-cons HasNoLineEnd (line_said graph e) (map (line_said graph) more) (is_clean graph valid (log_of_events front) e (next front more e are))
+      All-cons HasNoLineEnd (line_said graph e) (map (line_said graph) more)
+      (is_clean graph valid (log_of_events front) e (next front more e are))
       (clean_lines (front ++ e ∷ []) more (are ∙ sym (append_assoc front (e ∷ []) more)))
 
   -- the text's lines are those of the events
   lines_there : lines_of (flat_map (event_line graph) events) ≡ map (line_said graph) events
   lines_there =
-      ap lines_of (sym (flat_map-map with_line_end (line_said graph) events)) ∙ lines_again (map (line_said graph) events) (clean_lines [] events refl)
+      ap lines_of (sym (flat_map-map with_line_end (line_said graph) events))
+      ∙ lines_again (map (line_said graph) events) (clean_lines [] events refl)
 
   -- The log of the lines has these events.
   pub log_there : log_of_lines graph (lines_of (flat_map (event_line graph) events)) ≡ log_of_events events

@@ -55,9 +55,11 @@ module _ (graph : Tfpg) (log : Logbook) (time : List ℕ) where
     comes : (event : Event) → time_of_event event ≡ digits_value 10 time → room_refusal log ≡ None → IsEventOf graph event
         → (IsTrue (is_mode_change event) → count_by is_mode_change log.events < MAX_MODE_CHANGES) → IsNextEvent graph log event
     comes event at room own mode_room =
-        let in_range : digits_value 10 time ≤ MAX_TIME = ltb-false MAX_TIME (digits_value 10 time) (then_some-none (nat_lt MAX_TIME (digits_value 10 time)) TimeTooLarge none.1.0) in
+        let in_range : digits_value 10 time ≤ MAX_TIME =
+        ltb-false MAX_TIME (digits_value 10 time) (then_some-none (nat_lt MAX_TIME (digits_value 10 time)) TimeTooLarge none.1.0) in
         let not_back : now_of log ≤ digits_value 10 time =
-        ltb-false (digits_value 10 time) (now_of log) (then_some-none (nat_lt (digits_value 10 time) (now_of log)) (TimeBack (now_of log)) none.1.1.0) in
+        ltb-false (digits_value 10 time) (now_of log)
+        (then_some-none (nat_lt (digits_value 10 time) (now_of log)) (TimeBack (now_of log)) none.1.1.0) in
         record {
           own = own;
           not_back = omega (arith, at, not_back);
@@ -71,11 +73,13 @@ module _ (graph : Tfpg) (log : Logbook) (time : List ℕ) where
   may_come (Alarm name) none =
       let found = monitor graph (node_named graph name) none.1.1.1.0 none.1.1.1.1.0 in
       subst (λ node. IsNextEvent graph log (kinds.Alarm (digits_value 10 time) (unwrap_or node 0))) (sym found.there)
-      (comes (Alarm name) none (kinds.Alarm (digits_value 10 time) found.node) refl none.1.1.1.1.1.0 found.monitored (λ changes. absurd (false≢true changes)))
+      (comes (Alarm name) none (kinds.Alarm (digits_value 10 time) found.node) refl none.1.1.1.1.1.0 found.monitored
+      (λ changes. absurd (false≢true changes)))
   may_come (Silent name) none =
       let found = monitor graph (node_named graph name) none.1.1.1.0 none.1.1.1.1.0 in
       subst (λ node. IsNextEvent graph log (kinds.Silent (digits_value 10 time) (unwrap_or node 0))) (sym found.there)
-      (comes (Silent name) none (kinds.Silent (digits_value 10 time) found.node) refl none.1.1.1.1.1.0 found.monitored (λ changes. absurd (false≢true changes)))
+      (comes (Silent name) none (kinds.Silent (digits_value 10 time) found.node) refl none.1.1.1.1.1.0 found.monitored
+      (λ changes. absurd (false≢true changes)))
   may_come Sweep none = comes Sweep none (kinds.Sweep (digits_value 10 time)) refl none.1.1.1.0 tt (λ changes. absurd (false≢true changes))
   may_come Tick none = comes Tick none (kinds.Tick (digits_value 10 time)) refl none.1.1.1.0 tt (λ changes. absurd (false≢true changes))
   may_come (Mode name) none =
@@ -87,7 +91,8 @@ module _ (graph : Tfpg) (log : Logbook) (time : List ℕ) where
       (λ changes. leb-false MAX_MODE_CHANGES (count_by is_mode_change log.events)
       (then_some-none (nat_le MAX_MODE_CHANGES (count_by is_mode_change log.events)) ModesFull none.1.1.1.1.1.0)))
 
-  by_tests : (statement : LogStatement) (event : Event) (first : Option Refusal) → first_of (time_refusals (now_of log) time ++ statement_refusals graph log statement) ≡ first
+  by_tests : (statement : LogStatement) (event : Event) (first : Option Refusal)
+      → first_of (time_refusals (now_of log) time ++ statement_refusals graph log statement) ≡ first
       → offered (unless_refused first (event_of graph (digits_value 10 time) statement)) ≡ Accepted event → IsNextEvent graph log event
   by_tests statement event (Some refusal) at e = absurd cc
   by_tests statement event None at e =
@@ -96,21 +101,25 @@ module _ (graph : Tfpg) (log : Logbook) (time : List ℕ) where
       subst (IsNextEvent graph log) same (may_come statement (recursion_from_All (λ test. test ≡ None) tests (first_of-none tests at)))
 
 by_statement : (graph : Tfpg) (log : Logbook) (event : Event) (says : Option (List ℕ × LogStatement))
-    → option_map_or (λ parts. reply_to_statement graph log parts.0 parts.1) says (Refused BadLine) ≡ Accepted event → IsNextEvent graph log event
+    → option_map_or (λ parts. reply_to_statement graph log parts.0 parts.1) says (Refused BadLine) ≡ Accepted event
+    → IsNextEvent graph log event
 by_statement graph log event None e = absurd cc
 by_statement graph log event (Some parts) e =
     by_tests graph log parts.0 parts.1 event (first_of (time_refusals (now_of log) parts.0 ++ statement_refusals graph log parts.1)) refl e
 
 -- An accepted event may come.
-pub accepted_may_come : (graph : Tfpg) (log : Logbook) (line : List ℕ) (event : Event) → reply_to graph log line ≡ Accepted event → IsNextEvent graph log event
+pub accepted_may_come : (graph : Tfpg) (log : Logbook) (line : List ℕ) (event : Event) → reply_to graph log line ≡ Accepted event
+    → IsNextEvent graph log event
 accepted_may_come graph log line event e = by_statement graph log event (log_statement_of line) e
 
 -- A log with one more event that may come is of the graph.
-pub of-with_event : (graph : Tfpg) (log : Logbook) (event : Event) → IsLogOf graph log → IsNextEvent graph log event → IsLogOf graph (with_event log event)
+pub of-with_event : (graph : Tfpg) (log : Logbook) (event : Event) → IsLogOf graph log → IsNextEvent graph log event
+    → IsLogOf graph (with_event log event)
 of-with_event graph log event of may = record { own = All-push (IsEventOf graph) log.events event of.own may.own; ignored = of.ignored }
 
 -- So is a log that such an event was to be added to.
-pub of-added : (graph : Tfpg) (old new : Logbook) (event : Event) (result : Result (Unit {0}) NoMemory) → IsLogOf graph old → IsNextEvent graph old event → OnOk result (new ≡ with_event old event)
+pub of-added : (graph : Tfpg) (old new : Logbook) (event : Event) (result : Result (Unit {0}) NoMemory) → IsLogOf graph old
+    → IsNextEvent graph old event → OnOk result (new ≡ with_event old event)
     → OnErr result (new ≡ old) → IsLogOf graph new
 of-added graph old new event (Ok done) of may ok err = subst (IsLogOf graph) (sym ok) (of-with_event graph old event of may)
 of-added graph old new event (Err fault) of may ok err = subst (IsLogOf graph) (sym err) of

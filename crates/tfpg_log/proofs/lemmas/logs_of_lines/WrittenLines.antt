@@ -15,14 +15,18 @@ use Rattle.tfpg_log.specs.LogStatements.{LogStatement, Alarm, Silent, Sweep, Tic
 -- ---- statements
 
 -- the words of a line with a statement are those of the statement
-read_alone : (time word : List ℕ) (sweep tick : Bool) (parts : List ℕ × LogStatement) → bytes_eq word (codes "sweep") ≡ sweep → bytes_eq word (codes "tick") ≡ tick
-    → cond sweep (Some (time, Sweep)) (cond tick (Some (time, Tick)) None) ≡ Some parts → time ∷ word ∷ [] ≡ parts.0 ∷ words_of_log_statement parts.1
+read_alone : (time word : List ℕ) (sweep tick : Bool) (parts : List ℕ × LogStatement) → bytes_eq word (codes "sweep") ≡ sweep
+    → bytes_eq word (codes "tick") ≡ tick
+    → cond sweep (Some (time, Sweep)) (cond tick (Some (time, Tick)) None) ≡ Some parts
+    → time ∷ word ∷ [] ≡ parts.0 ∷ words_of_log_statement parts.1
 read_alone time word true tick parts is also e =
     let same : (time, Sweep) ≡ parts = cc in
-    subst (λ (p : List ℕ × LogStatement). time ∷ word ∷ [] ≡ p.0 ∷ words_of_log_statement p.1) same (ap (λ w. time ∷ w ∷ []) (bytes_eq-true word (codes "sweep") is))
+    subst (λ (p : List ℕ × LogStatement). time ∷ word ∷ [] ≡ p.0 ∷ words_of_log_statement p.1) same
+    (ap (λ w. time ∷ w ∷ []) (bytes_eq-true word (codes "sweep") is))
 read_alone time word false true parts is also e =
     let same : (time, Tick) ≡ parts = cc in
-    subst (λ (p : List ℕ × LogStatement). time ∷ word ∷ [] ≡ p.0 ∷ words_of_log_statement p.1) same (ap (λ w. time ∷ w ∷ []) (bytes_eq-true word (codes "tick") also))
+    subst (λ (p : List ℕ × LogStatement). time ∷ word ∷ [] ≡ p.0 ∷ words_of_log_statement p.1) same
+    (ap (λ w. time ∷ w ∷ []) (bytes_eq-true word (codes "tick") also))
 read_alone time word false false parts is also e = absurd cc
 
 read_named : (time word name : List ℕ) (alarm silent mode : Bool) (parts : List ℕ × LogStatement)
@@ -31,25 +35,32 @@ read_named : (time word name : List ℕ) (alarm silent mode : Bool) (parts : Lis
     → time ∷ word ∷ name ∷ [] ≡ parts.0 ∷ words_of_log_statement parts.1
 read_named time word name true silent mode parts is also more e =
     let same : (time, Alarm name) ≡ parts = cc in
-    subst (λ (p : List ℕ × LogStatement). time ∷ word ∷ name ∷ [] ≡ p.0 ∷ words_of_log_statement p.1) same (ap (λ w. time ∷ w ∷ name ∷ []) (bytes_eq-true word (codes "alarm") is))
+    subst (λ (p : List ℕ × LogStatement). time ∷ word ∷ name ∷ [] ≡ p.0 ∷ words_of_log_statement p.1) same
+    (ap (λ w. time ∷ w ∷ name ∷ []) (bytes_eq-true word (codes "alarm") is))
 read_named time word name false true mode parts is also more e =
     let same : (time, Silent name) ≡ parts = cc in
-    subst (λ (p : List ℕ × LogStatement). time ∷ word ∷ name ∷ [] ≡ p.0 ∷ words_of_log_statement p.1) same (ap (λ w. time ∷ w ∷ name ∷ []) (bytes_eq-true word (codes "silent") also))
+    subst (λ (p : List ℕ × LogStatement). time ∷ word ∷ name ∷ [] ≡ p.0 ∷ words_of_log_statement p.1) same
+    (ap (λ w. time ∷ w ∷ name ∷ []) (bytes_eq-true word (codes "silent") also))
 read_named time word name false false true parts is also more e =
     let same : (time, Mode name) ≡ parts = cc in
-    subst (λ (p : List ℕ × LogStatement). time ∷ word ∷ name ∷ [] ≡ p.0 ∷ words_of_log_statement p.1) same (ap (λ w. time ∷ w ∷ name ∷ []) (bytes_eq-true word (codes "mode") more))
+    subst (λ (p : List ℕ × LogStatement). time ∷ word ∷ name ∷ [] ≡ p.0 ∷ words_of_log_statement p.1) same
+    (ap (λ w. time ∷ w ∷ name ∷ []) (bytes_eq-true word (codes "mode") more))
 read_named time word name false false false parts is also more e = absurd cc
 
-words_read : (words : List (List ℕ)) (parts : List ℕ × LogStatement) → log_statement_in words ≡ Some parts → words ≡ parts.0 ∷ words_of_log_statement parts.1
+words_read : (words : List (List ℕ)) (parts : List ℕ × LogStatement) → log_statement_in words ≡ Some parts
+    → words ≡ parts.0 ∷ words_of_log_statement parts.1
 words_read [] parts e = absurd cc
 words_read (time ∷ []) parts e = absurd cc
-words_read (time ∷ word ∷ []) parts e = read_alone time word (bytes_eq word (codes "sweep")) (bytes_eq word (codes "tick")) parts refl refl e
+words_read (time ∷ word ∷ []) parts e =
+    read_alone time word (bytes_eq word (codes "sweep")) (bytes_eq word (codes "tick")) parts refl refl e
 words_read (time ∷ word ∷ name ∷ []) parts e =
-    read_named time word name (bytes_eq word (codes "alarm")) (bytes_eq word (codes "silent")) (bytes_eq word (codes "mode")) parts refl refl refl e
+    read_named time word name (bytes_eq word (codes "alarm")) (bytes_eq word (codes "silent"))
+    (bytes_eq word (codes "mode")) parts refl refl refl e
 words_read (time ∷ word ∷ name ∷ more ∷ others) parts e = absurd cc
 
 -- and those words are read as the statement
-statement_read : (time : List ℕ) (statement : LogStatement) → log_statement_in (time ∷ words_of_log_statement statement) ≡ Some (time, statement)
+statement_read : (time : List ℕ) (statement : LogStatement)
+    → log_statement_in (time ∷ words_of_log_statement statement) ≡ Some (time, statement)
 statement_read time (Alarm name) = refl
 statement_read time (Silent name) = refl
 statement_read time Sweep = refl
@@ -59,10 +70,12 @@ statement_read time (Mode name) = refl
 -- ---- lines
 
 -- A line is read as a statement exactly where it says it.
-pub read_as_written : (line time : List ℕ) (statement : LogStatement) → (log_statement_of line ≡ Some (time, statement)) ↔ SaysLogStatement line time statement
+pub read_as_written : (line time : List ℕ) (statement : LogStatement)
+    → (log_statement_of line ≡ Some (time, statement)) ↔ SaysLogStatement line time statement
 read_as_written line time statement = (
   λ read.
-      let both = cond-some_second (list_any (λ word. eqb (length word) 0) (words_of line)) (log_statement_in (words_of line)) (time, statement) read in
+      let both =
+      cond-some_second (list_any (λ word. eqb (length word) 0) (words_of line)) (log_statement_in (words_of line)) (time, statement) read in
       let words : words_of line ≡ time ∷ words_of_log_statement statement = words_read (words_of line) (time, statement) both.1 in
       record {
         words = sym (join_with_byte-words_of line) ∙ ap line_of words;
@@ -72,6 +85,7 @@ read_as_written line time statement = (
       let all : List (List ℕ) = time ∷ words_of_log_statement statement in
       let are = are_words all says.each in
       let words : words_of line ≡ all = ap words_of says.words ∙ slice_split-join 32 all (omega arith) (no_space all are) in
-      let some : list_any (λ word. eqb (length word) 0) (words_of line) ≡ false = ap (list_any (λ word. eqb (length word) 0)) words ∙ no_empty_word all are in
+      let some : list_any (λ word. eqb (length word) 0) (words_of line) ≡ false =
+      ap (list_any (λ word. eqb (length word) 0)) words ∙ no_empty_word all are in
       (λ i. cond (some i) None (log_statement_in (words i))) ∙ statement_read time statement,
 )

@@ -8,4 +8,5 @@ pub returns : goal.returns
 returns c =
     let parted = IsPartitionedBy-ltb (λ (change : ModeChange). change.time) _ c.args.instant c.requires in
     within_point c.args.changes.now c.partition_point.result c.args.instant c.partition_point.ensures.bound
-    (IsPartitionPoint-from_clause (λ (change : ModeChange). ltb change.time c.args.instant) _ _ c.partition_point.ensures.partitioned parted (λ a r q k. search rules))
+    (IsPartitionPoint-from_clause (λ (change : ModeChange). ltb change.time c.args.instant) _ _ c.partition_point.ensures.partitioned parted
+    (λ a r q k. search rules))

@@ -15,7 +15,8 @@ returns-then-not-has c log spans by_now =
 
 pub returns-in_err-lo : goal.returns-in_err-lo
 returns-in_err-lo c log spans by_now =
-    absurd (no_beginning log c.args.changes.now spans c.args.modes.now c.args.number c.args.horizon c.in_ok-span.span by_now c.in_ok-span.ensures
+    absurd
+    (no_beginning log c.args.changes.now spans c.args.modes.now c.args.number c.args.horizon c.in_ok-span.span by_now c.in_ok-span.ensures
     c.run_start-first.result c.run_end-last.result c.run_start-first.ensures c.run_end-last.ensures c.in_err-lo.ensures)
 
 pub returns : goal.returns

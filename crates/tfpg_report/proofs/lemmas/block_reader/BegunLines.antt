@@ -18,7 +18,8 @@ use Rattle.tfpg_report.specs.declared.report_line.ReportLine.TheVariants.{Refuse
 use Rattle.tfpg_report.specs.Stands.{stand_after, stand_of}
 use Rattle.tfpg_report.specs.ReadRounds.{step_lines}
 use Rattle.tfpg_report.specs.Reading.{is_last, begun_with, begun_in}
-use Rattle.tfpg_report.specs.Blocks.{lines_of_finding, lines_if_ranked, open_line, rejected_line, lines_before_counts, round_lines, Loss, loss_line, Block, RefusedBlock, RoundBlock, block_lines}
+use Rattle.tfpg_report.specs.Blocks.{lines_of_finding, lines_if_ranked, lines_before_counts, round_lines, Loss, Block, RefusedBlock, RoundBlock, block_lines}
+use Rattle.tfpg_report.specs.inside.LineNames.{open_line, rejected_line, loss_line}
 
 -- the stand after lines that one more follows
 pub stand_of_more : (lines : List ReportLine) (line : ReportLine) (before : Stand) → stand_of lines ≡ Some before → stand_of (lines ++ line ∷ []) ≡ stand_after before line

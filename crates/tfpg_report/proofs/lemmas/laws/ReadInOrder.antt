@@ -25,7 +25,8 @@ use Rattle.tfpg_report.specs.declared.report_line.ReportLine.{ReportLine}
 use Rattle.tfpg_report.specs.declared.report_line.ReportLine.TheVariants.{Round, Hyp, Cycle, Why, Ranked, At, Counts}
 use Rattle.tfpg_report.specs.Stands.{may_begin_block, may_begin_steps, may_step, may_rank, may_open, may_reject, after_reasons, is_later, stand_after, stand_after_all}
 use Rattle.tfpg_report.specs.ReadRounds.{step_lines}
-use Rattle.tfpg_report.specs.Blocks.{lines_of_finding, lines_if_ranked, open_line, rejected_line, round_lines, Loss, loss_line, Block, RefusedBlock, RoundBlock, block_lines}
+use Rattle.tfpg_report.specs.Blocks.{lines_of_finding, lines_if_ranked, round_lines, Loss, Block, RefusedBlock, RoundBlock, block_lines}
+use Rattle.tfpg_report.specs.inside.LineNames.{open_line, rejected_line, loss_line}
 use Rattle.tfpg_report.specs.Reading.{IsHead}
 use Rattle.tfpg_report.specs.InOrder.{HasRisingTrace, HasRisingTraces, RiseByPanel, IsInOrder}
 use Rattle.tfpg_evidence.proofs.lemmas.FindingsByNumber.{finding_numbered-all}

@@ -17,7 +17,8 @@ use Rattle.tfpg_report.specs.declared.read_round.ReadRound.{ReadRound}
 use Rattle.tfpg_report.specs.declared.report_line.ReportLine.{ReportLine}
 use Rattle.tfpg_report.specs.declared.report_line.ReportLine.TheVariants.{Head, OldHead, Refused, Round, Hyp, Split, Cycle, Why, Again, Ranked, At, Open, Rejected, Counts, Panel}
 use Rattle.tfpg_report.specs.ReadRounds.{numbered_from, step_lines}
-use Rattle.tfpg_report.specs.Blocks.{lines_of_finding, lines_if_ranked, open_line, rejected_line, round_lines}
+use Rattle.tfpg_report.specs.Blocks.{lines_of_finding, lines_if_ranked, round_lines}
+use Rattle.tfpg_report.specs.inside.LineNames.{open_line, rejected_line}
 use Rattle.tfpg_report.specs.ReadBack.{SaidSteps, SaidRanked, SaidSet, steps_of_part, steps_of_finding, ranked_of_lines, ranked_of_finding, set_of_line, set_of_finding, IsReadBack}
 use Rattle.tfpg_report.specs.Reading.{IsReadFrom}
 use Rattle.tfpg_report.proofs.lemmas.laws.LinesOfOneRound.{Gathered, nothing_gathered, with_line_before, with_lines_before, round_back}

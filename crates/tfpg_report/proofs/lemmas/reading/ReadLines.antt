@@ -138,10 +138,10 @@ module _ (graph : Tfpg) (valid : IsValid graph) where
   kind_of (Rejected number hypothesis) within = inr (inr (inr (record { number = number; hypothesis = hypothesis; is = refl })))
   kind_of (Counts counts) within =
       inl (rw (
-        small_first-reads counts.ranked (codes "covered" ∷ decimal counts.covered ∷ codes "rejected" ∷ decimal counts.rejected ∷ codes "open" ∷ decimal counts.unsettled ∷ []) within.ranked,
-        small_first-reads counts.covered (codes "rejected" ∷ decimal counts.rejected ∷ codes "open" ∷ decimal counts.unsettled ∷ []) within.covered,
-        small_first-reads counts.rejected (codes "open" ∷ decimal counts.unsettled ∷ []) within.rejected,
-        small_first-reads counts.unsettled [] within.unsettled,
+        small_first-reads counts.ranked (codes "covered" ∷ decimal counts.covered ∷ codes "rejected" ∷ decimal counts.rejected ∷ codes "open" ∷ decimal counts.unsettled ∷ []) within.0,
+        small_first-reads counts.covered (codes "rejected" ∷ decimal counts.rejected ∷ codes "open" ∷ decimal counts.unsettled ∷ []) within.1,
+        small_first-reads counts.rejected (codes "open" ∷ decimal counts.unsettled ∷ []) within.2,
+        small_first-reads counts.unsettled [] within.3,
       ) refl)
   kind_of (Panel panel memory) within =
       inl (rw (number_first-reads MAX_PANEL_NUMBER panel (cond memory (codes "memory") (codes "lost") ∷ []) (omega arith) within, loss-reads memory) refl)

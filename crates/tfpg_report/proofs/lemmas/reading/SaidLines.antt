@@ -17,7 +17,7 @@ use Rattle.tfpg_log.specs.declared.refused_line.RefusedLine.{RefusedLine}
 use Rattle.tfpg_log.specs.declared.refused_line.RefusedLine.TheVariants as refused
 use Rattle.tfpg_report.specs.declared.report_line.ReportLine.{ReportLine}
 use Rattle.tfpg_report.specs.declared.report_line.ReportLine.TheVariants as says
-use Rattle.tfpg_report.specs.LineWords.{cause_words, clause_words, edge_words, reason_words, refusal_name}
+use Rattle.tfpg_report.specs.LineWords.{cause_words, clause_words, edge_words, reason_words}
 use Rattle.tfpg_report.specs.ReportLines.{IsCauseWithin, IsLineWithin, IsNameWithin, IsReasonWithin, Has32Bits, line_words}
 use Rattle.tfpg_report.specs.inside.FirstWords.{edge_first, if_last, node_first, number_first, small_first, number_after, small_after}
 use Rattle.tfpg_report.specs.inside.LinesRead.{at_in, block_line_in, cause_in, cause_named, clause_in, counts_in, cycle_in, edge_clause_in, event_reason_in, head_in, hyp_in, loss_in, new_head_in, node_clause_in, node_reason_in, old_head_in, panel_in, pick_in, plain_line_in, quiet_in, reason_in, refusal_named, refused_in, round_in, span_and_horizon, split_in, step_line_in, time_back_in, unreached_in, why_in}
@@ -39,23 +39,22 @@ module _ {X : Type 0} (word keyword : List ℕ) (one other : Option X) (read : X
 
 -- a refusal that one word names
 record IsNamed (name : List ℕ) (why : Refusal) : Type 0 where
-  name_is : name ≡ refusal_name why
-  alone : cause_words (refused.Offer why) ≡ refusal_name why ∷ []
+  alone : cause_words (refused.Offer why) ≡ name ∷ []
   within : IsCauseWithin (refused.Offer why)
 
 refusal_named-is : (name : List ℕ) (why : Refusal) → refusal_named name ≡ Some why → IsNamed name why
 refusal_named-is name why =
-    either_word name (codes "BadLine") _ _ why (IsNamed name why) (one refusal.BadLine refl tt)
-    (either_word name (codes "BadNumber") _ _ why (IsNamed name why) (one refusal.BadNumber refl tt)
-    (either_word name (codes "TimeTooLarge") _ _ why (IsNamed name why) (one refusal.TimeTooLarge refl tt)
-    (either_word name (codes "UnknownName") _ _ why (IsNamed name why) (one refusal.UnknownName refl tt)
-    (either_word name (codes "NotMonitored") _ _ why (IsNamed name why) (one refusal.NotMonitored refl tt)
-    (either_word name (codes "NotAMode") _ _ why (IsNamed name why) (one refusal.NotAMode refl tt)
-    (either_word name (codes "LogFull") _ _ why (IsNamed name why) (one refusal.LogFull refl tt)
-    (either_word name (codes "ModesFull") _ _ why (IsNamed name why) (one refusal.ModesFull refl tt) (λ e. absurd cc))))))))
+    either_word name (codes "BadLine") _ _ why (IsNamed name why) (one refusal.BadLine (codes "BadLine") refl tt)
+    (either_word name (codes "BadNumber") _ _ why (IsNamed name why) (one refusal.BadNumber (codes "BadNumber") refl tt)
+    (either_word name (codes "TimeTooLarge") _ _ why (IsNamed name why) (one refusal.TimeTooLarge (codes "TimeTooLarge") refl tt)
+    (either_word name (codes "UnknownName") _ _ why (IsNamed name why) (one refusal.UnknownName (codes "UnknownName") refl tt)
+    (either_word name (codes "NotMonitored") _ _ why (IsNamed name why) (one refusal.NotMonitored (codes "NotMonitored") refl tt)
+    (either_word name (codes "NotAMode") _ _ why (IsNamed name why) (one refusal.NotAMode (codes "NotAMode") refl tt)
+    (either_word name (codes "LogFull") _ _ why (IsNamed name why) (one refusal.LogFull (codes "LogFull") refl tt)
+    (either_word name (codes "ModesFull") _ _ why (IsNamed name why) (one refusal.ModesFull (codes "ModesFull") refl tt) (λ e. absurd cc))))))))
   where
-    one : (is : Refusal) → cause_words (refused.Offer is) ≡ refusal_name is ∷ [] → IsCauseWithin (refused.Offer is) → name ≡ refusal_name is → Some is ≡ Some why → IsNamed name why
-    one is alone within same e = subst (IsNamed name) (same_Some is why e) (record { name_is = same; alone = alone; within = within })
+    one : (is : Refusal) (word : List ℕ) → cause_words (refused.Offer is) ≡ word ∷ [] → IsCauseWithin (refused.Offer is) → name ≡ word → Some is ≡ Some why → IsNamed name why
+    one is word alone within same e = subst (IsNamed name) (same_Some is why e) (record { alone = alone ∙ ap (λ (w : List ℕ). w ∷ []) (sym same); within = within })
 
 -- The words are those for a cause.
 record HasCause (words : List (List ℕ)) (cause : RefusedLine) : Type 0 where
@@ -69,7 +68,7 @@ cause_named-is name cause =
     (λ e.
     let why = made_of refused.Offer (refusal_named name) cause e in
     let named = refusal_named-is name why.0 why.1.0 in
-    subst (HasCause (name ∷ [])) why.1.1 (record { words_are = ap (λ (w : List ℕ). w ∷ []) named.name_is ∙ sym named.alone; within = named.within }))
+    subst (HasCause (name ∷ [])) why.1.1 (record { words_are = sym named.alone; within = named.within }))
 
 time_back-is : (words : List (List ℕ)) (cause : RefusedLine) → time_back_in words ≡ Some cause → HasCause (codes "TimeBack" ∷ words) cause
 time_back-is words cause e =
@@ -304,7 +303,7 @@ module _ (graph : Tfpg) where
       (third.words_are
       ∙ onto_both (codes "rejected") rejected.0.0 rejected.0.1 _
       (fourth.words_are ∙ onto_both (codes "open") unsettled.0.0 unsettled.0.1 _ end.0)))))
-      (record { ranked = first.is; covered = second.is; rejected = third.is; unsettled = fourth.is })
+      (first.is, second.is, third.is, fourth.is)
 
   -- whether memory ran out for a panel
   loss-is : (words : List (List ℕ)) (memory : Bool) → loss_in words ≡ Some memory → words ≡ cond memory (codes "memory") (codes "lost") ∷ []

@@ -1,6 +1,6 @@
 use Rattle.std.proofs.Common.{◌≡◌, ◌++◌, take}
 use Rattle.std.specs.List.{flat_map}
-use Rattle.tfpg_report.specs.LineWords.{activation_text}
+use Rattle.tfpg_report.specs.inside.LineNames.{activation_text}
 use Rattle.tfpg_report.proofs.ranked_lines.append_activations.Given as goal
 
 -- the texts of the items so far stand after the old bytes

@@ -13,7 +13,12 @@ use Rattle.tfpg_search.specs.inside.Moves.{Grows, KeepsSet, FoundAtLeaf, Searche
 use Rattle.tfpg_search.proofs.lemmas.steps.StepsAppended.{grows_on}
 
 pub keeps_on : (a b c : SearchState) → KeepsSet a b → KeepsSet b c → KeepsSet a c
-keeps_on a b c one other = record { set = other.set ∙ one.set; reach = other.reach ∙ one.reach; seen = other.seen ∙ one.seen }
+keeps_on a b c one other = record {
+  set = other.set ∙ one.set;
+  reach = other.reach ∙ one.reach;
+  seen = other.seen ∙ one.seen;
+  identity = other.identity ∙ one.identity;
+}
 
 module _ (graph : Tfpg) (log : Logbook) where
   -- what was grown, and no split more

@@ -144,7 +144,7 @@ module _ (graph : Tfpg) (log : Logbook) (old : SearchState) (at : IsAtItsLeaf gr
               subst (IsAtItsLeaf graph log) (sym whole) (enter_stands graph log old at left_out pushed.leaf pushing_old picks_there)
 
         pub left_stands : (new : SearchState) → new ≡ record pushed { entered = take count pushed.entered; leaf = new.leaf }
-            → Leaves (slice_get pushed.entered count) pushed.leaf new.leaf → IsAtItsLeaf graph log new × KeepsSet old new × (new.path ≡ old.path)
+            → Leaves (slice_get pushed.entered count) pushed.leaf new.leaf → IsAtItsLeaf graph log new
         left_stands new new_is leaves =
             let marks : List ℕ = old.entered ++ length (pick_reasons old.leaf) ∷ [] in
             let entered_is : pushed.entered ≡ old.entered ++ length (pick_reasons old.leaf) ∷ [] = ap (λ (s : SearchState). s.entered) whole in
@@ -154,23 +154,17 @@ module _ (graph : Tfpg) (log : Logbook) (old : SearchState) (at : IsAtItsLeaf gr
             let all : new ≡ record old { entered = take (length old.entered) (old.entered ++ length (pick_reasons old.leaf) ∷ []); leaf = new.leaf } =
             new_is
             ∙ ap (λ (s : SearchState). record s { entered = take count s.entered; leaf = new.leaf }) whole
-            ∙ ap (λ (n : ℕ). record old { entered = take n (old.entered ++ length (pick_reasons old.leaf) ∷ []); leaf = new.leaf }) count_is in (
-              subst (IsAtItsLeaf graph log) (sym all) (left_again graph log old at pushed.leaf new.leaf pushing_old left),
-              record { set = ap (λ (s : SearchState). s.set) all; reach = ap (λ (s : SearchState). s.reach) all; seen = ap (λ (s : SearchState). s.seen) all },
-              ap (λ (s : SearchState). s.path) all,
-            )
+            ∙ ap (λ (n : ℕ). record old { entered = take n (old.entered ++ length (pick_reasons old.leaf) ∷ []); leaf = new.leaf }) count_is in
+            subst (IsAtItsLeaf graph log) (sym all) (left_again graph log old at pushed.leaf new.leaf pushing_old left)
 
   -- ---- the facts are added
 
   pub facts_stand : (new : SearchState) → new ≡ record old { leaf = new.leaf } → length new.leaf.demands.bounds ≡ length old.leaf.demands.bounds
       → pick_reasons new.leaf ≡ pick_reasons old.leaf
       → ((stated : Reason → Option Constraint) → IsStated (fact (case_of graph log old.reach)) stated old.leaf → IsStated (fact (case_of graph log old.reach)) stated new.leaf)
-      → IsAtItsLeaf graph log new × KeepsSet old new × (new.path ≡ old.path)
-  facts_stand new new_is variables reasons keeps = (
-    subst (IsAtItsLeaf graph log) (sym new_is) (leaf_stands graph log old at new.leaf variables (keeps (stated_on (case_of graph log old.reach) old.path) at.stated) reasons),
-    record { set = ap (λ (s : SearchState). s.set) new_is; reach = ap (λ (s : SearchState). s.reach) new_is; seen = ap (λ (s : SearchState). s.seen) new_is },
-    ap (λ (s : SearchState). s.path) new_is,
-  )
+      → IsAtItsLeaf graph log new
+  facts_stand new new_is variables reasons keeps =
+      subst (IsAtItsLeaf graph log) (sym new_is) (leaf_stands graph log old at new.leaf variables (keeps (stated_on (case_of graph log old.reach) old.path) at.stated) reasons)
 
 -- All facts are added where all alternatives were entered: the leaf is loaded.
 pub add_loaded : (graph : Tfpg) (log : Logbook) (middle new : SearchState) → new ≡ record middle { leaf = new.leaf } → HasEnteredAll middle → IsAtItsLeaf graph log new → (result : Result (Unit {0}) AddFault)

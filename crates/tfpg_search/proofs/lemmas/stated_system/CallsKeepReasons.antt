@@ -20,7 +20,7 @@ use Rattle.tfpg_search.proofs.lemmas.stated_system.TagsStay.{IsTagged-write, IsT
 use Rattle.tfpg_search.proofs.lemmas.stated_system.DemandsStayStated.{system_of, leaf_of, tagged_by-floor, tagged_by-ceiling, IsIndexOf, IsStated-write, IsStated-push, IsStated-pop, pick_reasons-push, pick_reasons-pop}
 
 -- The fields of the system are what contracts see of it.
-module _ (leaf : Leaf) (demands : Demands) (reasons : List Reason) (entered : List ℕ) {calls : ℕ} (view : system_of demands reasons entered calls ≡ leaf) (tagged : IsTagged demands reasons) where
+module _ (leaf : Leaf) (demands : Demands) (reasons : List Reason) (entered : List ℕ) {calls identity : ℕ} (view : system_of demands reasons entered calls identity ≡ leaf) (tagged : IsTagged demands reasons) where
   written_reasons : (new : Demands) (index : ℕ) (reason : Reason) → length new.bounds ≡ length demands.bounds → index < 2 * length demands.bounds
       → pick_reasons (leaf_of new (set reasons index reason)) ≡ pick_reasons leaf
   written_reasons new index reason same within =

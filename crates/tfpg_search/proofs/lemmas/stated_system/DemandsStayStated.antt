@@ -19,13 +19,14 @@ use Rattle.tfpg_search.specs.inside.Leaf.{Leaf, tagged_by, pick_reasons, AreBoun
 use Rattle.tfpg_search.specs.inside.Tags.{IsTagged}
 use Rattle.tfpg_base.proofs.lemmas.lists.Cuts.{slice_get-take, slice_get-taken}
 
--- the system with these demands and reasons, so many picks before each alternative, and so many calls
-abbrev pub system_of : Demands → List Reason → List ℕ → ℕ → Leaf
-system_of demands reasons entered calls = record { demands = demands; reasons = reasons; entered = entered; calls = calls }
+-- the system with these demands and reasons, so many picks before each alternative, so many calls, and this identity
+abbrev pub system_of : Demands → List Reason → List ℕ → ℕ → ℕ → Leaf
+system_of demands reasons entered calls identity =
+    record { demands = demands; reasons = reasons; entered = entered; calls = calls; identity = identity }
 
--- the same, whichever alternatives are entered, and however many calls there were
+-- the same, whichever alternatives are entered, however many calls there were, and whichever system it is
 abbrev pub leaf_of : Demands → List Reason → Leaf
-leaf_of demands reasons = system_of demands reasons [] 0
+leaf_of demands reasons = system_of demands reasons [] 0 0
 
 module _ (stated : Reason → Option Constraint) (reasons others : List Reason) where
   -- what the tag of a lower bound names, where its reason stays

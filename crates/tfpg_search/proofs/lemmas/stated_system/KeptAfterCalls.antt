@@ -90,13 +90,13 @@ module _ (leaf : Leaf) (demands : Demands) (lows : List LowReason) (highs : List
   abbrev reasons : List Reason
   reasons = kept_reasons demands lows highs entered
 
-  module _ {calls : ℕ} (view : system_of demands reasons entered calls ≡ leaf) (kept : AreKept demands lows highs entered) where
+  module _ {calls identity : ℕ} (view : system_of demands reasons entered calls identity ≡ leaf) (kept : AreKept demands lows highs entered) where
     -- ---- nothing changes at a fault but what is counted
 
     module _ (new : Demands) (same : new ≡ demands) where
-      pub same_leaf : (more : ℕ) → system_of new (kept_reasons new lows highs entered) entered more ≡ record leaf { calls = more }
-      same_leaf more =
-          ap (λ (d : Demands). system_of d (kept_reasons d lows highs entered) entered more) same
+      pub same_leaf : (more own : ℕ) → own ≡ identity → system_of new (kept_reasons new lows highs entered) entered more own ≡ record leaf { calls = more }
+      same_leaf more own is_own =
+          (λ i. system_of (same i) (kept_reasons (same i) lows highs entered) entered more (is_own i))
           ∙ ap (λ (l : Leaf). record l { calls = more }) view
 
       pub same_kept : AreKept new lows highs entered
@@ -157,8 +157,8 @@ module _ (leaf : Leaf) (demands : Demands) (lows : List LowReason) (highs : List
                 tagged = subst (IsTagged raising) (sym with_low_is) raising_tagged;
               })
 
-          pub raised_adds : (more : ℕ) → AddsFact low_is (at_least v least) leaf (system_of new (kept_reasons new (set lows v low) highs entered) entered more) (Ok tt)
-          raised_adds more = record {
+          pub raised_adds : (more own : ℕ) → AddsFact low_is (at_least v least) leaf (system_of new (kept_reasons new (set lows v low) highs entered) entered more own) (Ok tt)
+          raised_adds more own = record {
             err = tt;
             entered = ap (λ (l : Leaf). l.entered) view;
             nodes = ap (λ (d : Demands). length d.bounds) added ∙ raising_long ∙ ap (λ (l : Leaf). length l.demands.bounds) view;
@@ -183,15 +183,15 @@ module _ (leaf : Leaf) (demands : Demands) (lows : List LowReason) (highs : List
               (let long = length-set reasons v low_is in let one = ap (λ (rs : List Reason). length rs) (same_reasons new same) in omega arith)
               (λ more. let long = length-set reasons v low_is in let one = ap (λ (rs : List Reason). length rs) (same_reasons new same) in omega arith)
 
-          pub raised_refused : (more : ℕ) (fault : AddFault) → IsFaultOf (map (reason_or (kept_reasons new lows highs entered) tag low_is) lent) fault
-              → AddsFact low_is (at_least v least) leaf (system_of new (kept_reasons new lows highs entered) entered more) (Err fault)
-          raised_refused more fault is = record {
-            err = same_leaf new same more;
+          pub raised_refused : (more own : ℕ) → own ≡ identity → (fault : AddFault) → IsFaultOf (map (reason_or (kept_reasons new lows highs entered) tag low_is) lent) fault
+              → AddsFact low_is (at_least v least) leaf (system_of new (kept_reasons new lows highs entered) entered more own) (Err fault)
+          raised_refused more own is_own fault is = record {
+            err = same_leaf new same more own is_own;
             entered = ap (λ (l : Leaf). l.entered) view;
-            nodes = ap (λ (l : Leaf). length l.demands.bounds) (same_leaf new same more);
-            reasons = ap pick_reasons (same_leaf new same more);
+            nodes = ap (λ (l : Leaf). length l.demands.bounds) (same_leaf new same more own is_own);
+            reasons = ap pick_reasons (same_leaf new same more own is_own);
             stated = λ fact stated before states. record {
-              still = subst (IsStated fact stated) (sym (same_leaf new same more)) before;
+              still = subst (IsStated fact stated) (sym (same_leaf new same more own is_own)) before;
               closes = cycle_closes raising with_low (kept_reasons new lows highs entered) tag low_is raising_or raising_tagged tags lent found is_lent fact stated fault
                   (raised_stated leaf demands reasons entered view kept.tagged v within low_is least tag is_tag tighter fact stated before states) is;
             };
@@ -240,8 +240,8 @@ module _ (leaf : Leaf) (demands : Demands) (lows : List LowReason) (highs : List
                 tagged = subst (IsTagged lowering) (sym with_high_is) lowering_tagged;
               })
 
-          pub lowered_adds : (more : ℕ) → AddsFact high_is (at_most v (pos ceiling)) leaf (system_of new (kept_reasons new lows (set highs v high) entered) entered more) (Ok tt)
-          lowered_adds more = record {
+          pub lowered_adds : (more own : ℕ) → AddsFact high_is (at_most v (pos ceiling)) leaf (system_of new (kept_reasons new lows (set highs v high) entered) entered more own) (Ok tt)
+          lowered_adds more own = record {
             err = tt;
             entered = ap (λ (l : Leaf). l.entered) view;
             nodes = ap (λ (d : Demands). length d.bounds) added ∙ lowering_long ∙ ap (λ (l : Leaf). length l.demands.bounds) view;
@@ -265,15 +265,15 @@ module _ (leaf : Leaf) (demands : Demands) (lows : List LowReason) (highs : List
               (let long = length-set reasons tag high_is in let one = ap (λ (rs : List Reason). length rs) (same_reasons new same) in omega arith)
               (λ more. let long = length-set reasons tag high_is in let one = ap (λ (rs : List Reason). length rs) (same_reasons new same) in omega arith)
 
-          pub lowered_refused : (more : ℕ) (fault : AddFault) → IsFaultOf (map (reason_or (kept_reasons new lows highs entered) tag high_is) lent) fault
-              → AddsFact high_is (at_most v (pos ceiling)) leaf (system_of new (kept_reasons new lows highs entered) entered more) (Err fault)
-          lowered_refused more fault is = record {
-            err = same_leaf new same more;
+          pub lowered_refused : (more own : ℕ) → own ≡ identity → (fault : AddFault) → IsFaultOf (map (reason_or (kept_reasons new lows highs entered) tag high_is) lent) fault
+              → AddsFact high_is (at_most v (pos ceiling)) leaf (system_of new (kept_reasons new lows highs entered) entered more own) (Err fault)
+          lowered_refused more own is_own fault is = record {
+            err = same_leaf new same more own is_own;
             entered = ap (λ (l : Leaf). l.entered) view;
-            nodes = ap (λ (l : Leaf). length l.demands.bounds) (same_leaf new same more);
-            reasons = ap pick_reasons (same_leaf new same more);
+            nodes = ap (λ (l : Leaf). length l.demands.bounds) (same_leaf new same more own is_own);
+            reasons = ap pick_reasons (same_leaf new same more own is_own);
             stated = λ fact stated before states. record {
-              still = subst (IsStated fact stated) (sym (same_leaf new same more)) before;
+              still = subst (IsStated fact stated) (sym (same_leaf new same more own is_own)) before;
               closes = cycle_closes lowering with_high (kept_reasons new lows highs entered) tag high_is lowering_or lowering_tagged tags lent found is_lent fact stated fault
                   (lowered_stated leaf demands reasons entered view kept.tagged v within high_is ceiling tag is_tag tighter fact stated before states) is;
             };
@@ -311,10 +311,10 @@ module _ (leaf : Leaf) (demands : Demands) (lows : List LowReason) (highs : List
           tagged = subst (IsTagged demands) (sym reasons_same) kept.tagged;
         }
 
-        pub entered_leaf : system_of demands (kept_reasons demands lows highs longer) longer calls ≡ record leaf { entered = leaf.entered ++ length (pick_reasons leaf) ∷ [] }
+        pub entered_leaf : system_of demands (kept_reasons demands lows highs longer) longer calls identity ≡ record leaf { entered = leaf.entered ++ length (pick_reasons leaf) ∷ [] }
         entered_leaf =
-            (λ i. system_of demands (reasons_same i) (is_longer i) calls)
-            ∙ ap (λ (n : ℕ). system_of demands reasons (entered ++ n ∷ []) calls) (is_count ∙ picks_each)
+            (λ i. system_of demands (reasons_same i) (is_longer i) calls identity)
+            ∙ ap (λ (n : ℕ). system_of demands reasons (entered ++ n ∷ []) calls identity) (is_count ∙ picks_each)
             ∙ ap (λ (l : Leaf). record l { entered = l.entered ++ length (pick_reasons leaf) ∷ [] }) view
 
     -- ---- a pick is pushed
@@ -370,8 +370,8 @@ module _ (leaf : Leaf) (demands : Demands) (lows : List LowReason) (highs : List
               tagged = subst (IsTagged pushing) (sym with_adding_is) pushing_tagged;
             })
 
-        pub pushed_adds : (more : ℕ) → AddsPick adding constraint leaf (system_of new (kept_reasons new lows highs entered) entered more) (Ok tt)
-        pushed_adds more = record {
+        pub pushed_adds : (more own : ℕ) → AddsPick adding constraint leaf (system_of new (kept_reasons new lows highs entered) entered more own) (Ok tt)
+        pushed_adds more own = record {
           err = tt;
           entered = ap (λ (l : Leaf). l.entered) view;
           bounds = ap (λ (d : Demands). d.bounds) added ∙ bounds_held ∙ ap (λ (l : Leaf). l.demands.bounds) view;
@@ -400,15 +400,15 @@ module _ (leaf : Leaf) (demands : Demands) (lows : List LowReason) (highs : List
             (let long = length-append reasons (adding ∷ []) in let one = ap (λ (rs : List Reason). length rs) (same_reasons new all_same) in omega arith)
             (λ more. last_tag ∙ sym (ap (λ (rs : List Reason). length rs) (same_reasons new all_same)))
 
-        pub pushed_refused : (more : ℕ) (fault : AddFault) → IsFaultOf (map (reason_or (kept_reasons new lows highs entered) tag adding) lent) fault
-            → AddsPick adding constraint leaf (system_of new (kept_reasons new lows highs entered) entered more) (Err fault)
-        pushed_refused more fault is = record {
-          err = same_leaf new all_same more;
+        pub pushed_refused : (more own : ℕ) → own ≡ identity → (fault : AddFault) → IsFaultOf (map (reason_or (kept_reasons new lows highs entered) tag adding) lent) fault
+            → AddsPick adding constraint leaf (system_of new (kept_reasons new lows highs entered) entered more own) (Err fault)
+        pushed_refused more own is_own fault is = record {
+          err = same_leaf new all_same more own is_own;
           entered = ap (λ (l : Leaf). l.entered) view;
-          bounds = ap (λ (l : Leaf). l.demands.bounds) (same_leaf new all_same more);
+          bounds = ap (λ (l : Leaf). l.demands.bounds) (same_leaf new all_same more own is_own);
           reasons = tt;
           stated = λ fact stated before states. record {
-            still = subst (IsStated fact stated) (sym (same_leaf new all_same more)) before;
+            still = subst (IsStated fact stated) (sym (same_leaf new all_same more own is_own)) before;
             closes = cycle_closes pushing with_adding (kept_reasons new lows highs entered) tag adding pushing_or pushing_tagged tags lent found is_lent fact stated fault
                 (pushed_stated leaf demands reasons entered view kept.tagged constraint adding tag last_tag with_adding refl held is_held fact stated before states) is;
           };
@@ -443,14 +443,14 @@ module _ (leaf : Leaf) (demands : Demands) (lows : List LowReason) (highs : List
             (subst (λ (d : Demands). IsTagged d (take (2 * length demands.bounds + before) reasons)) (sym popped) (IsTagged-pop demands reasons before kept.tagged before_within));
       }
 
-      pub left_leaf : (more : ℕ) → Leaves (slice_get leaf.entered keep) leaf (system_of new (kept_reasons new lows highs rest) rest more)
-      left_leaf more =
+      pub left_leaf : (more own : ℕ) → Leaves (slice_get leaf.entered keep) leaf (system_of new (kept_reasons new lows highs rest) rest more own)
+      left_leaf more own =
           let there : slice_get leaf.entered keep ≡ Some before = ap (λ (l : Leaf). slice_get l.entered keep) (sym view) ∙ begins in
-          let gone : Leaves (Some before) leaf (system_of new (kept_reasons new lows highs rest) rest more) = (
+          let gone : Leaves (Some before) leaf (system_of new (kept_reasons new lows highs rest) rest more own) = (
             record {
               variables = ap (λ (d : Demands). length d.bounds) popped ∙ ap (λ (l : Leaf). length l.demands.bounds) view;
               stated = popped_stated leaf demands reasons entered view kept.tagged before (2 * length demands.bounds + before) refl (kept_reasons new lows highs rest) rest_is new popped;
             },
             popped_reasons leaf demands reasons entered view kept.tagged before (2 * length demands.bounds + before) refl (kept_reasons new lows highs rest) rest_is new popped,
           ) in
-          subst (λ (o : Option ℕ). Leaves o leaf (system_of new (kept_reasons new lows highs rest) rest more)) (sym there) gone
+          subst (λ (o : Option ℕ). Leaves o leaf (system_of new (kept_reasons new lows highs rest) rest more own)) (sym there) gone

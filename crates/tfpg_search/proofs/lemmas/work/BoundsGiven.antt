@@ -129,10 +129,10 @@ widest_highs first zero = refl
 widest_highs first (suc count) = ap (λ (ns : List ℕ). NEVER ∷ ns) (widest_highs (first + 1) count)
 
 -- a new system has the widest bounds
-pub new_widest : (demands : Demands) (nodes : ℕ) → demands ≡ record { bounds = unbounded_from 0 nodes; picks = [] } → (reasons : List Reason) (entered : List ℕ) (calls : ℕ)
-    → bounds_in (record { demands = demands; reasons = reasons; entered = entered; calls = calls }) ≡ widest_bounds nodes
-new_widest demands nodes is reasons entered calls =
-    ap (λ (d : Demands). bounds_in (record { demands = d; reasons = reasons; entered = entered; calls = calls })) is ∙ (λ i. record { lows = widest_lows 0 nodes i; highs = widest_highs 0 nodes i })
+pub new_widest : (demands : Demands) (nodes : ℕ) → demands ≡ record { bounds = unbounded_from 0 nodes; picks = [] } → (reasons : List Reason) (entered : List ℕ) (calls identity : ℕ)
+    → bounds_in (record { demands = demands; reasons = reasons; entered = entered; calls = calls; identity = identity }) ≡ widest_bounds nodes
+new_widest demands nodes is reasons entered calls identity =
+    ap (λ (d : Demands). bounds_in (record { demands = d; reasons = reasons; entered = entered; calls = calls; identity = identity })) is ∙ (λ i. record { lows = widest_lows 0 nodes i; highs = widest_highs 0 nodes i })
 
 -- ---- a round
 

@@ -6,7 +6,9 @@ use Rattle.tfpg_trace.proofs.all_shown.alarm_times.Goals as goal
 
 pub returns-in_err-first : goal.returns-in_err-first
 returns-in_err-first c =
-    subst (λ r. MatchOption r ((time : ℕ) → IsAlarmTime c.args.log.now c.args.node time → ⊥) (λ times. AreAlarmTimes c.args.log.now c.args.node times.0 times.1))
+    subst
+    (λ r. MatchOption r ((time : ℕ) → IsAlarmTime c.args.log.now c.args.node time → ⊥)
+    (λ times. AreAlarmTimes c.args.log.now c.args.node times.0 times.1))
     (sym c.from_residual.ensures) (no_alarm_time c.args.log.now c.args.node (sym c.alarm_of.ensures ∙ c.in_err-first.was))
 
 pub returns : goal.returns

@@ -15,7 +15,8 @@ pub returns-then-edge_can_be_due : goal.returns-then-edge_can_be_due
 returns-then-edge_can_be_due c = (
   λ yes.
       some_at_index (λ edge. nat_eq edge.target c.args.node) c.args.graph.now.edges (CanBeDue c.args.trace.now c.args.until)
-      c.incoming-incoming.result.now c.incoming-incoming.ensures.edges c.loop-number.number-index c.loop-number-test.true (c.edge_can_be_due.ensures.0 c.if-edge_can_be_due.true),
+      c.incoming-incoming.result.now c.incoming-incoming.ensures.edges c.loop-number.number-index c.loop-number-test.true
+      (c.edge_can_be_due.ensures.0 c.if-edge_can_be_due.true),
   λ some. refl,
 )
 

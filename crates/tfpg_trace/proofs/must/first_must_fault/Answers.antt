@@ -7,7 +7,8 @@ use Rattle.tfpg_trace.proofs.must.first_must_fault.Goals as goal
 
 pub loop-number-init : goal.loop-number-init
 loop-number-init c =
-    let few : length (incoming c.args.graph.now c.args.node) ≤ MAX_INCOMING = c.is_always_valid.ensures.valid.so_far.few_incoming c.args.node in
+    let few : length (incoming c.args.graph.now c.args.node) ≤ MAX_INCOMING =
+    c.is_always_valid.ensures.valid.so_far.few_incoming c.args.node in
     record {
       keeps = λ instant within before. absurd (omega (arith, before));
       gaps = no_gaps c.args.graph.now c.args.log.now c.args.node MAX_INCOMING few;
@@ -21,14 +22,16 @@ returns-in-Some c =
 
 pub loop-number-preserved : goal.loop-number-preserved
 loop-number-preserved c = record {
-  keeps = one_span_more c.args.log.now c.args.graph.now c.args.trace.now c.args.node c.loop-number.number c.loop-number.invariant.keeps c.in_default.ensures.fault;
+  keeps =
+      one_span_more c.args.log.now c.args.graph.now c.args.trace.now c.args.node c.loop-number.number c.loop-number.invariant.keeps c.in_default.ensures.fault;
   gaps = c.fault_at.ensures.gaps;
   room = omega (arith, c.fault_at.auto.gaps, c.loop-number.invariant.room);
 }
 
 pub returns-in_default : goal.returns-in_default
 returns-in_default c =
-    none_at_all c.args.log.now c.args.graph.now c.args.trace.now c.args.node c.last_to_try.result c.in_ok-last.last (c.loop-number.number + 1)
+    none_at_all c.args.log.now c.args.graph.now c.args.trace.now c.args.node c.last_to_try.result c.in_ok-last.last
+    (c.loop-number.number + 1)
     c.last_to_try.ensures.by_now c.in_ok-last.ensures c.last_to_try.ensures.rest (omega arith)
     (one_span_more c.args.log.now c.args.graph.now c.args.trace.now c.args.node c.loop-number.number c.loop-number.invariant.keeps c.in_default.ensures.fault)
 

@@ -1,4 +1,4 @@
-use Rattle.tfpg_trace.specs.Broken.{KeepRulesBefore}
+use Rattle.tfpg_trace.specs.inside.RuleFaults.{KeepRulesBefore}
 use Rattle.tfpg_trace.proofs.rules.broken_rule.Given as goal
 
 abbrev pub invariant-loop-node : goal.invariant-loop-node

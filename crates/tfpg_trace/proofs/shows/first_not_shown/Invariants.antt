@@ -1,4 +1,4 @@
-use Rattle.tfpg_trace.specs.FirstFault.{ShowsBefore}
+use Rattle.tfpg_trace.specs.inside.Shown.{ShowsBefore}
 use Rattle.tfpg_trace.proofs.shows.first_not_shown.Given as goal
 
 abbrev pub invariant-loop-index : goal.invariant-loop-index

@@ -9,11 +9,13 @@ returns-in-Some c =
       λ quiet. shows_silence_until c.args.graph.now c.args.log.now c.args.trace.now c.args.node c.args.time c.in-Some.until said
           (iff_false c.is_active.ensures (not-true c.is_active.result quiet)),
       λ shows. ap not (false_from_ne_true c.is_active.result (λ active.
-          shows_silence_by_instant c.args.graph.now c.args.log.now c.args.trace.now c.args.node c.args.time shows c.in-Some.until said (c.is_active.ensures.0 active))),
+          shows_silence_by_instant c.args.graph.now c.args.log.now c.args.trace.now c.args.node c.args.time shows c.in-Some.until said
+          (c.is_active.ensures.0 active))),
     )
 
 pub returns-in-None : goal.returns-in-None
 returns-in-None c = (
-  λ _. shows_silence_unheard c.args.graph.now c.args.log.now c.args.trace.now c.args.node c.args.time (sym c.inactive_until.ensures ∙ c.in-None.is),
+  λ _. shows_silence_unheard c.args.graph.now c.args.log.now c.args.trace.now c.args.node c.args.time
+      (sym c.inactive_until.ensures ∙ c.in-None.is),
   λ _. refl,
 )

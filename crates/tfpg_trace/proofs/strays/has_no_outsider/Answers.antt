@@ -13,5 +13,6 @@ loop-activation-preserved c =
     let xs = c.args.activations.now in
     let index = c.loop-activation.activation-index in
     let here : Activation = get_or c.args.activations.now c.loop-activation.activation-index (record { node = 0; time = 0 }) in
-    subst (All holds) (sym (take-next xs index here (slice_get-get_or xs index (record { node = 0; time = 0 }) c.loop-activation-test.true)))
+    subst (All holds)
+    (sym (take-next xs index here (slice_get-get_or xs index (record { node = 0; time = 0 }) c.loop-activation-test.true)))
     (All-push holds (take index xs) here c.loop-activation.invariant (c.may_be_outside.ensures c.if-may_be_outside.false))

@@ -14,9 +14,12 @@ loop-activation-preserved c =
     let activation : Activation = get_or c.args.trace.now c.loop-activation.activation-index (record { node = 0; time = 0 }) in
     let at : slice_get c.args.trace.now c.loop-activation.activation-index ≡ Some activation =
     slice_get-get_or c.args.trace.now c.loop-activation.activation-index (record { node = 0; time = 0 }) c.loop-activation-test.true in
-    let below = All-at (λ (a : Activation). a.node < 512) c.args.trace.now c.loop-activation.activation-index activation c.requires.nodes at in
+    let below =
+    All-at (λ (a : Activation). a.node < 512) c.args.trace.now c.loop-activation.activation-index activation c.requires.nodes at in
     record {
-      filled = filled_more c.loop-activation.by_node c.args.trace.now c.loop-activation.activation-index activation c.requires.rising at (omega (arith, below, c.loop-activation.invariant.room)) c.loop-activation.invariant.filled;
+      filled =
+          filled_more c.loop-activation.by_node c.args.trace.now c.loop-activation.activation-index activation c.requires.rising at
+          (omega (arith, below, c.loop-activation.invariant.room)) c.loop-activation.invariant.filled;
       room = length-set c.loop-activation.by_node activation.node (Some activation.time) ∙ c.loop-activation.invariant.room;
     }
 

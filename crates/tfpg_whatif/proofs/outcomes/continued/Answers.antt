@@ -2,8 +2,14 @@ use Rattle.std.proofs.Common.{sym, subst}
 use Rattle.std.specs.Prelude.{IfSome}
 use Rattle.tfpg_log.specs.Explains.{Explains}
 use Rattle.tfpg_whatif.specs.inside.Asking.{CanContinue}
+use Rattle.tfpg_search.proofs.lemmas.calls.CopyRepresents.{copy_represents}
 use Rattle.tfpg_whatif.proofs.lemmas.Continued.{continues}
 use Rattle.tfpg_whatif.proofs.outcomes.continued.Goals as goal
+
+pub round-requires-clause-represents : goal.round-requires-clause-represents
+round-requires-clause-represents g c =
+    copy_represents c.args.subject.now.graph.now c.args.subject.now.log.now c.in-Some.search.now c.in_ok-copy.copy c.in_ok-copy.ensures
+    (subst (λ kept. IfSome kept (λ search. CanContinue c.args.subject.now.graph.now c.args.subject.now.log.now c.args.subject.now.hypothesis.set search.now)) c.in-Some.is c.requires.kept).represents
 
 pub returns : goal.returns
 returns g c =

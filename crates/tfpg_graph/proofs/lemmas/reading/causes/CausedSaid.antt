@@ -1,5 +1,6 @@
 -- A statement that has no cause has its value.
 use Rattle.std.proofs.Common.{◌≡◌, ℕ, ◌<◌, Bool, true, false, cond, List, [], ◌∷◌, ◌++◌, length, Option, Some, None, is_some, is_none, option_map, codes, refl, ap, sym, ◌∙◌}
+use Rattle.std.specs.Option.{option_zip}
 use Rattle.std.specs.List.{list_all, list_any}
 use Rattle.std.specs.Str.{bytes_eq}
 use Rattle.std.proofs.lemmas.Bool.{or_parts, and_parts, not-false}
@@ -9,7 +10,8 @@ use Rattle.tfpg_graph.specs.declared.cause.GraphCause.{GraphCause}
 use Rattle.tfpg_graph.specs.Graph.{Tfpg, node_named}
 use Rattle.tfpg_graph.specs.Text.{version_of}
 use Rattle.tfpg_graph.specs.Statements.{LagWords, NodeWords, FailureWords, OrWords, AndWords, Statement, DeclaresMode, DeclaresNode, DeclaresEdge, Ends, statement_of, is_skipped, ends_text}
-use Rattle.tfpg_graph.specs.Declares.{lag_of_words, numbers_of_words, kind_of_words, tmax_of_word, delays_of_words, ends_named, said_by, declared_by}
+use Rattle.tfpg_graph.specs.Declares.{lag_of_words, kind_of_words, tmax_of_word, said_by, declared_by}
+use Rattle.tfpg_graph.specs.inside.reading.WordValues.{numbers_of_words, delays_of_words, ends_named}
 use Rattle.tfpg_base.specs.Choice.{first_of}
 use Rattle.tfpg_graph.specs.Causes.{causes, numbers_in, cause_at}
 use Rattle.tfpg_graph.specs.inside.reading.Turns.{HasValue, is_misplaced}
@@ -19,6 +21,11 @@ use Rattle.tfpg_graph.proofs.lemmas.reading.causes.WithoutCause.{HasNoCause-from
 use Rattle.tfpg_graph.proofs.lemmas.reading.graphs.DeclaredBy.{AllHaveValues, is_misplaced-said}
 use Rattle.tfpg_graph.proofs.lemmas.reading.causes.CauseAt.{cause-unended}
 
+both-some : {X Y : Type 0} (a : Option X) (b : Option Y) → is_some a ≡ true → is_some b ≡ true → is_some (option_zip a b) ≡ true
+both-some None b some other = absurd cc
+both-some (Some x) None some other = absurd cc
+both-some (Some x) (Some y) some other = refl
+
 lag-some : (lag : Option LagWords)
     → list_all (λ number. is_number number.0) (numbers_in (DeclaresNode [] (OrWords lag))) ≡ true
     → is_some (lag_of_words lag) ≡ true
@@ -26,7 +33,7 @@ lag-some None numbers = refl
 lag-some (Some words) numbers =
     let are = and_parts (is_number words.least) _ numbers in
     is_some-option_map _ (numbers_of_words words.least words.most)
-    ∙ is_some-both _ (number_of words.least) (number_of words.most) (is_some-number_of words.least are.0)
+    ∙ both-some (number_of words.least) (number_of words.most) (is_some-number_of words.least are.0)
     (is_some-number_of words.most (and_parts (is_number words.most) true are.1).0)
 
 kind-some : (name : List ℕ) (words : NodeWords)
@@ -57,8 +64,8 @@ HasValue-no_cause out_of_order graph (DeclaresEdge source target tmin tmax modes
     let numbers = and_parts (is_number tmin) _ (not-false _ ((HasNoCause-from_none out_of_order graph said none).numbers)) in
     let names = or_parts (is_none (node_named graph source)) _ ((HasNoCause-from_none out_of_order graph said none).known) in
     is_some-both _ (ends_named graph source target) (delays_of_words tmin tmax)
-    (is_some-both _ (node_named graph source) (node_named graph target) (not-false _ names.0) (not-false _ (or_parts (is_none (node_named graph target)) _ names.1).0))
-    (is_some-both _ (number_of tmin) (tmax_of_word tmax) (is_some-number_of tmin numbers.0) (tmax-some tmax numbers.1))
+    (both-some (node_named graph source) (node_named graph target) (not-false _ names.0) (not-false _ (or_parts (is_none (node_named graph target)) _ names.1).0))
+    (both-some (number_of tmin) (tmax_of_word tmax) (is_some-number_of tmin numbers.0) (tmax-some tmax numbers.1))
 HasValue-no_cause out_of_order graph Ends none = tt
 
 -- The first cause of a statement, by what is declared.

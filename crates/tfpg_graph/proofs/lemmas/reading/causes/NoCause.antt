@@ -1,7 +1,7 @@
 -- A statement of what is valid has no cause.
 use Rattle.std.proofs.Common.{◌≡◌, ◌≢◌, ℕ, ◌<◌, ◌||◌, ◌&&◌, Bool, true, false, cond, not, List, [], ◌∷◌, length, IsTrue, Option, Some, None, is_none, is_some, nat_lt, nat_le, codes, refl, ap, sym, ◌∙◌, arith}
 use Rattle.std.specs.Prelude.{decimal}
-use Rattle.std.specs.Option.{option_map, option_map_or, option_and_then}
+use Rattle.std.specs.Option.{option_map_or, option_and_then, option_zip}
 use Rattle.std.specs.List.{list_any, list_all}
 use Rattle.std.specs.Str.{bytes_eq}
 use Rattle.std.specs.Str.Parse.{digits_value}
@@ -250,7 +250,7 @@ module _ (out_of_order : Bool) (graph : Tfpg) (from to : ℕ) (source target : L
     into_discrepancy = ap (λ o. option_map_or (is_kind_at is_failure graph) o false) is.target_is ∙ is.into_discrepancy;
     onward = apart;
     first = (λ i. is_some (option_and_then (λ (ends : ℕ × ℕ). edge_from_to graph ends.0 ends.1)
-        (option_and_then (λ one. option_map (λ other. (one, other)) (is.target_is i)) (is.source_is i))))
+        (option_zip (is.source_is i) (is.target_is i))))
         ∙ ap is_some is.first;
     some_mode = is.some_mode;
     node_room = refl;

@@ -9,9 +9,9 @@ use Rattle.tfpg_graph.specs.declared.cause.GraphCause.TheVariants.{BadNumber, Nu
 use Rattle.tfpg_base.specs.declared.limits.TheConstants.{MAX_TIME}
 use Rattle.tfpg_graph.specs.declared.limits.TheConstants.{MAX_RARITY}
 use Rattle.tfpg_graph.specs.Statements.{FailureWords}
-use Rattle.tfpg_graph.specs.Declares.{numbers_of_words, delays_of_words}
+use Rattle.tfpg_graph.specs.inside.reading.WordValues.{numbers_of_words, delays_of_words}
 use Rattle.std.specs.Bool.{then_some}
-use Rattle.std.specs.Option.{option_map, option_and_then}
+use Rattle.std.specs.Option.{option_map, option_zip}
 use Rattle.std.proofs.lemmas.Bool.{le-ltb}
 use Rattle.std.proofs.lemmas.Option.{cond_some}
 use Rattle.tfpg_base.specs.Choice.{first_of}
@@ -61,12 +61,11 @@ delays-range tmin tmax some = rw some refl
 pub delays-numbers : (tmin tmax : List ℕ) → bytes_eq tmax (codes "inf") ≡ false
     → delays_of_words tmin tmax ≡ option_map (λ range. (range.0, Some range.1)) (numbers_of_words tmin tmax)
 delays-numbers tmin tmax some =
-    ap (λ (b : Bool). option_and_then {U = ℕ × Option ℕ} (λ least. option_map (λ greatest. (least, greatest)) (cond b (Some None) (option_map Some (number_of tmax)))) (number_of tmin)) some
+    ap (λ (b : Bool). option_zip (number_of tmin) (cond b (Some None) (option_map Some (number_of tmax)))) some
     ∙ by (number_of tmin) (number_of tmax)
   where
     by : (least greatest : Option ℕ)
-        → option_and_then {U = ℕ × Option ℕ} (λ l. option_map (λ g. (l, g)) (option_map Some greatest)) least
-        ≡ option_map (λ (range : ℕ × ℕ). (range.0, Some range.1)) (option_and_then {U = ℕ × ℕ} (λ l. option_map (λ g. (l, g)) greatest) least)
+        → option_zip least (option_map Some greatest) ≡ option_map (λ (range : ℕ × ℕ). (range.0, Some range.1)) (option_zip least greatest)
     by None greatest = refl
     by (Some least) None = refl
     by (Some least) (Some greatest) = refl

@@ -16,10 +16,11 @@ use Rattle.tfpg_graph.specs.declared.edge.Edge.{Edge}
 use Rattle.tfpg_graph.specs.Graph.{Tfpg}
 use Rattle.tfpg_graph.specs.declared.version.Version.{Version}
 use Rattle.tfpg_graph.specs.declared.version.Version.TheVariants.{One}
-use Rattle.tfpg_graph.specs.Text.{header, version_of, mode_line, node_line, SpellsEdge, content_lines, Spells, CanSpell}
+use Rattle.tfpg_graph.specs.Text.{header, version_of, mode_line, node_line, SpellsEdge, content_lines, Spells}
 use Rattle.tfpg_graph.specs.Statements.{is_empty_or_comment, Statement, DeclaresMode, Ends, statement_of, statements_of, ends_text}
 use Rattle.tfpg_graph.specs.Valid.{IsValid, IsValidEdge}
 use Rattle.tfpg_graph.specs.ZeroCycle.{LiesOnZeroCycle}
+use Rattle.tfpg_graph.proofs.lemmas.writing.WrittenVersion.{CanSpell, can_spell_each}
 use Rattle.tfpg_graph.proofs.lemmas.zero_cycle.ZeroCycles.{HasNoZeroCycle-none_lies}
 use Rattle.tfpg_graph.specs.Declares.{graph_said, said_by, declared_by}
 use Rattle.tfpg_graph.specs.Causes.{cause_of_said, cause_after}
@@ -208,7 +209,7 @@ module _ (text : List ℕ) (graph : Tfpg) (spells : Spells text graph) (valid : 
       subst (IsCleanText graph) (sym spells.lines)
       (clean_text version graph valid spells.after short_after edges.0 edges.1
       (subst (λ lines. AllZip (Says version) lines (said_so_far graph.modes graph.nodes edges.0 ++ Ends ∷ []))
-      (sym spells.said.all) (says_whole version graph valid spells.said.kinds spells.said.edge_lines edges.0 edges.2)))
+      (sym spells.said.all) (says_whole version graph valid (can_spell_each version graph.nodes spells.said.zero_least) spells.said.edge_lines edges.0 edges.2)))
 
 -- A text spells at most one valid graph.
 pub Spells-one : (text : List ℕ) (graph other : Tfpg) → Spells text graph → IsValid graph → Spells text other → IsValid other → graph ≡ other

@@ -4,7 +4,7 @@ use Rattle.std.specs.Prelude.{is_some, is_none}
 use Rattle.std.specs.Str.{bytes_eq}
 use Rattle.std.specs.Str.Parse.{digits_value}
 use Rattle.std.specs.List.{list_all, list_any}
-use Rattle.std.specs.Option.{option_map, option_map_or, option_and_then}
+use Rattle.std.specs.Option.{option_map, option_map_or, option_and_then, option_zip}
 use Rattle.std.proofs.lemmas.Bool.{and_parts, or_parts, not-false, ltb-false, leb-false, eqb-false}
 use Rattle.std.proofs.lemmas.Nat.{pow_below}
 use Rattle.std.proofs.lemmas.Option.{same_Some}
@@ -32,7 +32,8 @@ use Rattle.tfpg_graph.specs.Graph.{Tfpg, is_kind_at, is_failure, failures, incom
 use Rattle.tfpg_graph.specs.Text.{version_said, all_modes}
 use Rattle.tfpg_graph.specs.Valid.{IsValidLag, HasValidNumber, IsValidEdge, IsValidSoFar}
 use Rattle.tfpg_graph.specs.Statements.{LagWords, NodeWords, FailureWords, OrWords, AndWords, lag_words_of, Statement, DeclaresMode, DeclaresNode, DeclaresEdge, Ends, statement_of, is_skipped}
-use Rattle.tfpg_graph.specs.Declares.{lag_of_words, kind_of_words, tmax_of_word, delays_of_words, ends_named, edge_declared, modes_listed, modes_of_word}
+use Rattle.tfpg_graph.specs.Declares.{lag_of_words, kind_of_words, edge_declared, modes_listed, modes_of_word}
+use Rattle.tfpg_graph.specs.inside.reading.WordValues.{delays_of_words, ends_named}
 use Rattle.tfpg_graph.specs.Causes.{has_bad_number, has_large_number, has_min_over_max, is_over, lag_numbers, node_numbers, has_twice, are_failure_words, causes}
 use Rattle.tfpg_graph.specs.inside.declaring.Indexes.{nothing_declared, with_node, with_edge}
 use Rattle.tfpg_graph.specs.inside.declaring.Declaring.{AreDelays}
@@ -78,7 +79,7 @@ lag_read (Some words) numbers small ordered =
     record {
       lag = Some (record { least = digits_value 10 words.least; most = digits_value 10 words.most });
       is = λ i. option_map (λ (range : ℕ × ℕ). Some (record { least = range.0; most = range.1 }))
-          (option_and_then (λ from. option_map (λ to. (from, to)) (most.0 i)) (least.0 i));
+          (option_zip (least.0 i) (most.0 i));
       small = record {
         in_order = ltb-false (digits_value 10 words.most) (digits_value 10 words.least) ordered;
         most = ltb-false MAX_TIME (digits_value 10 words.most) within_most;
@@ -138,8 +139,7 @@ module _ (source target tmin tmax modes : List ℕ) where
       by true endless value least numbers_so small_so ordered_so = record {
         least = digits_value 10 tmin;
         greatest = None;
-        is = ap (option_and_then (λ least. option_map (λ greatest. (least, greatest)) (tmax_of_word tmax))) value
-            ∙ (λ i. option_map (λ greatest. (digits_value 10 tmin, greatest)) (cond (endless i) (Some None) (option_map Some (number_of tmax))));
+        is = λ i. option_zip (value i) (cond (endless i) (Some None) (option_map Some (number_of tmax)));
         are = record { least = least; greatest = tt };
       }
       by false endless value least numbers_so small_so ordered_so =
@@ -148,9 +148,7 @@ module _ (source target tmin tmax modes : List ℕ) where
           record {
             least = digits_value 10 tmin;
             greatest = Some (digits_value 10 tmax);
-            is = ap (option_and_then (λ least. option_map (λ greatest. (least, greatest)) (tmax_of_word tmax))) value
-                ∙ (λ i. option_map (λ greatest. (digits_value 10 tmin, greatest)) (cond (endless i) (Some None) (option_map Some (number_of tmax))))
-                ∙ ap (λ o. option_map (λ greatest. (digits_value 10 tmin, greatest)) (option_map Some o)) second.0;
+            is = λ i. option_zip (value i) (cond (endless i) (Some None) (option_map Some (second.0 i)));
             are = record {
               least = least;
               greatest = (
@@ -242,7 +240,7 @@ module _ (version : Version) (graph : Tfpg) (is : IsValidSoFar graph) where
       let own = modes_some graph modes without.new unknown_target.1 without.some_mode some in
       let edge : Edge = record { source = from.0; target = to.0; tmin = delays.least; tmax = delays.greatest; modes = modes_of_word graph modes } in
       let ends : ends_named graph source target ≡ Some (from.0, to.0) =
-      ap (option_and_then (λ a. option_map (λ b. (a, b)) (node_named graph target))) from.1 ∙ ap (option_map (λ b. (from.0, b))) to.1 in
+      (λ i. option_zip (from.1 i) (to.1 i)) in
       let declared : edge_declared graph (DeclaresEdge source target tmin tmax modes) ≡ Some edge =
       (λ i. option_and_then (λ (e : ℕ × ℕ). option_map (λ (d : ℕ × Option ℕ). record {
         source = e.0;

@@ -1,10 +1,10 @@
 -- A statement without a cause has a value, and its words are those of the value.
-use Rattle.std.proofs.Common.{◌≡◌, ℕ, Bool, true, false, nat_lt, cond, List, [], ◌∷◌, Option, Some, None, IfSome, unwrap_or, codes, refl, ap, sym, ◌∙◌, arith}
+use Rattle.std.proofs.Common.{◌≡◌, ℕ, Bool, true, false, nat_lt, cond, List, [], ◌∷◌, Option, Some, None, IfSome, unwrap_or, codes, refl, ap, sym, arith}
 use Rattle.std.specs.Prelude.{decimal}
 use Rattle.std.specs.Str.{bytes_eq}
 use Rattle.std.specs.Str.Parse.{digits_value}
 use Rattle.std.specs.List.{list_all, list_any}
-use Rattle.std.specs.Option.{option_map, option_and_then}
+use Rattle.std.specs.Option.{option_map, option_and_then, option_zip}
 use Rattle.std.proofs.lemmas.Bool.{and_parts, or_parts, not-false}
 use Rattle.std.proofs.lemmas.Slice.Eq.{bytes_eq-Decides}
 use Rattle.tfpg_base.specs.Words.{line_of, is_number, number_of}
@@ -17,13 +17,15 @@ use Rattle.tfpg_graph.specs.declared.edge.Edge.{Edge}
 use Rattle.tfpg_graph.specs.declared.version.Version.{Version}
 use Rattle.tfpg_graph.specs.declared.version.Version.TheVariants.{One, Two}
 use Rattle.tfpg_graph.specs.Graph.{Tfpg, name_word, node_named}
-use Rattle.tfpg_graph.specs.Text.{node_words, tmax_word, SpellsEdge, CanSpellLag, CanSpell}
-use Rattle.tfpg_graph.specs.inside.writing.Written.{watch_words}
+use Rattle.tfpg_graph.specs.Text.{tmax_word, SpellsEdge}
+use Rattle.tfpg_graph.specs.inside.writing.Written.{node_words, watch_words}
 use Rattle.tfpg_base.specs.declared.limits.TheConstants.{MAX_TIME}
 use Rattle.tfpg_graph.specs.declared.limits.TheConstants.{MAX_RARITY}
 use Rattle.tfpg_graph.specs.Statements.{LagWords, NodeWords, FailureWords, OrWords, AndWords, DeclaresNode, DeclaresEdge, words_of_watch, words_of_node, words_of_statement, CanSayLag, CanSay}
-use Rattle.tfpg_graph.specs.Declares.{lag_of_words, kind_of_words, tmax_of_word, delays_of_words, ends_named, edge_declared, modes_of_word}
+use Rattle.tfpg_graph.specs.Declares.{lag_of_words, kind_of_words, edge_declared, modes_of_word}
+use Rattle.tfpg_graph.specs.inside.reading.WordValues.{delays_of_words, ends_named}
 use Rattle.tfpg_graph.specs.Causes.{has_bad_number, has_large_number, lag_numbers, node_numbers}
+use Rattle.tfpg_graph.proofs.lemmas.writing.WrittenVersion.{CanSpellLag, CanSpell}
 use Rattle.tfpg_graph.proofs.lemmas.declaring.Named.{named_found}
 use Rattle.tfpg_graph.proofs.lemmas.reading.causes.NoCause.{HasNoCause}
 use Rattle.tfpg_graph.proofs.lemmas.reading.saying.SaidModes.{SpellsModes-said}
@@ -57,7 +59,7 @@ module _ (version : Version) where
       let most = number_of-within words.most MAX_TIME (omega arith) (and_parts (is_number words.most) true right.1).0 (or_parts _ false within.1).0 in (
         Some (record { least = digits_value 10 words.least; most = digits_value 10 words.most }),
         (λ i. option_map (λ (range : ℕ × ℕ). Some (record { least = range.0; most = range.1 }))
-            (option_and_then (λ from. option_map (λ to. (from, to)) (most.0 i)) (least.0 i))),
+            (option_zip (least.0 i) (most.0 i))),
         (λ i. words_of_watch version (Some (record { least = least.1 i; most = most.1 i }))),
         can_spell version words (digits_value 10 words.most) sayable,
       )
@@ -106,8 +108,7 @@ delays_said source target tmin tmax modes numbers small =
     let second = tmax_said tmax (bytes_eq tmax (codes "inf")) refl right.1 within.1 in (
       digits_value 10 tmin,
       second.0,
-      ap (option_and_then (λ least. option_map (λ greatest. (least, greatest)) (tmax_of_word tmax))) first.0
-          ∙ ap (option_map (λ greatest. (digits_value 10 tmin, greatest))) second.1,
+      (λ i. option_zip (first.0 i) (second.1 i)),
       first.1,
       second.2,
     )
@@ -125,7 +126,7 @@ edge_from_words version graph out_of_order source target tmin tmax modes is =
     let delays = delays_said source target tmin tmax modes is.numbers is.small in
     let edge : Edge = edge_with (from.0, to.0) (delays.0, delays.1) in
     let ends : ends_named graph source target ≡ Some (from.0, to.0) =
-    ap (option_and_then (λ a. option_map (λ b. (a, b)) (node_named graph target))) from.1 ∙ ap (option_map (λ b. (from.0, b))) to.1 in
+    (λ i. option_zip (from.1 i) (to.1 i)) in
     let source_word : name_word graph from.0 ≡ source = ap (λ o. unwrap_or o []) (named_found graph source from.0 from.1).1 in
     let target_word : name_word graph to.0 ≡ target = ap (λ o. unwrap_or o []) (named_found graph target to.0 to.1).1 in (
       edge,

@@ -13,7 +13,9 @@ use Rattle.tfpg_base.proofs.lemmas.Separators.{join_with_byte-words_of}
 use Rattle.tfpg_base.specs.Lines.{is_too_long}
 use Rattle.tfpg_graph.specs.declared.version.Version.{Version}
 use Rattle.tfpg_graph.specs.declared.version.Version.TheVariants.{One, Two}
-use Rattle.tfpg_graph.specs.Statements.{is_empty_or_comment, LagWords, NodeWords, FailureWords, OrWords, AndWords, Statement, DeclaresMode, DeclaresNode, DeclaresEdge, Ends, words_of_lag, words_of_watch, words_of_node, words_of_statement, lag_words_of, CanSayLag, CanSay, watched_in, hidden_in, lag_in, mode_in, failure_in, discrepancy_in, edge_in, end_in, statement_in, statement_of}
+use Rattle.tfpg_graph.specs.Statements.{is_empty_or_comment, LagWords, NodeWords, FailureWords, OrWords, AndWords, Statement, DeclaresMode, DeclaresNode, DeclaresEdge, Ends, words_of_lag, words_of_watch, words_of_node, words_of_statement, lag_words_of, CanSayLag, CanSay, statement_in, statement_of}
+use Rattle.tfpg_graph.specs.inside.reading.Shapes.{watched_in, hidden_in, lag_by_state, mode_in, failure_in, discrepancy_in, edge_in, end_in, statement_by_keyword}
+use Rattle.tfpg_graph.proofs.lemmas.reading.saying.KeywordShapes.{same_statement}
 
 -- ---- laws of choices
 
@@ -33,21 +35,22 @@ watched_in-words : (version : Version) (lag : LagWords) → CanSayLag version la
 watched_in-words One lag sayable = ap (λ least. Some (Some (record { least = least; most = lag.most }))) (sym sayable)
 watched_in-words Two lag sayable = refl
 
-lag_in-words : (version : Version) (lag : Option LagWords) → IfSome lag (CanSayLag version) → lag_in version (words_of_watch version lag) ≡ Some lag
-lag_in-words version None sayable = refl
-lag_in-words version (Some lag) sayable = watched_in-words version lag sayable
+lag_by_state-words : (version : Version) (lag : Option LagWords) → IfSome lag (CanSayLag version) → lag_by_state version (words_of_watch version lag) ≡ Some lag
+lag_by_state-words version None sayable = refl
+lag_by_state-words version (Some lag) sayable = watched_in-words version lag sayable
 
-statement_in-node : (version : Version) (name : List ℕ) (words : NodeWords) → IfSome (lag_words_of words) (CanSayLag version)
-    → statement_in version (words_of_node version name words) ≡ Some (DeclaresNode name words)
-statement_in-node version name (FailureWords rarity) sayable = refl
-statement_in-node version name (OrWords lag) sayable = ap (option_map (λ l. DeclaresNode name (OrWords l))) (lag_in-words version lag sayable)
-statement_in-node version name (AndWords lag) sayable = ap (option_map (λ l. DeclaresNode name (AndWords l))) (lag_in-words version lag sayable)
+statement_by_keyword-node : (version : Version) (name : List ℕ) (words : NodeWords) → IfSome (lag_words_of words) (CanSayLag version)
+    → statement_by_keyword version (words_of_node version name words) ≡ Some (DeclaresNode name words)
+statement_by_keyword-node version name (FailureWords rarity) sayable = refl
+statement_by_keyword-node version name (OrWords lag) sayable = ap (option_map (λ l. DeclaresNode name (OrWords l))) (lag_by_state-words version lag sayable)
+statement_by_keyword-node version name (AndWords lag) sayable = ap (option_map (λ l. DeclaresNode name (AndWords l))) (lag_by_state-words version lag sayable)
 
 -- The words of a statement say it, where the version can say it.
 pub statement_in-words : (version : Version) (said : Statement) → CanSay version said
     → statement_in version (words_of_statement version said) ≡ Some said
 statement_in-words version (DeclaresMode name) sayable = refl
-statement_in-words version (DeclaresNode name words) sayable = statement_in-node version name words sayable
+statement_in-words version (DeclaresNode name words) sayable =
+    sym (same_statement version (words_of_node version name words)) ∙ statement_by_keyword-node version name words sayable
 statement_in-words version (DeclaresEdge source target tmin tmax modes) sayable = refl
 statement_in-words version Ends sayable = refl
 
@@ -78,7 +81,7 @@ hidden_in_words version [] lag some =
     subst (SayLag version (codes "hidden" ∷ [])) (same_Some None lag some) (record { words_are = refl; sayable = tt })
 hidden_in_words version (more ∷ others) lag some = absurd cc
 
-lag_in_words : (version : Version) (words : List (List ℕ)) (lag : Option LagWords) → lag_in version words ≡ Some lag → SayLag version words lag
+lag_in_words : (version : Version) (words : List (List ℕ)) (lag : Option LagWords) → lag_by_state version words ≡ Some lag → SayLag version words lag
 lag_in_words version [] lag some = absurd cc
 lag_in_words version (state ∷ others) lag some =
     keyword_chosen (λ words. SayLag version words lag) state (codes "hidden") others (hidden_in others) _ lag some (hidden_in_words version others lag)
@@ -112,7 +115,7 @@ module _ (version : Version) where
       → (words : List (List ℕ)) (said : Statement) → discrepancy_in version with_lag words ≡ Some said → Say version (key ∷ words) said
   discrepancy_in_words key with_lag keyed lagged [] said some = absurd cc
   discrepancy_in_words key with_lag keyed lagged (name ∷ others) said some =
-      let is = option_map-some (λ lag. DeclaresNode name (with_lag lag)) (lag_in version others) said some in
+      let is = option_map-some (λ lag. DeclaresNode name (with_lag lag)) (lag_by_state version others) said some in
       let lag = lag_in_words version others is.0 is.1 in
       subst (Say version (key ∷ name ∷ others)) is.2 (record {
         words_are = ap (λ words. key ∷ name ∷ words) lag.words_are ∙ sym (keyed name is.0);
@@ -134,10 +137,9 @@ module _ (version : Version) where
   end_in_words [] said some = subst (Say version (codes "end" ∷ [])) (same_Some Ends said some) (record { words_are = refl; sayable = tt })
   end_in_words (more ∷ others) said some = absurd cc
 
-  -- words of a shape are the words of what they say
-  pub statement_in_words : (words : List (List ℕ)) (said : Statement) → statement_in version words ≡ Some said → Say version words said
-  statement_in_words [] said some = absurd cc
-  statement_in_words (keyword ∷ others) said some =
+  statement_by_keyword_words : (words : List (List ℕ)) (said : Statement) → statement_by_keyword version words ≡ Some said → Say version words said
+  statement_by_keyword_words [] said some = absurd cc
+  statement_by_keyword_words (keyword ∷ others) said some =
       chosen (codes "mode") (mode_in others) _ some (mode_in_words others said)
       (λ some. chosen (codes "failure") (failure_in others) _ some (failure_in_words others said)
       (λ some. chosen (codes "or") (discrepancy_in version OrWords others) _ some (discrepancy_in_words (codes "or") OrWords (λ _ _. refl) (λ _. refl) others said)
@@ -150,6 +152,10 @@ module _ (version : Version) where
           → (here ≡ Some said → Say version (key ∷ others) said) → (other ≡ Some said → Say version (keyword ∷ others) said)
           → Say version (keyword ∷ others) said
       chosen key here other = keyword_chosen (λ words. Say version words said) keyword key others here other said
+
+  -- words of a shape are the words of what they say
+  pub statement_in_words : (words : List (List ℕ)) (said : Statement) → statement_in version words ≡ Some said → Say version words said
+  statement_in_words words said some = statement_by_keyword_words words said (same_statement version words ∙ some)
 
   -- A line that says something is not too long, and is the words of what it says, which the version can say.
   pub said_by_words : (line : List ℕ) (said : Statement) → statement_of version line ≡ Some said
@@ -165,7 +171,7 @@ module _ (version : Version) where
   -- no keyword begins with a number sign
   no_keyword : (parts : List (List ℕ)) → statement_in version (onto_first 35 parts) ≡ None
   no_keyword [] = refl
-  no_keyword (part ∷ parts) = refl
+  no_keyword (part ∷ parts) = sym (same_statement version ((35 ∷ part) ∷ parts))
 
   -- A line that is skipped says nothing.
   pub skipped_says_nothing : (line : List ℕ) → is_empty_or_comment line ≡ true → statement_of version line ≡ None

@@ -18,12 +18,13 @@ use Rattle.tfpg_graph.specs.declared.kind.Lag.{Lag}
 use Rattle.tfpg_graph.specs.declared.kind.Kind.TheVariants.{Failure, Or, And}
 use Rattle.tfpg_graph.specs.declared.version.Version.{Version}
 use Rattle.tfpg_graph.specs.declared.version.Version.TheVariants.{One, Two}
-use Rattle.tfpg_graph.specs.Text.{mode_line, lag_words, node_words, words_of_kind, tmax_word, CanSpellLag, CanSpell}
-use Rattle.tfpg_graph.specs.inside.writing.Written.{watch_words}
+use Rattle.tfpg_graph.specs.Text.{mode_line, lag_words, words_of_kind, tmax_word}
+use Rattle.tfpg_graph.specs.inside.writing.Written.{node_words, watch_words}
 use Rattle.tfpg_graph.specs.Valid.{IsValidLag, HasValidNumber}
 use Rattle.tfpg_graph.specs.Statements.{Statement, DeclaresMode, DeclaresNode, DeclaresEdge, Ends, words_of_lag, CanSayLag, CanSay, statement_in, statement_of}
 use Rattle.tfpg_graph.proofs.lemmas.reading.saying.SaidWords.{statement_in-words}
 use Rattle.tfpg_graph.proofs.lemmas.writing.LineLengths.{short_mode, short_node}
+use Rattle.tfpg_graph.proofs.lemmas.writing.WrittenVersion.{CanSpellLag, CanSpell}
 
 -- a word of a line: it is not empty, and has no space
 pub record IsWord (word : List ℕ) : Type 0 where

@@ -13,7 +13,7 @@ use Rattle.tfpg_graph.specs.declared.cause.GraphCause.TheVariants.{BadHeader, Af
 use Rattle.tfpg_graph.specs.Graph.{Tfpg}
 use Rattle.tfpg_base.specs.Words.{line_of}
 use Rattle.tfpg_graph.specs.declared.version.Version.{Version}
-use Rattle.tfpg_graph.specs.Text.{header, version_said, version_of, Spells, content_lines, CanSpell}
+use Rattle.tfpg_graph.specs.Text.{header, version_said, version_of, Spells, content_lines}
 use Rattle.tfpg_graph.specs.Statements.{is_empty_or_comment, Statement, statement_of, statements_of, is_skipped, ends_text, words_of_statement}
 use Rattle.tfpg_graph.specs.Declares.{graph_said, said_by}
 use Rattle.tfpg_graph.specs.Causes.{is_out_of_order, cause_of_said, cause_after}
@@ -24,6 +24,7 @@ use Rattle.tfpg_graph.proofs.lemmas.reading.causes.WithoutCause.{HasNoCause-from
 use Rattle.tfpg_graph.proofs.lemmas.reading.causes.NoCause.{HasNoCause}
 use Rattle.tfpg_graph.proofs.lemmas.reading.saying.SaidBy.{header-said, version_said-first, statement_of-header}
 use Rattle.tfpg_graph.proofs.lemmas.writing.LineLengths.{short_header}
+use Rattle.tfpg_graph.proofs.lemmas.writing.WrittenVersion.{CanSpell, zero_least_in_one}
 use Rattle.tfpg_graph.proofs.lemmas.reading.saying.SaidWords.{said_by_words, skipped_says_nothing}
 use Rattle.tfpg_graph.proofs.lemmas.reading.spelling.SpelledSoFar.{SpellsSoFar, AreSpelled, statement_spelled}
 use Rattle.tfpg_base.proofs.lemmas.lists.Choices.{cond-none_second}
@@ -215,7 +216,12 @@ Spells-read text progress stands ended =
       version = whole.version;
       after = whole.after;
       lines = whole.begins;
-      said = record { edge_lines = spelled.edge_lines; edges = spelled.edges; all = spelled.all; kinds = spelled.kinds };
+      said = record {
+        edge_lines = spelled.edge_lines;
+        edges = spelled.edges;
+        all = spelled.all;
+        zero_least = zero_least_in_one whole.version progress.declared.nodes spelled.kinds;
+      };
       short = All-same (λ line. length line ≤ LONGEST_LINE) (lines_of text) (header whole.version ∷ whole.after) whole.begins
           (All-cons (λ line. length line ≤ LONGEST_LINE) (header whole.version) whole.after (short_header whole.version)
           (lines_short whole.version [] whole.after whole.clean));

@@ -1,7 +1,7 @@
 -- What the line that spells an edge says, and the edge that it declares.
 use Rattle.std.proofs.Common.{◌≡◌, ◌≢◌, ℕ, ◌<◌, ◌≤◌, true, false, cond, List, [], length, get_or, All, AllPairs, IsTrue, Option, Some, None, IfSome, is_none, unwrap_or, codes, refl, ap, ◌∙◌, arith, ⊎_elim, inl, inr}
 use Rattle.std.specs.Prelude.{decimal}
-use Rattle.std.specs.Option.{option_map, option_and_then}
+use Rattle.std.specs.Option.{option_map, option_and_then, option_zip}
 use Rattle.std.specs.List.{AllByRecursion, list_any, list_all, filter_map, join_with_byte}
 use Rattle.std.specs.Str.{bytes_eq}
 use Rattle.std.proofs.lemmas.List.{length-map, nil_from_length}
@@ -147,9 +147,5 @@ module _ (graph : Tfpg) (valid : IsValid graph) where
           tmin = delays.0;
           tmax = delays.1;
           modes = (IsModesWord-spelled edge.modes word spells).read i;
-        }) (option_and_then (λ least. option_map (λ greatest. (least, greatest))
-        (tmax_of_word-tmax edge.tmax (tmax_small edge.tmax is.greatest) i)) (number_of-decimal edge.tmin
-        (omega (arith, is.least)) i)))
-        (option_and_then
-        (λ from. option_map (λ to. (from, to)) (node_named-name_word graph edge.target is.target valid.so_far.nodes_differ i))
-        (node_named-name_word graph edge.source is.source valid.so_far.nodes_differ i))
+        }) (option_zip (number_of-decimal edge.tmin (omega (arith, is.least)) i) (tmax_of_word-tmax edge.tmax (tmax_small edge.tmax is.greatest) i)))
+        (option_zip (node_named-name_word graph edge.source is.source valid.so_far.nodes_differ i) (node_named-name_word graph edge.target is.target valid.so_far.nodes_differ i))

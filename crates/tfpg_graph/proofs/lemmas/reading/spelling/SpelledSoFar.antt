@@ -11,11 +11,13 @@ use Rattle.tfpg_graph.specs.declared.edge.Edge.{Edge}
 use Rattle.tfpg_graph.specs.declared.version.Version.{Version}
 use Rattle.tfpg_graph.specs.Graph.{Tfpg}
 use Rattle.tfpg_base.specs.Words.{line_of}
-use Rattle.tfpg_graph.specs.Text.{mode_line, node_line, node_words, SpellsEdge, CanSpell}
+use Rattle.tfpg_graph.specs.Text.{mode_line, node_line, SpellsEdge}
+use Rattle.tfpg_graph.specs.inside.writing.Written.{node_words}
 use Rattle.tfpg_graph.specs.inside.declaring.Indexes.{with_mode, with_node, with_edge}
 use Rattle.tfpg_graph.specs.Statements.{Statement, DeclaresMode, DeclaresNode, DeclaresEdge, Ends, ends_text, words_of_statement, CanSay}
 use Rattle.tfpg_graph.specs.Declares.{graph_said}
 use Rattle.tfpg_graph.specs.Causes.{is_out_of_order}
+use Rattle.tfpg_graph.proofs.lemmas.writing.WrittenVersion.{CanSpell}
 use Rattle.tfpg_graph.proofs.lemmas.reading.causes.NoCause.{HasNoCause}
 use Rattle.tfpg_graph.proofs.lemmas.reading.saying.SaidValues.{node_from_words, edge_from_words}
 use Rattle.tfpg_graph.proofs.lemmas.reading.graphs.GraphsSaid.{some_mode_declared, nothing_before_mode, no_edge_before_node, graph_said-mode, graph_said-node, graph_said-edge, graph_said-end}

@@ -1,7 +1,7 @@
 -- The values that the words of a spelled graph have.
 use Rattle.std.proofs.Common.{◌≡◌, ◌≢◌, ℕ, ◌<◌, ◌≤◌, ◌||◌, true, false, cond, List, [], ◌∷◌, ◌++◌, length, map, get_or, All, AllPairs, IsTrue, Option, Some, None, IfSome, codes, refl, ap, sym, ◌∙◌, subst, arith}
 use Rattle.std.specs.Prelude.{decimal}
-use Rattle.std.specs.Option.{option_map, option_and_then}
+use Rattle.std.specs.Option.{option_map, option_zip}
 use Rattle.std.specs.List.{AllByRecursion, join_with_byte}
 use Rattle.std.specs.Str.{bytes_eq}
 use Rattle.std.proofs.lemmas.Bool.{false≢true, and_parts, or_from, cond-false}
@@ -29,8 +29,7 @@ lag_read : (lag : Option Lag) → IfSome lag IsValidLag → lag_of_words (option
 lag_read None small = refl
 lag_read (Some lag) small = λ i.
     option_map (λ (range : ℕ × ℕ). Some (record { least = range.0; most = range.1 }))
-    (option_and_then (λ from. option_map (λ to. (from, to)) (number_of-decimal lag.most (omega (arith, small.most)) i))
-    (number_of-decimal lag.least (omega (arith, small.in_order, small.most)) i))
+    (option_zip (number_of-decimal lag.least (omega (arith, small.in_order, small.most)) i) (number_of-decimal lag.most (omega (arith, small.most)) i))
 
 -- The words that say what a node is are read as it.
 pub kind_of_words-kind : (kind : Kind) → HasValidNumber kind → kind_of_words (words_of_kind kind) ≡ Some kind

@@ -1,6 +1,6 @@
 use Rattle.std.proofs.Common.{rules, subst, sym}
 use Rattle.tfpg_base.specs.Choice.{first_of}
-use Rattle.tfpg_graph.specs.Declares.{numbers_of_words}
+use Rattle.tfpg_graph.specs.inside.reading.WordValues.{numbers_of_words}
 use Rattle.tfpg_graph.specs.inside.reading.LineCauses.{range_causes}
 use Rattle.tfpg_graph.specs.inside.reading.Turns.{ReadAs}
 use Rattle.tfpg_graph.proofs.lemmas.reading.causes.NumberCauses.{range-values}

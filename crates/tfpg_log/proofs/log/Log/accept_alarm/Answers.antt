@@ -14,5 +14,6 @@ invariant_of-self-2 c =
     let own = subst (λ log. IsNodeEvents log c.args.node c.node_events-before.result) (sym c.self.view_is) c.node_events-before.ensures in
     rw (c.in_ok-push.ensures.items, c.with_alarm-events.ensures)
     (indexed_alarm log c.self.inside.nodes.items c.self.inside.last_sweep c.self.inside.changes.items c.self.inside.change_count c.self.invariant room c.args.time not_back c.requires.in_range
-    c.lengthen.new.nodes.items c.in_ok-lengthen.ensures.same c.args.node (omega (arith, c.in_ok-lengthen.ensures.long)) c.node_events-before.result own
+    c.lengthen.new.nodes.items c.in_ok-lengthen.ensures.same c.args.node
+    (omega (arith, c.in_ok-lengthen.ensures.long)) c.node_events-before.result own
     (c.len.result + 1) (omega (arith, c.len.ensures.len, length_is)))

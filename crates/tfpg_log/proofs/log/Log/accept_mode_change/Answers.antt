@@ -13,4 +13,9 @@ invariant_of-self-2 c =
     let not_back : now_of log ≤ c.args.time = omega (arith, ap now_of c.self.view_is, c.requires.may_come.not_back) in
     rw (c.in_ok-push.ensures.items, c.in_ok-take_change.ensures.changes, c.reserve.ensures.items)
     (indexed_mode log c.self.inside.nodes.items c.self.inside.last_sweep c.self.inside.changes.items c.self.inside.change_count c.self.invariant room c.args.time not_back c.requires.may_come.in_range c.args.mode
-    (omega (arith, c.self.invariant.counted, ap (λ (log : Logbook). count_by is_mode_change log.events) c.self.view_is, c.requires.mode_room)))
+    (omega (
+      arith,
+      c.self.invariant.counted,
+      ap (λ (log : Logbook). count_by is_mode_change log.events) c.self.view_is,
+      c.requires.mode_room,
+    )))

@@ -10,4 +10,5 @@ invariant_of-self-2 c =
     let length_is = ap (λ (log : Logbook). length log.events) c.self.view_is in
     let room : length c.self.inside.events.items < MAX_EVENTS = omega (arith, length_is, c.requires.room) in
     let not_back : now_of log ≤ c.args.time = omega (arith, ap now_of c.self.view_is, c.requires.not_back) in
-    rw c.in_ok-push.ensures.items (indexed_sweep log c.self.inside.nodes.items c.self.inside.last_sweep c.self.inside.changes.items c.self.inside.change_count c.self.invariant room c.args.time not_back c.requires.in_range (c.len-number.result + 1) (omega (arith, c.len-number.ensures.len, length_is)))
+    rw c.in_ok-push.ensures.items
+    (indexed_sweep log c.self.inside.nodes.items c.self.inside.last_sweep c.self.inside.changes.items c.self.inside.change_count c.self.invariant room c.args.time not_back c.requires.in_range (c.len-number.result + 1) (omega (arith, c.len-number.ensures.len, length_is)))

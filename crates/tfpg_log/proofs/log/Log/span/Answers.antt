@@ -10,5 +10,6 @@ pub returns : goal.returns
 returns c =
     let log : Logbook = record { events = c.self.inside.events.items; ignored = c.self.inside.ignored } in
     c.span_in.ensures ∙ ap (λ (changes : List ModeChange). span_in changes c.args.number c.args.horizon) c.deref.ensures.value
-    ∙ span_in_is log c.self.inside.changes.items c.self.invariant.spans c.args.number c.args.horizon (omega (arith, ap now_of c.self.view_is))
+    ∙ span_in_is log c.self.inside.changes.items c.self.invariant.spans c.args.number c.args.horizon
+    (omega (arith, ap now_of c.self.view_is))
     ∙ ap (λ (l : Logbook). span_at l c.args.number c.args.horizon) c.self.view_is

@@ -72,6 +72,7 @@ loop-node-preserved g c =
           (facts-kept F before v u c.low.result.time c.high.result.time v tag (c.loop-node.invariant.facts u below)))
           (subst (λ (d : Demands). AreFactsIn F d v) (sym is)
           (facts-tightened F before v c.low.result.time c.high.result.time v tag c.low.ensures.greatest (c.high.ensures.least c.args.reach.now)));
+      identity = c.lower_to.ensures.identity ∙ c.raise_to.ensures.identity ∙ c.loop-node.invariant.identity;
       counted = (let so_far = c.loop-node.invariant.counted in let one = c.raise_to.ensures.counted in let other = c.lower_to.ensures.counted in omega arith);
       counts = λ bounds given.
           let raised = (c.in_ok-raise_to.ensures.counts bounds (low_there (case_of c.args.graph.now c.args.log.now c.args.reach.now) bounds given v c.low.result.time within (low_reason c.loop-node.node c.low.result.time c.low.result.reason) c.low.ensures.stated c.low.ensures.greatest)).ok in

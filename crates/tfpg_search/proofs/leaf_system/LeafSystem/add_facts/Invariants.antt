@@ -18,6 +18,7 @@ invariant-loop-node g l = record {
   nodes : length l.self.demands.bounds ≡ length l.initial.self.demands.bounds;
   stated : (stated : Reason → Option Constraint) → IsStated (fact (case_of l.graph l.log l.reach)) stated l.initial.self → IsStated (fact (case_of l.graph l.log l.reach)) stated l.self;
   facts : (node : ℕ) → node < l.node → AreFactsIn (fact (case_of l.graph l.log l.reach)) l.self.demands node;
+  identity : l.self.identity ≡ l.initial.self.identity;
   counted : CountsAlike l.initial.self l.self l.initial.work l.work;
   counts : (bounds : NodeBounds) → AreFactBounds (case_of l.graph l.log l.reach) bounds → l.work + unset bounds l.self ≤ l.initial.work + unset bounds l.initial.self;
 }

@@ -20,4 +20,4 @@ invariant_of-self c =
 pub returns-clause-leaves : goal.returns-clause-leaves
 returns-clause-leaves c =
     left_leaf c.args.self.now c.self.inside.system.demands c.self.inside.lows.items c.self.inside.highs.items c.self.inside.entered.items c.self.view_is c.self.invariant
-    c.args.kept c.index-before.result.now (begins c) c.truncate.new.self.items c.truncate.ensures.items c.pop_to.new.self.demands c.pop_to.ensures.demands c.pop_to.new.self.calls
+    c.args.kept c.index-before.result.now (begins c) c.truncate.new.self.items c.truncate.ensures.items c.pop_to.new.self.demands c.pop_to.ensures.demands c.pop_to.new.self.calls c.pop_to.new.self.identity

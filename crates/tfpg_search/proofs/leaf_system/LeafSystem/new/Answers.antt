@@ -35,4 +35,4 @@ returns-clause-no_reasons c =
 pub returns-clause-widest : goal.returns-clause-widest
 returns-clause-widest c =
     new_widest c.in_ok-system.system.demands c.args.nodes c.in_ok-system.ensures.demands
-    (kept_reasons c.in_ok-system.system.demands c.in_ok-lows.lows.items c.in_ok-highs.highs.items c.new-2.result.items) c.new-2.result.items c.in_ok-system.system.calls
+    (kept_reasons c.in_ok-system.system.demands c.in_ok-lows.lows.items c.in_ok-highs.highs.items c.new-2.result.items) c.new-2.result.items c.in_ok-system.system.calls c.in_ok-system.system.identity

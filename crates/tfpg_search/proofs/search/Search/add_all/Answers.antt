@@ -9,7 +9,7 @@ use Rattle.tfpg_clause.specs.Case.{case_of}
 pub returns-clause-stands : goal.returns-clause-stands
 returns-clause-stands g c =
     (facts_stand c.args.graph.now c.args.log.now c.enter.new.self c.enter.ensures.stands c.add_facts.new.self c.add_facts.ensures.same c.add_facts.ensures.adds.nodes c.add_facts.ensures.adds.reasons
-    (λ stated before. (c.add_facts.ensures.adds.stated stated before).still)).0
+    (λ stated before. (c.add_facts.ensures.adds.stated stated before).still))
 
 pub returns-then-has_facts-clause-loaded : goal.returns-then-has_facts-clause-loaded
 returns-then-has_facts-clause-loaded g c = record {
@@ -21,7 +21,7 @@ pub returns-clause-loaded : goal.returns-clause-loaded
 returns-clause-loaded g c =
     add_loaded c.args.graph.now c.args.log.now c.enter.new.self c.add_facts.new.self c.add_facts.ensures.same c.in_ok-enter.ensures.entered
     (facts_stand c.args.graph.now c.args.log.now c.enter.new.self c.enter.ensures.stands c.add_facts.new.self c.add_facts.ensures.same c.add_facts.ensures.adds.nodes c.add_facts.ensures.adds.reasons
-    (λ stated before. (c.add_facts.ensures.adds.stated stated before).still)).0
+    (λ stated before. (c.add_facts.ensures.adds.stated stated before).still))
     c.add_facts.result c.add_facts.ensures.facts
 
 pub returns-clause-closes : goal.returns-clause-closes

@@ -23,7 +23,7 @@ returns-in-Ok-clause-stands g c =
 pub returns-in-Err-clause-stands : goal.returns-in-Err-clause-stands
 returns-in-Err-clause-stands g c =
     (left_stands c.args.graph.now c.args.log.now c.args.self.now c.requires.stands c.mark.new.self c.in_ok-mark.ensures.ok c.push_all.new.self c.push_all.ensures.same c.push_all.ensures.pushing
-    c.entered_count-split.result c.entered_count-split.ensures c.leave.new.self c.leave.ensures.same c.leave.ensures.leaf).0
+    c.entered_count-split.result c.entered_count-split.ensures c.leave.new.self c.leave.ensures.same c.leave.ensures.leaf)
 
 pub returns-in-Err-clause-closes : goal.returns-in-Err-clause-closes
 returns-in-Err-clause-closes g c =

@@ -53,6 +53,7 @@ loop-before-preserved g c =
           c.push_one.ensures.pushing c.args.split c.loop-before.before c.loop-before.invariant.picks c.loop-before.invariant.within one;
       bounds = c.push_one.ensures.bounds ∙ c.loop-before.invariant.bounds;
       counts = (let one = c.push_one.ensures.counts in let so_far = c.loop-before.invariant.counts in omega arith);
+      identity = c.push_one.ensures.identity ∙ c.loop-before.invariant.identity;
       counted = (let one = c.push_one.ensures.counted in let so_far = c.loop-before.invariant.counted in omega arith);
       within =
           step_within c.args.graph.now c.args.log.now c.args.self.now c.loop-before.self c.loop-before.invariant.same c.loop-before.invariant.pushing c.push_one.new.self c.push_one.ensures.same

@@ -14,6 +14,7 @@ invariant-loop-before g l = record {
   picks : pick_reasons l.self.leaf ≡ pick_reasons l.initial.self.leaf ++ picks_from l.split 1 l.before;
   bounds : l.self.leaf.demands.bounds ≡ l.initial.self.leaf.demands.bounds;
   counts : l.work ≤ l.initial.work + l.before;
+  identity : l.self.leaf.identity ≡ l.initial.self.leaf.identity;
   counted : CountsAlike l.initial.self.leaf l.self.leaf l.initial.work l.work;
   within : l.before ≤ constraint_count_at l.graph l.log l.initial.self.path l.split;
 }
