@@ -1,7 +1,7 @@
 """A slow judge of reports, beside which `bench/forge.py` holds what `check` says.
 
-It is written from `docs/formats.md` and `docs/model.md` alone, and shares nothing with the program: which lines a report may have, what
-each line of the log brings, clauses and reasons as constraints, trees of steps, what a trace must show, and the tests of a round in
+It is written from `docs/formats.md`, `docs/model.md` and `docs/evidence.md` alone, and shares nothing with the program: which lines a report may
+have, what each line of the log brings, clauses and reasons as constraints, trees of steps, what a trace must show, and the tests of a round in
 their order. It is written for few words and not for speed, and it knows no limit on the number of events.
 """
 

@@ -1,7 +1,7 @@
 """What z3 says of a hypothesis of failure modes: whether it fits a log, and how long it takes to say so.
 
-z3 gets the facts and the clauses of docs/model.md with the horizon now, over integers. Each call has a new solver. Graphs, logs, spans and
-windows are those of the slow judge. Debian has z3 as `python3-z3`.
+z3 gets the facts and the clauses of docs/evidence.md with the horizon now, over integers. Each call has a new solver. Graphs, logs, spans
+and windows are those of the slow judge. Debian has z3 as `python3-z3`.
 """
 
 from resource import RUSAGE_SELF

@@ -12,7 +12,7 @@ TOP = Path(__file__).resolve().parents[2]
 COMPLETION = TOP / "tools" / "completion"
 BASH_COMPLETION = Path("/usr/share/bash-completion/bash_completion")
 WORDS = (TOP / "docs" / "formats.md").read_text(encoding="utf-8").split("## Words of the command line", 1)[1]
-COMMANDS = dict(re.findall(r"^tfpg (\w+) ?(.*)$", WORDS, re.M))
+COMMANDS = dict(re.findall(r"^tfpg ([a-z]+) ?(.*)$", WORDS, re.M))
 TABLE = {name: (least, greatest) for name, least, greatest in re.findall(r"^\| `--(\w+)` \| (\d+) to (\S+) \|", WORDS, re.M)}
 GRAPH = "tfpg 1\nmode Run\nfailure Leak 2\nor Wet watch 5\nand Damp hidden\nedge Leak Wet 0 9 *\nend\n"
 

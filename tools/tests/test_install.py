@@ -124,7 +124,7 @@ class Places(InstallCase):
         for path in self.goal.rglob("*"):
             if path.is_symlink():
                 self.assertFalse(os.readlink(path).startswith("/"), path)
-                self.assertTrue(path.resolve().is_file() and path.resolve().is_relative_to(self.goal.resolve()), path)
+                self.assertTrue(path.resolve().exists() and path.resolve().is_relative_to(self.goal.resolve()), path)
             elif path.is_file():
                 self.assertNotIn(folder, path.read_bytes(), path)
 
@@ -299,6 +299,11 @@ class Use(InstallCase):
         text = (f"import tfpg; graph = tfpg.Graph.load('{self.prefix}/share/doc/tfpg/examples/pump.tfpg'); session = tfpg.Session(graph); "
                 "print(session.event(5, 'tick').ranked[0].set)")
         self.assertEqual(self.ran(f'python3 -c "{text}"'), "-\n")
+
+    def test_the_maker_of_pages_finds_the_package(self):
+        """Also where Python does not look for it."""
+        self.assertIn("usage: tfpg-page", self.ran("PYTHONPATH= tfpg-page --help"))
+        self.assertEqual((self.prefix / "share/tfpg/python/tfpg").resolve(), (self.prefix / "python/tfpg").resolve())
 
     @needs_real
     @unittest.skipUnless(shutil.which("dot"), "there is no Graphviz")

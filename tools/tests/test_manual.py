@@ -17,7 +17,7 @@ import manual  # noqa: E402
 from program import needs_program, run  # noqa: E402
 
 FORMATS = (TOP / "docs" / "formats.md").read_text(encoding="utf-8")
-COMMANDS = dict(re.findall(r"^tfpg (\w+) ?(.*)$", FORMATS.split("## Words of the command line", 1)[1], re.M))
+COMMANDS = dict(re.findall(r"^tfpg ([a-z]+) ?(.*)$", FORMATS.split("## Words of the command line", 1)[1], re.M))
 OPTIONS = {name: tuple(numbers) for name, *numbers in re.findall(r"^\| `--(\w+)` \| (\d+) to (\S+) \| (\d+) \|$", FORMATS, re.M)}
 STATUSES = dict(re.findall(r"^\| (\d) \| (`[^`]+`|none) \|", FORMATS.split("## How a run ends", 1)[1], re.M))
 

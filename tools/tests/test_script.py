@@ -5,6 +5,7 @@ import subprocess
 import time
 import unittest
 from pathlib import Path
+from typing import List
 
 from checkout import Checkout, on_terminal
 
@@ -143,6 +144,20 @@ class Words(ScriptCase):
         os.utime(self.checkout.program)
         running = subprocess.Popen([self.checkout.top / "tfpg", "ask"], stdout=subprocess.PIPE, text=True)
         self.assertEqual(running.communicate(timeout=20)[0], f"{running.pid}\n")
+
+    def test_nothing_of_the_script_is_left_beside_the_program(self):
+        """What looked through the sources has ended, and is no child of the program, also if it was slow."""
+        self.checkout.put_program()
+        slow = self.checkout.folder / "bin" / "find"
+        slow.write_text("#!/bin/sh\ncase $1 in */specs) sleep 0.5 ;; esac\nPATH=/usr/bin:/bin exec find \"$@\"\n")
+        slow.chmod(0o755)
+        self.checkout.program.write_text("#!/bin/sh\necho $$\nread line\n")
+        os.utime(self.checkout.program)
+        with subprocess.Popen([self.checkout.top / "tfpg", "ask"], env=self.checkout.environment(), stdin=subprocess.PIPE,
+                              stdout=subprocess.PIPE, text=True) as running:
+            number = running.stdout.readline().strip()
+            self.assertEqual(children_of(number), [])
+            running.communicate("end\n", timeout=20)
 
     def test_the_program_has_the_environment_of_the_user(self):
         self.checkout.put_program()
@@ -362,6 +377,19 @@ class Build(ScriptCase):
         self.addCleanup(end_process, worker)
         self.assertEqual(ran.returncode, 130, ran.stderr)
         self.assertFalse(is_running(worker))
+
+
+def children_of(number: str) -> List[str]:
+    """What the kernel says of each process whose parent is this one, also if it has ended."""
+    found = []
+    for path in Path("/proc").glob("[0-9]*/stat"):
+        try:
+            said = path.read_text(encoding="utf-8", errors="replace")
+        except OSError:
+            continue
+        if said.rsplit(") ", 1)[1].split(" ")[1] == number:
+            found.append(said)
+    return found
 
 
 def is_running(number: int) -> bool:

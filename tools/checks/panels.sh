@@ -3,7 +3,7 @@
 # made. Compares what they write with the report. Ends with status 1 where something differs.
 set -u -o pipefail
 
-top=$(dirname "$(dirname "$(readlink -f "${BASH_SOURCE[0]}")")")
+top=$(dirname "$(dirname "$(dirname "$(readlink -f "${BASH_SOURCE[0]}")")")")
 . "$top/tools/help.sh"
 files=$(mktemp -d)
 trap 'rm -r "$files"' EXIT

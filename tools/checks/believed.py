@@ -1,7 +1,7 @@
 #!/usr/bin/env python3
 """Prints what a reader has to believe: the definitions in `specs/` that clauses of public calls reach.
 
-    bench/believed.py [--from FUNCTION | --of DEFINITION] [--names]
+    tools/checks/believed.py [--from FUNCTION | --of DEFINITION] [--names]
 
 Without `--from` it begins with the clauses of all public functions and traits and with the values of public models, with
 `--from run` with those of the functions of that name, and with `--of IsReport` with the definition of that name. Each word of a
@@ -13,7 +13,7 @@ import argparse
 import re
 from pathlib import Path
 
-CRATES = Path(__file__).resolve().parent.parent / "crates"
+CRATES = Path(__file__).resolve().parents[2] / "crates"
 WORD = re.compile(r"[A-Za-z_][\w'-]*")
 USE = re.compile(r"\buse Rattle\.(\w+)\.specs\.([\w.]+)\.\{([^}]*)\}")
 DEFINITION = re.compile(r"^(?: {2})?(?:abbrev (?:pub )?|pub (?:abbrev |record |data )?|record |data )([A-Za-z]\S*)(?= [:({]|$)")

@@ -1,12 +1,12 @@
 #!/usr/bin/env bash
-# Compiles the header and the C programs of `examples` in C99, C11, C17 and C++11 to C++20, and those of `bench` in C99 and C17, by gcc and by
-# clang, where they are there. Each warning counts as an error. Then tries `examples/pool.c` by itself, under the sanitizers, which lines
+# Compiles the header and the C programs of `examples` in C99, C11, C17 and C++11 to C++20, and those of this folder and of `bench` in C99 and
+# C17, by gcc and by clang, where they are there. Each warning counts as an error. Then tries `examples/pool.c` by itself, under the sanitizers, which lines
 # `examples/renew.c` keeps, and whether the names that the header says are those of its numbers and of `docs/formats.md`. Compares what
 # `cppcheck` says by MISRA of header and examples, where it is there, with the table of `docs/certification.md`. It needs no library and no
 # toolchain but these compilers. Ends with status 1 where something differs.
 set -eu -o pipefail
 
-top=$(dirname "$(dirname "$(readlink -f "${BASH_SOURCE[0]}")")")
+top=$(dirname "$(dirname "$(dirname "$(dirname "$(readlink -f "${BASH_SOURCE[0]}")")")")")
 . "$top/tools/help.sh"
 made=$(mktemp -d)
 trap 'rm -r "$made"' EXIT
@@ -83,8 +83,9 @@ compile() {
     done
 }
 
-mine=("$top/bench/statuses.c" "$top/bench/numbers.c" "$top/bench/causes.c" "$top/bench/pool_test.c" "$top/bench/measure.c" "$top/bench/renew_test.c"
-    "$top/bench/stack.c" "$top/bench/worst.c")
+here=$top/tools/checks/c
+mine=("$here/statuses.c" "$here/numbers.c" "$here/causes.c" "$here/pool_test.c" "$here/renew_test.c" "$here/stack.c" "$top/bench/measure.c"
+    "$top/bench/worst.c")
 for compiler in gcc clang; do
     if ! command -v "$compiler" > /dev/null; then
         printf '%s is not there, and is left out\n' "$compiler"
@@ -100,7 +101,7 @@ for compiler in gcc clang; do
         compile "${compiler/#gcc/g++}" "$language" "$made/header.c" "$top"/examples/*.c
     done
     # Each size of a pool that its page allows can be linked, without a warning, and each other is refused.
-    "$compiler" -std=c99 -O2 -c -o "$made/pool_test.o" "$top/bench/pool_test.c"
+    "$compiler" -std=c99 -O2 -c -o "$made/pool_test.o" "$here/pool_test.c"
     for bits in {3..38}; do
         linked=yes
         "$compiler" -std=c99 "${strict[@]}" -DPOOL_BITS="$bits" -o "$made/pool" "$top/examples/pool.c" "$made/pool_test.o" \
@@ -114,10 +115,10 @@ for compiler in gcc clang; do
     # Pools of 1 KB, 64 KB and 4 MB.
     for bits in 10 16 22; do
         "$compiler" -std=c99 -g -O1 -fsanitize=address,undefined -fno-sanitize-recover=all -DPOOL_BITS=$bits -o "$made/pool" \
-            "$top/examples/pool.c" "$top/bench/pool_test.c"
+            "$top/examples/pool.c" "$here/pool_test.c"
         "$made/pool" 200000 "$bits" || differs "the pool of 2^$bits bytes, by $compiler"
     done
-    "$compiler" -std=c99 -g -O1 -fsanitize=address,undefined -fno-sanitize-recover=all -I "$top/include" -o "$made/renew" "$top/bench/renew_test.c"
+    "$compiler" -std=c99 -g -O1 -fsanitize=address,undefined -fno-sanitize-recover=all -I "$top/include" -o "$made/renew" "$here/renew_test.c"
     "$made/renew" 1000 1 || differs "what is kept of a log, by $compiler"
     try_names "$compiler"
 done

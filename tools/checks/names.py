@@ -1,7 +1,7 @@
 #!/usr/bin/env python3
 """Names that two notions share: definitions of specs/ that stand in two files, types that do, and a type and a definition of two crates.
 
-    bench/names.py [--inside]
+    tools/checks/names.py [--inside]
 
 Prints a line for each, with the files. Those of `specs/inside/` are left out but with --inside. Exits with 1 if it printed one.
 """
@@ -11,7 +11,7 @@ import pathlib
 import re
 import sys
 
-CRATES = pathlib.Path(__file__).resolve().parent.parent / "crates"
+CRATES = pathlib.Path(__file__).resolve().parents[2] / "crates"
 DEFINITION = re.compile(r"(?:abbrev pub|unfoldable pub|pub record|pub data|pub) ([^\s:({]+)")
 TYPE = re.compile(r"\s*(?:pub(?:\(\w+\))? )?(?:struct|enum|trait|type) (\w+)")
 WORDS = {"mod", "use", "record", "data", "open"}

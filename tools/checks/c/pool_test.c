@@ -6,7 +6,7 @@
  * step that touches the block. At the end all is given back, and the whole pool has to be free in one piece again. Ends with status 1, and a
  * line that says what is wrong, where something is.
  */
-#include "../examples/pool.h"
+#include "../../../examples/pool.h"
 
 #include <stdint.h>
 #include <stdio.h>

@@ -8,7 +8,7 @@
  * compared, and ends with status 1 where one is lost. It needs no library.
  */
 #define main main_of_renew
-#include "../examples/renew.c"
+#include "../../../examples/renew.c"
 #undef main
 
 #define MOST_NODES 5

@@ -1,7 +1,7 @@
 #!/usr/bin/env python3
 """Tells whether the paths and names that the documents cite exist. Prints those that do not, and ends with status 1 if there are any.
 
-    bench/cited.py
+    tools/checks/cited.py
 
 It looks at links, and at what stands between backquotes outside blocks of code.
 
@@ -20,10 +20,10 @@ import sys
 from collections import defaultdict
 from pathlib import Path
 
-TOP = Path(__file__).resolve().parent.parent
+TOP = Path(__file__).resolve().parents[2]
 DOCUMENTS = ["README.md", "CONTRIBUTING.md", "docs/*.md", "bench/README.md", "examples/README.md", "examples/car/README.md",
              "page/README.md", "python/README.md"]
-TOPS = ("bench/", "crates/", "docs/", "examples/", "include/", "python/")
+TOPS = ("bench/", "crates/", "docs/", "examples/", "include/", "python/", "tools/")
 FOREIGN = {
     "CONTRACTS.md", "Ord::max", "Snapshot::of", "at_exit", "put_at", "out/",
     "Boxed", "Is", "Are", "Tr", "ghosts-HELPER", "NAME-inside", "proofs/lemmas.antt", "lemmas/reading.antt",

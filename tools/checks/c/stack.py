@@ -1,7 +1,7 @@
 #!/usr/bin/env python3
 """Says how much stack a call from C needs at most, by the code of the library, and which functions call themselves.
 
-    bench/stack.py [LIBRARY]
+    tools/checks/c/stack.py [LIBRARY]
 
 It reads the archive of the library by `objdump`, and adds up the frames of the functions on the deepest path from each call that the
 header has. A function that calls itself is entered as often as LEVELS says, the greatest number that its input allows. Prints:
@@ -14,7 +14,7 @@ header has. A function that calls itself is entered as often as LEVELS says, the
 Ends with status 1 where a function calls itself that LEVELS does not have, or by way of another; where a frame has no known size; where the
 address of a function is taken, since a call could then go by it; and where the header says less than a call needs, or lacks one. It is not
 proved, and trusts `objdump` and LEVELS.
-`bench/stack.c` runs the calls in as much stack as the header says.
+`tools/checks/c/stack.c` runs the calls in as much stack as the header says.
 """
 
 import argparse
@@ -24,7 +24,7 @@ import sys
 from functools import lru_cache
 from pathlib import Path
 
-TOP = Path(__file__).resolve().parent.parent
+TOP = Path(__file__).resolve().parents[3]
 LIBRARY = TOP / "crates" / "tfpg_embed" / "out" / "libtfpg_embed.a"
 HEADER = TOP / "include" / "tfpg.h"
 
@@ -32,7 +32,6 @@ NODES, FAILURES, MODES, HALVINGS = 512, 64, 64, 41
 # How often a function that calls itself is entered at most at once: once for each item of its list, and once for its end.
 LEVELS = {
     "tfpg_graph::graph::Graph::spread": NODES,  # each call is for a node that was not reached before
-    "tfpg_graph::zero_cycle::find_groups::visit": NODES + 1,  # the last one finds a node that has its mark
     "tfpg_graph::reading::list_modes::with_new_modes": MODES + 1,
     "tfpg_hyp::listing::append_hypotheses": FAILURES + 1,
     "tfpg_hyp::listing::append_doubts": NODES + 1,  # each node may have a monitor

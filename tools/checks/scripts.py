@@ -1,13 +1,13 @@
 #!/usr/bin/env python3
-"""Tries whether each script of `bench` is one: it can be run, and with --help it says what it does and starts nothing.
+"""Tries whether each script of `bench` and `tools/checks` is one: it can be run, and with --help it says what it does and starts nothing.
 
-    bench/scripts.py
+    tools/checks/scripts.py
 
 - What has a first line for an interpreter can be run, and nothing else can.
-- With --help a script of `bench` in Python says what stands at its top, with status 0. It starts no process, opens no file to write, and
+- With --help such a script in Python says what stands at its top, with status 0. It starts no process, opens no file to write, and
   makes no folder. One of the shell says so too, where no command is there but those that find its own folder.
 - Each script in Python, and each module beside the crates, can be read by Python 3.9, which is the oldest.
-- Each script of the shell in `bench` that joins commands by a pipe fails where one of them does, and each sanitizer ends what it finds
+- Each such script of the shell that joins commands by a pipe fails where one of them does, and each sanitizer ends what it finds
   wrong.
 
 Prints what is not so, and ends with status 1 if there is anything.
@@ -23,8 +23,9 @@ import sys
 import tempfile
 from pathlib import Path
 
-TOP = Path(__file__).resolve().parents[1]
+TOP = Path(__file__).resolve().parents[2]
 OLDEST = (3, 9)
+TRIED = (TOP / "bench", TOP / "tools/checks", TOP / "tools/checks/c")
 # Runs a script with --help, and ends with 99 where it does more than to read and to say.
 WATCHED = """
 import os, runpy, sys
@@ -102,7 +103,7 @@ def faults(path, commands):
             ast.parse(text, feature_version=OLDEST)
         except SyntaxError as fault:
             yield f"Python {OLDEST[0]}.{OLDEST[1]} does not read line {fault.lineno}: {fault.msg}"
-    if path.parent.name == "bench" and is_script:
+    if path.parent in TRIED and is_script:
         if not is_python:
             yield from shell_faults(text)
         wrong = help_fault(path, text, commands)

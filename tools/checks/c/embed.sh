@@ -17,10 +17,10 @@
 # - Looks at what the library asks for. Prints its size, the time of a line, and what two sessions take.
 #
 # Ends with status 1 where something differs. With the word `alone` the program is not built: the one C program is compared with the other, and
-# each cause only with its name in the header. `bench/compile.sh` says whether the C programs can be compiled at all.
+# each cause only with its name in the header. `tools/checks/c/compile.sh` says whether the C programs can be compiled at all.
 set -eu -o pipefail
 
-top=$(dirname "$(dirname "$(readlink -f "${BASH_SOURCE[0]}")")")
+top=$(dirname "$(dirname "$(dirname "$(dirname "$(readlink -f "${BASH_SOURCE[0]}")")")")")
 . "$top/tools/help.sh"
 heap=$(dirname "$(dirname "$(readlink -f "$(command -v rt)")")")/c/liblibc_c.a
 library=$top/crates/tfpg_embed/out/libtfpg_embed.a
@@ -62,16 +62,16 @@ link_with examples/embed.c embed "${sanitized[@]}"
 link_with examples/renew.c renew "${sanitized[@]}"
 link_with examples/monitor.c monitor "${sanitized[@]}"
 link_with examples/answers.c answers "${sanitized[@]}"
-link_with bench/numbers.c numbers "${sanitized[@]}"
+link_with tools/checks/c/numbers.c numbers "${sanitized[@]}"
 link_with_pool examples/report.c report_pool 24
 link_with_pool examples/embed.c embed_pool 24
 link_with_pool examples/answers.c answers_pool 24
-link_with_pool bench/statuses.c statuses_pool 24
-link_with bench/statuses.c statuses "${sanitized[@]}"
-link_with bench/causes.c causes "${sanitized[@]}"
+link_with_pool tools/checks/c/statuses.c statuses_pool 24
+link_with tools/checks/c/statuses.c statuses "${sanitized[@]}"
+link_with tools/checks/c/causes.c causes "${sanitized[@]}"
 link_with examples/report.c plain -O2
 link_with bench/measure.c measure -O2 -pthread
-link_with bench/stack.c stack -O2 -pthread
+link_with tools/checks/c/stack.c stack -O2 -pthread
 
 # What the last round of a report ranks and leaves open, and its counts.
 last_round() {
@@ -357,7 +357,7 @@ newer='v[a-z0-9]+|mulx|pdep|pext|andn|bextr|bls[ir]|blsmsk|shlx|sarx|shrx|rorx|l
 if objdump -d --no-show-raw-insn "$library" | grep -E "%[yz]mm|^ +[0-9a-f]+:[[:space:]]+($newer) "; then differs 'the instructions of the library'; fi
 
 # The stack of each call: by the code, and by runs on the deepest inputs.
-"$top/bench/stack.py" "$library" > "$made/text" || { cat "$made/text"; differs 'the stack by the code'; }
+"$top/tools/checks/c/stack.py" "$library" > "$made/text" || { cat "$made/text"; differs 'the stack by the code'; }
 "$made/stack" "$top/examples/satellite.tfpg" "$top/examples/satellite-relay.log" > "$made/said" || { cat "$made/said"; differs 'the stack'; }
 [ "$(awk '/^stack / { print $2 }' "$made/said" | sort)" = "$(awk '/^stack / { print $2 }' "$made/text" | sort)" ] ||
     differs 'the calls whose stack is tried'

@@ -1,7 +1,7 @@
 #!/usr/bin/env python3
 """Compares the runs that the documents show with what the program writes. Prints those that differ, and ends with status 1 if any does.
 
-    bench/runs.py
+    tools/checks/runs.py
 
 A run is a block of code whose first line begins with `$ `. Each such line is a command, which goes on after a backslash at its end, and
 what follows is what it writes, where `...` stands for any lines. All runs of a document are made in one folder, one after the other, with
@@ -18,7 +18,7 @@ import sys
 import tempfile
 from pathlib import Path
 
-TOP = Path(__file__).resolve().parent.parent
+TOP = Path(__file__).resolve().parents[2]
 DOCUMENTS = ["README.md", "docs/commands.md", "docs/modelling.md", "examples/README.md", "examples/car/README.md"]
 BLOCK = re.compile(r"^( *)```\w*\n(.*?)^ *```$", re.M | re.S)
 COMMAND = re.compile(r"((?:.*\\\n)*.*)\n?")  # with the lines on which it goes on

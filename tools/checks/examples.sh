@@ -3,7 +3,7 @@
 # these reports. Compares the log of the car with what its records make, too. Ends with status 1 where something differs.
 set -u -o pipefail
 
-top=$(dirname "$(dirname "$(readlink -f "${BASH_SOURCE[0]}")")")
+top=$(dirname "$(dirname "$(dirname "$(readlink -f "${BASH_SOURCE[0]}")")")")
 . "$top/tools/help.sh"
 status=0
 
