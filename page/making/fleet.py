@@ -1,6 +1,8 @@
 """Takes the output of a fleet apart: the log and the report of each vehicle."""
 
-from .texts import LONGEST_LINE, lines_of
+from tfpg.limits import LONGEST_LINE
+
+from .texts import lines_of
 
 
 def own_log(stream, name):

@@ -3,10 +3,9 @@
 import re
 from dataclasses import dataclass, field
 
-from .texts import LONGEST_LINE, NAME, Fault, lines_of
+from tfpg.limits import LONGEST_LINE, MOST_EDGES, MOST_FAILURES, MOST_INCOMING, MOST_MODES, MOST_NODES, MOST_RARITY, MOST_TIME
 
-MOST_TIME, MOST_RARITY = 10**12, 10**6
-MOST_NODES, MOST_FAILURES, MOST_EDGES, MOST_MODES, MOST_INCOMING = 512, 64, 2048, 64, 32
+from .texts import NAME, Fault, lines_of
 
 
 @dataclass

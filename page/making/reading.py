@@ -2,7 +2,9 @@
 
 from pathlib import Path
 
-from .graph_json import read_graph_json
+from tfpg.reading.graph_json import json_lines
+from tfpg.reading.texts import BadText
+
 from .graph_text import read_graph_text
 from .report_text import CHECKS, Named
 from .texts import Fault, kind_of
@@ -19,7 +21,13 @@ def read_file(name):
 
 
 def read_graph(text):
-    return read_graph_json(text) if text.lstrip().startswith(b"{") else read_graph_text(text)
+    """The graph of a text, or of JSON by the text that it stands for."""
+    if not text.lstrip().startswith(b"{"):
+        return read_graph_text(text)
+    try:
+        return read_graph_text("".join(line + "\n" for line in json_lines(text)).encode())
+    except BadText as fault:
+        raise Fault(fault.line, fault.cause) from None
 
 
 def need_kind(kind, text, named):

@@ -5,9 +5,11 @@ Reports are long, and most of their lines stand in them many times. So each diff
 
 import re
 
+from tfpg.limits import LONGEST_LINE
+from tfpg.reading.shapes import AFTER, ASK, CAUSES, FLEET, LAST, NUMBERS, PREDICT, REPORT
+
 from .fleet import reports_in
-from .shapes import ASK, ENDS, FLEET, GREATEST, NEXT, PREDICT, REPORT
-from .texts import LONGEST_LINE, NAME, Fault, lines_of
+from .texts import NAME, Fault, lines_of
 
 
 class Named:
@@ -46,9 +48,8 @@ class Named:
 
 
 def is_number(word, kind):
-    if not re.fullmatch(rb"0|[1-9][0-9]{0,18}", word) or int(word) > GREATEST[kind]:
-        return False
-    return kind != "<budget>" or word != b"0"
+    least, greatest = NUMBERS[kind]
+    return re.fullmatch(rb"0|[1-9][0-9]{0,18}", word) is not None and least <= int(word) <= greatest
 
 
 def is_share(word):
@@ -62,8 +63,8 @@ class Shapes:
     def __init__(self, shapes, named):
         self.named, self.kinds, self.shapes = named, {}, {}
         for shape in shapes:
-            words = shape.replace("<edge>", "<node> <node>").split(" ")
-            self.shapes.setdefault((words[0], len(words)), []).append((words, "<edge>" in shape))
+            words = shape.split(" ")
+            self.shapes.setdefault((words[0], len(words)), []).append(words)
 
     def kind(self, line):
         if line not in self.kinds:
@@ -74,28 +75,31 @@ class Shapes:
         words = line.split(b" ")
         first = words[0].decode("latin-1")
         shapes = self.shapes.get((first, len(words)), []) if len(line) <= LONGEST_LINE else []
-        return first if any(self.has(words, shape, is_of_edge) for shape, is_of_edge in shapes) else None
+        return first if any(self.has(words, shape) for shape in shapes) else None
 
-    def has(self, words, shape, is_of_edge):
+    def has(self, words, shape):
         if not all(self.is_value(word, kind) if kind[0] == "<" else word == kind.encode() for word, kind in zip(words, shape)):
             return False
-        return not is_of_edge or (words[2], words[3]) in self.named.edges
+        said = dict(zip(shape, words))
+        return "<source>" not in said or (said["<source>"], said["<target>"]) in self.named.edges
 
     def is_value(self, word, kind):
-        if kind in GREATEST:
+        if kind in NUMBERS:
             return is_number(word, kind)
         if kind == "<share>":
             return is_share(word)
         if kind == "<set>":
             return self.named.is_set(word)
-        return word in self.named.number_of if kind == "<node>" else re.fullmatch(NAME, word) is not None
+        if kind == "<cause>":
+            return word.decode("latin-1") in CAUSES
+        return re.fullmatch(NAME, word) is not None if kind == "<name>" else word in self.named.number_of
 
 
 class ReportLines:
     """Takes the lines of a report one by one, and refuses the first with which no report goes on."""
 
     def __init__(self, shapes):
-        self.shapes, self.last, self.owed, self.number = shapes, None, 0, 0
+        self.shapes, self.last, self.owed, self.number = shapes, "", 0, 0
 
     def take(self, line_number, line):
         kind = self.shapes.kind(line)
@@ -107,9 +111,7 @@ class ReportLines:
         self.last = kind
 
     def goes_on(self, kind):
-        if self.last is None:
-            return kind == "report"
-        return (kind == "why") == (self.owed > 0) and kind in NEXT[self.last]
+        return (kind == "why") == (self.owed > 0) and kind in AFTER[self.last]
 
     def need_rising(self, kind, line_number, line):
         """Refuses a node or a panel whose number is not greater than that of such a line directly before."""
@@ -120,7 +122,7 @@ class ReportLines:
         self.number = number
 
     def end(self, line_number):
-        if self.owed or self.last not in ENDS:
+        if self.owed or self.last not in LAST:
             raise Fault(line_number, "EndsEarly")
 
 

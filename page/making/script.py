@@ -3,16 +3,27 @@
 import json
 import re
 
-from .shapes import table
+from tfpg import limits
+from tfpg.reading import shapes
 
 IMPORT = re.compile(r'^import \{[^}]*\} from "([^"]+)";\n', re.MULTILINE)
 EXPORT = re.compile(r"^export ((?:async )?(?:function|const|class) (\w+))", re.MULTILINE)
 TABLE = "table.mjs"  # the one module that is no file
+LIMITS = ("LONGEST_LINE", "LONGEST_NAME", "MOST_TIME", "NEVER", "MOST_EVENTS", "MOST_CHANGES", "MOST_HYPOTHESES")
 
 
 def table_module():
-    """The table of the lines of reports, as a module."""
-    return f"export const TABLE = {json.dumps(table())};\n"
+    """The table of the lines of reports and answers, and some limits, as a module. The numbers of lines are texts, since a script has none
+    so large."""
+    table = {
+        "after": shapes.AFTER,
+        "causes": shapes.CAUSES,
+        "last": shapes.LAST,
+        "numbers": {kind: list(map(str, ends)) for kind, ends in shapes.NUMBERS.items()},
+        "shapes": {"report": shapes.REPORT, "ask": shapes.ASK, "predict": shapes.PREDICT, "fleet": shapes.FLEET},
+    }
+    known = {name: getattr(limits, name) for name in LIMITS}
+    return f"export const TABLE = {json.dumps(table)};\nexport const LIMITS = {json.dumps(known)};\n"
 
 
 def in_order(module, done):

@@ -2,9 +2,9 @@
 
 import re
 
-NAME = rb"[A-Za-z][A-Za-z0-9_.-]{0,31}"
-NUMBER = rb"(?:0|[1-9][0-9]{0,18})"
-LONGEST_LINE = 4096
+from tfpg.limits import LONGEST_NAME
+
+NAME = rb"[A-Za-z][A-Za-z0-9_.-]{0,%d}" % (LONGEST_NAME - 1)
 KINDS = {
     "graph": re.compile(rb"tfpg [12]$|\s*\{"),
     "report": re.compile(rb"report [12] k "),

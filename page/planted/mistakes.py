@@ -6,7 +6,7 @@ from dataclasses import dataclass
 @dataclass
 class Mistake:
     what: str
-    file: str
+    file: str  # from the folder of the page
     right: str
     wrong: str
     test: str
@@ -346,8 +346,8 @@ MISTAKES = [
     Mistake(
         "a number of a report may have any size",
         "making/report_text.py",
-        "or int(word) > GREATEST[kind]:",
-        "or int(word) < 0:",
+        "and least <= int(word) <= greatest",
+        "and least <= int(word)",
         "agree.maker_page_and_judge_name_the_same_line_and_cause",
     ),
     Mistake(
@@ -367,8 +367,8 @@ MISTAKES = [
     Mistake(
         "a cycle may have more reasons than it says",
         "making/report_text.py",
-        """return (kind == "why") == (self.owed > 0) and kind in NEXT[self.last]""",
-        """return (kind == "why" or self.owed <= 0) and kind in NEXT[self.last]""",
+        """return (kind == "why") == (self.owed > 0) and kind in AFTER[self.last]""",
+        """return (kind == "why" or self.owed <= 0) and kind in AFTER[self.last]""",
         "agree.maker_page_and_judge_name_the_same_line_and_cause",
     ),
     Mistake(
@@ -381,22 +381,22 @@ MISTAKES = [
     Mistake(
         "a report may end within a round",
         "making/report_text.py",
-        "if self.owed or self.last not in ENDS:",
+        "if self.owed or self.last not in LAST:",
         "if self.owed:",
         "agree.maker_page_and_judge_name_the_same_line_and_cause",
     ),
     Mistake(
         "a ranked set may stand after an open one",
-        "making/shapes.py",
+        "../python/tfpg/reading/shapes.py",
         """    "open": ["open", "rejected", "counts"],""",
         """    "open": ["ranked", "open", "rejected", "counts"],""",
         "agree.chosen_lines_are_none_of_a_report",
     ),
     Mistake(
         "the table lacks a cause of a refusal",
-        "making/shapes.py",
-        """"UnknownName", "NotMonitored", "NotAMode", "LogFull",""",
-        """"UnknownName", "NotMonitored", "LogFull",""",
+        "../python/tfpg/reading/shapes.py",
+        """if cause != "TimeBack")""",
+        """if cause not in ("TimeBack", "NotAMode"))""",
         "satellite.each_silence_is_marked",
     ),
     Mistake(
@@ -433,6 +433,20 @@ MISTAKES = [
         """log.write_bytes(texts["log"])""",
         """log.write_bytes(texts["graph"])""",
         "badge.a_report_that_was_checked_is_said_to_be",
+    ),
+    Mistake(
+        "a line of a stream that begins with the name of a vehicle is its own",
+        "making/fleet.py",
+        """if line.startswith(name + b" ") and""",
+        """if line.startswith(name) and""",
+        "outlooks.a_vehicle_whose_name_begins_that_of_another",
+    ),
+    Mistake(
+        "the page takes a line that begins with the name of a vehicle for its own",
+        "src/reading/answers.mjs",
+        """line.startsWith(name + " ") && line""",
+        """line.startsWith(name) && line""",
+        "outlooks.a_vehicle_whose_name_begins_that_of_another",
     ),
     Mistake(
         "a log with a byte order mark is a log",

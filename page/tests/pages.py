@@ -27,9 +27,9 @@ class Maker:
 
     def module(self, name):
         """A module of the maker that is tested."""
-        folder = str(Path(self.script).parent)
-        if folder not in sys.path:
-            sys.path.insert(0, folder)
+        folder = Path(self.script).parent
+        if str(folder) not in sys.path:
+            sys.path[:0] = [str(folder), str(folder.parent / "python")]
         return importlib.import_module(f"making.{name}")
 
     def page(self, *words):

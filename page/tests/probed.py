@@ -1,4 +1,4 @@
-"""What the steps of forecasts state, by the probed graph and the probed log of `docs/least-times.md`, made anew here."""
+"""What the steps of forecasts state, by the probed graph and the probed log of `docs/search.md`, made anew here."""
 
 from judged import StatingTree, lines_of
 from slow_judge import MOST_TIME, Graph, Log, line_said

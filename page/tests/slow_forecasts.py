@@ -1,4 +1,4 @@
-"""Predictions for small texts, by the slow diagnoser and the probed log of `docs/least-times.md`."""
+"""Predictions for small texts, by the slow diagnoser and the probed log of `docs/search.md`."""
 
 from probed import probed
 from slow_judge import Tree

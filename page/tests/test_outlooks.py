@@ -84,6 +84,23 @@ def the_report_of_each_vehicle_is_checked(view):
         view.same((view.verdict(), "accepted 3" in view.text("#badge")), ("accepted", True), f"the badge of {vehicle}")
 
 
+def a_vehicle_whose_name_begins_that_of_another(view):
+    """South is called north2 here. A line of the stream is of the vehicle whose whole name it begins with, so north has three of its own."""
+    stream, output = (EXAMPLES / "pumps.log").read_bytes(), (DATA / "pumps.fleet").read_bytes()
+    files = [view.maker.write("norths.log", stream.replace(b"south ", b"north2 ")),
+             view.maker.write("norths.fleet", output.replace(b"vehicle south\n", b"vehicle north2\n"))]
+    view.show(GRAPH, files[0], "--fleet", files[1], "--check", CHECK)
+    own = {"north": ["600000 tick", "2715000 alarm LowFlow", "3300000 alarm MotorHot"],
+           "north2": ["600000 tick", "2716000 tick", "3600000 sweep"]}
+    for vehicle, lines in own.items():
+        view.open_tab("fleet")
+        view.click(f"#vehicles tr[data-vehicle={vehicle}]")
+        view.wait("return document.documentElement.dataset.ready === 'yes' && Page.state.vehicle === arguments[0]", vehicle)
+        view.same(view.run("return Page.state.log.lines.map(line => line.text)"), lines, f"the own lines of {vehicle}")
+        view.same((view.verdict(), "accepted 3" in view.text("#badge")), ("accepted", True), f"the badge of {vehicle}")
+    view.quiet()
+
+
 def each_reason_of_a_forecast_states_what_the_judge_says(view):
     view.show(*PREDICT)
     texts = [PREDICT[number].read_bytes() for number in (0, 1, 2, 4)]

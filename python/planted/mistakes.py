@@ -43,9 +43,9 @@ MISTAKES = [
     ),
     Mistake(
         "a report may have numbers that no report has",
-        "reading/report_lines.py",
-        '"COUNT": (0, 2**32 - 1)',
-        '"COUNT": (0, 2**32)',
+        "reading/shapes.py",
+        '"<number>": (0, 2**32 - 1)',
+        '"<number>": (0, 2**32)',
         "test_reports.Reports.test_what_may_come_after_the_first_line",
     ),
     Mistake(

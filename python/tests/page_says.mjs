@@ -1,5 +1,6 @@
-// What the page's readers say of texts, without a browser: the refusals of logs, and the sentences of the trees of reports. The test that
-// runs this puts it beside the modules. It reads one line of JSON, and writes one.
+// What the page's readers say of texts, without a browser: of graphs what they have, of logs the refusals, of changed reports the first
+// line with which none goes on, and of reports the sentences of their trees. The test that runs this puts it beside the modules. It reads
+// one line of JSON, and writes one.
 import { readFileSync } from "node:fs";
 import { readGraph } from "./graph.mjs";
 import { hypothesesOf } from "./hypotheses.mjs";
@@ -45,8 +46,27 @@ function sentencesOf({ graph: graphText, log: logText, report: reportText, sets 
   });
 }
 
-const { logs, reports } = JSON.parse(readFileSync(0, "utf8"));
+// What a graph has, but for the lines in which it stands.
+function contentsOf(text) {
+  const { modes, nodes, edges } = readGraph(text), without = ({ line, ...thing }) => thing;
+  return { modes, nodes: nodes.map(without), edges: edges.map(edge => ({ ...without(edge), modes: [...edge.modes].sort() })) };
+}
+
+// "read", or the line and the cause.
+function readingOf(graph, text) {
+  try {
+    readReport(graph, text);
+  } catch (fault) {
+    if (fault.cause === undefined) throw fault;
+    return [fault.line, fault.cause];
+  }
+  return "read";
+}
+
+const { graphs, logs, changed, reports } = JSON.parse(readFileSync(0, "utf8"));
 process.stdout.write(JSON.stringify({
+  graphs: graphs.map(contentsOf),
+  changed: changed.map(({ graph, report }) => readingOf(readGraph(graph), report)),
   logs: logs.map(({ graph, log }) => readLog(readGraph(graph), log).lines.map(line => line.refused)),
   reports: reports.map(sentencesOf)
 }));

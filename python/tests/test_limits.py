@@ -60,16 +60,6 @@ class Limits(unittest.TestCase):
             "QUESTIONS": self.header(r"\. It has at most # bytes\. The log")[0], "VERDICT": self.header(r"\. It has at most # bytes, and the same")[0],
         })
 
-    def test_macros(self):
-        """Each of the header, but for the bytes of two texts that calls write."""
-        said = {name: int(value) for name, value in re.findall(r"#define TFPG_MAX_(\w+) (?:UINT64_C\()?(\d+)", HEADER)}
-        options = {name: limits.OPTIONS[f"--{name.lower()}"].greatest for name in ("K", "DOUBT", "BUDGET", "AHEAD")}
-        self.assertEqual({name: value for name, value in said.items() if name not in ("QUESTIONS", "VERDICT")}, {
-            "LINE": limits.LONGEST_LINE, "NAME": limits.LONGEST_NAME, "FILE": limits.FILE_BYTES, "INPUT": limits.INPUT_BYTES,
-            "NODES": limits.MOST_NODES, "FAILURES": limits.MOST_FAILURES, "EDGES": limits.MOST_EDGES, "MODES": limits.MOST_MODES,
-            "INCOMING": limits.MOST_INCOMING, "RARITY": limits.MOST_RARITY, "TIME": limits.MOST_TIME, "EVENTS": limits.MOST_EVENTS,
-            "CHANGES": limits.MOST_CHANGES, "HYPOTHESES": limits.MOST_HYPOTHESES, **options})
-
     def test_table_of_limits(self):
         self.assertEqual(self.row("a line"), [limits.LONGEST_LINE])
         self.assertEqual(self.row("a name"), [limits.LONGEST_NAME])
@@ -90,13 +80,15 @@ class Limits(unittest.TestCase):
         self.assertEqual({name: limits.Limits(*map(number, some)) for name, *some in found}, limits.OPTIONS)
 
     def test_numbers_stand_in_no_other_module(self):
-        """Large limits, which are nothing else by accident."""
-        package = TOP / "python" / "tfpg"
-        said = re.compile(r"(?<![\d.])(?:10 ?\*\* ?12|1_?000_?000_?000_?000|65_?536|8192|2048|2 ?\*\* ?(?:24|32))(?![\d.])")
-        for path in package.rglob("*.py"):
-            code = re.sub(r'""".*?"""|#.*', "", path.read_text(encoding="utf-8"), flags=re.S)
-            if path.name != "limits.py":
-                self.assertIsNone(said.search(code), path)
+        """Large limits, which are nothing else by accident: in the package, and in the page and its maker, which go by those of the package."""
+        package, page = TOP / "python" / "tfpg", TOP / "page"
+        said = re.compile(r"(?<![\d.])(?:10 ?\*\* ?12|1e12|1_?000_?000_?000_?000|65_?536|8192|4096|2048|2 ?\*\* ?(?:24|32))(?![\d.])")
+        known = {package / "limits.py", package / "calls" / "session.py"}  # that has the room of a text of its first try
+        files = {*package.rglob("*.py"), *(page / "making").glob("*.py"), *(page / "src").rglob("*.mjs")}
+        for path in sorted(files - known):
+            code = re.sub(r'""".*?"""|#.*|(?<![:"\'])//.*', "", path.read_text(encoding="utf-8"), flags=re.S if path.suffix == ".py" else 0)
+            self.assertIsNone(said.search(code), path)
+        self.assertGreater(len(files), 150)
 
 
 if __name__ == "__main__":

@@ -1,4 +1,5 @@
 // What `ask`, `predict` and `fleet` write.
+import { LIMITS } from "./table.mjs";
 import { BadText, linesOf } from "./texts.mjs";
 import { fleetShapes, needAnswer } from "./lines.mjs";
 import { withProbe } from "./graph.mjs";
@@ -67,5 +68,6 @@ export function readFleet(graph, text) {
 
 // The own lines of a vehicle: what stands after its name and a space in the lines of the stream that belong to it.
 export function ownLines(stream, name) {
-  return linesOf(stream).filter(line => line.startsWith(name + " ") && line.length <= 4096).map(line => line.slice(name.length + 1));
+  const own = linesOf(stream).filter(line => line.startsWith(name + " ") && line.length <= LIMITS.LONGEST_LINE);
+  return own.map(line => line.slice(name.length + 1));
 }

@@ -1,4 +1,4 @@
-// What clauses and reasons state, by the two tables of docs/formats.md.
+// What clauses and reasons state, by the two tables of docs/evidence.md.
 import { NEVER, atLeast, atLeastAfter, atMost, atMostAfter } from "./constraints.mjs";
 import { isSilence, nowOf } from "./log.mjs";
 import { edgeWindow, spansAt, windowOf } from "./spans.mjs";

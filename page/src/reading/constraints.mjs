@@ -1,7 +1,8 @@
 // Constraints `left - right <= bound` on the times of nodes, each with the form in which it is said.
+import { LIMITS } from "./table.mjs";
 
 export const ZERO = -1; // the constant zero, beside the numbers of nodes
-export const NEVER = 1e12 + 1; // the time of a node that never becomes active
+export const NEVER = LIMITS.NEVER; // the time of a node that never becomes active
 
 export function atMost(node, value) {
   return { left: node, right: ZERO, bound: value, form: "atMost", node, value };

@@ -1,12 +1,11 @@
 // The table of hypotheses, and their statuses in a round.
 import { reachOf } from "./graph.mjs";
-
-const MOST_HYPOTHESES = 4096;
+import { LIMITS } from "./table.mjs";
 
 // All hypotheses of at most `k` members, of which at most `doubt` are monitors: those with fewer members first, and then by their members.
 export function hypothesesOf(graph, { k, doubt }) {
   const count = graph.failures.length + (doubt ? graph.monitored.length : 0), table = [];
-  for (let size = 0; size <= Math.min(k, count) && table.length <= MOST_HYPOTHESES; size++) {
+  for (let size = 0; size <= Math.min(k, count) && table.length <= LIMITS.MOST_HYPOTHESES; size++) {
     addOfSize(graph, { count, doubt, size }, [], table);
   }
   return table;

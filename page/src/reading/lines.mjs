@@ -1,13 +1,17 @@
 // The lines of reports and answers, by the one table of their shapes, which the script that makes the page writes into it.
-import { TABLE } from "./table.mjs";
+import { LIMITS, TABLE } from "./table.mjs";
 import { BadText } from "./texts.mjs";
 
-const NAME = /^[A-Za-z][A-Za-z0-9_.-]{0,31}$/, NUMBER = /^(0|[1-9][0-9]{0,18})$/, LONGEST = 4096, CAUSE = "BadAnswer";
+const NAME = /^[A-Za-z][A-Za-z0-9_.-]*$/, NUMBER = /^(0|[1-9][0-9]*)$/, CAUSE = "BadAnswer";
+
+// Whether a number is at most another one, by their digits: some are larger than a number of a script may be.
+function isAtMost(word, greatest) {
+  return word.length < greatest.length || (word.length === greatest.length && word <= greatest);
+}
 
 function isNumber(word, kind) {
-  const greatest = TABLE.greatest[kind];
-  if (!NUMBER.test(word) || (kind === "<budget>" && word === "0")) return false;
-  return word.length < greatest.length || (word.length === greatest.length && word <= greatest);
+  const [least, greatest] = TABLE.numbers[kind];
+  return NUMBER.test(word) && isAtMost(least, word) && isAtMost(word, greatest);
 }
 
 function isShare(word) {
@@ -34,9 +38,9 @@ export class Shapes {
   constructor(graph, shapes) {
     Object.assign(this, { graph, kinds: new Map(), shapes: new Map() });
     for (const shape of shapes) {
-      const words = shape.replace("<edge>", "<node> <node>").split(" "), key = words[0] + " " + words.length;
+      const words = shape.split(" "), key = words[0] + " " + words.length;
       if (!this.shapes.has(key)) this.shapes.set(key, []);
-      this.shapes.get(key).push({ words, isOfEdge: shape.includes("<edge>") });
+      this.shapes.get(key).push({ words, source: words.indexOf("<source>"), target: words.indexOf("<target>") });
     }
   }
 
@@ -48,20 +52,22 @@ export class Shapes {
   }
 
   find(line) {
-    const words = line.split(" "), some = line.length > LONGEST ? [] : this.shapes.get(words[0] + " " + words.length) || [];
+    const words = line.split(" "), some = line.length > LIMITS.LONGEST_LINE ? [] : this.shapes.get(words[0] + " " + words.length) || [];
     return some.some(shape => this.has(words, shape)) ? words[0] : null;
   }
 
-  has(words, { words: shape, isOfEdge }) {
+  has(words, { words: shape, source, target }) {
     if (!shape.every((kind, index) => kind[0] === "<" ? this.isValue(words[index], kind) : kind === words[index])) return false;
-    return !isOfEdge || this.graph.edgeOf(this.graph.numberOf.get(words[2]), this.graph.numberOf.get(words[3])) !== null;
+    const number = place => this.graph.numberOf.get(words[place]);
+    return source < 0 || this.graph.edgeOf(number(source), number(target)) !== null;
   }
 
   isValue(word, kind) {
-    if (Object.hasOwn(TABLE.greatest, kind)) return isNumber(word, kind);
+    if (Object.hasOwn(TABLE.numbers, kind)) return isNumber(word, kind);
     if (kind === "<share>") return isShare(word);
     if (kind === "<set>") return isSet(this.graph, word);
-    return kind === "<node>" ? this.graph.numberOf.has(word) : NAME.test(word);
+    if (kind === "<cause>") return TABLE.causes.includes(word);
+    return kind === "<name>" ? NAME.test(word) && word.length <= LIMITS.LONGEST_NAME : this.graph.numberOf.has(word);
   }
 }
 
@@ -73,12 +79,12 @@ export function fleetShapes(graph) {
   return new Shapes(graph, [...TABLE.shapes.fleet, ...TABLE.shapes.report]);
 }
 
-const AFTER = new Map(Object.entries(TABLE.next).map(([kind, kinds]) => [kind, new Set(kinds)]));
+const AFTER = new Map(Object.entries(TABLE.after).map(([kind, kinds]) => [kind, new Set(kinds)]));
 
 // Takes the lines of a report one by one, and refuses the first with which no report goes on.
 export class ReportLines {
   constructor(shapes) {
-    Object.assign(this, { shapes, last: null, owed: 0, number: 0 });
+    Object.assign(this, { shapes, last: "", owed: 0, number: 0 });
   }
 
   // The kind of a line, which is its first word.
@@ -91,7 +97,6 @@ export class ReportLines {
   }
 
   goesOn(kind) {
-    if (this.last === null) return kind === "report";
     return (kind === "why") === this.owed > 0 && AFTER.get(this.last).has(kind);
   }
 
@@ -104,7 +109,7 @@ export class ReportLines {
   }
 
   end(number) {
-    if (this.owed || !TABLE.ends.includes(this.last)) throw new BadText(number, "EndsEarly");
+    if (this.owed || !TABLE.last.includes(this.last)) throw new BadText(number, "EndsEarly");
   }
 }
 

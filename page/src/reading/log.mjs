@@ -1,8 +1,9 @@
 // A log: its lines, each an event or refused, as docs/formats.md says.
+import { LIMITS } from "./table.mjs";
 import { linesOf } from "./texts.mjs";
 
 const WORDS = { alarm: 3, silent: 3, mode: 3, sweep: 2, tick: 2 };
-const MOST_TIME = 1e12, MOST_EVENTS = 65536, MOST_MODES = 1024, LONGEST_LINE = 4096;
+const { LONGEST_LINE, MOST_CHANGES, MOST_EVENTS, MOST_TIME } = LIMITS;
 
 // The log of a graph: `lines` are all, `events` the accepted ones. `firstAlarm` has the number of the first alarm of each node.
 export function readLog(graph, text) {
@@ -44,7 +45,7 @@ function refusalOf(graph, log, text, words, event) {
   }
   if (event.kind === "mode" && event.mode < 0) return "NotAMode";
   if (log.events.length === MOST_EVENTS) return "LogFull";
-  return event.kind === "mode" && log.modeChanges.length === MOST_MODES ? "ModesFull" : null;
+  return event.kind === "mode" && log.modeChanges.length === MOST_CHANGES ? "ModesFull" : null;
 }
 
 export function nowOf(log) {

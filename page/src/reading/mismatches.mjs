@@ -4,9 +4,10 @@ import { againstTrace, Seen } from "./rules.mjs";
 import { believedIn, setText } from "./hypotheses.mjs";
 import { linesBetween, traceOf } from "./report.mjs";
 import { readSteps } from "./steps.mjs";
+import { LIMITS } from "./table.mjs";
 import { Walk } from "./trees.mjs";
 
-const MOST = 40, DOUBT_COST = 1000, MOST_WORK = 4e7, MOST_SETS = 4096;
+const MOST = 40, DOUBT_COST = 1000, MOST_WORK = 4e7;
 
 // What does not fit, the first so many, and up to which round all was compared, if that is not the last.
 export function mismatchesOf(graph, table, log, report) {
@@ -25,7 +26,8 @@ class Comparison {
 
   run() {
     const { report, log, table } = this;
-    if (table.length > MOST_SETS) this.say(1, "there are more than 4,096 sets of so many members");
+    const most = LIMITS.MOST_HYPOTHESES;
+    if (table.length > most) this.say(1, "there are more than " + most.toLocaleString("en-US") + " sets of so many members");
     let comparedTo = null;
     for (let index = 0; index < report.blocks.length && this.found.length < MOST; index++) {
       const block = report.blocks[index];

@@ -1,4 +1,4 @@
-// The probed graph and the probed log, which the steps of a forecast are about. docs/least-times.md has the rules.
+// The probed graph and the probed log, which the steps of a forecast are about. docs/search.md has the rules.
 import { withProbe } from "./graph.mjs";
 import { addEvent, isSilence, newLog } from "./log.mjs";
 

@@ -1,4 +1,4 @@
-"""What clauses and reasons state, by the two tables of docs/formats.md."""
+"""What clauses and reasons state, by the two tables of docs/evidence.md."""
 
 from __future__ import annotations
 

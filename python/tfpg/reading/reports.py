@@ -8,8 +8,8 @@ from typing import Any, Callable, Dict, List, Optional, Set, Tuple, Union
 
 from ..limits import LONGEST_LINE
 from .graphs import DeclaredGraph
-from .report_lines import AFTER, CAUSES, LAST, NUMBERS, SHAPES
 from .sets import members_of, spelled
+from .shapes import AFTER, CAUSES, LAST, NUMBERS, REPORT
 from .texts import BadText, is_number, lines_of
 
 OTHER_GRAPH = "it names what the graph does not declare, so it is of another graph"
@@ -127,7 +127,7 @@ def read_report(text: str, graph: DeclaredGraph) -> Report:
             reader.take(at, line)
         except NoLine as fault:
             raise BadText(at, ": ".join(["BadReport", *fault.args])) from None
-    if reader.before not in LAST.split(" "):
+    if reader.before not in LAST:
         raise BadText(len(lines) + 1, "EndsEarly")
     return Report(reader.terms, reader.blocks)
 
@@ -146,7 +146,7 @@ class Reader:
     def take(self, at: int, text: str) -> None:
         """Keeps what a line says, or raises NoLine if no report goes on with it."""
         kind = text.split(" ")[0]
-        if kind not in AFTER[self.before].split(" ") or (kind == "why") != (self.owed > 0):
+        if kind not in AFTER[self.before] or (kind == "why") != (self.owed > 0):
             raise NoLine
         KEEPERS[kind](self, Line(at, text, self.shapes.values(text)))
         self.before = kind
@@ -235,7 +235,7 @@ class Shapes:
         self.graph = graph
         self.known: Set[str] = set()  # the sets that were right
         self.forms: Dict[Tuple[str, int], List[List[str]]] = {}
-        for shape in SHAPES:
+        for shape in REPORT:
             words = shape.split(" ")
             self.forms.setdefault((words[0], len(words)), []).append(words)
 
@@ -244,33 +244,31 @@ class Shapes:
         words = text.split(" ")
         for form in self.forms.get((words[0], len(words)), []) if len(text) <= LONGEST_LINE else []:
             pairs = list(zip(form, words))
-            if all(asked.isupper() or asked == word for asked, word in pairs):
-                found = [value for asked, word in pairs if asked.isupper() for value in self.word_values(asked, word)]
+            if all(asked.startswith("<") or asked == word for asked, word in pairs):
+                found = [value for asked, word in pairs if asked.startswith("<") for value in self.word_values(asked, word)]
                 self.need_edge(dict(pairs))
                 return found
         raise NoLine
 
     def word_values(self, asked: str, word: str) -> List[Any]:
-        """The values of a word in the place of one in capitals. A fraction has two."""
-        if "/" in asked:
-            parts = list(zip(asked.split("/"), word.split("/")))
-            if asked.count("/") != word.count("/"):
-                raise NoLine
-            return [value for one, part in parts for value in self.word_values(one, part)]
+        """The values of a word in the place of one in angle brackets. A share has two."""
+        if asked == "<share>":
+            part, _, whole = word.partition("/")
+            return [number_within(one, *NUMBERS["<number>"]) for one in (part, whole)]
         if asked in NUMBERS:
             return [number_within(word, *NUMBERS[asked])]
-        if asked == "SET":
+        if asked == "<set>":
             self.need_set(word)
-        elif asked == "CAUSE" and word not in CAUSES:
+        elif asked == "<cause>" and word not in CAUSES:
             raise NoLine
-        elif asked != "CAUSE" and word not in self.graph.number_of:
+        elif asked != "<cause>" and word not in self.graph.number_of:
             raise NoLine(OTHER_GRAPH)
         return [word]
 
     def need_edge(self, words: Dict[str, str]) -> None:
         """Refuses a source and a target between which there is no edge."""
-        if "SOURCE" in words:
-            source, target = self.graph.number_of[words["SOURCE"]], self.graph.number_of[words["TARGET"]]
+        if "<source>" in words:
+            source, target = self.graph.number_of[words["<source>"]], self.graph.number_of[words["<target>"]]
             if self.graph.edge_of(source, target) is None:
                 raise NoLine(OTHER_GRAPH)
 
