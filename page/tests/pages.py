@@ -1,5 +1,6 @@
-"""Makes pages by the script `tfpg-page`, each once for the same words."""
+"""Makes pages by the script `tfpg-page`, each once for the same words and texts."""
 
+import hashlib
 import importlib
 import subprocess
 import sys
@@ -33,14 +34,16 @@ class Maker:
         return importlib.import_module(f"making.{name}")
 
     def page(self, *words):
-        """The file of the page that the script makes of these words."""
+        """The file of the page that the script makes of these words, and of what their files have now."""
+        files = [path for path in (self.folder / word for word in words) if path.is_file()]
+        made_of = (words, *(hashlib.sha256(path.read_bytes()).digest() for path in files))
         with self.lock:
-            if words not in self.made:
+            if made_of not in self.made:
                 status, page, said = self.run(*words)
                 if status != 0:
                     raise RuntimeError(f"no page of {words}: status {status}, {said}")
-                self.made[words] = self.write(f"page-{len(self.made)}.html", page)
-            return self.made[words]
+                self.made[made_of] = self.write(f"page-{len(self.made)}.html", page)
+            return self.made[made_of]
 
     def write(self, name, text):
         path = self.folder / name
