@@ -1,9 +1,9 @@
 #!/usr/bin/env python3
 """Says how much stack a call from C needs at most, by the code of the library, and which functions call themselves.
 
-    tools/checks/c/stack.py [LIBRARY]
+    tools/checks/c/stack.py LIBRARY
 
-It reads the archive of the library by `objdump`, and adds up the frames of the functions on the deepest path from each call that the
+It reads the library, the archive that `./build library` makes, by `objdump`, and adds up the frames of the functions on the deepest path from each call that the
 header has. A function that calls itself is entered as often as LEVELS says, the greatest number that its input allows. Prints:
 
 - `recursive FUNCTION BYTES LEVELS` for each function that calls itself: the bytes of one level, and how many there are.
@@ -25,7 +25,6 @@ from functools import lru_cache
 from pathlib import Path
 
 TOP = Path(__file__).resolve().parents[3]
-LIBRARY = TOP / "crates" / "tfpg_embed" / "out" / "libtfpg_embed.a"
 HEADER = TOP / "include" / "tfpg.h"
 
 NODES, FAILURES, MODES, HALVINGS = 512, 64, 64, 41
@@ -132,7 +131,7 @@ def is_reached(functions, source, target):
 
 def main():
     reader = argparse.ArgumentParser(description=__doc__, formatter_class=argparse.RawDescriptionHelpFormatter)
-    reader.add_argument("library", nargs="?", type=Path, default=LIBRARY, metavar="LIBRARY")
+    reader.add_argument("library", type=Path, metavar="LIBRARY")
     library = reader.parse_args().library
     functions = functions_of(library)
     said = {name.lower(): int(size) * 1024 for name, size in re.findall(r"#define TFPG_STACK_OF_(\w+) \((\d+) \* 1024\)", HEADER.read_text())}
