@@ -28,10 +28,12 @@ import tempfile
 import time
 from pathlib import Path
 
-from lib.program import PROGRAM, TOP
+from lib import PACKAGE, TOP
+from lib.graphs import script_text
+from lib.program import PROGRAM
 
-sys.path[:0] = [str(TOP / "python"), str(TOP / "python" / "tests")]
-os.environ["PYTHONPATH"] = os.pathsep.join([str(TOP / "python"), os.environ.get("PYTHONPATH", "")])
+sys.path.insert(0, str(PACKAGE / "tests"))
+os.environ["PYTHONPATH"] = os.pathsep.join([str(PACKAGE), os.environ.get("PYTHONPATH", "")])
 
 import engines  # noqa: E402
 import tfpg  # noqa: E402
@@ -66,10 +68,10 @@ def simulated(graph, lines, seed):
     """A log of so many lines: ticks and sweeps, and the alarms of one failure mode that fails early."""
     draw = random.Random(seed)
     failing = draw.choice(tfpg.Graph(graph.read_bytes()).failures)
-    script = [(3000, f"start {failing}")]
-    script += [(60000 * number, "sweep" if number % 10 == 0 else "tick") for number in range(1, lines + 1)]
+    timed = [(3000, f"start {failing}")]
+    timed += [(60000 * number, "sweep" if number % 10 == 0 else "tick") for number in range(1, lines + 1)]
     with tempfile.NamedTemporaryFile("w", suffix=".script") as file:
-        file.write("".join(f"{at} {what}\n" for at, what in sorted(script)) + f"{60000 * lines + 1} stop\n")
+        file.write(script_text(timed, 60000 * lines + 1))
         file.flush()
         ended = run_program(["simulate", f"--draw={seed}", str(graph), file.name])
     assert ended.status == 0, ended.line
