@@ -22,6 +22,7 @@ set -eu -o pipefail
 
 top=$(dirname "$(dirname "$(dirname "$(dirname "$(readlink -f "${BASH_SOURCE[0]}")")")")")
 . "$top/tools/help.sh"
+. "$top/tools/checks/differs.sh"
 . "$top/tools/sources.sh"
 . "$top/tools/library.sh"
 need_library
@@ -29,13 +30,7 @@ alone=
 if [ "${1-}" = alone ]; then alone=yes; fi
 made=$(mktemp -d)
 trap 'rm -r "$made"' EXIT
-status=0
 sanitized=(-g '-fsanitize=address,undefined' -fno-sanitize-recover=all)
-
-differs() {
-    printf 'differs: %s\n' "$1"
-    status=1
-}
 
 # Links this program under this name, with these flags.
 link_with() {
