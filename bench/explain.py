@@ -12,9 +12,8 @@ for each node.
 """
 
 import sys
-from pathlib import Path
 
-from lib.program import built_program, folder_for, word_reader
+from lib.program import work_in_folder
 from lib.timing import shortest
 from tfpg.limits import MOST_CHANGES, MOST_EDGES, MOST_EVENTS, MOST_FAILURES, MOST_NODES
 
@@ -64,14 +63,5 @@ def time_verdict(program, folder):
     print(f"{len(texts['log'])} events, {CHANGES} changes of mode, {FAILURES + EFFECTS} nodes, {EDGES} edges: {ran.seconds:.3f} s")
 
 
-def main():
-    reader = word_reader(__doc__)
-    reader.add_argument("folder", nargs="?", type=Path, metavar="FOLDER")
-    words = reader.parse_args()
-    program = built_program(words.program)
-    with folder_for(words.folder) as folder:
-        time_verdict(program, folder)
-
-
 if __name__ == "__main__":
-    main()
+    work_in_folder(__doc__, time_verdict)

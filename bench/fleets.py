@@ -30,7 +30,7 @@ from pathlib import Path
 
 from lib import PACKAGE, TOP
 from lib.graphs import script_text
-from lib.program import PROGRAM
+from lib.program import PROGRAM, simulated
 
 sys.path.insert(0, str(PACKAGE / "tests"))
 os.environ["PYTHONPATH"] = os.pathsep.join([str(PACKAGE), os.environ.get("PYTHONPATH", "")])
@@ -41,7 +41,6 @@ import tfpg.fleet  # noqa: E402
 from tfpg.calls.endings import Terms  # noqa: E402
 from tfpg.fleet import spreading, tasks  # noqa: E402
 from tfpg.fleet.one_log import result_of  # noqa: E402
-from tfpg.program import run_program  # noqa: E402
 from tfpg.stream import Part, send  # noqa: E402
 
 PUMP = TOP / "examples" / "pump.tfpg"
@@ -64,7 +63,7 @@ def graph_of_60_nodes():
     return "".join(line + "\n" for line in ["tfpg 1", "mode Run", *nodes, *edges, "end"])
 
 
-def simulated(graph, lines, seed):
+def log_of(graph, lines, seed):
     """A log of so many lines: ticks and sweeps, and the alarms of one failure mode that fails early."""
     draw = random.Random(seed)
     failing = draw.choice(tfpg.Graph(graph.read_bytes()).failures)
@@ -73,9 +72,7 @@ def simulated(graph, lines, seed):
     with tempfile.NamedTemporaryFile("w", suffix=".script") as file:
         file.write(script_text(timed, 60000 * lines + 1))
         file.flush()
-        ended = run_program(["simulate", f"--draw={seed}", str(graph), file.name])
-    assert ended.status == 0, ended.line
-    return b"".join(ended.output.splitlines(keepends=True)[:lines])
+        return b"".join(simulated(PROGRAM, seed, graph, file.name).splitlines(keepends=True)[:lines])
 
 
 def clocked(work):
@@ -146,7 +143,7 @@ def measure_logs(part, only):
                     continue
                 folder = Path(top, f"{name}{lines}".replace(" ", ""))
                 folder.mkdir()
-                kinds = [simulated(file, lines, seed) for seed in range(1, KINDS + 1)]
+                kinds = [log_of(file, lines, seed) for seed in range(1, KINDS + 1)]
                 logs = {f"car{number}": folder / f"car{number}.log" for number in range(max(vehicles // part, KINDS))}
                 for number, path in enumerate(logs.values()):
                     path.write_bytes(kinds[number % KINDS])

@@ -14,9 +14,8 @@ names of 32 bytes; 16 MiB of comments; and 16 MiB of empty lines. For each it pr
 
 import random
 import sys
-from pathlib import Path
 
-from lib.program import built_program, folder_for, word_reader
+from lib.program import work_in_folder
 from lib.timing import shortest
 from tfpg.limits import FILE_BYTES, LONGEST_NAME, MOST_EDGES, MOST_FAILURES, MOST_MODES, MOST_NODES, MOST_RARITY, MOST_TIME
 
@@ -69,7 +68,7 @@ def repeated(line):
     return front + (line + "\n") * count + back
 
 
-def timed(program, folder):
+def time_texts(program, folder):
     """Prints how long each text takes."""
     random.seed(1)
     texts = {
@@ -89,14 +88,5 @@ def timed(program, folder):
         print(f"{name:12} {len(text):10} {count:10} {read.seconds:8.3f}s {counted.seconds:8.3f}s {split.seconds:8.3f}s")
 
 
-def main():
-    reader = word_reader(__doc__)
-    reader.add_argument("folder", nargs="?", type=Path, metavar="FOLDER")
-    words = reader.parse_args()
-    program = built_program(words.program)
-    with folder_for(words.folder) as folder:
-        timed(program, folder)
-
-
 if __name__ == "__main__":
-    main()
+    work_in_folder(__doc__, time_texts)

@@ -11,9 +11,7 @@ Each of the 16 failure modes explains the alarm of the first effect. Of the edge
 changes a hundred times, so that there are windows to look at. The silences come before anything need be active.
 """
 
-from pathlib import Path
-
-from lib.program import built_program, folder_for, word_reader
+from lib.program import work_in_folder
 from lib.timing import shortest
 from tfpg.limits import MOST_EDGES, MOST_NODES
 
@@ -71,14 +69,5 @@ def time_forecasts(program, folder):
         print(f"{outlook}: {sum(outlook in line.split() for line in lines)}")
 
 
-def main():
-    reader = word_reader(__doc__)
-    reader.add_argument("folder", nargs="?", type=Path, metavar="FOLDER")
-    words = reader.parse_args()
-    program = built_program(words.program)
-    with folder_for(words.folder) as folder:
-        time_forecasts(program, folder)
-
-
 if __name__ == "__main__":
-    main()
+    work_in_folder(__doc__, time_forecasts)

@@ -278,6 +278,15 @@ def tell_others(where):
     return not others
 
 
+def show_all(what, chosen, show_one):
+    """Shows each by itself, and then their sums. Returns the status to end with."""
+    sums = Counter()
+    well = all([show_one(one, sums) for one in chosen])
+    lost = sums.pop("panels lost", 0)
+    print(f"{len(chosen)} {what}, {sums.total()} requests, one refused: {in_words(sums)}; {lost} panels lost")
+    return int(not well)
+
+
 def main():
     arguments = word_reader(__doc__)
     arguments.add_argument("--only", action="append", metavar="WORD", help="only the runs whose names begin so")
@@ -285,11 +294,7 @@ def main():
     with folder_for() as top:
         refusing = Refusing(built_program(words.program), top)
         chosen = [run for run in runs(refusing, top) if is_wanted(run.name, words.only)]
-        sums = Counter()
-        well = all([show(refusing, run, sums) for run in chosen])
-        lost = sums.pop("panels lost", 0)
-        print(f"{len(chosen)} runs, {sums.total()} requests, one refused: {in_words(sums)}; {lost} panels lost")
-        return int(not well)
+        return show_all("runs", chosen, lambda run, sums: show(refusing, run, sums))
 
 
 if __name__ == "__main__":

@@ -28,7 +28,7 @@ from pathlib import Path
 
 from lib import TOP
 from lib.program import folder_for, is_wanted
-from refuse import Refusing, Run, ends_of_blocks, in_words, sizes, without_losses
+from refuse import Refusing, Run, ends_of_blocks, in_words, show_all, sizes, without_losses
 
 ROWS = TOP / "crates" / "tfpg_rows"
 OVER_TEXTS = (
@@ -220,11 +220,7 @@ def main():
     with folder_for() as folder:
         refusing = Refusing(words.program.resolve(), folder)
         chosen = [row for row in rows() if is_wanted(row[0], words.only)]
-        sums = Counter()
-        well = all([show(refusing, *row, sums) for row in chosen])
-        lost = sums.pop("panels lost", 0)
-        print(f"{len(chosen)} rows, {sums.total()} requests, one refused: {in_words(sums)}; {lost} panels lost")
-        return int(not well)
+        return show_all("rows", chosen, lambda row, sums: show(refusing, *row, sums))
 
 
 if __name__ == "__main__":

@@ -44,6 +44,16 @@ def folder_for(named=None):
         yield Path(folder)
 
 
+def work_in_folder(about, work):
+    """Does what a script is about, by the program and in the folder that its words name, or in one that is there meanwhile."""
+    reader = word_reader(about)
+    reader.add_argument("folder", nargs="?", type=Path, metavar="FOLDER")
+    words = reader.parse_args()
+    program = built_program(words.program)
+    with folder_for(words.folder) as folder:
+        work(program, folder)
+
+
 def simulated(program, draw, graph, script):
     """The log of a script on a graph, which stand in these files."""
     return subprocess.run([program, "simulate", "--draw", str(draw), graph, script], stdout=subprocess.PIPE, check=True).stdout
