@@ -17,7 +17,7 @@ the same log.
 
 import random
 
-from lib.graphs import discrepancies, later_edges, monitor, script_text
+from lib.graphs import discrepancies, later_edges, monitor, steady_script
 from lib.program import built_program, folder_for, simulated, word_reader
 from lib.timing import shortest
 from tfpg.limits import MOST_EDGES, MOST_NODES
@@ -39,15 +39,6 @@ def graph_text(draws, least, spread, and_share, in_both):
     return "\n".join([*lines, "end"]) + "\n"
 
 
-def drawn_script(draws):
-    """The start of a failure mode, and ticks and sweeps after it."""
-    now, timed = 0, [(0, "start F0")]
-    for _ in range(EVENTS):
-        now += draws.randint(1, 8)
-        timed.append((now, "sweep" if draws.random() < 0.1 else "tick"))
-    return script_text(timed, now)
-
-
 def main():
     program = built_program(word_reader(__doc__).parse_args().program)
     shapes = {"far": (400, 100, 0.0, 1.0), "near": (10, 60, 0.0, 1.0), "and": (10, 60, 0.2, 0.9)}
@@ -56,7 +47,7 @@ def main():
         for name, shape in shapes.items():
             draws = random.Random(7)
             graph.write_text(graph_text(draws, *shape))
-            script.write_text(drawn_script(draws))
+            script.write_text(steady_script(draws, "F0", EVENTS, 0.1))
             lines = simulated(program, 1, graph, script).splitlines(keepends=True)[:EVENTS]
             log.write_bytes(b"".join(lines))
             diagnosed = shortest([program, "diagnose", "--k", "1", graph], log).seconds

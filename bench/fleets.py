@@ -214,20 +214,24 @@ def measure_latency(server, sessions, rate, seconds):
         fill(sender, lines_for(sessions, sessions), name)
         engines.until(lambda: sender.xlen(changes) >= sessions, "all vehicles are there")
         seen, last = {}, sender.xrevrange(changes, count=1)[0][0]
+
+        def look(milliseconds):
+            """Notes which changes came by now, or come within this time."""
+            nonlocal last
+            for _, found in server.client.xread({changes: last}, block=milliseconds) or []:
+                last = found[-1][0]
+                seen.update((one, time.perf_counter()) for one, _ in found)
+
         begin = time.perf_counter()
         for number, (vehicle, line) in enumerate(lines_for(sessions, rate * seconds, sessions)):
             due = begin + number / rate
             while time.perf_counter() < due:
-                for _, found in server.client.xread({changes: last}, block=1) or []:
-                    last = found[-1][0]
-                    seen.update((one, time.perf_counter()) for one, _ in found)
+                look(1)
             sent = time.perf_counter()
             times[send(sender, vehicle, line, 1, name)] = sent
         end = time.perf_counter() + 5
         while time.perf_counter() < end:
-            for _, found in server.client.xread({changes: last}, block=100) or []:
-                last = found[-1][0]
-                seen.update((one, time.perf_counter()) for one, _ in found)
+            look(100)
     late = sorted((seen[one] - times[one]) * 1000 for one in seen if one in times)
     print(f"- from a line to its change, {sessions:,} sessions, {rate:,} lines a second, {len(late):,} changes: "
           f"{statistics.median(late):.1f} ms at the median, {late[len(late) * 99 // 100]:.1f} for the 99th of 100, {late[-1]:.1f} at worst",

@@ -15,7 +15,7 @@ Seconds are the shortest of three runs of `diagnose --k 1`, with the start of th
 import random
 import sys
 
-from lib.graphs import discrepancies, later_edges, script_text
+from lib.graphs import discrepancies, later_edges, script_text, steady_script
 from lib.program import built_program, folder_for, simulated, word_reader
 from lib.timing import shortest
 from tfpg.limits import MOST_CHANGES, MOST_EDGES, MOST_NODES
@@ -30,15 +30,6 @@ def wide_graph(draws, nodes=MOST_NODES, edges=MOST_EDGES):
         modes = "*" if draws.random() < 0.9 else "N"
         lines.append(f"edge {names[source]} {names[target]} {least} {least + draws.randint(0, 60)} {modes}")
     return "\n".join([*lines, "end"]) + "\n"
-
-
-def wide_script(draws, events=300):
-    """A script with the start of the failure mode, sweeps and ticks."""
-    now, timed = 0, [(0, "start F")]
-    for _ in range(events):
-        now += draws.randint(1, 8)
-        timed.append((now, "sweep" if draws.random() < 0.2 else "tick"))
-    return script_text(timed, now)
 
 
 def span_script(changes=MOST_CHANGES, ticks=100):
@@ -101,7 +92,7 @@ def main():
     with folder_for() as folder:
         draws = random.Random(11)
         graph = wide_graph(draws)
-        show("wide", program, folder, log_of(program, folder, 1, graph, wide_script(draws)))
+        show("wide", program, folder, log_of(program, folder, 1, graph, steady_script(draws, "F", 300, 0.2)))
         show("spans", program, folder, log_of(program, folder, 1, graph, span_script()))
         for seed in SEEDS:
             draws = random.Random(seed)

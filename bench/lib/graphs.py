@@ -42,6 +42,15 @@ def script_text(timed, stop):
     return "\n".join([*lines, f"{stop} stop"]) + "\n"
 
 
+def steady_script(draws, failure, events, share):
+    """The script that starts a failure mode at 0, and then has so many ticks, of which such a share are sweeps."""
+    now, timed = 0, [(0, f"start {failure}")]
+    for _ in range(events):
+        now += draws.randint(1, 8)
+        timed.append((now, "sweep" if draws.random() < share else "tick"))
+    return script_text(timed, now)
+
+
 def ticks(first, end):
     """The lines of a log with a tick at each millisecond from the first one up to the end, and none at the end."""
     return "".join(f"{at} tick\n" for at in range(first, end))
