@@ -169,11 +169,11 @@ static bool is_tick(size_t begin, size_t end, uint64_t *time) {
 
 /* Asks a session for all numbers of its last line. */
 static void ask(tfpg_session *session) {
-    static uint64_t active[512];
+    static uint64_t active[TFPG_MAX_NODES];
     tfpg_result result;
     tfpg_ranked ranked;
     expect_done("result", tfpg_result_of(session, &result));
-    for (uint32_t rank = 0; rank < result.ranked; rank++) expect_done("ranked", tfpg_ranked_at(session, rank, &ranked, active, 512));
+    for (uint32_t rank = 0; rank < result.ranked; rank++) expect_done("ranked", tfpg_ranked_at(session, rank, &ranked, active, TFPG_MAX_NODES));
 }
 
 /* Asks for the block of an event where there is no memory for it, and once more where there is. The session is as before. */
