@@ -16,24 +16,21 @@ the same log.
 """
 
 import random
-import tempfile
-from pathlib import Path
 
-from lib.graphs import later_edges
-from lib.program import built_program, word_reader
+from lib.graphs import discrepancies, later_edges, monitor, steady_script
+from lib.program import built_program, folder_for, simulated, word_reader
 from lib.timing import shortest
+from tfpg.limits import MOST_EDGES, MOST_NODES
 
-FAILURES, NODES, EDGES, EVENTS = 10, 512, 2048, 300
+FAILURES, NODES, EDGES, EVENTS = 10, MOST_NODES, MOST_EDGES, 300
 
 
 def graph_text(draws, least, spread, and_share, in_both):
     """The graph: failure modes, the root D0, and nodes with edges from up to 40 nodes before."""
     count = NODES - FAILURES
     lines = ["tfpg 1", "mode N", "mode D", *[f"failure F{number} 1" for number in range(FAILURES)]]
-    for node in range(count):
-        kind = "and" if node and draws.random() < and_share else "or"
-        monitor = f"watch {draws.randint(0, 20)}" if draws.random() < 0.75 else "hidden"
-        lines.append(f"{kind} D{node} {monitor}")
+    lines.append(f"or D0 {monitor(draws, 0.75)}")
+    lines += discrepancies(draws, [f"D{node}" for node in range(1, count)], and_share, 0.75)
     lines += [f"edge F{number} D0 1 60 *" for number in range(FAILURES)]
     for source, target in later_edges(draws, 1, count, EDGES - FAILURES, EDGES):
         delay = draws.randint(least, 2 * least)
@@ -42,25 +39,16 @@ def graph_text(draws, least, spread, and_share, in_both):
     return "\n".join([*lines, "end"]) + "\n"
 
 
-def script_text(draws):
-    """The start of a failure mode, and ticks and sweeps after it."""
-    now, lines = 0, ["0 start F0"]
-    for _ in range(EVENTS):
-        now += draws.randint(1, 8)
-        lines.append(f"{now} {'sweep' if draws.random() < 0.1 else 'tick'}")
-    return "\n".join([*lines, f"{now} stop"]) + "\n"
-
-
 def main():
     program = built_program(word_reader(__doc__).parse_args().program)
     shapes = {"far": (400, 100, 0.0, 1.0), "near": (10, 60, 0.0, 1.0), "and": (10, 60, 0.2, 0.9)}
-    with tempfile.TemporaryDirectory() as folder:
-        graph, script, log = (Path(folder) / name for name in ("graph", "script", "log"))
+    with folder_for() as folder:
+        graph, script, log = (folder / name for name in ("graph", "script", "log"))
         for name, shape in shapes.items():
             draws = random.Random(7)
             graph.write_text(graph_text(draws, *shape))
-            script.write_text(script_text(draws))
-            lines = shortest([program, "simulate", graph, script], runs=1).output.splitlines(keepends=True)[:EVENTS]
+            script.write_text(steady_script(draws, "F0", EVENTS, 0.1))
+            lines = simulated(program, 1, graph, script).splitlines(keepends=True)[:EVENTS]
             log.write_bytes(b"".join(lines))
             diagnosed = shortest([program, "diagnose", "--k", "1", graph], log).seconds
             asked = shortest([program, "ask", "--k", "1", graph, log])

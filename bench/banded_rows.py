@@ -12,10 +12,10 @@ not fit, or are not known, z3's seconds, and how often z3 and the program contra
 import argparse
 import subprocess
 import sys
-import tempfile
 from collections import Counter
 from pathlib import Path
 
+from lib.program import folder_for
 from lib.reading import report_read
 from lib.timing import shortest
 
@@ -84,10 +84,10 @@ def main():
     parser.add_argument("--z3", type=float, metavar="SECONDS")
     parser.add_argument("program", metavar="PROGRAM")
     words = parser.parse_args()
-    with tempfile.TemporaryDirectory() as name:
-        subprocess.run([sys.executable, HERE / "banded.py", name, str(words.draws)], check=True)
+    with folder_for() as folder:
+        subprocess.run([sys.executable, HERE / "banded.py", folder, str(words.draws)], check=True)
         rows = [(size, k, budget) for size in words.sizes for k in words.k for budget in words.budgets]
-        return 1 if sum(show_row(words, Path(name), *row) for row in rows) else 0
+        return 1 if sum(show_row(words, folder, *row) for row in rows) else 0
 
 
 if __name__ == "__main__":

@@ -20,23 +20,22 @@ Most reports are those of `diagnose`, for a log that is long enough for N megaby
 import random
 import subprocess
 import sys
-import tempfile
 from pathlib import Path
 
 from compare import HARD, hard_row
 from diagnose import TWO_MODES, kept_searches, large_graph, large_script, many_pairs
-from lib.program import built_program, word_reader
-from lib.timing import run
+from lib.graphs import ticks
+from lib.program import built_program, folder_for, is_wanted, simulated, word_reader
+from lib.timing import shortest
+from tfpg.limits import MOST_EVENTS
 
 READER = "import sys; print(sum(len(line.split()) for line in sys.stdin.buffer))"
-RUNS = 3
 
 
-def shortest(words, text):
-    """What was said first, on either stream, the processor seconds of the shortest of some runs, and the peak memory in KB."""
-    runs = [run(words, text, peak=True) for _ in range(RUNS)]
-    said = (runs[0].output + runs[0].said).decode().split("\n")[0]
-    return said, max(min(one.seconds for one in runs), 1e-6), runs[0].peak
+def told(words, text):
+    """What the shortest of some runs said first, on either stream, its seconds, and its peak memory in KB."""
+    ran = shortest(words, text, status=None, peak=True)
+    return (ran.output + ran.said).decode().split("\n")[0], max(ran.seconds, 1e-6), ran.peak
 
 
 def report_of(program, top, name, words, graph, log, limit):
@@ -73,10 +72,10 @@ def show(program, name, top, graph):
     read.write_bytes(in_one_round(text))
     words = [program, "check", graph, top / f"{name}.log"]
     rate = lambda file, took: file.stat().st_size / took / 1e6
-    _, counting, _ = shortest(["wc", "-l"], report)
-    _, python, _ = shortest([sys.executable, "-c", READER], report)
-    said, judging, peak = shortest(words, report)
-    ended, reading, read_peak = shortest(words, read)
+    _, counting, _ = told(["wc", "-l"], report)
+    _, python, _ = told([sys.executable, "-c", READER], report)
+    said, judging, peak = told(words, report)
+    ended, reading, read_peak = told(words, read)
     splits = text.count(b"\nsplit ")
     print(
         f"{name:12} {report.stat().st_size / 1e6:5.1f} MB, {splits:7} splits, {said:20} check {rate(report, judging):6.1f} MB/s"
@@ -142,14 +141,12 @@ def cases(program, top, limit):
     texts |= {"twelve": twelve(), "two-modes": TWO_MODES}
     for name, text in texts.items():
         (top / name).write_text(text)
-    ticks = "".join(f"{at} tick\n" for at in range(401, 60_000))
-    simulated = lambda draw, graph, script: subprocess.run(
-        [program, "simulate", "--draw", draw, top / graph, top / script], capture_output=True, check=True
-    ).stdout.decode()
+    later = ticks(401, 60_000)
+    log_of = lambda draw, graph, script: simulated(program, draw, top / graph, top / script).decode()
     of = lambda name, words, graph, log: report_of(program, top, name, words, top / graph, log(), limit)
-    yield "many pairs", "pairs", lambda: of("many pairs", [], "pairs", lambda: "100 alarm A\n110 alarm B\n" + ticks)
-    yield "two faults", "large", lambda: of("two faults", ["--k", "1"], "large", lambda: simulated("5", "large", "script"))
-    yield "generated", "drawn", lambda: of("generated", [], "drawn", lambda: simulated("1", "drawn", "drawn-script") + ticks)
+    yield "many pairs", "pairs", lambda: of("many pairs", [], "pairs", lambda: "100 alarm A\n110 alarm B\n" + later)
+    yield "two faults", "large", lambda: of("two faults", ["--k", "1"], "large", lambda: log_of(5, "large", "script"))
+    yield "generated", "drawn", lambda: of("generated", [], "drawn", lambda: log_of(1, "drawn", "drawn-script") + later)
     for draw in HARD[:2]:
 
         def hard(draw=draw):
@@ -158,9 +155,8 @@ def cases(program, top, limit):
 
         yield f"hard {draw}", f"hard{draw}.tfpg", hard
     for name, words in (("kept 2081", []), ("kept 4096", ["--doubt", "1"])):
-        yield name, "kept", lambda name=name, words=words: of(name, [*words, "--budget", "1"], "kept", lambda: "100 alarm A\n" + ticks)
-    every = "".join(f"{at} tick\n" for at in range(65_536))
-    yield "few lines", "twelve", lambda: of("few lines", ["--k", "12"], "twelve", lambda: every)
+        yield name, "kept", lambda name=name, words=words: of(name, [*words, "--budget", "1"], "kept", lambda: "100 alarm A\n" + later)
+    yield "few lines", "twelve", lambda: of("few lines", ["--k", "12"], "twelve", lambda: ticks(0, MOST_EVENTS))
 
     def nest():
         (top / "nested.log").write_text("30 alarm A\n")
@@ -176,11 +172,9 @@ def main():
     arguments.add_argument("--keep", type=Path, help="the folder for graphs, logs and reports, which stay there")
     words = arguments.parse_args()
     program = built_program(words.program)
-    with tempfile.TemporaryDirectory() as folder:
-        top = words.keep or Path(folder)
-        top.mkdir(exist_ok=True)
+    with folder_for(words.keep) as top:
         for name, graph, make in cases(program, top, words.megabytes * 1_000_000):
-            if not words.only or any(name.startswith(word) for word in words.only):
+            if is_wanted(name, words.only):
                 make()
                 show(program, name, top, top / graph)
     return 0

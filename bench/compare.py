@@ -25,14 +25,16 @@ import argparse
 import random
 import subprocess
 import sys
-import tempfile
 import time
 from dataclasses import dataclass
 from pathlib import Path
 
 import lib.timing
 from diagnose import kept_searches, large_graph, large_script
-from lib.program import TOP
+from lib import TOP
+from lib.graphs import discrepancies, script_text, ticks
+from lib.program import folder_for, simulated
+from tfpg.limits import MOST_EVENTS
 
 MODES = ["M0", "M1", "M2"]
 LATENCY_LINES, LATENCY_RUNS = 10_000, 3
@@ -54,10 +56,7 @@ def hard_graph(draws):
     nodes, edges = draws.randint(6, 10), draws.randint(20, 30)
     names = ["F", "G", *[f"N{node}" for node in range(2, nodes)]]
     lines = ["tfpg 1", *[f"mode {mode}" for mode in MODES], "failure F 1", "failure G 2"]
-    for name in names[2:]:
-        kind = "and" if draws.random() < 0.6 else "or"
-        monitor = f"watch {draws.randint(0, 3)}" if draws.random() < 0.35 else "hidden"
-        lines.append(f"{kind} {name} {monitor}")
+    lines += discrepancies(draws, names[2:], 0.6, 0.35, 3)
     pairs = [(source, target) for target in range(2, nodes) for source in range(nodes) if source != target]
     chosen = [(draws.randrange(target), target) for target in range(2, nodes)]
     others = [pair for pair in pairs if pair not in chosen]
@@ -80,8 +79,7 @@ def hard_script(draws, changes=12):
         if draws.random() < 0.5:
             now += draws.randint(0, 2)
             timed.append((now, "sweep"))
-    lines = [f"{at} {what}" for at, what in sorted(timed, key=lambda it: it[0])]
-    return "\n".join([*lines, f"{now + 5} stop"]) + "\n"
+    return script_text(timed, now + 5)
 
 
 def with_silences(draws, graph, log):
@@ -98,11 +96,6 @@ def with_silences(draws, graph, log):
         else:
             lines.append(line)
     return ("\n".join(lines) + "\n").encode()
-
-
-def simulated(program, draw, graph, script):
-    words = [program, "simulate", "--draw", str(draw), str(graph), str(script)]
-    return subprocess.run(words, stdout=subprocess.PIPE, check=True).stdout
 
 
 def hard_row(program, top, draw):
@@ -122,7 +115,7 @@ def other_rows(program, top):
     files["large"].write_text(large_graph(draws))
     files["script"].write_text(large_script(draws))
     files["two"].write_bytes(simulated(program, 5, files["large"], files["script"]))
-    files["ticks"].write_text("".join(f"{at} tick\n" for at in range(65536)))
+    files["ticks"].write_text(ticks(0, MOST_EVENTS))
     files["kept"].write_text(kept_searches())
     files["alarm"].write_text("100 alarm A\n")
     files["empty"].write_text("")
@@ -201,8 +194,7 @@ def with_ticks(log):
     """The first lines of the log, and then ticks, one each millisecond."""
     lines = log.splitlines()[:LATENCY_LINES]
     now = int(lines[-1].split()[0])
-    lines += [f"{now + number} tick" for number in range(1, 1 + LATENCY_LINES - len(lines))]
-    return "\n".join(lines) + "\n"
+    return "\n".join(lines) + "\n" + ticks(now + 1, now + 1 + LATENCY_LINES - len(lines))
 
 
 def latency_rows(program, top):
@@ -247,9 +239,9 @@ def show_latencies(programs, rows):
 def find(program, first, last):
     """The draws of a range that need most splits."""
     found = []
-    with tempfile.TemporaryDirectory() as folder:
+    with folder_for() as folder:
         for draw in range(first, last):
-            row = hard_row(program, Path(folder), draw)
+            row = hard_row(program, folder, draw)
             splits, steps = counted(output(program, row))
             found.append((splits, steps, draw))
     for splits, steps, draw in sorted(found, reverse=True)[:20]:
@@ -275,8 +267,7 @@ def main():
     if words.find:
         return find(words.programs[0], *words.find)
     wanted = lambda name: not words.only or name.split(",")[0] in words.only
-    with tempfile.TemporaryDirectory() as folder:
-        top = Path(folder)
+    with folder_for() as top:
         rows = other_rows(words.programs[1], top)
         if wanted("hard"):
             show_hard(words.programs, top, HARD, words.runs)

@@ -14,12 +14,13 @@
 
 import random
 import sys
-import tempfile
-from pathlib import Path
 
-from lib.program import built_program, word_reader
+from lib.graphs import discrepancies, node_names, script_text, ticks
+from lib.program import built_program, folder_for, word_reader
 from lib.timing import shortest
+from tfpg.limits import MOST_EDGES, MOST_EVENTS, MOST_FAILURES, MOST_INCOMING, MOST_NODES
 
+HUBS = 20  # hidden nodes between the failure modes and what they lead to
 TWO_MODES = """tfpg 1
 mode N
 mode D
@@ -37,26 +38,23 @@ end
 """
 
 
-def large_graph(draws, failures=64, nodes=512, edges=2048):
+def large_graph(draws, failures=MOST_FAILURES, nodes=MOST_NODES, edges=MOST_EDGES):
     """A graph of so many nodes and edges, each of which leads to a later node."""
-    name = lambda node: f"F{node}" if node < failures else f"D{node}"
+    names = node_names(failures, nodes)
     lines = ["tfpg 1", "mode N", "mode D"]
     lines += [f"failure F{position} {position + 1}" for position in range(failures)]
-    for node in range(failures, nodes):
-        kind = "and" if draws.random() < 0.15 else "or"
-        monitor = f"watch {draws.randint(0, 20)}" if draws.random() < 0.6 else "hidden"
-        lines.append(f"{kind} D{node} {monitor}")
+    lines += discrepancies(draws, names[failures:], 0.15)
     seen, incoming = set(), dict.fromkeys(range(nodes), 0)
 
     def add(source, target):
-        if (source, target) in seen or incoming[target] == 32:
+        if (source, target) in seen or incoming[target] == MOST_INCOMING:
             return
         seen.add((source, target))
         incoming[target] += 1
         least = draws.randint(1, 50)
         greatest = "inf" if draws.random() < 0.1 else least + draws.randint(0, 60)
         modes = "*" if draws.random() < 0.8 else "N"
-        lines.append(f"edge {name(source)} {name(target)} {least} {greatest} {modes}")
+        lines.append(f"edge {names[source]} {names[target]} {least} {greatest} {modes}")
 
     for node in range(failures, nodes):
         add(draws.randint(0, failures - 1 if draws.random() < 0.5 else node - 1), node)
@@ -73,11 +71,10 @@ def large_script(draws, events=250):
         now += draws.randint(1, 6)
         chance = draws.random()
         timed.append((now, f"mode {draws.choice('ND')}" if chance < 0.03 else "sweep" if chance < 0.06 else "tick"))
-    lines = [f"{at} {what}" for at, what in sorted(timed, key=lambda it: it[0])]
-    return "\n".join([*lines, f"{now + 10} stop"]) + "\n"
+    return script_text(timed, now + 10)
 
 
-def many_pairs(failures=64, hubs=20):
+def many_pairs(failures=MOST_FAILURES, hubs=HUBS):
     """A graph in which each failure mode leads to one of two monitored nodes, by way of a hidden one."""
     lines = ["tfpg 1", "mode N", *[f"failure F{position} {position + 1}" for position in range(failures)]]
     lines += [*[f"or H{hub} hidden" for hub in range(hubs)], "or A watch 10", "or B watch 10"]
@@ -86,7 +83,7 @@ def many_pairs(failures=64, hubs=20):
     return "\n".join([*lines, "end"]) + "\n"
 
 
-def kept_searches(failures=64, nodes=512, hubs=20, monitors=31):
+def kept_searches(failures=MOST_FAILURES, nodes=MOST_NODES, hubs=HUBS, monitors=31):
     """A graph in which each failure mode leads to A by way of a hidden node, and A to a chain of all other nodes."""
     chain = ["A", *[f"D{node}" for node in range(nodes - failures - hubs - 1)]]
     lines = ["tfpg 1", "mode N", *[f"failure F{position} {position + 1}" for position in range(failures)]]
@@ -107,8 +104,7 @@ def show(name, events, ran):
 def main():
     program = built_program(word_reader(__doc__).parse_args().program)
     run = lambda words, log=b"": shortest([program, *words], log, peak=True)
-    with tempfile.TemporaryDirectory() as folder:
-        top = Path(folder)
+    with folder_for() as top:
         draws = random.Random(7)
         (top / "large").write_text(large_graph(draws))
         (top / "script").write_text(large_script(draws))
@@ -121,14 +117,14 @@ def main():
         log = run(["simulate", "--draw", "5", top / "large", top / "script"]).output
         for k in (1, 2):
             show(f"two faults, k {k}", log.count(b"\n"), run(["diagnose", "--k", str(k), top / "large"], log))
-        ticks = "".join(f"{at} tick\n" for at in range(6, 65541)).encode()
+        later = ticks(6, MOST_EVENTS + 5).encode()
         for name, first in (("no alarm", b"5 tick\n"), ("an alarm", b"5 alarm A\n")):
-            show(f"long log, {name}", 65536, run(["diagnose", top / "small"], first + ticks))
+            show(f"long log, {name}", MOST_EVENTS, run(["diagnose", top / "small"], first + later))
         (top / "chatter").write_text(TWO_MODES.replace("or A watch 0", "or A watch 100000"))
         for name, what in (("ticks", "tick"), ("alarms", "alarm A")):
             events = "".join(f"{at} {what}\n" for at in range(6, 16389)).encode()
             show(f"chatter, {name}", 16384, run(["diagnose", top / "chatter"], b"5 alarm A\n" + events))
-        pairs = "100 alarm A\n110 alarm B\n" + "".join(f"{at} tick\n" for at in range(111, 409))
+        pairs = "100 alarm A\n110 alarm B\n" + ticks(111, 409)
         show("many pairs", 300, run(["diagnose", top / "pairs"], pairs.encode()))
         (top / "kept").write_text(kept_searches())
         for doubt in (0, 1):

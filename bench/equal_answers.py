@@ -32,9 +32,11 @@ from pathlib import Path
 from banded import draw_graph, draw_log, graph_text
 from compare import HARD, hard_graph, hard_row, hard_script, with_silences
 from forge import Program, drawn_graph, random_log, random_script, small_graph
-from lib.program import TOP
+from lib import TOP
+from lib.program import folder_for
 from lib.reading import Refused, report_read
 from slow_judge import Graph
+from tfpg.limits import LONGEST_LINE
 
 MOST_HYPOTHESES = 250
 MOST_BYTES, LONGER = 20_000, 80_000  # of a report; one case of five may have a longer one
@@ -96,7 +98,7 @@ def spoiled(draws, log):
     """The log with up to two lines that no log accepts."""
     lines = log.split(b"\n")
     for _ in range(draws.choice([0, 0, 1, 2])):
-        bad = b"1 tick" + b" " * 4096 if draws.random() < 0.05 else draws.choice(NEVER_ACCEPTED)
+        bad = b"1 tick" + b" " * LONGEST_LINE if draws.random() < 0.05 else draws.choice(NEVER_ACCEPTED)
         lines.insert(draws.randrange(len(lines)), bad)
     return b"\n".join(lines)
 
@@ -305,8 +307,8 @@ def main():
     words.keep = words.keep or Path(tempfile.gettempdir()) / "unequal"
     words.keep.mkdir(parents=True, exist_ok=True)
     comparison, tried, wrong = Comparison(), 0, 0
-    with tempfile.TemporaryDirectory() as folder:
-        before, after = (Program(program.resolve(), Path(folder)) for program in (words.before, words.after))
+    with folder_for() as folder:
+        before, after = (Program(program.resolve(), folder) for program in (words.before, words.after))
         seeds = range(words.seed, words.seed + words.cases) if words.only is None else [words.only]
         cases = [] if words.no_examples or words.only is not None else [*example_cases(), *hard_cases(after)]
         try:

@@ -9,22 +9,16 @@ into the folder, or into a temporary one, and prints the shortest of five runs.
 The verdict is yes, so that nothing is left out: each edge is active in one of two modes, and the mode changes before a failure
 is due, so that the must rule looks at each span; and the other events are sweeps before anything is active, so that each asks
 for each node.
-
-Without --program it is that of `./build`, which is run first; where it is not built yet, that takes half an hour.
 """
 
 import sys
-import tempfile
-from pathlib import Path
 
-from lib.program import built_program, word_reader
+from lib.program import work_in_folder
 from lib.timing import shortest
+from tfpg.limits import MOST_CHANGES, MOST_EDGES, MOST_EVENTS, MOST_FAILURES, MOST_NODES
 
-FAILURES = 64
-EFFECTS = 448
-EDGES = 2048
-CHANGES = 1024
-EVENTS = 65536
+FAILURES, EFFECTS, EDGES = MOST_FAILURES, MOST_NODES - MOST_FAILURES, MOST_EDGES
+CHANGES, EVENTS = MOST_CHANGES, MOST_EVENTS
 STEP = 10  # milliseconds from one change of mode to the next
 RUNS = 5
 
@@ -69,14 +63,5 @@ def time_verdict(program, folder):
     print(f"{len(texts['log'])} events, {CHANGES} changes of mode, {FAILURES + EFFECTS} nodes, {EDGES} edges: {ran.seconds:.3f} s")
 
 
-def main():
-    reader = word_reader(__doc__)
-    reader.add_argument("folder", nargs="?", type=Path, metavar="FOLDER")
-    words = reader.parse_args()
-    program = built_program(words.program)
-    with tempfile.TemporaryDirectory() as folder:
-        time_verdict(program, words.folder or Path(folder))
-
-
 if __name__ == "__main__":
-    main()
+    work_in_folder(__doc__, time_verdict)

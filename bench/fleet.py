@@ -17,10 +17,12 @@ import tempfile
 from pathlib import Path
 
 import lib.timing
-from diagnose import kept_searches
-from lib.program import built_program, word_reader
+from diagnose import HUBS, kept_searches
+from lib.graphs import script_text
+from lib.program import built_program, simulated, word_reader
+from tfpg.limits import MOST_FAILURES, MOST_VEHICLES
 
-VEHICLES = 64
+VEHICLES, MONITORS = MOST_VEHICLES, 63
 LINES = 1000
 TERMS = ["--k", "1", "--doubt", "1"]
 
@@ -31,8 +33,7 @@ def script(draws, failure):
     for _ in range(LINES + 100):
         now += draws.randint(1, 6)
         timed.append((now, "sweep" if draws.random() < 0.03 else "tick"))
-    lines = [f"{at} {what}" for at, what in sorted(timed, key=lambda it: it[0])]
-    return "\n".join([*lines, f"{now + 10} stop"]) + "\n"
+    return script_text(timed, now + 10)
 
 
 def run(program, words, given, written):
@@ -68,12 +69,11 @@ def main():
     with tempfile.TemporaryDirectory(dir=words.folder) as folder:
         top = Path(folder)
         graph = top / "graph"
-        graph.write_text(kept_searches(nodes=64 + 20 + 63, monitors=63))
+        graph.write_text(kept_searches(nodes=MOST_FAILURES + HUBS + MONITORS, monitors=MONITORS))
         logs = {}
         for number, name in enumerate(names):
             (top / "script").write_text(script(draws, number))
-            log = lib.timing.shortest([program, "simulate", "--draw", str(number), graph, top / "script"], runs=1).output
-            logs[name] = log.decode().split("\n")[:words.lines]
+            logs[name] = simulated(program, number, graph, top / "script").decode().split("\n")[:words.lines]
             (top / f"{name}.log").write_text("\n".join(logs[name]) + "\n")
         (top / "stream").write_text("".join(f"{name} {logs[name][place]}\n" for place in range(words.lines) for name in names))
         seconds, peak = run(program, ["fleet", *TERMS, graph, ",".join(names)], top / "stream", top / "output")

@@ -28,10 +28,12 @@ import tempfile
 import time
 from pathlib import Path
 
-from lib.program import PROGRAM, TOP
+from lib import PACKAGE, TOP
+from lib.graphs import script_text
+from lib.program import PROGRAM, simulated
 
-sys.path[:0] = [str(TOP / "python"), str(TOP / "python" / "tests")]
-os.environ["PYTHONPATH"] = os.pathsep.join([str(TOP / "python"), os.environ.get("PYTHONPATH", "")])
+sys.path.insert(0, str(PACKAGE / "tests"))
+os.environ["PYTHONPATH"] = os.pathsep.join([str(PACKAGE), os.environ.get("PYTHONPATH", "")])
 
 import engines  # noqa: E402
 import tfpg  # noqa: E402
@@ -39,7 +41,6 @@ import tfpg.fleet  # noqa: E402
 from tfpg.calls.endings import Terms  # noqa: E402
 from tfpg.fleet import spreading, tasks  # noqa: E402
 from tfpg.fleet.one_log import result_of  # noqa: E402
-from tfpg.program import run_program  # noqa: E402
 from tfpg.stream import Part, send  # noqa: E402
 
 PUMP = TOP / "examples" / "pump.tfpg"
@@ -62,18 +63,16 @@ def graph_of_60_nodes():
     return "".join(line + "\n" for line in ["tfpg 1", "mode Run", *nodes, *edges, "end"])
 
 
-def simulated(graph, lines, seed):
+def log_of(graph, lines, seed):
     """A log of so many lines: ticks and sweeps, and the alarms of one failure mode that fails early."""
     draw = random.Random(seed)
     failing = draw.choice(tfpg.Graph(graph.read_bytes()).failures)
-    script = [(3000, f"start {failing}")]
-    script += [(60000 * number, "sweep" if number % 10 == 0 else "tick") for number in range(1, lines + 1)]
+    timed = [(3000, f"start {failing}")]
+    timed += [(60000 * number, "sweep" if number % 10 == 0 else "tick") for number in range(1, lines + 1)]
     with tempfile.NamedTemporaryFile("w", suffix=".script") as file:
-        file.write("".join(f"{at} {what}\n" for at, what in sorted(script)) + f"{60000 * lines + 1} stop\n")
+        file.write(script_text(timed, 60000 * lines + 1))
         file.flush()
-        ended = run_program(["simulate", f"--draw={seed}", str(graph), file.name])
-    assert ended.status == 0, ended.line
-    return b"".join(ended.output.splitlines(keepends=True)[:lines])
+        return b"".join(simulated(PROGRAM, seed, graph, file.name).splitlines(keepends=True)[:lines])
 
 
 def clocked(work):
@@ -144,7 +143,7 @@ def measure_logs(part, only):
                     continue
                 folder = Path(top, f"{name}{lines}".replace(" ", ""))
                 folder.mkdir()
-                kinds = [simulated(file, lines, seed) for seed in range(1, KINDS + 1)]
+                kinds = [log_of(file, lines, seed) for seed in range(1, KINDS + 1)]
                 logs = {f"car{number}": folder / f"car{number}.log" for number in range(max(vehicles // part, KINDS))}
                 for number, path in enumerate(logs.values()):
                     path.write_bytes(kinds[number % KINDS])
@@ -215,20 +214,24 @@ def measure_latency(server, sessions, rate, seconds):
         fill(sender, lines_for(sessions, sessions), name)
         engines.until(lambda: sender.xlen(changes) >= sessions, "all vehicles are there")
         seen, last = {}, sender.xrevrange(changes, count=1)[0][0]
+
+        def look(milliseconds):
+            """Notes which changes came by now, or come within this time."""
+            nonlocal last
+            for _, found in server.client.xread({changes: last}, block=milliseconds) or []:
+                last = found[-1][0]
+                seen.update((one, time.perf_counter()) for one, _ in found)
+
         begin = time.perf_counter()
         for number, (vehicle, line) in enumerate(lines_for(sessions, rate * seconds, sessions)):
             due = begin + number / rate
             while time.perf_counter() < due:
-                for _, found in server.client.xread({changes: last}, block=1) or []:
-                    last = found[-1][0]
-                    seen.update((one, time.perf_counter()) for one, _ in found)
+                look(1)
             sent = time.perf_counter()
             times[send(sender, vehicle, line, 1, name)] = sent
         end = time.perf_counter() + 5
         while time.perf_counter() < end:
-            for _, found in server.client.xread({changes: last}, block=100) or []:
-                last = found[-1][0]
-                seen.update((one, time.perf_counter()) for one, _ in found)
+            look(100)
     late = sorted((seen[one] - times[one]) * 1000 for one in seen if one in times)
     print(f"- from a line to its change, {sessions:,} sessions, {rate:,} lines a second, {len(late):,} changes: "
           f"{statistics.median(late):.1f} ms at the median, {late[len(late) * 99 // 100]:.1f} for the 99th of 100, {late[-1]:.1f} at worst",

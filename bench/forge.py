@@ -14,7 +14,6 @@ and report are kept. `--one SEED` makes that forgery again. The last lines count
 time the slowest run took. Ends with status 1 where something differs.
 """
 
-import argparse
 import random
 import re
 import subprocess
@@ -25,8 +24,9 @@ from collections import Counter
 from dataclasses import dataclass
 from pathlib import Path
 
-from lib.program import TOP, built_program
-from lib.timing import spent
+from lib import TOP
+from lib.program import built_program, folder_for, word_reader
+from lib.timing import measured
 from slow_judge import LONG, MOST_TIME, NUMBER, REFUSALS, SMALL, Graph, Judge, Log, NotSo, line_said
 
 WITHIN = (b"hyp", b"split", b"cycle", b"why", b"again", b"ranked", b"at", b"open", b"rejected", b"counts")  # the lines of a round
@@ -574,9 +574,7 @@ STATUS = {"accepted": 0, "not": 1, "too": 4}
 def answer(program, log, report):
     """What the program says, and its processor time."""
     program.write("log", log)
-    began = spent()
-    status, out, err = program.run("check", "graph", "log", text=report)
-    took = spent() - began
+    (status, out, err), took = measured(lambda: program.run("check", "graph", "log", text=report))
     said = (out + err).decode(errors="replace")
     fits = said.endswith("\n") and said.count("\n") == 1 and STATUS.get(said.split(" ")[0]) == status and (status == 0) == bool(out)
     return said.rstrip("\n") if fits else f"status {status}: {out!r} {err!r}", took
@@ -602,19 +600,18 @@ def try_one(program, seed, index, source, keep):
 
 
 def main():
-    arguments = argparse.ArgumentParser(description=__doc__, formatter_class=argparse.RawDescriptionHelpFormatter)
+    arguments = word_reader(__doc__)
     arguments.add_argument("--seconds", type=int, default=60)
     arguments.add_argument("--seed", type=int, default=1, help="the first seed of a right report")
     arguments.add_argument("--one", metavar="SEED", help="only this forgery, as SEED.INDEX")
     arguments.add_argument("--keep", type=Path, metavar="FOLDER", help="where forgeries that differ are kept")
     arguments.add_argument("--each", type=int, default=40, help="forgeries of each right report")
-    arguments.add_argument("--program", type=Path, metavar="FILE", help="a built program")
     words = arguments.parse_args()
     words.keep = words.keep or Path(tempfile.gettempdir()) / "forged"
     words.keep.mkdir(parents=True, exist_ok=True)
     sys.set_int_max_str_digits(0)  # a line may have thousands of digits
-    with tempfile.TemporaryDirectory() as folder:
-        program = Program(built_program(words.program), Path(folder))
+    with folder_for() as folder:
+        program = Program(built_program(words.program), folder)
         if words.one:
             seed, index = (int(word) for word in words.one.split("."))
             source = program.source(seed)

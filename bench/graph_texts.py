@@ -10,19 +10,15 @@ names of 32 bytes; 16 MiB of comments; and 16 MiB of empty lines. For each it pr
   report,
 - `wc -l`, which only goes through the bytes,
 - Python splitting the same text into lines and words.
-
-Without --program it is that of `./build`, which is run first; where it is not built yet, that takes half an hour.
 """
 
 import random
 import sys
-import tempfile
-from pathlib import Path
 
-from lib.program import built_program, word_reader
+from lib.program import work_in_folder
 from lib.timing import shortest
+from tfpg.limits import FILE_BYTES, LONGEST_NAME, MOST_EDGES, MOST_FAILURES, MOST_MODES, MOST_NODES, MOST_RARITY, MOST_TIME
 
-MOST_BYTES = 2**24
 RUNS = 5
 
 SPLIT = """
@@ -35,44 +31,44 @@ for line in text.split(b"\\n"):
 
 
 def long_name(kind, number):
-    """A name of 32 bytes."""
-    return f"{kind}{number}".ljust(32, "x")
+    """A name as long as may be."""
+    return f"{kind}{number}".ljust(LONGEST_NAME, "x")
 
 
 def largest_graph():
-    """64 modes, 64 failure modes, 448 discrepancies and 2,048 edges, which all may take no time and each name 63 modes.
+    """As many modes, failure modes, discrepancies and edges as may be. All edges may take no time, and each names all modes but one.
 
     Each discrepancy has an edge from the one before it, so that a walk over edges that take no time can be as long as there
     are nodes.
     """
-    modes = [long_name("Mode", number) for number in range(64)]
-    failures = [long_name("Failure", number) for number in range(64)]
-    discrepancies = [long_name("Effect", number) for number in range(448)]
+    modes = [long_name("Mode", number) for number in range(MOST_MODES)]
+    failures = [long_name("Failure", number) for number in range(MOST_FAILURES)]
+    discrepancies = [long_name("Effect", number) for number in range(MOST_NODES - MOST_FAILURES)]
     lines = ["tfpg 1"] + [f"mode {mode}" for mode in modes]
-    lines += [f"failure {name} 1000000" for name in failures]
+    lines += [f"failure {name} {MOST_RARITY}" for name in failures]
     for name in discrepancies:
-        lines.append(f"{random.choice(['or', 'and'])} {name} {random.choice(['hidden', 'watch 1000000000000'])}")
+        lines.append(f"{random.choice(['or', 'and'])} {name} {random.choice(['hidden', f'watch {MOST_TIME}'])}")
     edges = 0
     for number, target in enumerate(discrepancies):
-        wanted = 5 if number >= 192 else 4
+        wanted = MOST_EDGES // len(discrepancies) + (number >= len(discrepancies) - MOST_EDGES % len(discrepancies))
         sources = random.sample(failures + discrepancies[: max(number - 1, 0)], wanted - 1)
         sources.append(discrepancies[number - 1] if number > 0 else next(f for f in failures if f not in sources))
         for source in sources:
-            listed = random.sample(modes, 63)
-            lines.append(f"edge {source} {target} 0 999999999999 {','.join(listed)}")
+            listed = random.sample(modes, MOST_MODES - 1)
+            lines.append(f"edge {source} {target} 0 {MOST_TIME - 1} {','.join(listed)}")
             edges += 1
-    assert edges == 2048
+    assert edges == MOST_EDGES
     return "\n".join(lines + ["end"]) + "\n"
 
 
 def repeated(line):
-    """A text of at most 2^24 bytes that has this line as often as it fits."""
+    """A text as large as may be that has this line as often as it fits."""
     front, back = "tfpg 1\n", "mode N\nend\n"
-    count = (MOST_BYTES - len(front) - len(back)) // (len(line) + 1)
+    count = (FILE_BYTES - len(front) - len(back)) // (len(line) + 1)
     return front + (line + "\n") * count + back
 
 
-def timed(program, folder):
+def time_texts(program, folder):
     """Prints how long each text takes."""
     random.seed(1)
     texts = {
@@ -92,16 +88,5 @@ def timed(program, folder):
         print(f"{name:12} {len(text):10} {count:10} {read.seconds:8.3f}s {counted.seconds:8.3f}s {split.seconds:8.3f}s")
 
 
-def main():
-    reader = word_reader(__doc__)
-    reader.add_argument("folder", nargs="?", type=Path, metavar="FOLDER")
-    words = reader.parse_args()
-    program = built_program(words.program)
-    with tempfile.TemporaryDirectory() as folder:
-        top = words.folder or Path(folder)
-        top.mkdir(parents=True, exist_ok=True)
-        timed(program, top)
-
-
 if __name__ == "__main__":
-    main()
+    work_in_folder(__doc__, time_texts)

@@ -14,26 +14,26 @@ A line has the processor time beyond the start of the program on the smallest gr
 
 import random
 import sys
-import tempfile
 from pathlib import Path
 
-from graph_texts import MOST_BYTES, largest_graph
-from lib.program import built_program, word_reader
+from graph_texts import largest_graph
+from lib.program import built_program, folder_for, is_wanted, word_reader
 from lib.timing import shortest
+from tfpg.limits import FILE_BYTES
 
 SMALLEST = "tfpg 1\nmode N\nend\n"
 BAD_GRAPH = 3
 
 
 def filled(front, item, back, between=","):
-    """A text of at most 16 MiB that has this item as often as it fits."""
-    count = (MOST_BYTES - len(front) - len(back) + len(between)) // (len(item) + len(between))
+    """A text as large as may be that has this item as often as it fits."""
+    count = (FILE_BYTES - len(front) - len(back) + len(between)) // (len(item) + len(between))
     return front + between.join([item] * count) + back
 
 
 def numbered(order):
     """One object with as many keys of seven digits as fit, in this order."""
-    count = (MOST_BYTES - 2) // len('"1234567":0,')
+    count = (FILE_BYTES - 2) // len('"1234567":0,')
     return "{" + ",".join(f'"{number:07}":0' for number in order(range(count))) + "}"
 
 
@@ -47,15 +47,15 @@ def hostile_texts():
     """The name of each text, and how it is made."""
     deep = "[" * 126 + "]" * 126
     zeros = filled("[", "0", "]")
-    yield "nesting without an end", lambda: "[" * MOST_BYTES
+    yield "nesting without an end", lambda: "[" * FILE_BYTES
     yield "nesting as deep as may be", lambda: filled("[", deep, "]")
     yield "empty arrays", lambda: filled("[", "[]", "]")
     yield "numbers", lambda: zeros
-    yield "a long number", lambda: "1" * MOST_BYTES
-    yield "a long fraction", lambda: "0." + "1" * (MOST_BYTES - 2)
+    yield "a long number", lambda: "1" * FILE_BYTES
+    yield "a long fraction", lambda: "0." + "1" * (FILE_BYTES - 2)
     yield "empty texts", lambda: filled("[", '""', "]")
     yield "short texts", lambda: filled("[", '"a"', "]")
-    yield "a long text", lambda: '"' + "a" * (MOST_BYTES - 2) + '"'
+    yield "a long text", lambda: '"' + "a" * (FILE_BYTES - 2) + '"'
     yield "a text of escapes", lambda: filled('"', "\\u0041", '"', between="")
     yield "empty objects", lambda: filled("[", "{}", "]")
     yield "small objects", lambda: filled("[", '{"":0}', "]")
@@ -64,8 +64,8 @@ def hostile_texts():
     yield "falling keys", lambda: numbered(reversed)
     yield "mixed keys", lambda: numbered(mixed)
     yield "the same key", lambda: filled("{", '"":0', "}")
-    yield "blanks", lambda: " " * MOST_BYTES
-    yield "lines", lambda: "\n" * MOST_BYTES
+    yield "blanks", lambda: " " * FILE_BYTES
+    yield "lines", lambda: "\n" * FILE_BYTES
     yield "no UTF-8 at the end", lambda: zeros[:-1].encode() + b"\xff"
     yield "no JSON at the end", lambda: zeros[:-1] + "}"
     yield "a graph that is cut short", lambda: filled('{"modes":["N"],"edges":[],"nodes":[', '{"kind":"or","name":"A"}', "")
@@ -82,10 +82,7 @@ def main():
     arguments.add_argument("--keep", type=Path, help="the folder for the texts, which stay there")
     words = arguments.parse_args()
     program = built_program(words.program)
-    wanted = lambda name: not words.only or any(name.startswith(word) for word in words.only)
-    with tempfile.TemporaryDirectory() as folder:
-        top = words.keep or Path(folder)
-        top.mkdir(exist_ok=True)
+    with folder_for(words.keep) as top:
         (top / "smallest").write_text(SMALLEST)
         convert = lambda *names, runs=words.runs, **how: shortest([program, "convert", *names], runs=runs, peak=True, **how)
         start = convert(top / "smallest", runs=3 * words.runs).seconds
@@ -95,16 +92,16 @@ def main():
         to_json = convert(text)
         written = to_json.output
         json.write_bytes(written)
-        if wanted("to JSON"):
+        if is_wanted("to JSON", words.only):
             show("to JSON", len(written), to_json.seconds - start, to_json.peak)
-        if wanted("from JSON"):
+        if is_wanted("from JSON", words.only):
             from_json = convert("--json", json)
             show("from JSON", len(written), from_json.seconds - start, from_json.peak)
             (top / "again").write_bytes(from_json.output)
             if convert(top / "again", runs=1).output != written:
                 raise SystemExit("the graph that is read back is another one")
         for number, (name, make) in enumerate(hostile_texts()):
-            if wanted(name):
+            if is_wanted(name, words.only):
                 made = make()
                 hostile = top / f"hostile-{number}.json"
                 hostile.write_bytes(made if isinstance(made, bytes) else made.encode())

@@ -10,47 +10,44 @@
   graph of 512 nodes in one chain, 512 monitors of which one may be doubted, and a map and a report whose set names all monitors.
 
 Each line says what was tried, how the run ended, its seconds, and its peak memory. The exit status is 1 if one did not end as it should.
-
-Without --program it is that of `./build`, which is run first; where it is not built yet, that takes half an hour.
 """
 
 import resource
 import subprocess
 import sys
-import tempfile
-from pathlib import Path
 
 import explain
 from check import nested
 from diagnose import TWO_MODES
-from lib.program import built_program, word_reader
-from lib.timing import spent
+from lib.graphs import ticks
+from lib.program import built_program, folder_for, word_reader
+from lib.timing import ended, with_peak
+from tfpg.limits import INPUT_BYTES, MOST_EVENTS, MOST_NODES
 
 SMALL = "tfpg 1\nmode N\nfailure F 1\nor A watch 5\nedge F A 1 3 *\nend\n"
 MEGABYTE = b"a" * 2**20
 
 
 def fed(words, pieces, folder, stack=None):
-    """Runs the program on pieces of input: what it wrote, what it said, the status, the seconds and the peak memory."""
+    """How a run of the program on these pieces of input ended, in a stack of so many KB."""
+    out, said = folder / "out", folder / "said"
 
     def with_stack():
         if stack is not None:
             resource.setrlimit(resource.RLIMIT_STACK, (stack * 1024, stack * 1024))
 
-    out, said, size = folder / "out", folder / "said", folder / "size"
-    words = ["/usr/bin/time", "-q", "-f", "%M", "-o", size, *words]
-    with open(out, "wb") as written, open(said, "wb") as line:
-        begun = spent()
-        process = subprocess.Popen(words, stdin=subprocess.PIPE, stdout=written, stderr=line, preexec_fn=with_stack)
-        try:
-            for piece in pieces:
-                process.stdin.write(piece)
-            process.stdin.close()
-        except BrokenPipeError:
-            pass
-        status = process.wait()
-        seconds = spent() - begun
-    return out.read_bytes(), said.read_bytes().decode(), status, seconds, int(size.read_text()) / 1024
+    def feed():
+        with open(out, "wb") as written, open(said, "wb") as line:
+            process = subprocess.Popen(with_peak(words), stdin=subprocess.PIPE, stdout=written, stderr=line, preexec_fn=with_stack)
+            try:
+                for piece in pieces:
+                    process.stdin.write(piece)
+                process.stdin.close()
+            except BrokenPipeError:
+                pass
+            return subprocess.CompletedProcess(words, process.wait(), out.read_bytes(), said.read_bytes())
+
+    return ended(feed, peak=True)
 
 
 def long_input(count):
@@ -61,26 +58,27 @@ def long_input(count):
 
 
 def full_log():
-    """65,537 lines, of which each would be accepted if there were room."""
-    yield "".join(f"{time} tick\n" for time in range(65537)).encode()
+    """A line more than a log has room for, each of which would be accepted if there were room."""
+    yield ticks(0, MOST_EVENTS + 1).encode()
 
 
 def chain():
-    """A graph of 512 nodes, each of which leads to the next."""
-    lines = ["tfpg 1", "mode N", "failure F 1"] + [f"or A{number} watch 5" for number in range(511)]
-    lines += ["edge F A0 1 3 *"] + [f"edge A{number} A{number + 1} 1 3 *" for number in range(510)]
+    """As many nodes as a graph may have, each of which leads to the next."""
+    lines = ["tfpg 1", "mode N", "failure F 1"] + [f"or A{number} watch 5" for number in range(MOST_NODES - 1)]
+    lines += ["edge F A0 1 3 *"] + [f"edge A{number} A{number + 1} 1 3 *" for number in range(MOST_NODES - 2)]
     return "\n".join(lines + ["end"]) + "\n"
 
 
 def ring():
-    """A graph of 512 monitors, each of which leads to the next."""
-    lines = ["tfpg 1", "mode N"] + [f"or A{number} watch 5" for number in range(512)]
-    return "\n".join(lines + [f"edge A{number} A{(number + 1) % 512} 1 2 *" for number in range(512)] + ["end"]) + "\n"
+    """As many monitors as a graph may have nodes, each of which leads to the next."""
+    lines = ["tfpg 1", "mode N"] + [f"or A{number} watch 5" for number in range(MOST_NODES)]
+    lines += [f"edge A{number} A{(number + 1) % MOST_NODES} 1 2 *" for number in range(MOST_NODES)]
+    return "\n".join(lines + ["end"]) + "\n"
 
 
 def wide_set():
     """The set of the failure mode and all monitors of the chain."""
-    return "set F" + "".join(f",!A{number}" for number in range(511)) + "\n"
+    return "set F" + "".join(f",!A{number}" for number in range(MOST_NODES - 1)) + "\n"
 
 
 def deep_json():
@@ -98,8 +96,7 @@ def main():
     given = parser.parse_args()
     program = built_program(given.program)
     wrong = 0
-    with tempfile.TemporaryDirectory() as name:
-        folder = Path(name)
+    with folder_for() as folder:
 
         def text(name, content):
             path = folder / name
@@ -108,33 +105,33 @@ def main():
 
         def tell(what, run, is_right):
             nonlocal wrong
-            out, said, status, seconds, peak = run
-            right = is_right(out, said, status)
+            right = is_right(run.output, run.said.decode(), run.status)
             wrong += not right
-            print(f"{what}: {'as it should' if right else f'WRONG: {status} {said!r} {out[-80:]!r}'}, {seconds:.1f} s, {peak:.0f} MB", flush=True)
+            how = "as it should" if right else f"WRONG: {run.status} {run.said!r} {run.output[-80:]!r}"
+            print(f"{what}: {how}, {run.seconds:.1f} s, {run.peak / 1024:.0f} MB", flush=True)
 
         small = text("small", SMALL)
         empty = text("empty", "")
         head = b"report 2 k 2 doubt 0 budget 1000\n"
         tell(
             "diagnose, 2^32 bytes in one line",
-            fed([program, "diagnose", small], long_input(2**32), folder),
+            fed([program, "diagnose", small], long_input(INPUT_BYTES), folder),
             lambda out, said, status: status == 0 and out == head + b"refused 1 TooLong\n",
         )
         tell(
             "diagnose, a byte more",
-            fed([program, "diagnose", small], long_input(2**32 + 1), folder),
+            fed([program, "diagnose", small], long_input(INPUT_BYTES + 1), folder),
             lambda out, said, status: said == "too much input\n" and out == head,
         )
         tell(
             "explain, a byte more",
-            fed([program, "explain", small, empty], long_input(2**32 + 1), folder),
+            fed([program, "explain", small, empty], long_input(INPUT_BYTES + 1), folder),
             lambda out, said, status: said == "too much input\n" and out == b"",
         )
         tell(
-            "diagnose, 65,537 events",
+            f"diagnose, {MOST_EVENTS + 1:,} events",
             fed([program, "diagnose", small], full_log(), folder),
-            lambda out, said, status: status == 0 and out.endswith(b"refused 65537 LogFull\n"),
+            lambda out, said, status: status == 0 and out.endswith(b"refused %d LogFull\n" % (MOST_EVENTS + 1)),
         )
         stack = given.stack
         graph, log = text("two-modes", TWO_MODES), text("nested.log", "30 alarm A\n")
@@ -146,7 +143,7 @@ def main():
         graph = text("wide", "\n".join(explain.graph()) + "\n")
         log = text("log", "\n".join(explain.log()) + "\n")
         tell(
-            f"explain, a map of 512 nodes, a stack of {stack} KB",
+            f"explain, a map of {MOST_NODES} nodes, a stack of {stack} KB",
             fed([program, "explain", graph, log], ["\n".join(explain.all_nodes()).encode() + b"\n"], folder, stack),
             lambda out, said, status: status == 0 and out == b"yes\n",
         )
@@ -156,24 +153,24 @@ def main():
             lambda out, said, status: status == 0 and out.decode() == SMALL,
         )
         tell(
-            f"diagnose, a chain of 512 nodes, a stack of {stack} KB",
-            fed([program, "diagnose", text("chain", chain())], [b"100 alarm A0\n2000 alarm A510\n"], folder, stack),
+            f"diagnose, a chain of {MOST_NODES} nodes, a stack of {stack} KB",
+            fed([program, "diagnose", text("chain", chain())], [b"100 alarm A0\n2000 alarm A%d\n" % (MOST_NODES - 2)], folder, stack),
             lambda out, said, status: status == 0 and b"ranked" in out,
         )
         tell(
-            f"diagnose, 512 monitors of which one may be doubted, a stack of {stack} KB",
+            f"diagnose, {MOST_NODES} monitors of which one may be doubted, a stack of {stack} KB",
             fed([program, "diagnose", "--k", "1", "--doubt", "1", text("ring", ring())], [b"9 alarm A0\n"], folder, stack),
             lambda out, said, status: status == 0 and b"\ncounts " in out,
         )
         graph, log = str(folder / "chain"), text("alarm.log", "100 alarm A0\n")
         tell(
-            f"explain, a set that names 511 monitors, a stack of {stack} KB",
+            f"explain, a set that names {MOST_NODES - 1} monitors, a stack of {stack} KB",
             fed([program, "explain", graph, log], [f"{wide_set()}at F 100\n".encode()], folder, stack),
             lambda out, said, status: status == 0 and out.startswith((b"yes", b"no ")),
         )
         report = f"report 2 k 1 doubt 1 budget 1\nround 1 1 100\nranked 0 cost 0 robust 1/1 {wide_set()}counts ranked 1 covered 0 rejected 0 open 0\n"
         tell(
-            f"check, a set that names 511 monitors, a stack of {stack} KB",
+            f"check, a set that names {MOST_NODES - 1} monitors, a stack of {stack} KB",
             fed([program, "check", graph, log], [report.encode()], folder, stack),
             lambda out, said, status: said == "not accepted 3 WrongRanked\n" and status == 1,
         )

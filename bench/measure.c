@@ -24,22 +24,16 @@
 #include "tfpg.h"
 
 #include "../examples/pool.h"
+#include "measured.h"
 
 #include <pthread.h>
 #include <stdio.h>
 #include <stdlib.h>
 #include <string.h>
-#include <time.h>
 
-#define HEAD 16      /* bytes before each block, which have its size */
 #define PAINT 0xa5
 #define STACK (4U << 20)
 #define MOST_LINES 100000
-
-typedef struct {
-    uint8_t *bytes;
-    size_t count;
-} text;
 
 /* Bytes that are taken, the most of them so far, and the same of a pool of powers of two. */
 static size_t taken, most, pool_taken, most_of_pool;
@@ -58,12 +52,6 @@ static size_t in_pool(size_t size) {
     size_t power = 32;
     while (power < size) power *= 2;
     return power;
-}
-
-static size_t size_of(const void *p) {
-    size_t size;
-    memcpy(&size, (const uint8_t *)p - HEAD, sizeof size);
-    return size;
 }
 
 /* Notes that a block of `size` bytes comes and one of `old` goes, or none where the number is 0. Both are there for a moment. */
@@ -104,33 +92,6 @@ heap_answer rattle_realloc(void *p, size_t kept, size_t size, size_t align) {
 void rattle_dealloc(void *p) {
     note(0, size_of(p));
     free((uint8_t *)p - HEAD);
-}
-
-static void give_up(const char *what) {
-    perror(what);
-    exit(70);
-}
-
-static text text_of(const char *file_name) {
-    text read = {NULL, 0};
-    size_t more;
-    FILE *file = fopen(file_name, "rb");
-    if (!file) give_up(file_name);
-    do {
-        read.bytes = (uint8_t *)realloc(read.bytes, read.count + 65536);
-        if (!read.bytes) give_up("memory");
-        more = fread(read.bytes + read.count, 1, 65536, file);
-        read.count += more;
-    } while (more > 0);
-    if (ferror(file)) give_up(file_name);
-    fclose(file);
-    return read;
-}
-
-static uint64_t nanoseconds(void) {
-    struct timespec now;
-    clock_gettime(CLOCK_THREAD_CPUTIME_ID, &now);
-    return (uint64_t)now.tv_sec * 1000000000U + (uint64_t)now.tv_nsec;
 }
 
 static int by_number(const void *left, const void *right) {
@@ -208,11 +169,11 @@ static bool is_tick(size_t begin, size_t end, uint64_t *time) {
 
 /* Asks a session for all numbers of its last line. */
 static void ask(tfpg_session *session) {
-    static uint64_t active[512];
+    static uint64_t active[TFPG_MAX_NODES];
     tfpg_result result;
     tfpg_ranked ranked;
     expect_done("result", tfpg_result_of(session, &result));
-    for (uint32_t rank = 0; rank < result.ranked; rank++) expect_done("ranked", tfpg_ranked_at(session, rank, &ranked, active, 512));
+    for (uint32_t rank = 0; rank < result.ranked; rank++) expect_done("ranked", tfpg_ranked_at(session, rank, &ranked, active, TFPG_MAX_NODES));
 }
 
 /* Asks for the block of an event where there is no memory for it, and once more where there is. The session is as before. */

@@ -14,14 +14,12 @@ set -eu -o pipefail
 
 top=$(dirname "$(dirname "$(readlink -f "${BASH_SOURCE[0]}")")")
 . "$top/tools/help.sh"
+. "$top/tools/sources.sh"
 lines=${1-65600}
-library=${2-$top/crates/tfpg_embed/out/libtfpg_embed.a}
+library=${2-$archive}
+[ -e "$library" ] || give_up "$library is not there: ./build library builds it"
 made=$(mktemp -d)
 trap 'rm -r "$made"' EXIT
-if [ ! -e "$library" ]; then
-    echo "measure.sh: $library is not there: ./build library builds it" >&2
-    exit 70
-fi
 cc -std=c99 -O2 -pthread -I "$top/include" -o "$made/measure" "$top/bench/measure.c" "$library"
 
 # The graph of 64 failure modes, and the alarms where F3 begins at 5 and F17 at 40, each node is active as early as it can be, and each

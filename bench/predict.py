@@ -9,19 +9,14 @@ empty set alone. It prints the shortest of five runs of each, and what a ranked 
 
 Each of the 16 failure modes explains the alarm of the first effect. Of the edges every third one is active in one mode alone, and the mode
 changes a hundred times, so that there are windows to look at. The silences come before anything need be active.
-
-Without --program it is that of `./build`, which is run first; where it is not built yet, that takes half an hour.
 """
 
-import tempfile
-from pathlib import Path
-
-from lib.program import built_program, word_reader
+from lib.program import work_in_folder
 from lib.timing import shortest
+from tfpg.limits import MOST_EDGES, MOST_NODES
 
 FAILURES = 16
-EFFECTS = 495
-EDGES = 2047
+EFFECTS, EDGES = MOST_NODES - 1 - FAILURES, MOST_EDGES - 1  # with room for the probe
 CHANGES = 100
 SILENCES = 198
 STEP = 1000  # milliseconds from one change of mode to the next
@@ -74,14 +69,5 @@ def time_forecasts(program, folder):
         print(f"{outlook}: {sum(outlook in line.split() for line in lines)}")
 
 
-def main():
-    reader = word_reader(__doc__)
-    reader.add_argument("folder", nargs="?", type=Path, metavar="FOLDER")
-    words = reader.parse_args()
-    program = built_program(words.program)
-    with tempfile.TemporaryDirectory() as folder:
-        time_forecasts(program, words.folder or Path(folder))
-
-
 if __name__ == "__main__":
-    main()
+    work_in_folder(__doc__, time_forecasts)

@@ -3,8 +3,8 @@
 
     bench/refuse.py [--program FILE] [--only WORD]..
 
-`bench/refuse.c` is compiled with gcc and loaded before the built program. Each of these runs is made once for each of its requests,
-with that request refused, and once more with all requests from that one on refused:
+`bench/refuse.c` is compiled with gcc and loaded before the built program, which has to be no script. Each of these runs is made once for
+each of its requests, with that request refused, and once more with all requests from that one on refused:
 
 - "two suspects": `diagnose` of one alarm that either of two failure modes explains.
 - "several rounds": `diagnose` with a refused line, a split that a later round goes on from, and rejections.
@@ -23,21 +23,18 @@ each end came, how many panels were lost, and how many bytes were written. The l
 refused. Ends with status 1 where anything else came.
 """
 
-import argparse
 import re
 import struct
 import subprocess
 import sys
-import tempfile
 from collections import Counter
 from dataclasses import dataclass
-from pathlib import Path
 
 from diagnose import TWO_MODES
-from lib.program import built_program
+from lib import TOP
+from lib.program import built_program, folder_for, is_wanted, word_reader
 
-HERE = Path(__file__).resolve().parent
-EXAMPLES = HERE.parent / "examples"
+EXAMPLES = TOP / "examples"
 PUMP = str(EXAMPLES / "pump.tfpg")
 ONE_CAUSE = """tfpg 1
 mode N
@@ -99,7 +96,7 @@ class Refusing:
 
     def __init__(self, program, top):
         self.program, self.top, self.count, self.library = str(program), top, top / "count", top / "refuse.so"
-        subprocess.run(["gcc", "-O2", "-shared", "-fPIC", "-o", self.library, HERE / "refuse.c"], check=True)
+        subprocess.run(["gcc", "-O2", "-shared", "-fPIC", "-o", self.library, TOP / "bench" / "refuse.c"], check=True)
 
     def run(self, run, first=0, last=0):
         self.count.write_bytes(bytes(8))
@@ -281,20 +278,23 @@ def tell_others(where):
     return not others
 
 
+def show_all(what, chosen, show_one):
+    """Shows each by itself, and then their sums. Returns the status to end with."""
+    sums = Counter()
+    well = all([show_one(one, sums) for one in chosen])
+    lost = sums.pop("panels lost", 0)
+    print(f"{len(chosen)} {what}, {sums.total()} requests, one refused: {in_words(sums)}; {lost} panels lost")
+    return int(not well)
+
+
 def main():
-    arguments = argparse.ArgumentParser(description=__doc__, formatter_class=argparse.RawDescriptionHelpFormatter)
-    arguments.add_argument("--program", type=Path, metavar="FILE", help="a built program, and no script")
+    arguments = word_reader(__doc__)
     arguments.add_argument("--only", action="append", metavar="WORD", help="only the runs whose names begin so")
     words = arguments.parse_args()
-    with tempfile.TemporaryDirectory() as folder:
-        top = Path(folder)
+    with folder_for() as top:
         refusing = Refusing(built_program(words.program), top)
-        chosen = [run for run in runs(refusing, top) if not words.only or any(run.name.startswith(word) for word in words.only)]
-        sums = Counter()
-        well = all([show(refusing, run, sums) for run in chosen])
-        lost = sums.pop("panels lost", 0)
-        print(f"{len(chosen)} runs, {sums.total()} requests, one refused: {in_words(sums)}; {lost} panels lost")
-        return int(not well)
+        chosen = [run for run in runs(refusing, top) if is_wanted(run.name, words.only)]
+        return show_all("runs", chosen, lambda run, sums: show(refusing, run, sums))
 
 
 if __name__ == "__main__":

@@ -22,14 +22,15 @@ Ends with status 1 where anything else came.
 
 import argparse
 import sys
-import tempfile
 from collections import Counter
 from dataclasses import dataclass, field
 from pathlib import Path
 
-from refuse import Refusing, Run, ends_of_blocks, in_words, sizes, without_losses
+from lib import TOP
+from lib.program import folder_for, is_wanted
+from refuse import Refusing, Run, ends_of_blocks, in_words, show_all, sizes, without_losses
 
-ROWS = Path(__file__).resolve().parent.parent / "crates" / "tfpg_rows"
+ROWS = TOP / "crates" / "tfpg_rows"
 OVER_TEXTS = (
     b"pieces change no byte",
     b"a budget of 1, which leaves the set open for one round",
@@ -216,14 +217,10 @@ def main():
     arguments.add_argument("--program", type=Path, metavar="FILE", required=True, help="the built program of the rows")
     arguments.add_argument("--only", action="append", metavar="WORD", help="only the rows whose titles begin so")
     words = arguments.parse_args()
-    with tempfile.TemporaryDirectory() as folder:
-        refusing = Refusing(words.program.resolve(), Path(folder))
-        chosen = [row for row in rows() if not words.only or any(row[0].startswith(word) for word in words.only)]
-        sums = Counter()
-        well = all([show(refusing, *row, sums) for row in chosen])
-        lost = sums.pop("panels lost", 0)
-        print(f"{len(chosen)} rows, {sums.total()} requests, one refused: {in_words(sums)}; {lost} panels lost")
-        return int(not well)
+    with folder_for() as folder:
+        refusing = Refusing(words.program.resolve(), folder)
+        chosen = [row for row in rows() if is_wanted(row[0], words.only)]
+        return show_all("rows", chosen, lambda row, sums: show(refusing, *row, sums))
 
 
 if __name__ == "__main__":

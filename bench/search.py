@@ -14,43 +14,28 @@ Seconds are the shortest of three runs of `diagnose --k 1`, with the start of th
 
 import random
 import sys
-import tempfile
-from pathlib import Path
 
-from lib.graphs import later_edges
-from lib.program import built_program, word_reader
-from lib.timing import run, shortest
+from lib.graphs import discrepancies, later_edges, script_text, steady_script
+from lib.program import built_program, folder_for, simulated, word_reader
+from lib.timing import shortest
+from tfpg.limits import MOST_CHANGES, MOST_EDGES, MOST_NODES
 
 
-def wide_graph(draws, nodes=512, edges=2048):
+def wide_graph(draws, nodes=MOST_NODES, edges=MOST_EDGES):
     """A graph with one failure mode, in which each edge leads to a later node."""
-    name = lambda node: f"D{node}" if node else "F"
-    lines = ["tfpg 1", "mode N", "mode D", "failure F 1"]
-    for node in range(1, nodes):
-        kind = "and" if draws.random() < 0.2 else "or"
-        monitor = f"watch {draws.randint(0, 20)}" if draws.random() < 0.6 else "hidden"
-        lines.append(f"{kind} D{node} {monitor}")
+    names = ["F", *[f"D{node}" for node in range(1, nodes)]]
+    lines = ["tfpg 1", "mode N", "mode D", "failure F 1", *discrepancies(draws, names[1:], 0.2)]
     for source, target in later_edges(draws, 1, nodes, edges, edges):
         least = draws.randint(1, 50)
         modes = "*" if draws.random() < 0.9 else "N"
-        lines.append(f"edge {name(source)} {name(target)} {least} {least + draws.randint(0, 60)} {modes}")
+        lines.append(f"edge {names[source]} {names[target]} {least} {least + draws.randint(0, 60)} {modes}")
     return "\n".join([*lines, "end"]) + "\n"
 
 
-def wide_script(draws, events=300):
-    """A script with the start of the failure mode, sweeps and ticks."""
-    now, lines = 0, ["0 start F"]
-    for _ in range(events):
-        now += draws.randint(1, 8)
-        lines.append(f"{now} {'sweep' if draws.random() < 0.2 else 'tick'}")
-    return "\n".join([*lines, f"{now} stop"]) + "\n"
-
-
-def span_script(changes=1024, ticks=100):
+def span_script(changes=MOST_CHANGES, ticks=100):
     """A script in which nothing fails, with so many changes of mode."""
-    lines = [f"{at} mode {'DN'[at % 2]}" for at in range(changes)]
-    lines += [f"{changes + at} tick" for at in range(ticks)]
-    return "\n".join([*lines, f"{changes + ticks} stop"]) + "\n"
+    timed = [(at, f"mode {'DN'[at % 2]}") for at in range(changes)]
+    return script_text(timed + [(changes + at, "tick") for at in range(ticks)], changes + ticks)
 
 
 def dense_graph(draws, layers, width, modes):
@@ -81,15 +66,14 @@ def dense_script(draws, events, modes):
         now += draws.randint(1, 4)
         chance = draws.random()
         timed.append((now, f"mode M{draws.randrange(modes)}" if chance < 0.5 else "sweep" if chance < 0.6 else "tick"))
-    lines = [f"{at} {what}" for at, what in sorted(timed, key=lambda it: it[0])]
-    return "\n".join([*lines, f"{now + 5} stop"]) + "\n"
+    return script_text(timed, now + 5)
 
 
-def simulated(program, folder, draw, graph, script):
+def log_of(program, folder, draw, graph, script):
     """The log of the script on the graph."""
     (folder / "graph").write_text(graph)
     (folder / "script").write_text(script)
-    return run([program, "simulate", "--draw", str(draw), folder / "graph", folder / "script"]).output
+    return simulated(program, draw, folder / "graph", folder / "script")
 
 
 def show(name, program, folder, log):
@@ -105,17 +89,16 @@ def show(name, program, folder, log):
 
 def main():
     program = built_program(word_reader(__doc__).parse_args().program)
-    with tempfile.TemporaryDirectory() as top:
-        folder = Path(top)
+    with folder_for() as folder:
         draws = random.Random(11)
         graph = wide_graph(draws)
-        show("wide", program, folder, simulated(program, folder, 1, graph, wide_script(draws)))
-        show("spans", program, folder, simulated(program, folder, 1, graph, span_script()))
+        show("wide", program, folder, log_of(program, folder, 1, graph, steady_script(draws, "F", 300, 0.2)))
+        show("spans", program, folder, log_of(program, folder, 1, graph, span_script()))
         for seed in SEEDS:
             draws = random.Random(seed)
             layers, width, modes = draws.randint(2, 6), draws.randint(2, 5), draws.randint(2, 3)
             graph = dense_graph(draws, layers, width, modes)
-            log = simulated(program, folder, seed, graph, dense_script(draws, draws.randint(10, 40), modes))
+            log = log_of(program, folder, seed, graph, dense_script(draws, draws.randint(10, 40), modes))
             # Without the sweeps less is known, and more has to be searched.
             show(f"dense {seed}", program, folder, b"".join(line for line in log.splitlines(True) if b"sweep" not in line))
     return 0

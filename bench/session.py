@@ -11,17 +11,15 @@ alarms, and `k` 1. It needs the library, which python/build-library makes.
 import argparse
 import ctypes
 import random
-import sys
 from resource import RUSAGE_SELF
 
 from diagnose import large_graph
-from lib.program import TOP
-from lib.timing import spent
+from lib import TOP
+from lib.timing import measured
 
-sys.path.insert(0, str(TOP / "python"))
-
-import tfpg  # noqa: E402
-from tfpg.calls.layouts import EventKind  # noqa: E402
+import tfpg
+from tfpg.calls.layouts import EventKind
+from tfpg.limits import MOST_TIME
 
 RUNS = 5
 
@@ -43,9 +41,7 @@ def least(graph, terms, begun, take):
         with tfpg.Session(graph, **terms) as session:
             last = max([answer.now for answer in session.rounds(begun) if isinstance(answer, tfpg.Round)], default=0)
             run, count = take(session, last)
-            start = spent(RUSAGE_SELF)
-            run()
-            times.append((spent(RUSAGE_SELF) - start) / count)
+            times.append(measured(run, RUSAGE_SELF)[1] / count)
     return min(times) * 1e6
 
 
@@ -80,7 +76,7 @@ def main():
     print("| Log | Ranked | Call alone | `event` | `rounds` |\n|---|---|---|---|---|")
     for name, graph, terms, begun in logs():
         with tfpg.Session(graph, **terms) as session:
-            ranked = len([*session.rounds(begun), session.event(10**12, "tick")][-1].ranked)
+            ranked = len([*session.rounds(begun), session.event(MOST_TIME, "tick")][-1].ranked)
         times = [f"{least(graph, terms, begun, take):.1f}" for take in (by_call, by_event, by_rounds)]
         print(f"| {name} | {ranked} | {' | '.join(times)} |", flush=True)
 

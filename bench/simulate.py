@@ -13,27 +13,23 @@ Seconds count the start of the program and the reading of the graph.
 
 import random
 import sys
-import tempfile
-from pathlib import Path
 
-from lib.graphs import later_edges
-from lib.program import built_program, word_reader
+from lib.graphs import discrepancies, later_edges, node_names, script_text
+from lib.program import built_program, folder_for, word_reader
 from lib.timing import shortest
+from tfpg.limits import MOST_CHANGES, MOST_EDGES, MOST_FAILURES, MOST_NODES
 
 
-def large_graph(draws, failures, nodes=512, edges=2048):
+def large_graph(draws, failures, nodes=MOST_NODES, edges=MOST_EDGES):
     """A graph of so many nodes and edges, in which each edge leads to a later node; half of the edges are active in one mode alone."""
-    name = lambda node: f"F{node}" if node < failures else f"D{node}"
+    names = node_names(failures, nodes)
     lines = ["tfpg 1", "mode N", "mode D", *[f"failure F{node} 1" for node in range(failures)]]
-    for node in range(failures, nodes):
-        kind = "and" if draws.random() < 0.2 else "or"
-        monitor = f"watch {draws.randint(0, 20)}" if draws.random() < 0.6 else "hidden"
-        lines.append(f"{kind} D{node} {monitor}")
+    lines += discrepancies(draws, names[failures:], 0.2)
     count = len(lines) + edges
     for source, target in later_edges(draws, failures, nodes, edges):
         least = draws.randint(1, 6)
         modes = "*" if draws.random() < 0.5 else draws.choice("ND")
-        lines.append(f"edge {name(source)} {name(target)} {least} {least + draws.randint(0, 20)} {modes}")
+        lines.append(f"edge {names[source]} {names[target]} {least} {least + draws.randint(0, 20)} {modes}")
     assert len(lines) == count
     return "\n".join([*lines, "end"]) + "\n"
 
@@ -43,8 +39,7 @@ def script(failures, changes, events):
     timed = [(64 * node, f"start F{node}") for node in range(failures)]
     timed += [(4 * change, f"mode {'DN'[change % 2]}") for change in range(changes)]
     timed += [(4096 * event // events, "sweep" if event % 10 == 0 else "tick") for event in range(events)]
-    lines = [f"{at} {what}" for at, what in sorted(timed, key=lambda it: it[0])]
-    return "\n".join([*lines, "4200 stop"]) + "\n"
+    return script_text(timed, 4200)
 
 
 def show(name, program, folder, failures, changes, events):
@@ -58,11 +53,10 @@ def show(name, program, folder, failures, changes, events):
 
 def main():
     program = built_program(word_reader(__doc__).parse_args().program)
-    with tempfile.TemporaryDirectory() as name:
-        folder = Path(name)
+    with folder_for() as folder:
         show("no change", program, folder, 1, 0, 100)
-        show("1,024 changes", program, folder, 1, 1024, 100)
-        show("64 starts", program, folder, 64, 1024, 6000)
+        show(f"{MOST_CHANGES:,} changes", program, folder, 1, MOST_CHANGES, 100)
+        show(f"{MOST_FAILURES} starts", program, folder, MOST_FAILURES, MOST_CHANGES, 6000)
 
 
 if __name__ == "__main__":

@@ -6,8 +6,8 @@ set -u -o pipefail
 
 top=$(dirname "$(dirname "$(readlink -f "${BASH_SOURCE[0]}")")")
 . "$top/tools/help.sh"
-built=$top/crates/tfpg/out/tfpg
-[ -x "$built" ] || { echo 'the program is not built: ./build'; exit 1; }
+. "$top/tools/sources.sh"
+[ -x "$program" ] || give_up 'the program is not built: ./build proves and builds it'
 made=$(mktemp -d)
 trap 'rm -r "$made"' EXIT
 lines=0
@@ -15,11 +15,12 @@ status=0
 
 # The copy has the trial that this checkout has, if there is one.
 copy=$made/copy
-mkdir -p "$copy" "$top/crates/tfpg/out/trial"
+trials=$(dirname "$trial")
+mkdir -p "$copy" "$trials"
 cp -a "$top/tfpg" "$top/tools" "$top/crates.txt" "$copy"
 tar -C "$top" --exclude=out -c crates | tar -C "$copy" -x
-mkdir "$copy/crates/tfpg/out"
-ln -s "$top/crates/tfpg/out/trial" "$copy/crates/tfpg/out/trial"
+mkdir "$copy$(dirname "${trials#"$top"}")"
+ln -s "$trials" "$copy${trials#"$top"}"
 
 # The files that the words name, in both folders.
 make_files() {
@@ -37,14 +38,14 @@ make_files() {
     head -c 16777217 /dev/zero > long.log
     cp pump.tfpg ./-graph
     cp pump.tfpg 'top:graph'
-    "$built" convert pump.tfpg > pump.json
+    "$program" convert pump.tfpg > pump.json
     mkfifo pipe
 }
 
-# Runs this program in this folder, with this file as its input, or none. Its output is a file, a full disk, a pipe that nobody reads, or
+# Runs this program or script in this folder, with this file as its input, or none. Its output is a file, a full disk, a pipe that nobody reads, or
 # none.
 run_in() {
-    local folder=$1 program=$2 input=$3 output=$4
+    local folder=$1 answering=$2 input=$3 output=$4
     shift 4
     cd "$folder" || exit
     case $output in
@@ -57,7 +58,7 @@ run_in() {
         closed) exec <&- ;;
         *) exec < "$input" ;;
     esac
-    "$program" "$@" 2> "$folder.stderr"
+    "$answering" "$@" 2> "$folder.stderr"
     echo $? > "$folder.status"
     if [ "$input" != closed ]; then cat > "$folder.rest" 2> /dev/null; fi
 }
@@ -72,7 +73,7 @@ both() {
     local way
     lines=$((lines + 1))
     rm -f "$made"/*.{stdout,rest}
-    (run_in "$made/built" "$built" "$@")
+    (run_in "$made/built" "$program" "$@")
     (run_in "$made/trial" "$copy/tfpg" "$@")
     for way in stdout rest status; do
         if [ -e "$made/built.$way" ] && ! cmp -s "$made/built.$way" "$made/trial.$way"; then differs "$way" "$@"; fi

@@ -14,18 +14,11 @@
 #include "tfpg.h"
 
 #include "../examples/pool.h"
+#include "measured.h"
 
 #include <stdio.h>
 #include <stdlib.h>
 #include <string.h>
-#include <time.h>
-
-#define HEAD 16 /* bytes before each block, which have its size */
-
-typedef struct {
-    uint8_t *bytes;
-    size_t count;
-} text;
 
 /* What was found of a session. */
 typedef struct {
@@ -36,12 +29,6 @@ typedef struct {
 
 /* The bytes that are taken, the most of them since a line began, and the requests since then. */
 static size_t taken, most, requests, allowed = (size_t)4096 << 20;
-
-static size_t size_of(const void *p) {
-    size_t size;
-    memcpy(&size, (const uint8_t *)p - HEAD, sizeof size);
-    return size;
-}
 
 /* Takes a block in place of one of `old` bytes, or of none. */
 static heap_answer take(void *p, size_t size, size_t old) {
@@ -71,32 +58,6 @@ heap_answer rattle_realloc(void *p, size_t kept, size_t size, size_t align) {
 void rattle_dealloc(void *p) {
     taken -= size_of(p);
     free((uint8_t *)p - HEAD);
-}
-
-static text text_of(const char *name) {
-    text read = {NULL, 0};
-    FILE *file = fopen(name, "rb");
-    size_t more = 0;
-    if (file) {
-        do {
-            read.bytes = (uint8_t *)realloc(read.bytes, read.count + 65536);
-            if (!read.bytes) break;
-            more = fread(read.bytes + read.count, 1, 65536, file);
-            read.count += more;
-        } while (more > 0);
-    }
-    if (!file || !read.bytes || ferror(file)) {
-        perror(name);
-        exit(70);
-    }
-    fclose(file);
-    return read;
-}
-
-static uint64_t nanoseconds(void) {
-    struct timespec now;
-    clock_gettime(CLOCK_THREAD_CPUTIME_ID, &now);
-    return (uint64_t)now.tv_sec * 1000000000U + (uint64_t)now.tv_nsec;
 }
 
 /* The kind of an event by its word, or 0. */

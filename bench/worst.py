@@ -21,12 +21,14 @@ import argparse
 import random
 import subprocess
 import sys
-import tempfile
 from pathlib import Path
 
 import banded
+from lib import TOP
+from lib.graphs import ticks
+from lib.program import ARCHIVE, folder_for
+from tfpg.limits import MOST_EVENTS, MOST_FAILURES
 
-TOP = Path(__file__).resolve().parent.parent
 NO_MEMORY = 8
 TURNED = {"alarm": "silent", "silent": "alarm"}
 
@@ -51,11 +53,11 @@ def of_turned(draw, failures=banded.FAILURES):
 
 
 def of_many(draw):
-    return of_turned(draw, 64)
+    return of_turned(draw, MOST_FAILURES)
 
 
 def of_pump(_draw):
-    return (TOP / "examples" / "pump.tfpg").read_text(), "".join(f"{time} tick\n" for time in range(1, 65537))
+    return (TOP / "examples" / "pump.tfpg").read_text(), ticks(1, MOST_EVENTS + 1)
 
 
 # The name, the graph and the log of a draw, the doubt, and how many draws at most.
@@ -63,8 +65,8 @@ FAMILIES = [
     ("4 failure modes", of_runs, 0, 24),
     ("4 failure modes, doubts", of_runs, 1, 24),
     ("4 failure modes, turned", of_turned, 0, 24),
-    ("64 failure modes, turned", of_many, 0, 6),
-    ("pump, 65,536 ticks", of_pump, 0, 1),
+    (f"{MOST_FAILURES} failure modes, turned", of_many, 0, 6),
+    (f"pump, {MOST_EVENTS:,} ticks", of_pump, 0, 1),
 ]
 
 
@@ -106,12 +108,11 @@ def main():
     reader.add_argument("--draws", type=int, default=24, metavar="N")
     reader.add_argument("--only", default="", metavar="WORD", help="only the families that have this word")
     reader.add_argument("--megabytes", type=int, default=1500, metavar="N")
-    reader.add_argument("--library", type=Path, default=TOP / "crates" / "tfpg_embed" / "out" / "libtfpg_embed.a", metavar="FILE")
+    reader.add_argument("--library", type=Path, default=ARCHIVE, metavar="FILE")
     given = reader.parse_args()
     print("| Log | Budget | Open | A session at most | A line at most | Requests | Slowest, ms | Events: a session | A line | Slowest, ms |")
     print("|---|---|---|---|---|---|---|---|---|---|")
-    with tempfile.TemporaryDirectory() as name:
-        folder = Path(name)
+    with folder_for() as folder:
         program = built(given.library, folder)
         for family, case, doubt, draws in FAMILIES:
             for budget in map(int, given.budgets.split(",") if given.only in family else []):

@@ -1,9 +1,9 @@
 # What the scripts around the program share: which sources something is made of, whether it is as they stand, and who may make it. Who reads
 # this file has the top of the repository in `top`. `name` is what the script is called in what it says.
 
+. "$top/tools/places.sh"
+
 name=${name-$(basename "$0")}
-program=$top/crates/tfpg/out/tfpg
-archive=$top/crates/tfpg_embed/out/libtfpg_embed.a
 build_time='half an hour to an hour on four processors'
 
 # Says this on standard error, which is all that the scripts themselves write to. Where that fails nothing more can be said.

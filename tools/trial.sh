@@ -11,8 +11,7 @@ package=$top/python
 . "$top/tools/sources.sh"
 . "$top/tools/words.sh"
 
-folder=$top/crates/tfpg/out/trial
-trial=$folder/tfpg
+folder=$(dirname "$trial")
 output=$folder/try.log
 
 # Copies the program that `rt try` compiled in this folder. It waits until that reads the pipe, and so is whole, and holds it there.

@@ -1,14 +1,8 @@
 """The readers of graphs and reports of the package for Python, for scripts that compare what reports say."""
 
-import sys
-
-from lib.program import TOP
-
-sys.path.insert(0, str(TOP / "python"))
-
-from tfpg.reading.graphs import graph_of  # noqa: E402
-from tfpg.reading.reports import Refused, read_report  # noqa: E402
-from tfpg.reading.texts import text_of  # noqa: E402
+from tfpg.reading.graphs import graph_of
+from tfpg.reading.reports import Refused, read_report
+from tfpg.reading.texts import text_of
 
 __all__ = ["Refused", "report_read"]
 

@@ -24,9 +24,21 @@ def spent(whose=resource.RUSAGE_CHILDREN):
     return usage.ru_utime + usage.ru_stime
 
 
+def measured(work, whose=resource.RUSAGE_CHILDREN):
+    """What some work comes to, and its seconds: those of all runs in it, or with RUSAGE_SELF those of this process."""
+    before = spent(whose)
+    found = work()
+    return found, spent(whose) - before
+
+
+def with_peak(words):
+    """The words by which GNU time runs a command, and says its peak memory in the last line of standard error. Python's own does not add."""
+    return ["/usr/bin/time", "-q", "-f", "%M", *words]
+
+
 def run(words, given=b"", peak=False, **streams):
-    """Runs a command on some bytes, or on a file by its path. GNU time says the peak memory, to which Python's own does not add then."""
-    timed = ["/usr/bin/time", "-q", "-f", "%M", *words] if peak else [*words]
+    """Runs a command on some bytes, or on a file by its path."""
+    timed = with_peak(words) if peak else [*words]
     how = {"stdout": subprocess.PIPE, "stderr": subprocess.PIPE, "check": False, **streams}
     if isinstance(given, os.PathLike):
         with open(given, "rb") as lines:
@@ -35,10 +47,8 @@ def run(words, given=b"", peak=False, **streams):
 
 
 def ended(start, peak):
-    """How a run ended that this starts."""
-    before = spent()
-    done = start()
-    seconds = spent() - before
+    """How a run ended that this starts, by the words of `with_peak` if its peak memory is asked for."""
+    done, seconds = measured(start)
     said, kilobytes = done.stderr or b"", 0
     if peak:
         *lines, last = said.rstrip(b"\n").split(b"\n")
@@ -47,9 +57,9 @@ def ended(start, peak):
 
 
 def shortest(words, given=b"", runs=3, status=0, **how):
-    """The shortest of some runs, which all have to end with this status."""
+    """The shortest of some runs, which all have to end with this status if there is one."""
     found = [run(words, given, **how) for _ in range(runs)]
     for one in found:
-        if one.status != status:
+        if status not in (None, one.status):
             raise SystemExit(f"{' '.join(map(str, words))}: status {one.status}: {one.said.decode(errors='replace')}")
     return min(found, key=lambda one: one.seconds)

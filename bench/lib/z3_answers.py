@@ -9,7 +9,7 @@ from resource import RUSAGE_SELF
 import z3
 from slow_judge import MOST_TIME, Graph, Log, window
 
-from lib.timing import spent
+from lib.timing import measured
 
 
 class Case:
@@ -86,6 +86,4 @@ class Case:
             solver.add(x[node] >= low, x[node] <= high)
         for alternatives in self.clauses(x):
             solver.add(z3.Or(alternatives))
-        began = spent(RUSAGE_SELF)
-        said = str(solver.check())
-        return said, spent(RUSAGE_SELF) - began
+        return measured(lambda: str(solver.check()), RUSAGE_SELF)

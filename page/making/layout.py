@@ -3,6 +3,8 @@
 import re
 import subprocess
 
+from tfpg.saying.times import HOUR, duration_words
+
 from .part import part_of
 
 MOST_NODES = 80  # a graph with more of them is also drawn in part, with at most so many
@@ -10,27 +12,10 @@ MOST_BOTH_WAYS = 150  # a drawing with more nodes is laid out from left to right
 MOST_LABELS = 160  # a drawing with more edges has no labels on them
 NODE_FONT, EDGE_FONT = 12, 11  # sizes in points; the page never shows them smaller than in pixels
 DIGIT = 7.7  # the width of a digit of a node, in points
-SECOND, MINUTE, HOUR = 1000, 60000, 3600000
 STYLES = {b"failure": "shape=box", b"or": "shape=box", b"and": "shape=octagon"}
 MANY_EDGES = 400  # with more of them Graphviz is told to take less pains
 ATTRIBUTES = "bgcolor=transparent; nodesep=0.18; ranksep=0.3; pad=0.15;"
 PAINS = {False: "nslimit=4; nslimit1=4; mclimit=1;", True: "nslimit=1; nslimit1=1; mclimit=0.25;"}  # by whether the edges are many
-
-
-def seconds_words(milliseconds):
-    return f"{milliseconds / SECOND:.3f}".rstrip("0").rstrip(".") + " s"
-
-
-def duration_words(milliseconds):
-    """A duration as the sentences of the page say it."""
-    if milliseconds < SECOND:
-        return f"{milliseconds} ms"
-    if milliseconds < MINUTE:
-        return seconds_words(milliseconds)
-    hours, rest = divmod(milliseconds, HOUR)
-    minutes, seconds = divmod(rest, MINUTE)
-    parts = [f"{hours} h" if hours else "", f"{minutes} min" if minutes else "", seconds_words(seconds) if seconds else ""]
-    return " ".join(filter(None, parts))
 
 
 def range_words(least, greatest):

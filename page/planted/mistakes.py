@@ -401,10 +401,10 @@ MISTAKES = [
     ),
     Mistake(
         "durations of more than an hour are rounded",
-        "making/layout.py",
+        "../python/tfpg/saying/times.py",
         """f"{minutes} min" if minutes else "",""",
         """f"{minutes} min" if minutes and not hours else "",""",
-        "times.a_duration_is_said_in_one_way",
+        "times.the_drawing_says_long_delays_whole",
     ),
     Mistake(
         "the part of a large graph has its alarms before its history",

@@ -1,4 +1,4 @@
-"""One way to say a time: the maker, the sentences of the page and the package for Python."""
+"""One way to say a time: the sentences of the page, and the package for Python, by which the maker says the durations of the drawing."""
 
 import random
 import sys
@@ -19,13 +19,11 @@ def durations():
 
 
 def a_duration_is_said_in_one_way(view):
-    layout = view.maker.module("layout")
     wanted = {90000: "1 min 30 s", 123456700: "34 h 17 min 36.7 s", 10**12: "277777 h 46 min 40 s", 1500: "1.5 s", 999: "999 ms"}
-    view.same({time: layout.duration_words(time) for time in wanted}, wanted, "durations in the drawing, worked out by hand")
+    view.same({time: duration_words(time) for time in wanted}, wanted, "durations, worked out by hand")
     view.show(PUMP[0])
     for time, (duration, _) in zip(durations(), view.run(SAID, durations(), 0), strict=True):
         view.same(duration, duration_words(time), f"the duration {time} on the page, and by the package")
-        view.same(layout.duration_words(time), duration, f"the duration {time} in the drawing")
 
 
 def a_time_is_said_in_one_way(view):

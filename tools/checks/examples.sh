@@ -5,12 +5,7 @@ set -u -o pipefail
 
 top=$(dirname "$(dirname "$(dirname "$(readlink -f "${BASH_SOURCE[0]}")")")")
 . "$top/tools/help.sh"
-status=0
-
-differs() {
-    printf 'differs: %s\n' "$1"
-    status=1
-}
+. "$top/tools/checks/differs.sh"
 
 for report in "$top"/examples/*.report "$top"/examples/*/*.report; do
     name=$(basename "$report" .report)

@@ -5,14 +5,9 @@ set -u -o pipefail
 
 top=$(dirname "$(dirname "$(dirname "$(readlink -f "${BASH_SOURCE[0]}")")")")
 . "$top/tools/help.sh"
+. "$top/tools/checks/differs.sh"
 files=$(mktemp -d)
 trap 'rm -r "$files"' EXIT
-status=0
-
-differs() {
-    printf 'differs: %s\n' "$1"
-    status=1
-}
 
 echo 'what an earlier run wrote' > "$files/top"
 "$top/tfpg" diagnose "$top/examples/pump.tfpg" "top:$files/top" "count:$files/count" "json:$files/json" \

@@ -1,11 +1,11 @@
 #!/usr/bin/env python3
-"""Tries whether each script of `bench` and `tools/checks` is one: it can be run, and with --help it says what it does and starts nothing.
+"""Tries whether each script is one: it can be run, and with --help it says what it does and starts nothing.
 
     tools/checks/scripts.py
 
 - What has a first line for an interpreter can be run, and nothing else can.
-- With --help such a script in Python says what stands at its top, with status 0. It starts no process, opens no file to write, and
-  makes no folder. One of the shell says so too, where no command is there but those that find its own folder.
+- With --help `build` and each script of `bench`, `tools` and `python` says what stands at its top, with status 0. One in Python starts no
+  process, opens no file to write, and makes no folder. One of the shell finds no command but those that find its own folder.
 - Each script in Python, and each module beside the crates, can be read by Python 3.9, which is the oldest.
 - Each such script of the shell that joins commands by a pipe fails where one of them does, and each sanitizer ends what it finds
   wrong.
@@ -25,7 +25,8 @@ from pathlib import Path
 
 TOP = Path(__file__).resolve().parents[2]
 OLDEST = (3, 9)
-TRIED = (TOP / "bench", TOP / "tools/checks", TOP / "tools/checks/c")
+TRIED = (TOP, TOP / "bench", TOP / "tools", TOP / "tools/checks", TOP / "tools/checks/c", TOP / "python")
+WITHOUT_HELP = {TOP / "tools/trial.sh"}  # whose words are those of the program
 # Runs a script with --help, and ends with 99 where it does more than to read and to say.
 WATCHED = """
 import os, runpy, sys
@@ -103,7 +104,7 @@ def faults(path, commands):
             ast.parse(text, feature_version=OLDEST)
         except SyntaxError as fault:
             yield f"Python {OLDEST[0]}.{OLDEST[1]} does not read line {fault.lineno}: {fault.msg}"
-    if path.parent in TRIED and is_script:
+    if path.parent in TRIED and is_script and path not in WITHOUT_HELP:
         if not is_python:
             yield from shell_faults(text)
         wrong = help_fault(path, text, commands)
@@ -112,7 +113,8 @@ def faults(path, commands):
 
 
 def files():
-    """The scripts and the modules beside the crates."""
+    """The scripts and the modules beside the crates, but for `tfpg`, whose words have tests of their own."""
+    yield TOP / "build"
     for folder in ("bench", "tools", "page", "python", "examples"):
         for path in sorted((TOP / folder).rglob("*")):
             is_made = {"__pycache__", ".mypy_cache", "build", "data"} & set(path.parts)

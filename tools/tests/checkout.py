@@ -13,6 +13,7 @@ from pathlib import Path
 from typing import Dict, List, Optional, Sequence, Tuple
 
 TOP = Path(__file__).resolve().parents[2]
+BUILT, TRIED, ARCHIVE = "crates/tfpg/out/tfpg", "crates/tfpg/out/trial/tfpg", "crates/tfpg_embed/out/libtfpg_embed.a"
 COPIED = ["tfpg", "build", "tools", "VERSION", "docs/man", "crates.txt", "examples"]
 
 # Says what it is and with which words it runs. The second line is its status, if there is a file `status` beside it.
@@ -79,11 +80,15 @@ class Checkout:
 
     @property
     def program(self) -> Path:
-        return self.top / "crates" / "tfpg" / "out" / "tfpg"
+        return self.top / BUILT
 
     @property
     def trial(self) -> Path:
-        return self.top / "crates" / "tfpg" / "out" / "trial" / "tfpg"
+        return self.top / TRIED
+
+    @property
+    def archive(self) -> Path:
+        return self.top / ARCHIVE
 
     def calls(self) -> List[str]:
         """The words of each call of `rt` so far."""

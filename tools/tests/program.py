@@ -8,9 +8,9 @@ import unittest
 from pathlib import Path
 from typing import List, Optional, Tuple
 
-TOP = Path(__file__).resolve().parents[2]
-BUILT = TOP / "crates" / "tfpg" / "out" / "tfpg"
-PLACES = [BUILT, TOP / "crates" / "tfpg" / "out" / "trial" / "tfpg"]
+from checkout import BUILT, TOP, TRIED
+
+PLACES = [TOP / BUILT, TOP / TRIED]
 
 
 def program() -> Optional[str]:
@@ -20,7 +20,7 @@ def program() -> Optional[str]:
 
 
 needs_program = unittest.skipUnless(program(), "there is no program: TFPG_PROGRAM names none, and none is built or tried here")
-needs_build = unittest.skipUnless(os.access(BUILT, os.X_OK), "the program is not built here")
+needs_build = unittest.skipUnless(os.access(TOP / BUILT, os.X_OK), "the program is not built here")
 
 
 def run(words: List[str], folder: Path, given: str, output: Optional[str] = None) -> Tuple[int, bytes, str]:

@@ -9,13 +9,11 @@ import unittest
 from pathlib import Path
 from typing import Dict, List, Optional
 
-from checkout import TOP, Checkout
-from program import BUILT
+from checkout import ARCHIVE, BUILT, TOP, Checkout
 
 MORE = ["docs", "include", "page", "python/tfpg", "python/README.md", "README.md", "CHANGELOG.md"]
 VERSION = (TOP / "VERSION").read_text().strip()
 SHARED = f"libtfpg.so.{'.'.join(VERSION.split('.')[:2])}"
-ARCHIVE = TOP / "crates" / "tfpg_embed" / "out" / "libtfpg_embed.a"
 MISSING = [tool for tool in ("cc", "ar", "pandoc", "pkg-config", "tar") if not shutil.which(tool)]
 CALLS = re.findall(r"^(?:tfpg_answer|void) (tfpg_\w+)\(", (TOP / "include/tfpg.h").read_text(encoding="ascii"), re.M)
 COMMANDS = ["diagnose", "check", "explain", "simulate", "generate", "convert", "ask", "predict", "fleet"]
@@ -28,30 +26,30 @@ def real_heap() -> Optional[Path]:
     return heap if heap and heap.is_file() else None
 
 
-IS_REAL = os.access(BUILT, os.X_OK) and ARCHIVE.is_file() and real_heap() is not None
+IS_REAL = os.access(TOP / BUILT, os.X_OK) and (TOP / ARCHIVE).is_file() and real_heap() is not None
 needs_real = unittest.skipUnless(IS_REAL, "the program and the library for C are not built here")
 
 
 def built_checkout() -> Checkout:
     """A checkout in which all is built: what this one has, or stubs."""
     checkout = Checkout(MORE)
-    out, heap = checkout.top / "crates/tfpg_embed/out", checkout.folder / "c"
-    out.mkdir()
+    heap = checkout.folder / "c"
+    checkout.archive.parent.mkdir()
     heap.mkdir()
     if IS_REAL:
         checkout.program.parent.mkdir()
-        shutil.copy(BUILT, checkout.program)
-        shutil.copy(ARCHIVE, out)
+        shutil.copy(TOP / BUILT, checkout.program)
+        shutil.copy(TOP / ARCHIVE, checkout.archive)
         shutil.copy(real_heap() or "", heap)
     else:
         checkout.put_program()
         stub = checkout.folder / "stub.c"
         stub.write_text("".join(f"int {name}(void) {{ return 0; }}\n" for name in CALLS))
-        make_archive(stub, out / "libtfpg_embed.a")
+        make_archive(stub, checkout.archive)
         stub.write_text("void *rattle_alloc(void) { return 0; }\n")
         make_archive(stub, heap / "liblibc_c.a")
     checkout.wait_for_clock()
-    for file in (checkout.program, out / "libtfpg_embed.a"):
+    for file in (checkout.program, checkout.archive):
         os.utime(file)
     return checkout
 
@@ -206,9 +204,8 @@ class Proved(unittest.TestCase):
         self.refused(program)
         self.checkout.put_program()
         self.refused(library)
-        out = self.checkout.top / "crates/tfpg_embed/out"
-        out.mkdir()
-        (out / "libtfpg_embed.a").write_text("library\n")
+        self.checkout.archive.parent.mkdir()
+        self.checkout.archive.write_text("library\n")
         self.checkout.wait_for_clock()
         (self.checkout.top / "crates/tfpg_embed/src/lib.rt").write_text("changed\n")
         self.refused(library)

@@ -330,6 +330,18 @@ class Ends(ScriptCase):
         self.assertRegex(said, "the line of the program\ntfpg: absent is not there\ntfpg: a trial answered")
 
 
+class Help(ScriptCase):
+    """`./build` says what it does, and begins nothing."""
+
+    def test_what_it_says(self):
+        for words, said in (([], "Proves the crates"), (["install"], "Installs what is built"), (["uninstall"], "Installs what is built"),
+                            (["deb"], "Makes packages for Debian")):
+            with self.subTest(words=words):
+                ran = self.checkout.run("build", *words, "--help")
+                self.assertEqual((ran.returncode, ran.stderr, ran.stdout[:len(said)]), (0, "", said))
+        self.assertEqual(self.checkout.calls(), [])
+
+
 class Putting(ScriptCase):
     """What is made takes its place whole, or not at all."""
 

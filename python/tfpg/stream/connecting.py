@@ -4,7 +4,7 @@ from __future__ import annotations
 
 import os
 from pathlib import Path
-from typing import Any, Optional
+from typing import Any, Dict, Optional
 from urllib.parse import parse_qs, urlsplit
 
 import redis
@@ -37,11 +37,11 @@ def fault_of_url(url: str) -> str:
 def connected(url: str, part: Part, password: Optional[str] = None) -> Any:
     """A client for the server that has the part. Of a Redis Cluster it is the machine with the keys of the part. NoStore if none answers, and
     `redis.AuthenticationError` if the password is not right."""
-    words = {"password": password, "socket_timeout": SECONDS, "socket_connect_timeout": SECONDS}
+    words: Dict[str, Any] = {"password": password, "socket_timeout": SECONDS, "socket_connect_timeout": SECONDS}
     try:
-        client = redis.Redis.from_url(url, **words)
+        client: Any = redis.Redis.from_url(url, **words)
         if client.info("cluster")["cluster_enabled"]:
-            cluster = RedisCluster.from_url(url, **words)
+            cluster: Any = RedisCluster.from_url(url, **words)
             client = cluster.get_redis_connection(cluster.get_node_from_key(part.lines))
     except redis.AuthenticationError:
         raise

@@ -8,15 +8,10 @@ set -eu -o pipefail
 
 top=$(dirname "$(dirname "$(dirname "$(dirname "$(readlink -f "${BASH_SOURCE[0]}")")")")")
 . "$top/tools/help.sh"
+. "$top/tools/checks/differs.sh"
 made=$(mktemp -d)
 trap 'rm -r "$made"' EXIT
-status=0
 strict=(-O2 -Wall -Wextra -Wpedantic -Wconversion -Wshadow -Werror)
-
-differs() {
-    printf 'differs: %s\n' "$1"
-    status=1
-}
 
 # The header by itself, included twice. The places of the members are those that the library has.
 cat > "$made/header.c" << 'END'

@@ -22,29 +22,25 @@ set -eu -o pipefail
 
 top=$(dirname "$(dirname "$(dirname "$(dirname "$(readlink -f "${BASH_SOURCE[0]}")")")")")
 . "$top/tools/help.sh"
-heap=$(dirname "$(dirname "$(readlink -f "$(command -v rt)")")")/c/liblibc_c.a
-library=$top/crates/tfpg_embed/out/libtfpg_embed.a
+. "$top/tools/checks/differs.sh"
+. "$top/tools/sources.sh"
+. "$top/tools/library.sh"
+need_library
 alone=
 if [ "${1-}" = alone ]; then alone=yes; fi
 made=$(mktemp -d)
 trap 'rm -r "$made"' EXIT
-status=0
 sanitized=(-g '-fsanitize=address,undefined' -fno-sanitize-recover=all)
-
-differs() {
-    printf 'differs: %s\n' "$1"
-    status=1
-}
 
 # Links this program under this name, with these flags.
 link_with() {
-    cc -std=c11 -Wall -Wextra -Werror -I "$top/include" -o "$made/$2" "$top/$1" "$library" "$heap" "${@:3}"
+    cc -std=c11 -Wall -Wextra -Werror -I "$top/include" -o "$made/$2" "$top/$1" "$archive" "$heap" "${@:3}"
 }
 
 # The same with a pool of 2^N bytes in place of `malloc`, for this N.
 link_with_pool() {
     cc -std=c99 -Wall -Wextra -Werror "${sanitized[@]}" -DPOOL_BITS="$3" -I "$top/include" -o "$made/$2" "$top/$1" \
-        "$top/examples/pool.c" "$library"
+        "$top/examples/pool.c" "$archive"
 }
 
 # The report of this log that the C programs have to write.
@@ -347,22 +343,22 @@ diff <(numbers_of Graph) <(numbers_in_header GRAPH) || differs 'the numbers of t
 diff <(numbers_of Check | grep -v 'BAD_MAP\|BAD_SCRIPT') <(numbers_in_header REPORT) || differs 'the numbers of the causes of a report'
 
 # The library asks for memory by the three functions, and for what compilers ask for. No instruction needs a newer processor than x86-64-v2 is.
-nm "$library" 2> "$made/said" | awk 'NF == 2 && $1 == "U" { print $2 }' | LC_ALL=C sort -u > "$made/wanted"
-nm "$library" 2> "$made/said" | awk 'NF == 3 { print $3 }' | LC_ALL=C sort -u | LC_ALL=C comm -23 "$made/wanted" - > "$made/asked"
+nm "$archive" 2> "$made/said" | awk 'NF == 2 && $1 == "U" { print $2 }' | LC_ALL=C sort -u > "$made/wanted"
+nm "$archive" 2> "$made/said" | awk 'NF == 3 { print $3 }' | LC_ALL=C sort -u | LC_ALL=C comm -23 "$made/wanted" - > "$made/asked"
 [ "$(grep -cxE 'rattle_(alloc|realloc|dealloc)' "$made/asked")" = 3 ] || differs 'how the library asks for memory'
 if grep -vxE 'rattle_(alloc|realloc|dealloc)|mem(cpy|move|set|cmp)|_GLOBAL_OFFSET_TABLE_' "$made/asked"; then
     differs 'what else the library asks for'
 fi
 newer='v[a-z0-9]+|mulx|pdep|pext|andn|bextr|bls[ir]|blsmsk|shlx|sarx|shrx|rorx|lzcnt|movbe'
-if objdump -d --no-show-raw-insn "$library" | grep -E "%[yz]mm|^ +[0-9a-f]+:[[:space:]]+($newer) "; then differs 'the instructions of the library'; fi
+if objdump -d --no-show-raw-insn "$archive" | grep -E "%[yz]mm|^ +[0-9a-f]+:[[:space:]]+($newer) "; then differs 'the instructions of the library'; fi
 
 # The stack of each call: by the code, and by runs on the deepest inputs.
-"$top/tools/checks/c/stack.py" "$library" > "$made/text" || { cat "$made/text"; differs 'the stack by the code'; }
+"$top/tools/checks/c/stack.py" "$archive" > "$made/text" || { cat "$made/text"; differs 'the stack by the code'; }
 "$made/stack" "$top/examples/satellite.tfpg" "$top/examples/satellite-relay.log" > "$made/said" || { cat "$made/said"; differs 'the stack'; }
 [ "$(awk '/^stack / { print $2 }' "$made/said" | sort)" = "$(awk '/^stack / { print $2 }' "$made/text" | sort)" ] ||
     differs 'the calls whose stack is tried'
 
-strip -g -o "$made/small.a" "$library"
+strip -g -o "$made/small.a" "$archive"
 printf 'library: %s bytes, asks for %s\n' "$(stat -c %s "$made/small.a")" "$(tr '\n' ' ' < "$made/asked")"
 
 # A log of the pump of so many lines.

@@ -16,8 +16,8 @@
 
 static tfpg_session lines = TFPG_SESSION, events = TFPG_SESSION;
 static uint8_t graph[1 << 24], one_block[1 << 22], other_block[1 << 22], line[4200];
-static uint64_t times[512];
-static uint32_t order[4096], order_before[4096];
+static uint64_t times[TFPG_MAX_NODES];
+static uint32_t order[TFPG_MAX_HYPOTHESES], order_before[TFPG_MAX_HYPOTHESES];
 static int wrong;
 
 /* Notes what is wrong at a line. */
@@ -28,7 +28,7 @@ static void complain(uint64_t at, const char *what) {
 
 /* Prints the name of what has this index. It has to lead back there. */
 static void print_name(uint32_t kind, uint32_t index) {
-    uint8_t name[32];
+    uint8_t name[TFPG_MAX_NAME];
     uint32_t again = index + 1;
     size_t count = (size_t)tfpg_name(&events, kind, index, name, sizeof name).count;
     if (tfpg_index(&events, kind, name, count, &again).status != TFPG_DONE || again != index) complain(0, "a name leads elsewhere");
@@ -49,9 +49,9 @@ static void print_names(void) {
 /* Prints the members of a ranked hypothesis. */
 static void print_set(const tfpg_ranked *ranked) {
     const char *before = "";
-    for (uint32_t position = 0; position < 64; position++)
+    for (uint32_t position = 0; position < TFPG_MAX_FAILURES; position++)
         if (ranked->failures >> position & 1) printf("%s", before), print_name(TFPG_FAILURE_NAME, position), before = ",";
-    for (uint32_t node = 0; node < 512; node++)
+    for (uint32_t node = 0; node < TFPG_MAX_NODES; node++)
         if (ranked->doubts[node / 64] >> node % 64 & 1) printf("%s!", before), print_name(TFPG_NODE_NAME, node), before = ",";
     puts(*before ? "" : "-");
 }
@@ -61,9 +61,9 @@ static uint32_t print_ranked(uint64_t at) {
     tfpg_ranked ranked;
     uint32_t rank = 0, active;
     for (;; rank++) {
-        tfpg_answer answer = tfpg_ranked_at(&events, rank, &ranked, times, 512);
+        tfpg_answer answer = tfpg_ranked_at(&events, rank, &ranked, times, TFPG_MAX_NODES);
         if (answer.status == TFPG_NO_SUCH) return rank;
-        if (answer.status != TFPG_DONE || answer.count > 512) return complain(at, "no ranked hypothesis"), rank;
+        if (answer.status != TFPG_DONE || answer.count > TFPG_MAX_NODES) return complain(at, "no ranked hypothesis"), rank;
         printf("ranked %" PRIu32 " cost %" PRIu64 " robust %" PRIu32 "/%" PRIu32 " set ", ranked.hypothesis, ranked.cost, ranked.alarmed,
                ranked.monitored);
         print_set(&ranked);
@@ -76,7 +76,7 @@ static uint32_t print_ranked(uint64_t at) {
                 printf(" %" PRIu64 "\n", times[node]);
             }
         if (active != ranked.active) complain(at, "the count of active nodes");
-        if (rank < 4096) order[rank] = ranked.hypothesis;
+        if (rank < TFPG_MAX_HYPOTHESES) order[rank] = ranked.hypothesis;
         if (answer.count > 1 && tfpg_ranked_at(&events, rank, &ranked, times, 1).status != TFPG_ROOM_TOO_SMALL) complain(at, "a short room");
     }
 }
@@ -97,7 +97,7 @@ static void print_result(uint32_t *ranked_before) {
     uint32_t ranked = print_ranked(result.line);
     printf("counts ranked %" PRIu32 " covered %" PRIu32 " rejected %" PRIu32 " open %" PRIu32 "\n", result.ranked, result.covered,
            result.rejected, result.open);
-    if (ranked != result.ranked || ranked > 4096) complain(result.line, "the count of ranked hypotheses");
+    if (ranked != result.ranked || ranked > TFPG_MAX_HYPOTHESES) complain(result.line, "the count of ranked hypotheses");
     bool is_other = ranked != *ranked_before || memcmp(order, order_before, ranked * sizeof *order) != 0;
     if (result.changed != is_other) complain(result.line, "whether the ranking changed");
     memcpy(order_before, order, sizeof order);

@@ -27,6 +27,9 @@
 #define STACK (1U << 20)
 #define PAINT 0xa5
 
+/* As many as a graph may have. */
+enum { NODES = (int)TFPG_MAX_NODES, FAILURES = (int)TFPG_MAX_FAILURES, MODES = (int)TFPG_MAX_MODES };
+
 typedef struct {
     char *bytes;
     size_t count, room;
@@ -84,7 +87,7 @@ static void make_call(void) {
     const tfpg_prediction_terms terms = {k, doubt, 10, UINT64_C(1000000000000)};
     static tfpg_result result;
     static tfpg_ranked ranked;
-    static uint64_t times[512];
+    static uint64_t times[NODES];
     static uint32_t index;
     answer = done;
     switch (made_call) {
@@ -98,7 +101,7 @@ static void make_call(void) {
     case EVENT: answer = tfpg_event(&session, UINT64_C(1000000000), TFPG_TICK, 0); break;
     case BLOCK: answer = tfpg_block(&session, room, sizeof room); break;
     case RESULT_OF: answer = tfpg_result_of(&session, &result); break;
-    case RANKED_AT: answer = tfpg_ranked_at(&session, 0, &ranked, times, 512); break;
+    case RANKED_AT: answer = tfpg_ranked_at(&session, 0, &ranked, times, NODES); break;
     case INDEX: answer = tfpg_index(&session, TFPG_NODE_NAME, TEXT(node), &index); break;
     case NAME: answer = tfpg_name(&session, TFPG_NODE_NAME, 0, room, sizeof room); break;
     case CLOSE: tfpg_close(&session); break;
@@ -246,42 +249,42 @@ static void try_wide_set(void) {
     expect(CHECK, TFPG_NOT_ACCEPTED);
 }
 
-/* 512 monitors in a ring. */
+/* As many monitors as there may be nodes, in a ring. */
 static void make_ring(void) {
     begin_graph();
-    for (int place = 0; place < 512; place++) add(&graph, "or A%d watch 5\n", place);
-    for (int place = 0; place < 512; place++) add(&graph, "edge A%d A%d 1 2 *\n", place, (place + 1) % 512);
+    for (int place = 0; place < NODES; place++) add(&graph, "or A%d watch 5\n", place);
+    for (int place = 0; place < NODES; place++) add(&graph, "edge A%d A%d 1 2 *\n", place, (place + 1) % NODES);
     add(&graph, "end\n");
     add(&history, "1000 alarm A1\n");
     add(&node, "A1");
     k = doubt = 1;
     add(&map, "set !A0");
-    for (int place = 1; place < 512; place++) add(&map, ",!A%d", place);
+    for (int place = 1; place < NODES; place++) add(&map, ",!A%d", place);
     add(&map, "\n");
 }
 
-/* 64 failure modes, each of which leads to a monitor, and 448 monitors, of which the last ones are a chain. */
+/* As many failure modes as there may be, each of which leads to a monitor, and else monitors, of which the last ones are a chain. */
 static void make_many_failures(void) {
     begin_graph();
-    for (int place = 0; place < 64; place++) add(&graph, "failure F%d 1\n", place);
-    for (int place = 0; place < 448; place++) add(&graph, "or A%d watch 5\n", place);
-    for (int place = 0; place < 64; place++) add(&graph, "edge F%d A%d 1 2 *\n", place, place);
-    for (int place = 64; place < 448; place++) add(&graph, "edge A%d A%d 1 2 *\n", place - 1, place);
+    for (int place = 0; place < FAILURES; place++) add(&graph, "failure F%d 1\n", place);
+    for (int place = 0; place < NODES - FAILURES; place++) add(&graph, "or A%d watch 5\n", place);
+    for (int place = 0; place < FAILURES; place++) add(&graph, "edge F%d A%d 1 2 *\n", place, place);
+    for (int place = FAILURES; place < NODES - FAILURES; place++) add(&graph, "edge A%d A%d 1 2 *\n", place - 1, place);
     add(&graph, "end\n");
     add(&history, "1000 alarm A64\n");
     add(&node, "A64");
     k = doubt = 1;
     add(&map, "set F0");
-    for (int place = 1; place < 64; place++) add(&map, ",F%d", place);
+    for (int place = 1; place < FAILURES; place++) add(&map, ",F%d", place);
     add(&map, "\n");
 }
 
-/* An edge that names all of 64 modes. */
+/* An edge that names as many modes as there may be. */
 static void make_many_modes(void) {
     begin_graph();
-    for (int place = 1; place < 64; place++) add(&graph, "mode M%d\n", place);
+    for (int place = 1; place < MODES; place++) add(&graph, "mode M%d\n", place);
     add(&graph, "failure F 1\nor A watch 5\nedge F A 1 3 N");
-    for (int place = 1; place < 64; place++) add(&graph, ",M%d", place);
+    for (int place = 1; place < MODES; place++) add(&graph, ",M%d", place);
     add(&graph, "\nend\n");
     add(&history, "100 mode M5\n1000 alarm A\n");
     add(&node, "A");
@@ -334,7 +337,7 @@ int main(int count, char **words) {
     if (used == MAP_FAILED) give_up("memory");
     for (int least = 0; least < 2; least++)
         for (int backwards = 0; backwards < 2; backwards++)
-            for (int nodes = 511; nodes <= 512; nodes++) {
+            for (int nodes = NODES - 1; nodes <= NODES; nodes++) {
                 make_chain(nodes, least, backwards);
                 well &= ended_well("a chain", try_all);
                 report.count = 0;
@@ -343,9 +346,9 @@ int main(int count, char **words) {
     make_ring();
     well &= ended_well("a ring", try_all);
     make_many_failures();
-    well &= ended_well("64 failure modes", try_all);
+    well &= ended_well("all failure modes", try_all);
     make_many_modes();
-    well &= ended_well("64 modes", try_all);
+    well &= ended_well("all modes", try_all);
     make_nested();
     well &= ended_well("nested splits", try_report);
     for (int word = 1; word + 1 < count; word += 2) {

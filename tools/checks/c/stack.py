@@ -1,9 +1,9 @@
 #!/usr/bin/env python3
 """Says how much stack a call from C needs at most, by the code of the library, and which functions call themselves.
 
-    tools/checks/c/stack.py [LIBRARY]
+    tools/checks/c/stack.py LIBRARY
 
-It reads the archive of the library by `objdump`, and adds up the frames of the functions on the deepest path from each call that the
+It reads the library, the archive that `./build library` makes, by `objdump`, and adds up the frames of the functions on the deepest path from each call that the
 header has. A function that calls itself is entered as often as LEVELS says, the greatest number that its input allows. Prints:
 
 - `recursive FUNCTION BYTES LEVELS` for each function that calls itself: the bytes of one level, and how many there are.
@@ -25,19 +25,20 @@ from functools import lru_cache
 from pathlib import Path
 
 TOP = Path(__file__).resolve().parents[3]
-LIBRARY = TOP / "crates" / "tfpg_embed" / "out" / "libtfpg_embed.a"
 HEADER = TOP / "include" / "tfpg.h"
+sys.path.insert(0, str(TOP / "python"))
 
-NODES, FAILURES, MODES, HALVINGS = 512, 64, 64, 41
+from tfpg.limits import MOST_FAILURES, MOST_MODES, MOST_NODES, MOST_TIME  # noqa: E402
+
 # How often a function that calls itself is entered at most at once: once for each item of its list, and once for its end.
 LEVELS = {
-    "tfpg_graph::graph::Graph::spread": NODES,  # each call is for a node that was not reached before
-    "tfpg_graph::reading::list_modes::with_new_modes": MODES + 1,
-    "tfpg_hyp::listing::append_hypotheses": FAILURES + 1,
-    "tfpg_hyp::listing::append_doubts": NODES + 1,  # each node may have a monitor
-    "tfpg_report::reading::set_word::rising_positions": FAILURES + 1,
-    "tfpg_report::reading::set_word::rising_doubts": NODES + 1,
-    "tfpg_predict::forecasting::halve": HALVINGS,  # a range of at most 10^12 milliseconds, down to one
+    "tfpg_graph::graph::Graph::spread": MOST_NODES,  # each call is for a node that was not reached before
+    "tfpg_graph::reading::list_modes::with_new_modes": MOST_MODES + 1,
+    "tfpg_hyp::listing::append_hypotheses": MOST_FAILURES + 1,
+    "tfpg_hyp::listing::append_doubts": MOST_NODES + 1,  # each node may have a monitor
+    "tfpg_report::reading::set_word::rising_positions": MOST_FAILURES + 1,
+    "tfpg_report::reading::set_word::rising_doubts": MOST_NODES + 1,
+    "tfpg_predict::forecasting::halve": MOST_TIME.bit_length() + 1,  # a range of so many milliseconds, down to one
 }
 FUNCTION = re.compile(r"[0-9a-f]+ <(.*)>:$")
 SECTION = re.compile(r"Disassembly of section (.*):$")
@@ -132,7 +133,7 @@ def is_reached(functions, source, target):
 
 def main():
     reader = argparse.ArgumentParser(description=__doc__, formatter_class=argparse.RawDescriptionHelpFormatter)
-    reader.add_argument("library", nargs="?", type=Path, default=LIBRARY, metavar="LIBRARY")
+    reader.add_argument("library", type=Path, metavar="LIBRARY")
     library = reader.parse_args().library
     functions = functions_of(library)
     said = {name.lower(): int(size) * 1024 for name, size in re.findall(r"#define TFPG_STACK_OF_(\w+) \((\d+) \* 1024\)", HEADER.read_text())}
