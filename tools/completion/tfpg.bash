@@ -24,7 +24,7 @@ _tfpg_place() {
 
 # The nodes that a graph declares. compgen expands the words that it is given, and so would run what is no name.
 _tfpg_nodes() {
-    awk '/^(failure|or|and) / && $2 ~ /^[A-Za-z][A-Za-z0-9_.-]*$/ { print $2 }' "$1" 2> /dev/null
+    awk '/^(failure|or|and) / && $2 ~ /^[A-Za-z][A-Za-z0-9_.-]*$/ { print $2 }' 2> /dev/null < "$1"
 }
 
 # Files with this ending, if any is there that begins so, or else all files.
@@ -57,11 +57,11 @@ _tfpg() {
         return
     fi
     for word in "${words[@]:2:cword-2}"; do
-        case $after$word in
-            value*) after='' ;;
-            --) after=options ;;
-            --k | --doubt | --budget | --ahead | --draw | --size) after=value ;;
-            -?*) ;;
+        case $after:$word in
+            value:*) after='' ;;
+            :--) after=options ;;
+            :--k | :--doubt | :--budget | :--ahead | :--draw | :--size) after=value ;;
+            :-?*) ;;
             *)
                 place=$((place + 1))
                 graph=${graph:-$word}
