@@ -67,7 +67,7 @@ function sheet(limits, gone) {
     element("p", {}, foreign(files), ". " + byId("badge").textContent + ". This sheet judges nothing.")];
   const drawing = [copyOfDrawing(), element("div", { class: "legend" }, legendParts())];
   const parts = round ? [element("p", {}, roundWords(round)), headPart(round), drawing, rankingPart(round, limits), historySheet(limits),
-    refutationsPart(round, limits), logPart(round, limits)] : drawing;
+    refutationsPart(round, limits), logPart(round, limits)] : [state.report ? headPart(round) : null, drawing];
   return element("section", { class: "sheet", "data-round": round ? round.number : "" }, head, parts, digestsPart());
 }
 
