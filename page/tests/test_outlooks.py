@@ -48,6 +48,16 @@ def a_forecast_has_its_trace_and_its_refutation(view):
     view.quiet()
 
 
+def a_forecast_is_of_the_last_round(view):
+    """In the first round there is no alarm, and nothing need have failed; the forecasts are made after the alarm of line 3."""
+    view.show(*PREDICT)
+    view.go_to(1)
+    view.open_tab("predict")
+    view.click("#forecasts tr[data-set=FilterClogged]")
+    view.same(view.main("round"), "3", "the chosen round")
+    view.has(view.text("#headline"), ["3 sets can each explain all that was seen", "Alarms: LowFlow (line 3)."], "the head of the round")
+
+
 def three_vehicles_and_a_stray_line(view):
     """East is left with the valve alone, north with three sets, and south with none failed; line 7 belongs to none."""
     view.show(*FLEET)

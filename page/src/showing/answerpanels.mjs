@@ -54,9 +54,15 @@ function forecastTable({ forecasts, node }, index) {
 
 function forecastRow(forecast) {
   const { set, hypothesis, outlook } = forecast, words = [setWords(set), outlookWords(forecast), fromNow(forecast), evidenceWords(forecast)];
-  const click = () => change({ forecast, chosen: hypothesis }), kinds = [null, "earliest", null, "dim"];
+  const click = () => showForecast(forecast), kinds = [null, "earliest", null, "dim"];
   return option({ "data-set": set, "data-hypothesis": hypothesis, "data-outlook": outlook, click }, words.filter(Boolean).join(", "),
     forecast === state.forecast, words.map((some, index) => cell(kinds[index], some)));
+}
+
+// A forecast is made after the whole log, and so beside the last round.
+function showForecast(forecast) {
+  const round = state.report ? Math.max(0, state.report.rounds.length - 1) : 0;
+  change({ forecast, chosen: forecast.hypothesis, round });
 }
 
 function outlookWords({ outlook, time, to }) {
