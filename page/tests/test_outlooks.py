@@ -58,6 +58,19 @@ def a_forecast_is_of_the_last_round(view):
     view.has(view.text("#headline"), ["3 sets can each explain all that was seen", "Alarms: LowFlow (line 3)."], "the head of the round")
 
 
+def a_sheet_has_the_history_of_the_round_and_not_of_a_forecast(view):
+    """By 0:45:15 a clogged filter has made the flow low, and neither the motor nor the tank shows it yet; by the forecast both will."""
+    view.show(*PREDICT)
+    view.open_tab("predict")
+    view.click("#forecasts tr[data-set=FilterClogged]")
+    view.run("dispatchEvent(new Event('beforeprint'))")
+    said = view.text("#sheet ol")
+    view.has(said, ["FilterClogged fails", "LowFlow active"], "the history that is printed")
+    view.lacks(said, "0:47:20", "the history that is printed: the time at which the motor may get hot")
+    view.run("dispatchEvent(new Event('afterprint'))")
+    view.same(view.values("#history li[data-node=MotorHot]", "time"), ["2840000"], "the forecast after the print")
+
+
 def three_vehicles_and_a_stray_line(view):
     """East is left with the valve alone, north with three sets, and south with none failed; line 7 belongs to none."""
     view.show(*FLEET)
