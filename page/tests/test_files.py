@@ -37,6 +37,21 @@ def files_are_dropped_on_a_page(view):
     view.quiet()
 
 
+def the_output_of_a_fleet_is_opened_beside_its_stream(view):
+    """On the page of a fleet the stream stays; on one without a log nothing says what the lines of the vehicles are."""
+    fleet = DATA / "pumps.fleet"
+    view.show(PUMP[0], EXAMPLES / "pumps.log", "--fleet", fleet)
+    view.open_files(fleet)
+    view.same(view.text("#problems"), "", "what does not fit")
+    view.open_tab("fleet")
+    view.same(view.values("#vehicles tr[data-vehicle]", "vehicle"), ["east", "north", "south"], "the vehicles")
+    view.lacks(view.text("#vehicles"), "do not fit", "the vehicles")
+    view.show(PUMP[0])
+    view.open_files(fleet)
+    view.has(view.text("#problems"), "pumps.fleet is about a stream that is not here. Open both together", "what is said without a stream")
+    view.quiet()
+
+
 def another_graph_is_refused(view):
     view.show(*PUMP)
     view.open_files(EXAMPLES / "satellite.tfpg")
