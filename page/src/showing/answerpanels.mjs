@@ -5,9 +5,10 @@ import { probedFor } from "../reading/probe.mjs";
 import { readSteps } from "../reading/steps.mjs";
 import { historyTitle, setWords } from "../reading/sentences.mjs";
 import { setOf } from "../reading/hypotheses.mjs";
+import { Seen, againstTrace } from "../reading/rules.mjs";
 import { treeOf } from "../reading/trees.mjs";
 import { headline } from "../reading/headlines.mjs";
-import { lookAtPanel, nodeLink, nodeName, plainWords } from "./links.mjs";
+import { linked, lookAtPanel, nodeLink, nodeName, plainWords } from "./links.mjs";
 import { openVehicle } from "./files.mjs";
 import { activationPart } from "./ranking.mjs";
 import { treePart } from "./why.mjs";
@@ -54,7 +55,7 @@ function forecastTable({ forecasts, node }, index) {
 
 function forecastRow(forecast) {
   const { set, hypothesis, outlook } = forecast, words = [setWords(set), outlookWords(forecast), fromNow(forecast), evidenceWords(forecast)];
-  const click = () => showForecast(forecast), kinds = [null, "earliest", null, "dim"];
+  const click = () => showForecast(forecast), kinds = [null, "earliest", null, lackOf(forecast) ? "refused" : "dim"];
   return option({ "data-set": set, "data-hypothesis": hypothesis, "data-outlook": outlook, click }, words.filter(Boolean).join(", "),
     forecast === state.forecast, words.map((some, index) => cell(kinds[index], some)));
 }
@@ -75,17 +76,32 @@ function fromNow({ outlook, time, now }) {
   return time <= now ? "can be so already, for " + durationWords(now - time, state.units) : "in " + durationWords(time - now, state.units);
 }
 
-function evidenceWords({ trace, steps }) {
-  const history = trace.size ? "a history of " + trace.size + " nodes" : "";
+function evidenceWords(forecast) {
+  const { trace, steps } = forecast, lack = lackOf(forecast), history = trace.size ? "a history of " + trace.size + " nodes" : "";
   const refutation = steps.length ? "a refutation of " + steps.length + " lines" : "";
-  return [history, refutation].filter(Boolean).join(", ");
+  return lack || [history, refutation].filter(Boolean).join(", ");
+}
+
+// What a forecast has to have as evidence, and has not, or nothing.
+function lackOf({ node, outlook, time, trace, steps }) {
+  if (outlook === "earliest" && trace.get(node) !== time) return "no history attains it";
+  return outlook === "unsettled" || time === 0 || steps.length ? "" : "no step shows it";
 }
 
 // The history that attains the time, and why no earlier one does.
 function forecastPart(forecast) {
   const rows = view.history.map(entry => activationPart(forecast.set, entry));
   const history = [element("h2", {}, historyTitle(forecast.set) + ", which attains it"), element("ol", { id: "history" }, rows)];
-  return [...(rows.length ? history : []), ...(forecast.steps.length && state.log ? refutationPart(forecast) : [])];
+  const refutation = forecast.steps.length && state.log ? refutationPart(forecast) : [];
+  return [...(rows.length ? [...history, againstPart(forecast)] : []), ...refutation];
+}
+
+// What speaks against the history, by the log as it is continued.
+function againstPart({ set, trace, to }) {
+  const { graph, log } = state, seen = new Seen(graph);
+  for (const event of [...log.events, { kind: "tick", time: to }]) seen.take(event);
+  const against = againstTrace(graph, log, seen, setOf(graph, set), trace);
+  return against ? element("p", { class: "refused" }, "This history does not fit: ", linked(against), ".") : null;
 }
 
 function refutationPart(forecast) {
@@ -93,7 +109,9 @@ function refutationPart(forecast) {
   const bound = timeWords(probed.bound, state.units), round = { number: probed.log.events.length, now: to };
   const tree = treeOf(probed.graph, probed.log, setOf(state.graph, set), readSteps(probed.graph, steps, stepsAt, round));
   const speech = { graph: probed.graph, log: probed.log, units: state.units, set };
-  const title = forecast.outlook === "unsettled" ? "Can it be active by " + bound + "? Not settled" : "Why not by " + bound + "?";
+  const notShown = "The prediction says that it is not active by " + bound + ", and does not show it";
+  const why = tree.state === "closed" ? "Why not by " + bound + "?" : notShown;
+  const title = forecast.outlook === "unsettled" ? "Can it be active by " + bound + "? Not settled" : why;
   const meaning = "The probe becomes active at the same instant as " + nodeName(node) + ", and its alarm says: by " + bound + ".";
   return [element("h2", {}, title), element("p", { class: "dim" }, meaning), ...treePart(tree, speech, lineWords)];
 }
