@@ -123,6 +123,20 @@ def three_vehicles_and_a_stray_line(view):
     view.quiet()
 
 
+def a_wrong_number_of_vehicles_is_named(view):
+    """The valve stands in the last ranking of north and in that of east."""
+    text = FLEET[3].read_bytes()
+    assert text.count(b"mode ValveStuck vehicles 2\n") == 1
+    forged = view.maker.write("stock.fleet", text.replace(b"mode ValveStuck vehicles 2\n", b"mode ValveStuck vehicles 0\n"))
+    view.show(*FLEET[:3], forged)
+    view.open_tab("fleet")
+    view.same(view.texts("#modes .refused"), ["✗ by the last rounds it is 2"], "what is red of the numbers of vehicles")
+    view.has(view.text("#modes tr[data-mode=ValveStuck]"), "0 ✗ by the last rounds it is 2", "the row of the valve")
+    view.show(*FLEET)
+    view.open_tab("fleet")
+    view.same(view.texts("#modes .refused"), [], "what is red of the right numbers")
+
+
 def a_vehicle_opens_its_own_report(view):
     view.show(*FLEET)
     view.open_tab("fleet")

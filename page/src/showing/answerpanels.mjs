@@ -132,7 +132,7 @@ export function fleetPanel() {
     fleet.strays.length ? element("p", {}, "Stray lines of the stream: " + fleet.strays.slice(0, MOST_STRAYS).join(", ")
       + (left > 0 ? " and " + left + " more" : "") + ".") : null,
     fleet.modes.length ? element("h2", {}, "How many vehicles may have a failure mode") : null,
-    table({ id: "modes" }, [], fleet.modes.map(modeRow))
+    modesTable(fleet)
   ];
 }
 
@@ -149,8 +149,24 @@ function worstFirst(vehicles) {
   return vehicles.sort((one, other) => rank(one) - rank(other) || other.alarms - one.alarms || cost(other) - cost(one));
 }
 
-function modeRow({ node, vehicles }) {
-  return element("tr", { "data-mode": nodeName(node) }, cell(null, nodeLink(node)), cell("number", vehicles));
+function modesTable(fleet) {
+  const right = vehiclesByMode(fleet);
+  return table({ id: "modes" }, [], fleet.modes.map(({ node, vehicles }) => modeRow(node, vehicles, right.get(node) || 0)));
+}
+
+// How many vehicles have a last round that ranks a set with each failure mode.
+function vehiclesByMode(fleet) {
+  const counts = new Map();
+  for (const { last } of fleet.summaries.values()) {
+    const modes = new Set((last ? last.ranked : []).flatMap(({ set }) => setOf(state.graph, set).failures));
+    for (const node of modes) counts.set(node, (counts.get(node) || 0) + 1);
+  }
+  return counts;
+}
+
+function modeRow(node, vehicles, right) {
+  const wrong = vehicles === right ? null : element("span", { class: "refused" }, " ✗ by the last rounds it is " + right);
+  return element("tr", { "data-mode": nodeName(node) }, cell(null, nodeLink(node)), cell("number", vehicles, wrong));
 }
 
 function vehicleRow({ name, rounds, last, alarms, terms, verdict, problems }) {
