@@ -29,7 +29,7 @@ def carried(kind, text):
 
 
 def document(drawings, script, texts, about):
-    style = (HERE / "page.css").read_text()
+    style = (HERE / "page.css").read_text(encoding="utf-8")
     title = about["names"].get("report") or about["names"].get("fleet") or about["names"].get("log") or about["names"]["graph"]
     parts = {
         "POLICY": policy(script, style),
@@ -40,4 +40,4 @@ def document(drawings, script, texts, about):
         "ABOUT": json.dumps(about, sort_keys=True).replace("<", "\\u003c"),
         "SCRIPT": script,
     }
-    return re.sub(r"@([A-Z]+)@", lambda place: parts[place[1]], (HERE / "page.html").read_text())
+    return re.sub(r"@([A-Z]+)@", lambda place: parts[place[1]], (HERE / "page.html").read_text(encoding="utf-8"))

@@ -30,7 +30,7 @@ def in_order(module, done):
     """Adds the text of a module to those that are done, after those that it imports."""
     if module in done:
         return
-    text = table_module() if module.name == TABLE else module.read_text()
+    text = table_module() if module.name == TABLE else module.read_text(encoding="utf-8")
     for name in IMPORT.findall(text):
         in_order((module.parent / name).resolve(), done)
     done[module] = text

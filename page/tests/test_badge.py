@@ -1,5 +1,7 @@
 """What the page says of the check: only what the checker said, and only of the very bytes that it was given."""
 
+import os
+
 from pages import CHECK, PUMP
 
 RIGHT = b"why unreached LowFlow 2715000\nhyp 1"
@@ -117,6 +119,27 @@ def a_trial_that_accepts_is_said_to_be_unproved(view):
     view.has(view.text("#badge"), ["accepted 6", "by an unproved trial of tfpg check"], "the badge")
     view.show(*PUMP, "--check", checker(view.maker, "program-accepts", 0, "accepted 6\n"))
     view.lacks(view.text("#badge"), "trial", "the badge by a program")
+
+
+QUIET_TRIAL = """#!/bin/sh
+cat > /dev/null
+echo 'accepted 6'
+if [ "${TFPG_QUIET-}" != 1 ]; then echo 'tfpg: a trial answered, since the program is not built here' >&2; fi
+"""
+
+
+def a_trial_that_was_told_to_be_quiet_is_said_to_be_unproved(view):
+    """TFPG_QUIET keeps the line of a trial from a terminal, and not from the page."""
+    quiet = view.maker.write("quiet-trial", QUIET_TRIAL)
+    quiet.chmod(0o755)
+    os.environ["TFPG_QUIET"] = "1"
+    try:
+        page = view.maker.page(*PUMP, "--check", quiet)
+    finally:
+        del os.environ["TFPG_QUIET"]
+    view.load_right(page)
+    view.same((view.verdict(), view.values("#badge", "checker")), ("accepted", ["trial"]), "the badge")
+    view.has(view.text("#badge"), ["accepted 6", "by an unproved trial of tfpg check"], "the badge")
 
 
 def a_refused_report_is_red_whatever_else_was_said(view):

@@ -30,6 +30,19 @@ def a_report_that_was_cut_between_two_blocks(view):
     view.has(view.text("#problems"), ["7 lines", "2 of them"], "what is missing")
 
 
+def a_report_that_was_cut_after_its_first_line(view):
+    """All seven lines of the log are missing in it, and six of them are accepted."""
+    shown(view, "the first line", LOG, HEAD)
+    view.has(view.text("#problems"), ["7 lines", "0 of them"], "what is missing")
+    wanted = "The texts do not fit together, so this is not to be believed: The report has no round, and the log has 6 accepted lines."
+    view.same(view.text("#headline .lead"), wanted, "the head")
+    view.same(view.run("return document.querySelector('#headline').className"), "doubtful", "that the head is red")
+    view.open_tab("ranking")
+    view.same(view.text("#panel"), "The report has no round, so there is no ranking.", "in place of the ranking")
+    view.run("dispatchEvent(new Event('beforeprint'))")
+    view.has(view.text("#sheet"), wanted, "what is printed")
+
+
 def a_report_with_a_block_too_many(view):
     more = b"ranked 1 cost 2 robust 3/3 set FilterClogged\ncounts ranked 1 covered 10 rejected 0 open 0\n"
     shown(view, "a block too many", LOG, REPORT + b"round 7 8 5400001\n" + more)

@@ -1,5 +1,8 @@
 """Texts that are opened and dropped on a page, and saved from it byte for byte."""
 
+import os
+import subprocess
+
 from pages import ARRAY, DATA, EXAMPLES, GAUGE, PUMP, RELAY
 
 
@@ -37,6 +40,21 @@ def files_are_dropped_on_a_page(view):
     view.quiet()
 
 
+def the_output_of_a_fleet_is_opened_beside_its_stream(view):
+    """On the page of a fleet the stream stays; on one without a log nothing says what the lines of the vehicles are."""
+    fleet = DATA / "pumps.fleet"
+    view.show(PUMP[0], EXAMPLES / "pumps.log", "--fleet", fleet)
+    view.open_files(fleet)
+    view.same(view.text("#problems"), "", "what does not fit")
+    view.open_tab("fleet")
+    view.same(view.values("#vehicles tr[data-vehicle]", "vehicle"), ["east", "north", "south"], "the vehicles")
+    view.lacks(view.text("#vehicles"), "do not fit", "the vehicles")
+    view.show(PUMP[0])
+    view.open_files(fleet)
+    view.has(view.text("#problems"), "pumps.fleet is about a stream that is not here. Open both together", "what is said without a stream")
+    view.quiet()
+
+
 def another_graph_is_refused(view):
     view.show(*PUMP)
     view.open_files(EXAMPLES / "satellite.tfpg")
@@ -69,6 +87,13 @@ def questions_and_predictions_are_saved_too(view):
     files = (PUMP[0], DATA / "pump-first.log", DATA / "pump-first.report", DATA / "pump-first.ask", DATA / "pump-first.predict")
     view.show(*files[:3], "--ask", files[3], "--predict", files[4])
     view.same(view.saved_texts([path.name for path in files]), [path.read_bytes() for path in files], "what is saved")
+
+
+def same_inputs_same_bytes_in_each_locale(view):
+    """Also where texts are no UTF-8 by default. Python takes the locale C as such alone if it is told so."""
+    ascii_only = {**os.environ, "LC_ALL": "C", "PYTHONUTF8": "0", "PYTHONCOERCECLOCALE": "0"}
+    ran = subprocess.run([view.maker.script, *RELAY], env=ascii_only, capture_output=True)
+    view.same((ran.returncode, ran.stdout == view.maker.run(*RELAY)[1]), (0, True), "the status, and that the page is the same")
 
 
 def same_inputs_same_bytes(view):

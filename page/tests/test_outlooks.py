@@ -48,6 +48,67 @@ def a_forecast_has_its_trace_and_its_refutation(view):
     view.quiet()
 
 
+def a_forecast_is_of_the_last_round(view):
+    """In the first round there is no alarm, and nothing need have failed; the forecasts are made after the alarm of line 3."""
+    view.show(*PREDICT)
+    view.go_to(1)
+    view.open_tab("predict")
+    view.click("#forecasts tr[data-set=FilterClogged]")
+    view.same(view.main("round"), "3", "the chosen round")
+    view.has(view.text("#headline"), ["3 sets can each explain all that was seen", "Alarms: LowFlow (line 3)."], "the head of the round")
+
+
+def a_sheet_has_the_history_of_the_round_and_not_of_a_forecast(view):
+    """By 0:45:15 a clogged filter has made the flow low, and neither the motor nor the tank shows it yet; by the forecast both will."""
+    view.show(*PREDICT)
+    view.open_tab("predict")
+    view.click("#forecasts tr[data-set=FilterClogged]")
+    view.run("dispatchEvent(new Event('beforeprint'))")
+    said = view.text("#sheet ol")
+    view.has(said, ["FilterClogged fails", "LowFlow active"], "the history that is printed")
+    view.lacks(said, "0:47:20", "the history that is printed: the time at which the motor may get hot")
+    view.run("dispatchEvent(new Event('afterprint'))")
+    view.same(view.values("#history li[data-node=MotorHot]", "time"), ["2840000"], "the forecast after the print")
+
+
+def show_forged_forecast(view, name, text):
+    view.show(*PREDICT[:4], view.maker.write(f"{name}.predict", text))
+    view.open_tab("predict")
+
+
+def a_forecast_without_its_evidence_is_named(view):
+    """The first one says `never`, and has lost its history and its steps; or a time that its history does not attain."""
+    text = PREDICT[4].read_bytes()
+    second = text.index(b"forecast 2 ")
+    show_forged_forecast(view, "never", text.split(b"\n")[0] + b"\nforecast 1 set FilterClogged never\n" + text[second:])
+    rows = view.texts("#forecasts tr[data-set] .refused")
+    view.same(rows, ["no step shows it"], "the forecasts that are not shown, in red")
+    show_forged_forecast(view, "other-time", text.replace(b"FilterClogged earliest 2840000", b"FilterClogged earliest 2840001"))
+    view.same(view.texts("#forecasts tr[data-set] .refused"), ["no history attains it"], "a time that no history attains, in red")
+    show_forged_forecast(view, "right", text)
+    view.same(view.texts("#panel .refused"), [], "what is red of the right prediction")
+
+
+def a_forecast_that_is_not_shown_is_not_said_to_be(view):
+    """The steps of the third one end in its first choice. The strain of the first one begins a millisecond before its edge can carry."""
+    text = PREDICT[4].read_bytes()
+    third = text.index(b"split ", text.index(b"forecast 3 "))
+    show_forged_forecast(view, "cut", text[: text.index(b"\n", third) + 1])
+    view.click("#forecasts tr[data-set=MotorBearing]")
+    wanted = "The prediction says that it is not active by 0:42:09.999, and does not show it"
+    view.has(view.text("#panel"), wanted, "the title of steps that are cut off")
+    view.lacks(view.text("#panel"), "Why not by", "the title of steps that are cut off")
+    show_forged_forecast(view, "strain", text.replace(b"at MotorStrain 2720000", b"at MotorStrain 2719999"))
+    view.click("#forecasts tr[data-set=FilterClogged]")
+    wanted = "This history does not fit: MotorStrain is active at 0:45:19.999, and nothing had arrived over an edge by then."
+    view.has(" ".join(view.texts("#panel .refused")), wanted, "what speaks against the history, in red")
+    for name in ("FilterClogged", "ValveStuck", "MotorBearing"):
+        show_forged_forecast(view, "right", text)
+        view.click(f"#forecasts tr[data-set={name}]")
+        view.has(view.text("#panel"), "Why not by", f"the title of the right forecast of {name}")
+        view.same(view.texts("#panel .refused"), [], f"what is red of the right forecast of {name}")
+
+
 def three_vehicles_and_a_stray_line(view):
     """East is left with the valve alone, north with three sets, and south with none failed; line 7 belongs to none."""
     view.show(*FLEET)
@@ -60,6 +121,20 @@ def three_vehicles_and_a_stray_line(view):
     view.same(counts, {"FilterClogged": "1", "ValveStuck": "2", "MotorBearing": "1", "LevelWiring": "0"}, "vehicles by failure mode")
     view.has(view.text("#panel"), ["Stray lines of the stream: 7"], "the line that belongs to none")
     view.quiet()
+
+
+def a_wrong_number_of_vehicles_is_named(view):
+    """The valve stands in the last ranking of north and in that of east."""
+    text = FLEET[3].read_bytes()
+    assert text.count(b"mode ValveStuck vehicles 2\n") == 1
+    forged = view.maker.write("stock.fleet", text.replace(b"mode ValveStuck vehicles 2\n", b"mode ValveStuck vehicles 0\n"))
+    view.show(*FLEET[:3], forged)
+    view.open_tab("fleet")
+    view.same(view.texts("#modes .refused"), ["✗ by the last rounds it is 2"], "what is red of the numbers of vehicles")
+    view.has(view.text("#modes tr[data-mode=ValveStuck]"), "0 ✗ by the last rounds it is 2", "the row of the valve")
+    view.show(*FLEET)
+    view.open_tab("fleet")
+    view.same(view.texts("#modes .refused"), [], "what is red of the right numbers")
 
 
 def a_vehicle_opens_its_own_report(view):

@@ -22,6 +22,11 @@ _tfpg_place() {
     esac
 }
 
+# The nodes that a graph declares. compgen expands the words that it is given, and so would run what is no name.
+_tfpg_nodes() {
+    awk '/^(failure|or|and) / && $2 ~ /^[A-Za-z][A-Za-z0-9_.-]*$/ { print $2 }' 2> /dev/null < "$1"
+}
+
 # Files with this ending, if any is there that begins so, or else all files.
 _tfpg_files() {
     if [ -n "$(compgen -f -X "!*.$1" -- "$cur")" ]; then _filedir "$1"; else _filedir; fi
@@ -52,11 +57,11 @@ _tfpg() {
         return
     fi
     for word in "${words[@]:2:cword-2}"; do
-        case $after$word in
-            value*) after='' ;;
-            --) after=options ;;
-            --k | --doubt | --budget | --ahead | --draw | --size) after=value ;;
-            -?*) ;;
+        case $after:$word in
+            value:*) after='' ;;
+            :--) after=options ;;
+            :--k | :--doubt | :--budget | :--ahead | :--draw | :--size) after=value ;;
+            :-?*) ;;
             *)
                 place=$((place + 1))
                 graph=${graph:-$word}
@@ -73,6 +78,6 @@ _tfpg() {
         log) _tfpg_files log ;;
         script) _filedir ;;
         panel) _tfpg_panels ;;
-        node) COMPREPLY=($(compgen -W "$(awk '/^(failure|or|and) /{ print $2 }' "$graph" 2> /dev/null)" -- "$cur")) ;;
+        node) COMPREPLY=($(compgen -W "$(_tfpg_nodes "$graph")" -- "$cur")) ;;
     esac
 } && complete -F _tfpg tfpg

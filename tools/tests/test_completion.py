@@ -104,6 +104,20 @@ class Bash(Shell):
         self.assertEqual(self.offered("predict", "--ahead", "9", "pump.tfpg", "pump.log", ""), ["Damp", "Leak", "Wet"])
         self.assertEqual(self.offered("predict", "pump.tfpg", "pump.log", "W"), ["Wet"])
 
+    def test_whatever_the_graph_is_called(self):
+        """Also as what awk takes for a variable, and as the completion itself calls what it waits for."""
+        for name in ("k=3.tfpg", "value.tfpg"):
+            (self.folder / name).write_text(GRAPH)
+            self.assertEqual(self.offered("check", name, "pump.l"), ["pump.log"], name)
+            self.assertEqual(self.offered("predict", name, "pump.log", ""), ["Damp", "Leak", "Wet"], name)
+
+    def test_a_graph_of_somebody_else_runs_nothing(self):
+        """bash expands the words that it chooses from, as `$(touch made)`. What is no name is none of them."""
+        commands = "failure $(touch${IFS}made) 1\nfailure `touch${IFS}made` 1\nor ~ hidden\nor {a,b} hidden\n"
+        (self.folder / "pump.tfpg").write_text(GRAPH.replace("failure Leak", commands + "failure Leak"))
+        self.assertEqual(self.offered("predict", "pump.tfpg", "pump.log", ""), ["Damp", "Leak", "Wet"])
+        self.assertFalse((self.folder / "made").exists())
+
     def test_the_loader_finds_it_by_its_name(self):
         """bash-completion loads `completions/tfpg` once tfpg is typed."""
         places = self.folder / "data" / "bash-completion" / "completions"

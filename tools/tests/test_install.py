@@ -336,5 +336,12 @@ class OneVersion(unittest.TestCase):
         self.assertIn(f"`{SHARED}` now", (TOP / "docs/versions.md").read_text())
 
 
-if MISSING:
-    del Places, Use
+class LeftOut(unittest.TestCase):
+    def test_what_cannot_be_tried_is_said(self):
+        """On a machine without a compiler and without pandoc each test that installs is left out, and none is silent."""
+        words = [sys.executable, "-B", "-m", "unittest", "-v", "test_install.Places", "test_install.Use"]
+        ran = subprocess.run(words, cwd=TOP / "tools/tests", env={"PATH": "/nowhere"}, capture_output=True, text=True, timeout=60,
+                             check=False)
+        tests = [name for kind in (Places, Use) for name in vars(kind) if name.startswith("test_")]
+        self.assertEqual(ran.stderr.count("skipped 'what installs is missing: cc ar pandoc pkg-config tar'"), len(tests), ran.stderr)
+        self.assertIn(f"OK (skipped={len(tests)})", ran.stderr)

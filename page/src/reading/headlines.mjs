@@ -1,7 +1,7 @@
 // The head of a round, as that of an incident report: what explains all that was seen, and what is not known. Lists of words and references.
 const MOST_NAMED = 3, MOST_ALARMS = 6;
 
-function plural(number, word) {
+export function plural(number, word) {
   return number.toLocaleString("en-US") + " " + word + (number === 1 ? "" : "s");
 }
 

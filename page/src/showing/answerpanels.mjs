@@ -5,9 +5,10 @@ import { probedFor } from "../reading/probe.mjs";
 import { readSteps } from "../reading/steps.mjs";
 import { historyTitle, setWords } from "../reading/sentences.mjs";
 import { setOf } from "../reading/hypotheses.mjs";
+import { Seen, againstTrace } from "../reading/rules.mjs";
 import { treeOf } from "../reading/trees.mjs";
 import { headline } from "../reading/headlines.mjs";
-import { lookAtPanel, nodeLink, nodeName, plainWords } from "./links.mjs";
+import { linked, lookAtPanel, nodeLink, nodeName, plainWords } from "./links.mjs";
 import { openVehicle } from "./files.mjs";
 import { activationPart } from "./ranking.mjs";
 import { treePart } from "./why.mjs";
@@ -54,9 +55,15 @@ function forecastTable({ forecasts, node }, index) {
 
 function forecastRow(forecast) {
   const { set, hypothesis, outlook } = forecast, words = [setWords(set), outlookWords(forecast), fromNow(forecast), evidenceWords(forecast)];
-  const click = () => change({ forecast, chosen: hypothesis }), kinds = [null, "earliest", null, "dim"];
+  const click = () => showForecast(forecast), kinds = [null, "earliest", null, lackOf(forecast) ? "refused" : "dim"];
   return option({ "data-set": set, "data-hypothesis": hypothesis, "data-outlook": outlook, click }, words.filter(Boolean).join(", "),
     forecast === state.forecast, words.map((some, index) => cell(kinds[index], some)));
+}
+
+// A forecast is made after the whole log, and so beside the last round.
+function showForecast(forecast) {
+  const round = state.report ? Math.max(0, state.report.rounds.length - 1) : 0;
+  change({ forecast, chosen: forecast.hypothesis, round });
 }
 
 function outlookWords({ outlook, time, to }) {
@@ -69,17 +76,32 @@ function fromNow({ outlook, time, now }) {
   return time <= now ? "can be so already, for " + durationWords(now - time, state.units) : "in " + durationWords(time - now, state.units);
 }
 
-function evidenceWords({ trace, steps }) {
-  const history = trace.size ? "a history of " + trace.size + " nodes" : "";
+function evidenceWords(forecast) {
+  const { trace, steps } = forecast, lack = lackOf(forecast), history = trace.size ? "a history of " + trace.size + " nodes" : "";
   const refutation = steps.length ? "a refutation of " + steps.length + " lines" : "";
-  return [history, refutation].filter(Boolean).join(", ");
+  return lack || [history, refutation].filter(Boolean).join(", ");
+}
+
+// What a forecast has to have as evidence, and has not, or nothing.
+function lackOf({ node, outlook, time, trace, steps }) {
+  if (outlook === "earliest" && trace.get(node) !== time) return "no history attains it";
+  return outlook === "unsettled" || time === 0 || steps.length ? "" : "no step shows it";
 }
 
 // The history that attains the time, and why no earlier one does.
 function forecastPart(forecast) {
   const rows = view.history.map(entry => activationPart(forecast.set, entry));
   const history = [element("h2", {}, historyTitle(forecast.set) + ", which attains it"), element("ol", { id: "history" }, rows)];
-  return [...(rows.length ? history : []), ...(forecast.steps.length && state.log ? refutationPart(forecast) : [])];
+  const refutation = forecast.steps.length && state.log ? refutationPart(forecast) : [];
+  return [...(rows.length ? [...history, againstPart(forecast)] : []), ...refutation];
+}
+
+// What speaks against the history, by the log as it is continued.
+function againstPart({ set, trace, to }) {
+  const { graph, log } = state, seen = new Seen(graph);
+  for (const event of [...log.events, { kind: "tick", time: to }]) seen.take(event);
+  const against = againstTrace(graph, log, seen, setOf(graph, set), trace);
+  return against ? element("p", { class: "refused" }, "This history does not fit: ", linked(against), ".") : null;
 }
 
 function refutationPart(forecast) {
@@ -87,7 +109,9 @@ function refutationPart(forecast) {
   const bound = timeWords(probed.bound, state.units), round = { number: probed.log.events.length, now: to };
   const tree = treeOf(probed.graph, probed.log, setOf(state.graph, set), readSteps(probed.graph, steps, stepsAt, round));
   const speech = { graph: probed.graph, log: probed.log, units: state.units, set };
-  const title = forecast.outlook === "unsettled" ? "Can it be active by " + bound + "? Not settled" : "Why not by " + bound + "?";
+  const notShown = "The prediction says that it is not active by " + bound + ", and does not show it";
+  const why = tree.state === "closed" ? "Why not by " + bound + "?" : notShown;
+  const title = forecast.outlook === "unsettled" ? "Can it be active by " + bound + "? Not settled" : why;
   const meaning = "The probe becomes active at the same instant as " + nodeName(node) + ", and its alarm says: by " + bound + ".";
   return [element("h2", {}, title), element("p", { class: "dim" }, meaning), ...treePart(tree, speech, lineWords)];
 }
@@ -108,7 +132,7 @@ export function fleetPanel() {
     fleet.strays.length ? element("p", {}, "Stray lines of the stream: " + fleet.strays.slice(0, MOST_STRAYS).join(", ")
       + (left > 0 ? " and " + left + " more" : "") + ".") : null,
     fleet.modes.length ? element("h2", {}, "How many vehicles may have a failure mode") : null,
-    table({ id: "modes" }, [], fleet.modes.map(modeRow))
+    modesTable(fleet)
   ];
 }
 
@@ -125,8 +149,24 @@ function worstFirst(vehicles) {
   return vehicles.sort((one, other) => rank(one) - rank(other) || other.alarms - one.alarms || cost(other) - cost(one));
 }
 
-function modeRow({ node, vehicles }) {
-  return element("tr", { "data-mode": nodeName(node) }, cell(null, nodeLink(node)), cell("number", vehicles));
+function modesTable(fleet) {
+  const right = vehiclesByMode(fleet);
+  return table({ id: "modes" }, [], fleet.modes.map(({ node, vehicles }) => modeRow(node, vehicles, right.get(node) || 0)));
+}
+
+// How many vehicles have a last round that ranks a set with each failure mode.
+function vehiclesByMode(fleet) {
+  const counts = new Map();
+  for (const { last } of fleet.summaries.values()) {
+    const modes = new Set((last ? last.ranked : []).flatMap(({ set }) => setOf(state.graph, set).failures));
+    for (const node of modes) counts.set(node, (counts.get(node) || 0) + 1);
+  }
+  return counts;
+}
+
+function modeRow(node, vehicles, right) {
+  const wrong = vehicles === right ? null : element("span", { class: "refused" }, " ✗ by the last rounds it is " + right);
+  return element("tr", { "data-mode": nodeName(node) }, cell(null, nodeLink(node)), cell("number", vehicles, wrong));
 }
 
 function vehicleRow({ name, rounds, last, alarms, terms, verdict, problems }) {

@@ -168,8 +168,17 @@ async function takeOpened(opened) {
   const counts = opened.map(({ kind }) => kind).filter(kind => kind !== "predict");
   const twice = counts.find((kind, index) => counts.indexOf(kind) < index);
   if (twice) throw new Error("there are two files of the kind " + twice + ", and this page shows one");
-  if (kinds.has("fleet")) await showFleet(texts, names);
-  else await showTexts(texts, names, { fleet: null, vehicle: null });
+  if (kinds.has("fleet")) {
+    if (!kinds.has("log")) takeStream(texts, names);
+    await showFleet(texts, names);
+  } else await showTexts(texts, names, { fleet: null, vehicle: null });
+}
+
+// The stream of the page for the output of a fleet that is opened alone, in place of the own log of the vehicle that is shown.
+function takeStream(texts, names) {
+  const { stream } = state.texts;
+  if (stream) [texts.log, names.log] = [stream, state.names.stream];
+  if (!texts.log) throw new Error(names.fleet + " is about a stream that is not here. Open both together");
 }
 
 async function needSameGraph(name, bytes) {

@@ -13,7 +13,7 @@ const MOST_ROWS = 300, MOST_SETS = 60, MOST_ACTIVATIONS = 400, MOST_LISTED = 40;
 
 export function rankingPanel() {
   const { round } = view;
-  if (!round) return [element("p", {}, "The log has no accepted line, so there is no round and no ranking.")];
+  if (!round) return [element("p", {}, "The report has no round, so there is no ranking.")];
   const head = ["#", "explains all that was seen", "cost", "alarms raised"], label = "sets that explain all that was seen, best first";
   return [
     round.ranked.length ? listBox({ id: "ranking" }, label, head, round.ranked.slice(0, MOST_ROWS).map(rankingRow), true)

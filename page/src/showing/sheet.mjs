@@ -10,7 +10,7 @@ import { roundWords } from "./head.mjs";
 import { headSentences } from "./headline.mjs";
 import { linked, nodeName } from "./links.mjs";
 import { ONE_OF_SEVERAL, alarmsWords } from "./ranking.mjs";
-import { goTo, keep, speechOf, state, view, waitingNow } from "./state.mjs";
+import { change, goTo, keep, speechOf, state, view, waitingNow } from "./state.mjs";
 
 const MOST = { sets: 8, entries: 18, lines: 8, waiting: 20, reasons: 16 }, LEAST = { sets: 3, entries: 4, lines: 2, waiting: 4, reasons: 0 };
 const ORDER = ["reasons", "lines", "waiting", "entries", "sets"]; // what gives way first
@@ -20,9 +20,19 @@ export function prepareSheets() {
   byId("print").addEventListener("click", () => print());
   byId("print-all").addEventListener("click", printAll);
   addEventListener("beforeprint", () => {
-    if (!byId("sheet").childElementCount) byId("sheet").replaceChildren(fittingSheet([]));
+    if (!byId("sheet").childElementCount) byId("sheet").replaceChildren(sheetOfRound());
   });
   addEventListener("afterprint", () => byId("sheet").replaceChildren());
+}
+
+// The sheet of the round by its own history, also while that of a forecast is shown.
+function sheetOfRound() {
+  const { forecast } = state;
+  if (!forecast || !view.round) return fittingSheet([]);
+  change({ forecast: null });
+  const made = fittingSheet([]);
+  change({ forecast });
+  return made;
 }
 
 // A sheet for each round, or for the last ones of a long report, of which the first says which rounds have none.
@@ -67,7 +77,7 @@ function sheet(limits, gone) {
     element("p", {}, foreign(files), ". " + byId("badge").textContent + ". This sheet judges nothing.")];
   const drawing = [copyOfDrawing(), element("div", { class: "legend" }, legendParts())];
   const parts = round ? [element("p", {}, roundWords(round)), headPart(round), drawing, rankingPart(round, limits), historySheet(limits),
-    refutationsPart(round, limits), logPart(round, limits)] : drawing;
+    refutationsPart(round, limits), logPart(round, limits)] : [state.report ? headPart(round) : null, drawing];
   return element("section", { class: "sheet", "data-round": round ? round.number : "" }, head, parts, digestsPart());
 }
 
