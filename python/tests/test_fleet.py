@@ -17,6 +17,7 @@ import subprocess
 import sys
 import unittest
 from pathlib import Path
+from unittest import mock
 
 import engines
 from engines import LARGE, dask_worker, environment, folder, missing, process, pump, random_log, scheduler, tfpg_words, until
@@ -27,7 +28,7 @@ from tfpg.reading.texts import text_of
 
 import tfpg
 import tfpg.fleet
-from tfpg.fleet import spreading, tasks
+from tfpg.fleet import command, spreading, tasks
 from tfpg.fleet.results import Result
 
 VEHICLES = 10000 if LARGE else int(os.environ.get("TFPG_SLIPS", "200"))
@@ -343,6 +344,19 @@ class WithFolder(unittest.TestCase):
     def query(self, text):
         with contextlib.closing(sqlite3.connect(str(self.out / "summary.sqlite"))) as base:
             return base.execute(text).fetchall()
+
+
+class Results(WithFolder):
+    """What a run makes of results, whoever made these."""
+
+    def test_a_table_that_nobody_reads_to_its_end(self):
+        run = command.Run(command.parser().parse_args([PUMP, "car.log", "--out", str(self.out)]), pump(), {"car": Path("car.log")})
+        self.addCleanup(run.folder.close)
+        run.kept()
+        run.take(Result("car", 1, 1, log="sum", report="sum"))
+        with mock.patch("builtins.print", side_effect=BrokenPipeError), self.assertRaises(BrokenPipeError):
+            run.tell()
+        self.assertEqual(self.query("select vehicle from vehicles"), [("car",)])
 
 
 @unittest.skipIf(NEEDED, NEEDED)
