@@ -29,6 +29,7 @@ from tfpg.reading.texts import text_of
 import tfpg
 import tfpg.fleet
 from tfpg.fleet import command, spreading, tasks
+from tfpg.fleet.folder import Folder
 from tfpg.fleet.results import Result
 
 VEHICLES = 10000 if LARGE else int(os.environ.get("TFPG_SLIPS", "200"))
@@ -357,6 +358,20 @@ class Results(WithFolder):
         with mock.patch("builtins.print", side_effect=BrokenPipeError), self.assertRaises(BrokenPipeError):
             run.tell()
         self.assertEqual(self.query("select vehicle from vehicles"), [("car",)])
+
+    def test_a_report_that_is_not_whole_is_made_again(self):
+        report = b"report 2 k 2 doubt 0 budget 1000\n"
+        packed = gzip.compress(report)
+        made = Folder(self.out, {"k": 2}, resume=False)
+        made.begin([])
+        made.add(Result("car", log="sum", report=hashlib.sha256(report).hexdigest(), compressed=packed))
+        made.close()
+        resumed = Folder(self.out, {"k": 2}, resume=True)
+        for content in (packed, packed[:-9], b"", gzip.compress(report[:5]), b"no report"):
+            made.report("car").write_bytes(content)
+            self.assertEqual(resumed.kept("car", "sum", False) is not None, content == packed, content)
+        made.report("car").unlink()
+        self.assertIsNone(resumed.kept("car", "sum", False))
 
 
 @unittest.skipIf(NEEDED, NEEDED)
