@@ -18,7 +18,7 @@ from unittest import mock
 
 import engines
 from engines import LARGE, Redis, environment, folder, missing, process, random_log, tfpg_words, until
-from support import EXAMPLES, TOP
+from support import EXAMPLES, TOP, run
 
 import tfpg
 from tfpg.calls.taking import Taking
@@ -417,6 +417,17 @@ class WithoutServer(unittest.TestCase):
             for number, line in enumerate((b"5 tick", b"5 tick\n", b"5 tick\n\n"), 1):
                 part.take(Entry((number, 0), {b"vehicle": b"car", b"line": line}), Place(FIRST, number - 1))
         self.assertEqual(session.lines, [b"5 tick", b"5 tick", b"5 tick\n"])
+
+    def test_slips_in_a_url(self):
+        for url, said in (("redis://[::1", "Invalid IPv6 URL"), ("redis://store:abc", "'abc'"), ("redis://store?db=first", "`db`"),
+                          ("redis://store?nonsense=1", "'nonsense'"), ("http://store", "it begins with redis://")):
+            status, told = run("stream", PUMP, "--part", "0/1", "--redis", url)
+            self.assertEqual(status, 2)
+            self.assertRegex(told, f"^tfpg stream: --redis: .*{said}")
+        from tfpg.stream.connecting import fault_of_url
+
+        for url in ("redis://store:6379/1?socket_timeout=5", "rediss://store?ssl_ca_certs=FILE", "unix:///run/redis.sock?db=1"):
+            self.assertEqual(fault_of_url(url), "")
 
 
 @unittest.skipIf(NEEDED, NEEDED)
