@@ -6,6 +6,7 @@ TFPG_SLIPS says how many random vehicles there are, 200 if it says nothing. With
 
 import concurrent.futures
 import contextlib
+import errno
 import gzip
 import hashlib
 import json
@@ -30,6 +31,7 @@ import tfpg
 import tfpg.fleet
 from tfpg.fleet import command, spreading, tasks
 from tfpg.fleet.folder import Folder
+from tfpg.fleet.logs import logs_of
 from tfpg.fleet.results import Result
 
 VEHICLES = 10000 if LARGE else int(os.environ.get("TFPG_SLIPS", "200"))
@@ -372,6 +374,24 @@ class Results(WithFolder):
             self.assertEqual(resumed.kept("car", "sum", False) is not None, content == packed, content)
         made.report("car").unlink()
         self.assertIsNone(resumed.kept("car", "sum", False))
+
+
+class Words(WithFolder):
+    """Which logs words name. None is left out in silence."""
+
+    def test_a_folder_that_cannot_be_read(self):
+        written(self.place / "logs", {"open": b""})
+        closed = written(self.place / "logs" / "closed", {"lost": b""})
+        self.assertEqual(list(logs_of([str(self.place)])), ["lost", "open"])
+        scandir = os.scandir
+
+        def refuse(path="."):
+            if os.fspath(path) == str(closed):
+                raise PermissionError(errno.EACCES, "Permission denied", str(closed))
+            return scandir(path)
+
+        with mock.patch("os.scandir", refuse), self.assertRaisesRegex(PermissionError, "closed"):
+            logs_of([str(self.place)])
 
 
 @unittest.skipIf(NEEDED, NEEDED)
