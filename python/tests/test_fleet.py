@@ -393,6 +393,14 @@ class Words(WithFolder):
         with mock.patch("os.scandir", refuse), self.assertRaisesRegex(PermissionError, "closed"):
             logs_of([str(self.place)])
 
+    def test_a_list_with_a_name_that_is_no_utf_8(self):
+        place = written(self.place / os.fsdecode(b"caf\xe9"), {"car": b""})
+        given = self.place / "list"
+        given.write_bytes(os.fsencode(place / "car.log") + b"\n")
+        with open(given, encoding="utf-8") as stdin, mock.patch("sys.stdin", stdin):
+            self.assertEqual(logs_of(["-", f"@{given}", "-"]), {"car": place / "car.log"})
+        self.assertEqual(logs_of([f"@{given}"]), {"car": place / "car.log"})
+
 
 @unittest.skipIf(NEEDED, NEEDED)
 class Command(WithFolder):

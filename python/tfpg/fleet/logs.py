@@ -2,6 +2,7 @@
 
 from __future__ import annotations
 
+import io
 import os
 import sys
 from pathlib import Path
@@ -51,6 +52,7 @@ def logs_below(folder: str) -> Iterator[Path]:
 
 
 def lines_of_list(word: str) -> List[str]:
-    """The lines of a list that are not empty."""
-    text = sys.stdin.read() if word == "-" else Path(word[1:]).read_text(encoding="utf-8", errors="surrogateescape")
-    return [line for line in text.split("\n") if line]
+    """The lines of a list that are not empty. A name of a file may be no UTF-8."""
+    content = io.BytesIO(sys.stdin.buffer.read()) if word == "-" else open(word[1:], "rb")
+    with io.TextIOWrapper(content, encoding="utf-8", errors="surrogateescape") as file:
+        return [line for line in file.read().split("\n") if line]
