@@ -162,6 +162,13 @@ class Json(unittest.TestCase):
             "hypothesis": 5, "set": "RelayStuck", "failures": ["RelayStuck"], "doubts": [], "cost": 7, "alarmed": 2, "monitored": 2,
             "trace": {"RelayStuck": 2100150, "BusLow": 2100150, "PayloadOff": 2100800}}])
 
+    def test_lines_are_as_lint_has_them(self):
+        with files(graph=GRAPH, log=REPEATED + "200000 alarm " + 100 * "Low" + "\r\n\n1 tick\n"):
+            found, wanted = (json.loads(run(command, "--json", "graph", "log")[1]) for command in ("brief", "lint"))
+        self.assertEqual(len(found["refused"]), 3)
+        for key in ("graph", "log", "lines", "refused", "warnings"):
+            self.assertEqual(found[key], wanted[key])
+
     def test_nothing_and_warnings(self):
         with files(graph=GRAPH, log=REPEATED, empty=""):
             found, empty = (json.loads(run("brief", "--json", "graph", log)[1]) for log in ("log", "empty"))
