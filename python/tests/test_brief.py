@@ -246,6 +246,14 @@ class Words(unittest.TestCase):
         self.assertEqual(status, 1)
         self.assertIn("line 3: BadReport: it names what the graph does not declare, so it is of another graph", said)
 
+    def test_a_graph_without_a_mode(self):
+        report = ("report 2 k 0 doubt 0 budget 9\nround 1 1 5\nranked 0 cost 0 robust 1/1 set -\n"
+                  "counts ranked 1 covered 0 rejected 0 open 0\n")
+        with files(graph="tfpg 1\nMode Run\nend\n", log="5 tick\n", report=report):
+            for words in ([], ["--json"], ["--changes"]):
+                self.assertEqual(run("brief", *words, "graph", "log", "report"),
+                                 (1, "tfpg brief: the graph declares no mode, so it is none: `lint` says more\n"))
+
     def test_a_cause_that_is_none(self):
         report = (EXAMPLES / "pump.report").read_text().replace("refused 5 TimeBack 3300000", "refused 5 Banana")
         with files(report=report):
