@@ -246,6 +246,14 @@ class Words(unittest.TestCase):
         self.assertEqual(status, 1)
         self.assertIn("line 3: BadReport: it names what the graph does not declare, so it is of another graph", said)
 
+    def test_a_graph_without_a_mode(self):
+        report = ("report 2 k 0 doubt 0 budget 9\nround 1 1 5\nranked 0 cost 0 robust 1/1 set -\n"
+                  "counts ranked 1 covered 0 rejected 0 open 0\n")
+        with files(graph="tfpg 1\nMode Run\nend\n", log="5 tick\n", report=report):
+            for words in ([], ["--json"], ["--changes"]):
+                self.assertEqual(run("brief", *words, "graph", "log", "report"),
+                                 (1, "tfpg brief: the graph declares no mode, so it is none: `lint` says more\n"))
+
     def test_a_cause_that_is_none(self):
         report = (EXAMPLES / "pump.report").read_text().replace("refused 5 TimeBack 3300000", "refused 5 Banana")
         with files(report=report):
@@ -260,6 +268,15 @@ class Words(unittest.TestCase):
                 status, said = run("brief", str(EXAMPLES / "pump.tfpg"), str(EXAMPLES / "pump.log"), "report")
                 self.assertEqual(status, 0)
                 self.assertIn(f"  line 5, {cause.split(' ')[0]}: 3290000 tick\n    The line does not bear out this cause, so", said)
+
+    def test_a_cause_of_times_for_a_line_without_one(self):
+        for cause in ("TimeBack 5", "TimeTooLarge"):
+            report = ("report 2 k 0 doubt 0 budget 9\nround 1 1 5\nranked 0 cost 0 robust 1/1 set -\n"
+                      f"counts ranked 1 covered 0 rejected 0 open 0\nrefused 2 {cause}\n")
+            with self.subTest(cause=cause), files(log="5 tick\nx tick\n", report=report):
+                status, said = run("brief", str(EXAMPLES / "pump.tfpg"), "log", "report")
+                self.assertEqual(status, 0)
+                self.assertIn(f"  line 2, {cause.split(' ')[0]}: x tick\n    The line does not bear out this cause, so", said)
 
     def test_a_text_that_is_no_report(self):
         with files(report="report 2 k 2 doubt 0 budget 1000\nround 1 1 600000\n"):

@@ -1,7 +1,9 @@
 """What `brief` says first, its changes line by line, its JSON, and a fleet, each held by hand against the texts."""
 
 import json
+import os
 import unittest
+from pathlib import Path
 
 from support import EXAMPLES, files, run, text, unwrapped
 from tfpg.program import run_program
@@ -160,12 +162,46 @@ class Json(unittest.TestCase):
             "hypothesis": 5, "set": "RelayStuck", "failures": ["RelayStuck"], "doubts": [], "cost": 7, "alarmed": 2, "monitored": 2,
             "trace": {"RelayStuck": 2100150, "BusLow": 2100150, "PayloadOff": 2100800}}])
 
+    def test_lines_are_as_lint_has_them(self):
+        with files(graph=GRAPH, log=REPEATED + "200000 alarm " + 100 * "Low" + "\r\n\n1 tick\n"):
+            found, wanted = (json.loads(run(command, "--json", "graph", "log")[1]) for command in ("brief", "lint"))
+        self.assertEqual(len(found["refused"]), 3)
+        for key in ("graph", "log", "lines", "refused", "warnings"):
+            self.assertEqual(found[key], wanted[key])
+
     def test_nothing_and_warnings(self):
         with files(graph=GRAPH, log=REPEATED, empty=""):
             found, empty = (json.loads(run("brief", "--json", "graph", log)[1]) for log in ("log", "empty"))
         self.assertEqual((found["ranked"], found["nothing_since"], [(one["line"], one["cause"]) for one in found["warnings"]]),
                          ([], {"line": 2, "time": 160000}, [(2, "SecondAlarm")]))
         self.assertEqual((empty["round"], empty["lines"]), (None, 0))
+
+
+class Pipes(unittest.TestCase):
+    """A log and a report are read once, so that each may be a pipe."""
+
+    def piped(self, name):
+        """The name of a pipe with the content of a file."""
+        reads, writes = os.pipe()
+        self.addCleanup(os.close, reads)
+        os.write(writes, Path(name).read_bytes())
+        os.close(writes)
+        return f"/dev/fd/{reads}"
+
+    def said(self, *names):
+        status, said = run("brief", "--json", *names)
+        self.assertEqual(status, 0, said)
+        return {**json.loads(said), "log": ""}
+
+    def test_a_log_or_a_report(self):
+        graph, log, report = PUMP
+        self.assertEqual(self.said(graph, self.piped(log)), self.said(graph, log))
+        self.assertEqual(self.said(graph, log, self.piped(report)), self.said(*PUMP))
+
+    def test_a_stream_of_a_fleet(self):
+        with files(report=fleet_report(Path(FLEET[1]).read_text(), "north", "south", "east")):
+            self.assertEqual(self.said(FLEET[0], self.piped(FLEET[1]), "report"), self.said(*FLEET, "report"))
+            self.assertEqual(self.said(*FLEET, self.piped("report")), self.said(*FLEET, "report"))
 
 
 class Fleets(unittest.TestCase):

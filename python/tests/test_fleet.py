@@ -6,6 +6,7 @@ TFPG_SLIPS says how many random vehicles there are, 200 if it says nothing. With
 
 import concurrent.futures
 import contextlib
+import errno
 import gzip
 import hashlib
 import json
@@ -17,6 +18,7 @@ import subprocess
 import sys
 import unittest
 from pathlib import Path
+from unittest import mock
 
 import engines
 from engines import LARGE, dask_worker, environment, folder, missing, process, pump, random_log, scheduler, tfpg_words, until
@@ -27,7 +29,9 @@ from tfpg.reading.texts import text_of
 
 import tfpg
 import tfpg.fleet
-from tfpg.fleet import spreading, tasks
+from tfpg.fleet import command, spreading, tasks
+from tfpg.fleet.folder import Folder
+from tfpg.fleet.logs import logs_of
 from tfpg.fleet.results import Result
 
 VEHICLES = 10000 if LARGE else int(os.environ.get("TFPG_SLIPS", "200"))
@@ -343,6 +347,59 @@ class WithFolder(unittest.TestCase):
     def query(self, text):
         with contextlib.closing(sqlite3.connect(str(self.out / "summary.sqlite"))) as base:
             return base.execute(text).fetchall()
+
+
+class Results(WithFolder):
+    """What a run makes of results, whoever made these."""
+
+    def test_a_table_that_nobody_reads_to_its_end(self):
+        run = command.Run(command.parser().parse_args([PUMP, "car.log", "--out", str(self.out)]), pump(), {"car": Path("car.log")})
+        self.addCleanup(run.folder.close)
+        run.kept()
+        run.take(Result("car", 1, 1, log="sum", report="sum"))
+        with mock.patch("builtins.print", side_effect=BrokenPipeError), self.assertRaises(BrokenPipeError):
+            run.tell()
+        self.assertEqual(self.query("select vehicle from vehicles"), [("car",)])
+
+    def test_a_report_that_is_not_whole_is_made_again(self):
+        report = b"report 2 k 2 doubt 0 budget 1000\n"
+        packed = gzip.compress(report)
+        made = Folder(self.out, {"k": 2}, resume=False)
+        made.begin([])
+        made.add(Result("car", log="sum", report=hashlib.sha256(report).hexdigest(), compressed=packed))
+        made.close()
+        resumed = Folder(self.out, {"k": 2}, resume=True)
+        for content in (packed, packed[:-9], b"", gzip.compress(report[:5]), b"no report"):
+            made.report("car").write_bytes(content)
+            self.assertEqual(resumed.kept("car", "sum", False) is not None, content == packed, content)
+        made.report("car").unlink()
+        self.assertIsNone(resumed.kept("car", "sum", False))
+
+
+class Words(WithFolder):
+    """Which logs words name. None is left out in silence."""
+
+    def test_a_folder_that_cannot_be_read(self):
+        written(self.place / "logs", {"open": b""})
+        closed = written(self.place / "logs" / "closed", {"lost": b""})
+        self.assertEqual(list(logs_of([str(self.place)])), ["lost", "open"])
+        scandir = os.scandir
+
+        def refuse(path="."):
+            if os.fspath(path) == str(closed):
+                raise PermissionError(errno.EACCES, "Permission denied", str(closed))
+            return scandir(path)
+
+        with mock.patch("os.scandir", refuse), self.assertRaisesRegex(PermissionError, "closed"):
+            logs_of([str(self.place)])
+
+    def test_a_list_with_a_name_that_is_no_utf_8(self):
+        place = written(self.place / os.fsdecode(b"caf\xe9"), {"car": b""})
+        given = self.place / "list"
+        given.write_bytes(os.fsencode(place / "car.log") + b"\n")
+        with open(given, encoding="utf-8") as stdin, mock.patch("sys.stdin", stdin):
+            self.assertEqual(logs_of(["-", f"@{given}", "-"]), {"car": place / "car.log"})
+        self.assertEqual(logs_of([f"@{given}"]), {"car": place / "car.log"})
 
 
 @unittest.skipIf(NEEDED, NEEDED)

@@ -5,6 +5,7 @@ TFPG_SLIPS says how many random vehicles there are, 200 if it says nothing. With
 """
 
 import contextlib
+import importlib.util
 import json
 import os
 import random
@@ -13,12 +14,14 @@ import subprocess
 import sys
 import unittest
 from pathlib import Path
+from unittest import mock
 
 import engines
 from engines import LARGE, Redis, environment, folder, missing, process, random_log, tfpg_words, until
-from support import EXAMPLES, TOP
+from support import EXAMPLES, TOP, run
 
 import tfpg
+from tfpg.calls.taking import Taking
 
 VEHICLES = 10000 if LARGE else int(os.environ.get("TFPG_SLIPS", "200"))
 PUMP = str(EXAMPLES / "pump.tfpg")
@@ -28,6 +31,8 @@ NEEDED = missing("redis", "redis-server")
 if not NEEDED:
     import redis
     from tfpg.stream import Part, part_of, send
+
+HAS_REDIS = importlib.util.find_spec("redis") is not None
 
 
 def told(answer):
@@ -385,6 +390,44 @@ class Marks(WithRedis):
             fleet.work()
             said = [fields for _, fields in fleet.found()[0][0] if "refused" in fields]
             self.assertEqual(said, [{"vehicle": "car", "refused": "ModesFull"}] * (refused + (refused > 0)))
+
+
+class Taken(Taking):
+    """In place of a session: it keeps what it is given, and refuses it."""
+
+    def __init__(self):
+        self.lines = []
+
+    def _line(self, content):
+        self.lines.append(content)
+        return tfpg.Refused(len(self.lines), "BadLine", "", None, None, 0)
+
+
+@unittest.skipUnless(HAS_REDIS, "the module redis is missing")
+class WithoutServer(unittest.TestCase):
+    def test_one_line_end_is_taken_away(self):
+        """A second one is a byte of the line. A line that is taken without it would be kept with it, as one of another kind or node."""
+        from tfpg.stream import vehicles
+        from tfpg.stream.entries import FIRST, Entry, Place
+        from tfpg.stream.terms import StreamTerms
+
+        session = Taken()
+        with mock.patch.object(vehicles, "Session", lambda *_: session):
+            part = vehicles.Vehicles(tfpg.Graph.load(PUMP), StreamTerms(), {})
+            for number, line in enumerate((b"5 tick", b"5 tick\n", b"5 tick\n\n"), 1):
+                part.take(Entry((number, 0), {b"vehicle": b"car", b"line": line}), Place(FIRST, number - 1))
+        self.assertEqual(session.lines, [b"5 tick", b"5 tick", b"5 tick\n"])
+
+    def test_slips_in_a_url(self):
+        for url, said in (("redis://[::1", "Invalid IPv6 URL"), ("redis://store:abc", "'abc'"), ("redis://store?db=first", "`db`"),
+                          ("redis://store?nonsense=1", "'nonsense'"), ("http://store", "it begins with redis://")):
+            status, told = run("stream", PUMP, "--part", "0/1", "--redis", url)
+            self.assertEqual(status, 2)
+            self.assertRegex(told, f"^tfpg stream: --redis: .*{said}")
+        from tfpg.stream.connecting import fault_of_url
+
+        for url in ("redis://store:6379/1?socket_timeout=5", "rediss://store?ssl_ca_certs=FILE", "unix:///run/redis.sock?db=1"):
+            self.assertEqual(fault_of_url(url), "")
 
 
 @unittest.skipIf(NEEDED, NEEDED)

@@ -42,14 +42,19 @@ def terms_words(parser: argparse.ArgumentParser, said: argparse.Namespace) -> Li
 
 def subject_of(graph: str, log: str, report: Optional[str], terms: Sequence[str] = (), start: int = 0) -> Subject:
     """Reads the files. Without a report the library makes one, or the program, with these words for its terms."""
-    declared, lines = graph_of(read_text(graph)), lines_of(read_text(log))
-    said = diagnosed(graph, log, terms) if report is None else read_text(report)
+    return subject_in(graph, Path(log).read_bytes(), read_text(report) if report is not None else None, terms, start)
+
+
+def subject_in(graph: str, log: bytes, report: Optional[str], terms: Sequence[str] = (), start: int = 0) -> Subject:
+    """The same of the bytes of a log and the text of a report. So both are read once: each may be a pipe, and a log may grow meanwhile."""
+    declared, lines = graph_of(read_text(graph)), lines_of(text_of(log))
+    said = diagnosed(graph, log, terms) if report is None else report
     return Subject(declared, lines, read_report(said, declared), start)
 
 
-def diagnosed(graph: str, log: str, terms: Sequence[str]) -> str:
+def diagnosed(graph: str, log: bytes, terms: Sequence[str]) -> str:
     """The report of the library or the program, or NoReport with the line by which it ended."""
-    ended = diagnose_end(graph, Path(log).read_bytes(), terms)
+    ended = diagnose_end(graph, log, terms)
     if ended.status != 0:
         raise NoReport(ended.status, ended.line)
     return text_of(ended.output)

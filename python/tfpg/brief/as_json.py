@@ -9,6 +9,7 @@ from ..reading.reports import Ranked, Round
 from ..reading.sets import members_of
 from ..reading.spans import spans_at
 from ..reading.subjects import Subject
+from ..reading.texts import shown
 from .losses import refused_explanation, warnings_of
 from .ranking import empty_since
 
@@ -23,7 +24,8 @@ def brief_dict(subject: Subject) -> Dict[str, Any]:
 
 
 def _line_dict(subject: Subject, line: Optional[int], cause: str, explanation: Explanation) -> Dict[str, Any]:
-    return line_dict(line, cause, subject.line(line or 0), explanation)
+    """A line as `lint` has it, with its whole text."""
+    return line_dict(line, cause, None if line is None else shown(subject.lines[line - 1]), explanation)
 
 
 def _round_dict(subject: Subject, here: Round) -> Dict[str, Any]:

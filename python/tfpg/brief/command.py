@@ -6,9 +6,9 @@ import argparse
 import json
 import sys
 from pathlib import Path
-from typing import List, Optional, Sequence
+from typing import List, Sequence
 
-from ..inputs import add_files, add_terms, subject_of, terms_words
+from ..inputs import add_files, add_terms, subject_in, terms_words
 from ..program import LOST_LINES
 from ..reading.fleets import FleetAnswers, is_fleet, read_fleet
 from ..reading.graphs import graph_of
@@ -40,22 +40,16 @@ def brief(words: Sequence[str]) -> int:
     said = parser.parse_args(words)
     if said.json and said.why is not None:
         parser.error("--why has no JSON")
-    answers = _fleet(said)
-    if answers is None:
+    report = read_text(said.report) if said.report is not None else None
+    if report is None or not is_fleet(report):
         if said.vehicle is not None:
             parser.error("--vehicle is of the answers of a fleet, and REPORT is none")
-        subject = subject_of(said.graph, said.log, said.report, terms_words(parser, said), said.start)
-        return _told(said, subject, Path(said.log).name)
+        terms = terms_words(parser, said)
+        return _told(said, subject_in(said.graph, Path(said.log).read_bytes(), report, terms, said.start), Path(said.log).name)
     terms_words(parser, said)
     if said.vehicle is None and (said.why is not None or said.changes):
         parser.error("--why and --changes are of one vehicle of a fleet: say --vehicle NAME")
-    return _told_fleet(said, answers)
-
-
-def _fleet(said: argparse.Namespace) -> Optional[FleetAnswers]:
-    """The answers of a fleet, if the report is those."""
-    text = read_text(said.report) if said.report is not None else ""
-    return read_fleet(text, lines_of(read_text(said.log))) if is_fleet(text) else None
+    return _told_fleet(said, report)
 
 
 def _told(said: argparse.Namespace, subject: Subject, log: str) -> int:
@@ -90,9 +84,10 @@ def _tell_changes(said: argparse.Namespace, subject: Subject) -> None:
         print(json.dumps(change.to_dict(subject)) if said.json else change.line(subject))
 
 
-def _told_fleet(said: argparse.Namespace, answers: FleetAnswers) -> int:
+def _told_fleet(said: argparse.Namespace, report: str) -> int:
     """Tells a fleet, or one vehicle of it."""
     graph, stream = graph_of(read_text(said.graph)), lines_of(read_text(said.log))
+    answers = read_fleet(report, stream)
     if said.vehicle is not None:
         if said.vehicle not in answers.vehicles:
             raise BadText(0, f"the fleet has no vehicle {said.vehicle}; it has {', '.join(answers.vehicles)}")

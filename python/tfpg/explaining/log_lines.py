@@ -134,8 +134,8 @@ def _too_long(here: RefusedLine) -> Explanation:
 BEARS: Dict[str, Callable[[RefusedLine], bool]] = {
     "BadLine": lambda here: len(here.words) < 2 or "" in here.texts or COUNTS.get(here.texts[1]) != len(here.words),
     "BadNumber": lambda here: not is_number(here.texts[0]),
-    "TimeTooLarge": lambda here: number_of(here.texts[0]) > MOST_TIME,
-    "TimeBack": lambda here: here.time is not None and number_of(here.texts[0]) < here.time,
+    "TimeTooLarge": lambda here: is_number(here.texts[0]) and number_of(here.texts[0]) > MOST_TIME,
+    "TimeBack": lambda here: here.time is not None and is_number(here.texts[0]) and number_of(here.texts[0]) < here.time,
     "UnknownName": lambda here: here.texts[2] not in here.graph.number_of,
     "NotMonitored": lambda here: here.graph.node(here.texts[2]).lags is None,
     "NotAMode": lambda here: here.texts[2] not in here.graph.modes,

@@ -145,14 +145,14 @@ class Run:
             self.summary.add(self.folder.add(result) if self.folder is not None else {**result.to_dict(), **self.terms})
 
     def tell(self) -> int:
-        """Writes the table, and returns the status."""
+        """Stores the summary, writes the table, which nobody may read to its end, and returns the status."""
         most = len(self.logs) + 1 if self.said.all else ROWS
-        for line in json_lines(self.summary) if self.said.json else table_lines(self.summary, most):
-            print(line)
+        lines = list(json_lines(self.summary) if self.said.json else table_lines(self.summary, most))
         try:
             self.summary.close()
         except sqlite3.OperationalError as fault:
-            return told(f"{self.said.out}: {fault}; {self.left()}", NOT_WRITTEN)
+            self.status = told(f"{self.said.out}: {fault}; {self.left()}", NOT_WRITTEN)
+        print(*lines, sep="\n")
         return self.status
 
 

@@ -5,8 +5,11 @@ A report is there whole or not at all, and its line is written after it. So what
 from __future__ import annotations
 
 import contextlib
+import gzip
+import hashlib
 import json
 import os
+import zlib
 from pathlib import Path
 from typing import Any, Dict, IO, List, Optional
 
@@ -31,11 +34,13 @@ class Folder:
         self.lines: Optional[IO[str]] = None
 
     def kept(self, vehicle: str, log: str, checked: bool) -> Optional[Dict[str, Any]]:
-        """The line of a vehicle that need not be diagnosed again: one of the same log and terms, without a fault, whose report is there."""
+        """The line of a vehicle that need not be diagnosed again: one of the same log and terms, without a fault, whose report is there and
+        whole, which a loss of power does not promise."""
         line = self.before.get(vehicle)
         if line is None or line.get("log") != log or line.get("fault") or any(line.get(name) != term for name, term in self.terms.items()):
             return None
-        return line if (line.get("checked") is not None or not checked) and self.report(vehicle).is_file() else None
+        is_checked = line.get("checked") is not None or not checked
+        return line if is_checked and sum_of_report(self.report(vehicle)) == line.get("report") else None
 
     def begin(self, lines: List[Dict[str, Any]]) -> None:
         """Begins the summary anew, with these lines."""
@@ -71,6 +76,18 @@ class Folder:
         if self.lines is not None:
             with contextlib.suppress(OSError):
                 self.lines.close()
+
+
+def sum_of_report(path: Path) -> str:
+    """The SHA-256 sum of a packed report, or nothing if the file is absent or does not unpack."""
+    found = hashlib.sha256()
+    try:
+        with gzip.open(path) as file:
+            for content in iter(lambda: file.read(1 << 20), b""):
+                found.update(content)
+    except (OSError, EOFError, zlib.error):
+        return ""
+    return found.hexdigest()
 
 
 def read_lines(path: Path) -> Dict[str, Dict[str, Any]]:

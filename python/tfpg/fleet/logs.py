@@ -2,6 +2,8 @@
 
 from __future__ import annotations
 
+import io
+import os
 import sys
 from pathlib import Path
 from typing import Dict, Iterator, List, Sequence
@@ -35,12 +37,22 @@ def files_of(words: Sequence[str]) -> Iterator[Path]:
         if word == "-" or word.startswith("@"):
             yield from files_of(["./" + line if line.startswith(("@", "-")) else line for line in lines_of_list(word)])
         elif Path(word).is_dir():
-            yield from sorted(path for path in Path(word).rglob("*" + SUFFIX) if path.is_file())
+            yield from sorted(logs_below(word))
         else:
             yield Path(word)
 
 
+def logs_below(folder: str) -> Iterator[Path]:
+    """The files below a folder that end in `.log`. OSError for a folder that cannot be read: its vehicles would be lost in silence."""
+    def fail(fault: OSError) -> None:
+        raise fault
+
+    for place, _, names in os.walk(folder, onerror=fail):
+        yield from (path for path in (Path(place, name) for name in names if name.endswith(SUFFIX)) if path.is_file())
+
+
 def lines_of_list(word: str) -> List[str]:
-    """The lines of a list that are not empty."""
-    text = sys.stdin.read() if word == "-" else Path(word[1:]).read_text(encoding="utf-8", errors="surrogateescape")
-    return [line for line in text.split("\n") if line]
+    """The lines of a list that are not empty. A name of a file may be no UTF-8."""
+    content = io.BytesIO(sys.stdin.buffer.read()) if word == "-" else open(word[1:], "rb")
+    with io.TextIOWrapper(content, encoding="utf-8", errors="surrogateescape") as file:
+        return [line for line in file.read().split("\n") if line]

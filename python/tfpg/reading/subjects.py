@@ -18,6 +18,8 @@ class Subject:
 
     def __init__(self, graph: DeclaredGraph, lines: Sequence[str], report: Report, start: int = 0) -> None:
         self.graph, self.lines, self.report, self.start = graph, list(lines), report, start
+        if not graph.modes:
+            raise BadText(0, "the graph declares no mode, so it is none: `lint` says more")
         if [block.line for block in report.blocks] != list(range(1, len(lines) + 1)):
             raise BadText(1, f"the report has {len(report.blocks)} blocks, and the log {len(lines)} lines: it is of another log")
         self.rounds: List[Round] = report.rounds

@@ -26,11 +26,16 @@ def password_of(file: Optional[str]) -> Optional[str]:
 
 def fault_of_url(url: str) -> str:
     """What is wrong with the words of a URL, or nothing."""
-    said = urlsplit(url)
-    if said.scheme not in ("redis", "rediss", "unix"):
-        return "it begins with redis://, rediss:// or unix://"
-    if said.password is not None or "password" in parse_qs(said.query):
-        return f"a password is not given in the words, which others can read: set {VARIABLE}, or name a file with --password-file"
+    try:
+        said = urlsplit(url)
+        if said.scheme not in ("redis", "rediss", "unix"):
+            return "it begins with redis://, rediss:// or unix://"
+        if said.password is not None or "password" in parse_qs(said.query):
+            return f"a password is not given in the words, which others can read: set {VARIABLE}, or name a file with --password-file"
+        pool: Any = redis.ConnectionPool.from_url(url)
+        pool.make_connection()  # which reaches no server
+    except (ValueError, TypeError, redis.RedisError) as fault:
+        return f"it is no URL of Redis: {fault}"
     return ""
 
 

@@ -123,11 +123,11 @@ class Vehicles:
         vehicle = self.awake[name]
         if vehicle.is_over:
             return Said(one, {"vehicle": name, "refused": MODES_FULL}, None)
-        answer = vehicle.session.line(line)
+        answer = vehicle.session._line(line)
         if has_full_modes(answer) and len(vehicle.kept) < vehicle.events:
             self._lay(before, name)
             vehicle = self.awake[name] = self._woken(self.resting.pop(name), before)
-            answer = vehicle.session.line(line)
+            answer = vehicle.session._line(line)
         vehicle.is_over = has_full_modes(answer)
         said = Said(one, self._change(name, vehicle, answer), self._block(name, vehicle))
         if isinstance(answer, Round):
@@ -140,7 +140,7 @@ class Vehicles:
         session = Session(self.graph, terms.k, terms.doubt, terms.budget, terms.origin)
         vehicle = Vehicle(session, mark.told, before, session.head if self.blocks else "", is_over=mark.is_over)
         for line in mark.lines:
-            if isinstance(session.line(line), Refused):
+            if isinstance(session._line(line), Refused):
                 raise StreamFault(f"a line that was accepted is refused by a new session: {line!r}")
             vehicle.accept(line)
             vehicle.text += session.block if self.blocks else ""

@@ -11,7 +11,7 @@ from ..explaining.forms import quoted
 from ..reading.graphs import DeclaredGraph
 from ..reading.logs import Event, EventLog
 from ..reading.reports import Refused
-from ..reading.texts import number_of, words_of
+from ..reading.texts import is_number, number_of, words_of
 from ..reading.ways import least_ways
 from ..saying.times import DAY, duration_words
 
@@ -134,7 +134,8 @@ def _ends(times: Sequence[int]) -> List[Tuple[int, int, int]]:
 def _lost_lines(logged: LoggedGraph, last: Event) -> Iterator[Warned]:
     """The last event, if all lines after it are refused since its time is later, and come in order without it."""
     after = [one for one in logged.refused if one.line > last.line]
-    times = [number_of(logged.lines[one.line - 1].split(" ")[0]) for one in after if one.cause == "TimeBack"]
+    words = [logged.lines[one.line - 1].split(" ")[0] for one in after if one.cause == "TimeBack"]
+    times = [number_of(word) for word in words if is_number(word)]
     before = next((event.time for event in reversed(logged.log.events) if event.time < last.time), 0)
     if len(times) > MOST_LOST and len(times) == len(after) and times == sorted(times) and times[0] >= before:
         sentence = f"The {len(times):,} lines after it are refused for its time, and come in order without it."
