@@ -22,7 +22,7 @@ from unittest import mock
 
 import engines
 from engines import LARGE, dask_worker, environment, folder, missing, process, pump, random_log, scheduler, tfpg_words, until
-from support import EXAMPLES, TOP
+from support import EXAMPLES, TOP, run
 from tfpg.program import run_program
 from tfpg.reading import reports
 from tfpg.reading.texts import text_of
@@ -378,6 +378,11 @@ class Results(WithFolder):
 
 class Words(WithFolder):
     """Which logs words name. None is left out in silence."""
+
+    def test_what_is_resumed_is_a_folder(self):
+        for more in ([], ["--out", ""]):
+            status, said = run("fleet", PUMP, str(self.place), "--resume", *more)
+            self.assertEqual((status, said.splitlines()[-1]), (2, "tfpg fleet: error: --resume goes on with a folder: say --out FOLDER"))
 
     def test_a_folder_that_cannot_be_read(self):
         written(self.place / "logs", {"open": b""})
