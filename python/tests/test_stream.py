@@ -18,7 +18,7 @@ from unittest import mock
 
 import engines
 from engines import LARGE, Redis, environment, folder, missing, process, random_log, tfpg_words, until
-from support import EXAMPLES, TOP, run
+from support import EXAMPLES, TOP, files, run
 
 import tfpg
 from tfpg.calls.taking import Taking
@@ -417,6 +417,20 @@ class WithoutServer(unittest.TestCase):
             for number, line in enumerate((b"5 tick", b"5 tick\n", b"5 tick\n\n"), 1):
                 part.take(Entry((number, 0), {b"vehicle": b"car", b"line": line}), Place(FIRST, number - 1))
         self.assertEqual(session.lines, [b"5 tick", b"5 tick", b"5 tick\n"])
+
+    def test_a_password_that_is_none(self):
+        """What cannot be read, or is empty, is refused before any server is asked."""
+        words = ["stream", PUMP, "--part", "0/1", "--redis", "redis://127.0.0.1:1"]
+        with files(empty="", blank="\nsesame\n", noise=b"\xff\xfe\n"):
+            for name, said in (("gone", "gone: No such file or directory"), (".", ".: Is a directory"), ("noise", "noise is no UTF-8"),
+                               ("empty", "empty has an empty first line, and so no password"), ("blank", "blank has an empty first line")):
+                with self.subTest(name=name):
+                    status, told = run(*words, "--password-file", name)
+                    self.assertEqual(status, 2)
+                    self.assertTrue(told.startswith(f"tfpg stream: --password-file: {said}"), told)
+        for value, said in (("", "is empty, and so no password"), (os.fsdecode(b"\xff"), "is no UTF-8")):
+            with mock.patch.dict(os.environ, {"TFPG_REDIS_PASSWORD": value}):
+                self.assertEqual(run(*words), (2, f"tfpg stream: TFPG_REDIS_PASSWORD {said}\n"))
 
     def test_slips_in_a_url(self):
         for url, said in (("redis://[::1", "Invalid IPv6 URL"), ("redis://store:abc", "'abc'"), ("redis://store?db=first", "`db`"),

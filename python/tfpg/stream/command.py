@@ -15,7 +15,7 @@ from ..calls.graph import Graph
 from ..calls.session import Session
 from ..faults import BadGraph, Error, NoProgram, OutOfRange, TooManyHypotheses
 from ..limits import MOST_EVENTS, OPTIONS
-from .connecting import connected, fault_of_url, password_of
+from .connecting import BadPassword, connected, fault_of_url, password_of
 from .faults import NoStore, StreamFault
 from .parts import NAME, Part
 from .terms import SPAN, StreamTerms
@@ -39,7 +39,11 @@ def stream(words: Sequence[str]) -> int:
     if wrong:
         print(f"tfpg stream: --redis: {wrong}", file=sys.stderr)
         return BAD_WORDS
-    part, password = Part(said.part[0], said.part[1], said.name), password_of(said.password_file)
+    try:
+        part, password = Part(said.part[0], said.part[1], said.name), password_of(said.password_file)
+    except BadPassword as fault:
+        print(f"tfpg stream: {fault}", file=sys.stderr)
+        return BAD_WORDS
     terms = StreamTerms(said.k, said.doubt, said.budget, said.origin, said.events, said.span)
     try:
         graph = Graph.load(said.graph)
