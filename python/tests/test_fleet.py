@@ -375,6 +375,12 @@ class Results(WithFolder):
         made.report("car").unlink()
         self.assertIsNone(resumed.kept("car", "sum", False))
 
+    def test_a_summary_that_is_damaged(self):
+        """A line that is none says nothing, also if it is no UTF-8, as what a disk has after a loss of power."""
+        self.out.mkdir()
+        (self.out / "summary.jsonl").write_bytes(b'{"vehicle": "car"}\n\xff\xfe\0\n{"vehicle": "van"}\n')
+        self.assertEqual(set(Folder(self.out, {}, resume=True).before), {"car", "van"})
+
 
 class Words(WithFolder):
     """Which logs words name. None is left out in silence."""
