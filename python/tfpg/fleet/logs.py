@@ -19,6 +19,8 @@ def logs_of(words: Sequence[str]) -> Dict[str, Path]:
     """The logs by the names of their vehicles. A vehicle has the name of its file without `.log`."""
     found: Dict[str, Path] = {}
     for path in files_of(words):
+        if "\0" in str(path):
+            raise BadLogs(f"no file has such a name: {str(path)[:64]!r}; a list has one name in each line")
         vehicle = path.name[:-len(SUFFIX)] if path.name.endswith(SUFFIX) and path.name != SUFFIX else path.name
         if vehicle.encode("utf-8", "replace") != vehicle.encode("utf-8", "surrogateescape"):
             raise BadLogs(f"the name of this file is no UTF-8, so that no vehicle can have it: {vehicle!r}")
