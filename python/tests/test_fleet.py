@@ -382,6 +382,16 @@ class Results(WithFolder):
         self.assertEqual(set(Folder(self.out, {}, resume=True).before), {"car", "van"})
 
 
+class Lost(unittest.TestCase):
+    def test_a_judge_that_ended_by_itself(self):
+        """As where memory ran out: it is a process that a worker began."""
+        bundle = tasks.Bundle((("car", b"5 tick\n"),), spreading.Terms(), True)
+        with mock.patch.object(tasks.sys, "executable", "/bin/false"), concurrent.futures.ThreadPoolExecutor(1) as executor:
+            future = executor.submit(tasks.judged_elsewhere, b"", bundle.logs, [])
+            with self.assertRaisesRegex(tfpg.fleet.WorkersLost, "a worker process ended by itself; not done are car and all"):
+                spreading.answer_of(future, bundle)
+
+
 class Words(WithFolder):
     """Which logs words name. None is left out in silence."""
 
