@@ -9,6 +9,7 @@ from ctypes import c_uint32
 from operator import index as whole
 from typing import Dict, Optional, SupportsIndex, Tuple, Union
 
+from ..faults import SessionClosed
 from .answers import Answered, Refused, Round
 from .endings import About, Terms, fault_of
 from .graph import Graph
@@ -188,6 +189,11 @@ class Session(Taking):
         """Why a line was refused."""
         text = line_text(given) if isinstance(given, bytes) else event_text(*given)
         return Refused(line, cause, text, last, self.graph.declared, self.origin)
+
+    def _need_open(self) -> None:
+        """Raises SessionClosed if the session is closed."""
+        if not self._handle.is_open:
+            raise SessionClosed("the session is closed")
 
     def _done(self, answer: Answer) -> None:
         if answer.status != Status.DONE:
