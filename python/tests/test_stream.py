@@ -418,6 +418,17 @@ class WithoutServer(unittest.TestCase):
                 part.take(Entry((number, 0), {b"vehicle": b"car", b"line": line}), Place(FIRST, number - 1))
         self.assertEqual(session.lines, [b"5 tick", b"5 tick", b"5 tick\n"])
 
+    def test_what_is_sent_are_bytes(self):
+        """Names and lines that are no UTF-8 too. The part of a vehicle is that of its bytes."""
+        from tfpg.stream import Part, part_of, send
+
+        for vehicle, line in (("car", "5 tick"), ("caf\udce9", "5 alarm \udcff"), ("\ud800", "5 alarm \ud800"), (b"caf\xe9", b"5 tick")):
+            client = mock.Mock()
+            send(client, vehicle, line, 8)
+            (key, fields), _ = client.xadd.call_args
+            self.assertEqual({type(text) for text in fields.values()}, {bytes})
+            self.assertEqual(key, Part(part_of(fields["vehicle"], 8), 8).lines)
+
     def test_a_password_that_is_none(self):
         """What cannot be read, or is empty, is refused before any server is asked."""
         words = ["stream", PUMP, "--part", "0/1", "--redis", "redis://127.0.0.1:1"]

@@ -8,6 +8,7 @@ from typing import List, NamedTuple, Optional, SupportsIndex, Tuple
 
 from ..faults import LogFull
 from ..limits import MOST_CHANGES
+from ..reading.texts import bytes_in
 from .answers import Answered, Refused, Round
 from .graph import Graph
 from .kept_lines import KeptLines
@@ -99,7 +100,7 @@ class RenewingSession(Taking):
 
     def event(self, time: SupportsIndex, kind: Kind, name: str = "") -> Answered:
         """Takes an event as `Session.event` does, with `time` in milliseconds, `kind` and `name`, but as a line."""
-        return self._line(event_text(time, kind, name).encode("utf-8", "surrogateescape"))
+        return self._line(bytes_in(event_text(time, kind, name)))
 
     def _line(self, content: bytes) -> Answered:
         return self._turns.take(self._take, content)

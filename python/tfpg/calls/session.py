@@ -10,6 +10,7 @@ from operator import index as whole
 from typing import Dict, Optional, SupportsIndex, Tuple, Union
 
 from ..faults import SessionClosed
+from ..reading.texts import bytes_in
 from .answers import Answered, Refused, Round
 from .endings import About, Terms, fault_of
 from .graph import Graph
@@ -134,7 +135,7 @@ class Session(Taking):
         at = whole(time)
         since, event = at - self.origin, self._events.get((kind, name)) or self._found(kind, name)
         if event is None or not 0 <= since <= MOST_OF_C:
-            return self._line(event_text(at, kind, name).encode("utf-8", "surrogateescape"))
+            return self._line(bytes_in(event_text(at, kind, name)))
         return self._turns.take(self._take_event, since, event, (at, kind, name))
 
     def _line(self, content: bytes) -> Answered:
