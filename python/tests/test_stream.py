@@ -45,6 +45,26 @@ def told(answer):
     return {"ranking": {"counts": counts, "now": answer.now, "ranked": sets}}
 
 
+# A worker that is told to stop where it comes to a call. It reads ten lines at once again.
+TOLD = """
+import os, signal, sys
+from tfpg.stream import command, entries, worker
+
+*module, name = sys.argv[1].split(".")
+owner = {"command": command, "worker": worker}[module[0]]
+owner = getattr(owner, module[1]) if module[1:] else owner
+call = getattr(owner, name)
+
+def told(*words):
+    os.kill(os.getpid(), signal.SIGTERM)
+    return call(*words)
+
+setattr(owner, name, told)
+entries.PAGE = 10
+sys.exit(command.stream(sys.argv[3:]))
+"""
+
+
 class Fleet:
     """Lines of vehicles, sent in a random order, and what has to come of them by one session for each vehicle."""
 
@@ -166,6 +186,34 @@ class Lines(WithRedis):
         fleet.send()
         fleet.work()
         self.hold(fleet)
+
+    def test_a_worker_that_is_told_to_stop_while_it_begins(self):
+        """By a signal that comes while it opens its first session, while it asks for its group, and while it feeds lines again."""
+        fleet = Fleet(self.client, 1, seed=22)
+        fleet.send(60)
+        fleet.work()
+        for place, again in (("command.Session", None), ("worker.Worker.hold_terms", 0), ("worker.Worker.feed", 10)):
+            with self.subTest(place=place):
+                ended = subprocess.run([sys.executable, "-c", TOLD, place, *fleet.words(0)], env=environment(), stdout=subprocess.PIPE,
+                                       stderr=subprocess.PIPE, text=True, timeout=300, check=False)
+                said = "" if again is None else f"tfpg stream: {Part(0, 1).lines}: {again} lines were read again\n"
+                self.assertEqual((ended.returncode, ended.stdout, ended.stderr), (0, "", said))
+        fleet.send()
+        fleet.work()
+        self.hold(fleet)
+
+    def test_a_worker_that_is_told_to_stop_while_it_waits(self):
+        """For the first line, and for a server that does not answer, also where its patience ends meanwhile."""
+        fleet = Fleet(self.client, 1, seed=23)
+        with process(tfpg_words(*fleet.words(0)), stderr=subprocess.PIPE) as worker:
+            self.assertEqual(worker.stderr.readline(), f"tfpg stream: {Part(0, 1).lines}: 0 lines were read again\n")
+            worker.send_signal(signal.SIGTERM)
+            self.assertEqual((worker.communicate(timeout=300)[1], worker.returncode), ("", 0))
+        self.redis.kill()
+        place = "command.connected"
+        ended = subprocess.run([sys.executable, "-c", TOLD, place, *fleet.words(0, "--patience", 0)], env=environment(),
+                               stderr=subprocess.PIPE, text=True, timeout=300, check=False)
+        self.assertEqual((ended.returncode, ended.stderr), (0, ""))
 
     def test_an_entry_without_a_field_is_said(self):
         self.client.xadd(Part(0, 1).lines, {"vehicle": "car1"})

@@ -22,7 +22,7 @@ class BadPassword(Exception):
 
 
 def password_of(file: Optional[str]) -> Optional[str]:
-    """The password: the first line of the file, or else the variable of the environment, or none. BadPassword says what is wrong with it."""
+    """The password: the first line of the file, or else the variable of the environment, or none. BadPassword says what is wrong."""
     named = VARIABLE if file is None else f"--password-file: {file}"
     try:
         found = os.environ.get(VARIABLE) if file is None else Path(file).read_text(encoding="utf-8").split("\n", 1)[0]
