@@ -355,6 +355,26 @@ class Gaps(WithRedis):
         self.assertRegex(said, "has lost 5 lines before they were read")
         self.assertEqual(fleet.found(), before)
 
+    def test_a_group_that_was_removed(self):
+        """Under a worker that has taken lines, under one that waits for its first line, and while one begins."""
+        from tfpg.stream.entries import FIRST, Lines, Place
+        from tfpg.stream.faults import MissingLines
+
+        for count in (50, 0):
+            fleet = Fleet(self.client, 1, seed=21, name=f"group{count}")
+            fleet.send(count)
+            lines = Part(0, 1, fleet.name).lines
+            with self.subTest(count=count), process(tfpg_words(*fleet.words(0)), stderr=subprocess.PIPE) as worker:
+                self.assertRegex(worker.stderr.readline(), "0 lines were read again")
+                changes, _ = fleet.wanted()
+                until(lambda: fleet.found()[0] == changes and not self.client.xpending(lines, "tfpg")["pending"], "all is done")
+                self.client.xgroup_destroy(lines, "tfpg")
+                said = worker.communicate(timeout=300)[1]
+                self.assertEqual(worker.returncode, 1)
+                self.assertEqual(said, f"tfpg stream: {lines} has no group of workers `tfpg` any more: somebody removed it\n")
+        with self.assertRaisesRegex(MissingLines, "has no group of workers"):
+            Lines(self.client, Part(0, 1, "group50"), Place(FIRST, 0)).taken()
+
     def test_a_line_that_was_deleted(self):
         fleet = Fleet(self.client, 1, seed=11)
         fleet.send(50)
