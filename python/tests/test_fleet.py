@@ -418,8 +418,8 @@ class Words(WithFolder):
         """As `find -print0` writes it."""
         (self.place / "list").write_bytes(b"one.log\0other.log\0")
         status, said = run("fleet", PUMP, f"@{self.place / 'list'}")
-        self.assertEqual((status, said), (2, "tfpg fleet: no file has such a name: 'one.log\\x00other.log\\x00'; a list has one name in each "
-                                          "line\n"))
+        self.assertEqual(status, 2)
+        self.assertEqual(said, "tfpg fleet: no file has such a name: 'one.log\\x00other.log\\x00'; a list has one name in each line\n")
 
     def test_a_list_with_a_name_that_is_no_utf_8(self):
         place = written(self.place / os.fsdecode(b"caf\xe9"), {"car": b""})
