@@ -238,6 +238,18 @@ class Words(unittest.TestCase):
         self.assertEqual(status, 1)
         self.assertIn("tfpg brief: line 2: the report has another time for this line: it is of another log", said)
 
+    def test_more_digits_than_python_reads(self):
+        """In a line for which a report has a round, and in the counts of a fleet."""
+        number = "1" * 5000
+        report = ("report 2 k 0 doubt 0 budget 9\nround 1 1 5\nranked 0 cost 0 robust 1/1 set -\n"
+                  "counts ranked 1 covered 0 rejected 0 open 0\n")
+        fleet = f"vehicle north\nreport 2 k 0 doubt 0 budget 9\nmode FilterClogged vehicles {number}\n"
+        with files(log=f"{number} tick\n", report=report, empty="", fleet=fleet):
+            self.assertEqual(run("brief", str(EXAMPLES / "pump.tfpg"), "log", "report"),
+                             (1, "tfpg brief: line 1: the report has another time for this line: it is of another log\n"))
+            self.assertEqual(run("brief", str(EXAMPLES / "pump.tfpg"), "empty", "fleet"),
+                             (1, "tfpg brief: line 3: the fleet has more answers than the stream has lines, 0: it is of another stream\n"))
+
     def test_a_report_of_another_graph(self):
         report = ("report 2 k 1 doubt 0 budget 9\nround 1 1 5\nranked 1 cost 1 robust 1/1 set Nobody\n"
                   "counts ranked 1 covered 0 rejected 0 open 0\n")

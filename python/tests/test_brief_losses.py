@@ -155,7 +155,7 @@ class Json(unittest.TestCase):
             "sentence": "`ChargeLow` has no monitor: line 19 of the graph declares it as hidden.",
             "hints": ["The nodes with a monitor: ArrayLow, BatteryLow, BusLow, PayloadOff, RadioOff."]}])
         self.assertEqual({key: found[key] for key in found if key not in ("refused", "ranked")}, {
-            "graph": "satellite.tfpg", "log": "satellite-relay.log", "k": 2, "doubt": 0, "budget": 1000, "lines": 11, "warnings": [],
+            "graph": RELAY[0], "log": RELAY[1], "k": 2, "doubt": 0, "budget": 1000, "lines": 11, "warnings": [],
             "round": 10, "line": 11, "text": "5400000 tick", "now": 5400000, "mode": "Saving", "open": [], "rejected": [],
             "counts": {"ranked": 1, "covered": 5, "rejected": 16, "open": 0}, "nothing_since": None})
         self.assertEqual(found["ranked"], [{
@@ -164,8 +164,10 @@ class Json(unittest.TestCase):
 
     def test_lines_are_as_lint_has_them(self):
         with files(graph=GRAPH, log=REPEATED + "200000 alarm " + 100 * "Low" + "\r\n\n1 tick\n"):
-            found, wanted = (json.loads(run(command, "--json", "graph", "log")[1]) for command in ("brief", "lint"))
-        self.assertEqual(len(found["refused"]), 3)
+            Path("elsewhere").mkdir()
+            Path("log").rename("elsewhere/log")
+            found, wanted = (json.loads(run(command, "--json", "./graph", "elsewhere/log")[1]) for command in ("brief", "lint"))
+        self.assertEqual((len(found["refused"]), found["log"]), (3, "elsewhere/log"))
         for key in ("graph", "log", "lines", "refused", "warnings"):
             self.assertEqual(found[key], wanted[key])
 
@@ -234,7 +236,9 @@ class Fleets(unittest.TestCase):
         self.assertIn("Why not LevelWiring?", self.brief("--vehicle", "north", "--why", "LevelWiring")[1])
 
     def test_as_json(self):
+        self.assertEqual(json.loads(self.brief("--json", "--vehicle", "east")[1])["log"], "east of pumps.log")
         found = json.loads(self.brief("--json")[1])
+        self.assertEqual((found["graph"], found["log"]), (FLEET[0], "pumps.log"))
         self.assertEqual([(one["vehicle"], one["stream_lines"], [ranked["set"] for ranked in one["ranked"]], len(one["refused"]))
                           for one in found["vehicles"]],
                          [("east", [3, 6, 9, 10], ["ValveStuck"], 1), ("north", [1, 4, 8], ["FilterClogged", "ValveStuck",

@@ -22,7 +22,7 @@ from unittest import mock
 
 import engines
 from engines import LARGE, dask_worker, environment, folder, missing, process, pump, random_log, scheduler, tfpg_words, until
-from support import EXAMPLES, TOP
+from support import EXAMPLES, TOP, run
 from tfpg.program import run_program
 from tfpg.reading import reports
 from tfpg.reading.texts import text_of
@@ -375,9 +375,30 @@ class Results(WithFolder):
         made.report("car").unlink()
         self.assertIsNone(resumed.kept("car", "sum", False))
 
+    def test_a_summary_that_is_damaged(self):
+        """A line that is none says nothing, also if it is no UTF-8, as what a disk has after a loss of power."""
+        self.out.mkdir()
+        (self.out / "summary.jsonl").write_bytes(b'{"vehicle": "car"}\n\xff\xfe\0\n{"vehicle": "van"}\n')
+        self.assertEqual(set(Folder(self.out, {}, resume=True).before), {"car", "van"})
+
+
+class Lost(unittest.TestCase):
+    def test_a_judge_that_ended_by_itself(self):
+        """As where memory ran out: it is a process that a worker began."""
+        bundle = tasks.Bundle((("car", b"5 tick\n"),), spreading.Terms(), True)
+        with mock.patch.object(tasks.sys, "executable", "/bin/false"), concurrent.futures.ThreadPoolExecutor(1) as executor:
+            future = executor.submit(tasks.judged_elsewhere, b"", bundle.logs, [])
+            with self.assertRaisesRegex(tfpg.fleet.WorkersLost, "a worker process ended by itself; not done are car and all"):
+                spreading.answer_of(future, bundle)
+
 
 class Words(WithFolder):
     """Which logs words name. None is left out in silence."""
+
+    def test_what_is_resumed_is_a_folder(self):
+        for more in ([], ["--out", ""]):
+            status, said = run("fleet", PUMP, str(self.place), "--resume", *more)
+            self.assertEqual((status, said.splitlines()[-1]), (2, "tfpg fleet: error: --resume goes on with a folder: say --out FOLDER"))
 
     def test_a_folder_that_cannot_be_read(self):
         written(self.place / "logs", {"open": b""})
@@ -392,6 +413,13 @@ class Words(WithFolder):
 
         with mock.patch("os.scandir", refuse), self.assertRaisesRegex(PermissionError, "closed"):
             logs_of([str(self.place)])
+
+    def test_a_list_whose_names_have_zeros_between(self):
+        """As `find -print0` writes it."""
+        (self.place / "list").write_bytes(b"one.log\0other.log\0")
+        status, said = run("fleet", PUMP, f"@{self.place / 'list'}")
+        self.assertEqual(status, 2)
+        self.assertEqual(said, "tfpg fleet: no file has such a name: 'one.log\\x00other.log\\x00'; a list has one name in each line\n")
 
     def test_a_list_with_a_name_that_is_no_utf_8(self):
         place = written(self.place / os.fsdecode(b"caf\xe9"), {"car": b""})

@@ -70,6 +70,22 @@ class Json(unittest.TestCase):
                     tfpg.Graph.load("graph")
                 self.assertIn(said, raised.exception.sentence)
 
+    def test_more_digits_than_python_reads(self):
+        """What the program refuses is refused in its words, and not by the limit that Python sets to the digits of a number."""
+        for sign in ("", "-"):
+            for path, said in ((["nodes", 0, "rarity"], "At `.nodes[0].rarity` there has to be a whole number"),
+                               (["edges", 0, "max"], "At `.edges[0].max` there has to be a whole number"),
+                               (["note"], "It is no JSON that the program reads")):
+                content = changed(path, 12345).replace("12345", sign + "1" * 5000)
+                with self.subTest(path=path, sign=sign), files(graph=content):
+                    for words in (["graph"], ["--words", "convert", "--json", "graph"]):
+                        status, told = run("lint", *words)
+                        self.assertEqual(status, 3)
+                        self.assertIn(said, unwrapped(told))
+                    with self.assertRaises(tfpg.BadGraph) as raised:
+                        tfpg.Graph.load("graph")
+                    self.assertIn(said, raised.exception.sentence)
+
     def test_a_fault_of_the_graph(self):
         with files(graph=changed(["edges", 0, "to"], "B")):
             said = unwrapped(run("lint", "--words", "convert", "--json", "graph")[1])

@@ -1,9 +1,12 @@
 """That the library ends as the program does, where `lint` and `brief` ask it in place of the program: by status, line and report."""
 
+import os
+import subprocess
+import sys
 import unittest
 from unittest import mock
 
-from support import EXAMPLES, files, library_words, program_words, text, tiny
+from support import EXAMPLES, TOP, files, library_words, program_words, text, tiny
 from tfpg.calls.program_ends import convert_end, diagnose_end
 from tfpg.faults import NoLibrary
 from tfpg.limits import FILE_BYTES
@@ -45,6 +48,23 @@ class Ends(unittest.TestCase):
         for name, graph in GRAPHS.items():
             with self.subTest(graph=name), files(graph=graph):
                 self.assertEqual(*map(said, self.both(diagnose_end, "graph", LOGS[1], ["--k=4"])))
+
+
+@unittest.skipIf(program_words(), program_words())
+class Outputs(unittest.TestCase):
+    def test_an_output_that_takes_nothing(self):
+        """A full disk, and a pipe that nobody reads. What is short stays in the room of Python until the command has ended."""
+        pump = [str(EXAMPLES / f"pump.{kind}") for kind in ("tfpg", "log", "report")]
+        named = {name: value for name, value in os.environ.items() if name != "PYTHONUNBUFFERED"}
+        for words in (["lint", *pump[:2]], ["brief", *pump], ["brief", "--changes", *pump], ["ask", *pump[:2]]):
+            reads, writes = os.pipe()
+            os.close(reads)
+            for output, said in ((writes, "Broken pipe"), (os.open("/dev/full", os.O_WRONLY), "No space left on device")):
+                with self.subTest(words=words[:-2], said=said):
+                    ended = subprocess.run([sys.executable, "-m", "tfpg", *words], cwd=TOP / "python", env=named, stdout=output,
+                                           stderr=subprocess.PIPE, text=True, check=False)
+                    os.close(output)
+                    self.assertEqual((ended.returncode, ended.stderr.splitlines()[-1]), (5, f"tfpg {words[0]}: output: {said}"))
 
 
 if __name__ == "__main__":

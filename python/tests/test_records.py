@@ -2,6 +2,7 @@
 
 import csv
 import json
+import os
 import unittest
 from datetime import datetime, timedelta, timezone
 from pathlib import Path
@@ -356,6 +357,17 @@ class Sources(unittest.TestCase):
 
 
 class Command(unittest.TestCase):
+    def test_an_account_of_what_is_no_utf_8(self):
+        """The name of a file may have such bytes, and JSON surrogates that stand for none."""
+        name = os.fsdecode(b"caf\xe9.json")
+        with files(graph=text(GRAPH)):
+            Path(name).write_text('{"time": 5, "name": "Wet", "value": "raised"}\n{"time": 6, "name": "\\ud800", "value": "on"}\n')
+            status, said = run("records", "graph", name, "--leave-out", "--account", "account")
+            account = Path("account").read_text(encoding="utf-8")
+        self.assertEqual((status, said.splitlines()[0]), (0, "5 alarm Wet"))
+        self.assertIn("caf\\udce9.json,1,caf\\udce9,5,Wet,raised,", account)
+        self.assertIn(",6,\\ud800,on,", account)
+
     def test_a_log_and_its_account(self):
         left = text(["time,name,value,volts", "2025-11-30T02:00:01.5Z,Wet,off,1", "2025-11-30T02:00:03Z,Wet,raised,1",
                      "2025-11-30T02:00:04Z,Wet,raised,1"])

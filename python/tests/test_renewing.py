@@ -1,12 +1,15 @@
 """A log that gets full: a strict session says so, and a renewing one does what `examples/renew.c` does, byte for byte."""
 
+import contextlib
 import os
 import random
 import shutil
 import subprocess
 import tempfile
+import threading
 import unittest
 from pathlib import Path
+from time import sleep
 
 import tfpg
 from support import EXAMPLES, TOP, library_words, text, tiny
@@ -158,6 +161,46 @@ class Full(unittest.TestCase):
             self.assertEqual(session.event(1021, "silent", "Wet").now, 1021)
             self.assertEqual(session.kept, (b"1021 silent Wet",))
             self.assertGreater(session.renewals, 2)
+
+
+@unittest.skipIf(library_words(), library_words())
+class Closed(unittest.TestCase):
+    def test_no_new_session_takes_the_place_of_a_closed_one(self):
+        """Neither where a new one would have its turn, nor where no session could take what matters."""
+        changes = [f"{time} mode {('Run', 'Stop')[time % 2]}" for time in range(1, MOST_CHANGES + 2)]
+        for lines, events in ((["1 tick", "2 tick", "3 tick"], 3), (["1 tick"], None), (changes, None)):
+            session = tfpg.RenewingSession(tfpg.Graph(tiny()), k=0, events=events)
+            with contextlib.suppress(tfpg.LogFull), session:
+                list(session.rounds(lines))
+            said = session.head, session.last, session.count, session.renewals, session.kept
+            session.close()
+            for call in (lambda: session.line("9000 tick"), lambda: session.event(9000, "tick"), lambda: session.block,
+                         lambda: list(session.rounds("9000 tick\n"))):
+                with self.subTest(lines=len(lines)), self.assertRaisesRegex(tfpg.SessionClosed, "the session is closed"):
+                    call()
+            self.assertEqual((session.head, session.last, session.count, session.renewals, session.kept), said)
+            self.assertEqual(session.count, min(len(lines), MOST_CHANGES))
+
+    def test_a_session_that_is_closed_while_it_is_renewed(self):
+        """A call of another thread waits, and then closes the new one."""
+        session, began, opened = tfpg.RenewingSession(tfpg.Graph(tiny()), k=0, events=1), threading.Event(), []
+        make = session._opened
+
+        def open_slowly(lines):
+            began.set()
+            sleep(0.2)
+            opened.append(make(lines))
+            return opened[-1]
+
+        session.line("1 tick")
+        session.line("2 sweep")
+        session._opened = open_slowly
+        thread = threading.Thread(target=session.line, args=("3 sweep",))
+        thread.start()
+        self.assertTrue(began.wait(60))
+        session.close()
+        thread.join(60)
+        self.assertEqual([one._handle.is_open for one in opened], [False])
 
 
 class Kept(unittest.TestCase):

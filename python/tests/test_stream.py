@@ -18,7 +18,7 @@ from unittest import mock
 
 import engines
 from engines import LARGE, Redis, environment, folder, missing, process, random_log, tfpg_words, until
-from support import EXAMPLES, TOP, run
+from support import EXAMPLES, TOP, files, run
 
 import tfpg
 from tfpg.calls.taking import Taking
@@ -43,6 +43,26 @@ def told(answer):
             for one in answer.ranked]
     counts = {"covered": answer.covered, "open": answer.open, "ranked": len(sets), "rejected": answer.rejected}
     return {"ranking": {"counts": counts, "now": answer.now, "ranked": sets}}
+
+
+# A worker that is told to stop where it comes to a call. It reads ten lines at once again.
+TOLD = """
+import os, signal, sys
+from tfpg.stream import command, entries, worker
+
+*module, name = sys.argv[1].split(".")
+owner = {"command": command, "worker": worker}[module[0]]
+owner = getattr(owner, module[1]) if module[1:] else owner
+call = getattr(owner, name)
+
+def told(*words):
+    os.kill(os.getpid(), signal.SIGTERM)
+    return call(*words)
+
+setattr(owner, name, told)
+entries.PAGE = 10
+sys.exit(command.stream(sys.argv[3:]))
+"""
 
 
 class Fleet:
@@ -166,6 +186,34 @@ class Lines(WithRedis):
         fleet.send()
         fleet.work()
         self.hold(fleet)
+
+    def test_a_worker_that_is_told_to_stop_while_it_begins(self):
+        """By a signal that comes while it opens its first session, while it asks for its group, and while it feeds lines again."""
+        fleet = Fleet(self.client, 1, seed=22)
+        fleet.send(60)
+        fleet.work()
+        for place, again in (("command.Session", None), ("worker.Worker.hold_terms", 0), ("worker.Worker.feed", 10)):
+            with self.subTest(place=place):
+                ended = subprocess.run([sys.executable, "-c", TOLD, place, *fleet.words(0)], env=environment(), stdout=subprocess.PIPE,
+                                       stderr=subprocess.PIPE, text=True, timeout=300, check=False)
+                said = "" if again is None else f"tfpg stream: {Part(0, 1).lines}: {again} lines were read again\n"
+                self.assertEqual((ended.returncode, ended.stdout, ended.stderr), (0, "", said))
+        fleet.send()
+        fleet.work()
+        self.hold(fleet)
+
+    def test_a_worker_that_is_told_to_stop_while_it_waits(self):
+        """For the first line, and for a server that does not answer, also where its patience ends meanwhile."""
+        fleet = Fleet(self.client, 1, seed=23)
+        with process(tfpg_words(*fleet.words(0)), stderr=subprocess.PIPE) as worker:
+            self.assertEqual(worker.stderr.readline(), f"tfpg stream: {Part(0, 1).lines}: 0 lines were read again\n")
+            worker.send_signal(signal.SIGTERM)
+            self.assertEqual((worker.communicate(timeout=300)[1], worker.returncode), ("", 0))
+        self.redis.kill()
+        place = "command.connected"
+        ended = subprocess.run([sys.executable, "-c", TOLD, place, *fleet.words(0, "--patience", 0)], env=environment(),
+                               stderr=subprocess.PIPE, text=True, timeout=300, check=False)
+        self.assertEqual((ended.returncode, ended.stderr), (0, ""))
 
     def test_an_entry_without_a_field_is_said(self):
         self.client.xadd(Part(0, 1).lines, {"vehicle": "car1"})
@@ -307,6 +355,26 @@ class Gaps(WithRedis):
         self.assertRegex(said, "has lost 5 lines before they were read")
         self.assertEqual(fleet.found(), before)
 
+    def test_a_group_that_was_removed(self):
+        """Under a worker that has taken lines, under one that waits for its first line, and while one begins."""
+        from tfpg.stream.entries import FIRST, Lines, Place
+        from tfpg.stream.faults import MissingLines
+
+        for count in (50, 0):
+            fleet = Fleet(self.client, 1, seed=21, name=f"group{count}")
+            fleet.send(count)
+            lines = Part(0, 1, fleet.name).lines
+            with self.subTest(count=count), process(tfpg_words(*fleet.words(0)), stderr=subprocess.PIPE) as worker:
+                self.assertRegex(worker.stderr.readline(), "0 lines were read again")
+                changes, _ = fleet.wanted()
+                until(lambda: fleet.found()[0] == changes and not self.client.xpending(lines, "tfpg")["pending"], "all is done")
+                self.client.xgroup_destroy(lines, "tfpg")
+                said = worker.communicate(timeout=300)[1]
+                self.assertEqual(worker.returncode, 1)
+                self.assertEqual(said, f"tfpg stream: {lines} has no group of workers `tfpg` any more: somebody removed it\n")
+        with self.assertRaisesRegex(MissingLines, "has no group of workers"):
+            Lines(self.client, Part(0, 1, "group50"), Place(FIRST, 0)).taken()
+
     def test_a_line_that_was_deleted(self):
         fleet = Fleet(self.client, 1, seed=11)
         fleet.send(50)
@@ -417,6 +485,31 @@ class WithoutServer(unittest.TestCase):
             for number, line in enumerate((b"5 tick", b"5 tick\n", b"5 tick\n\n"), 1):
                 part.take(Entry((number, 0), {b"vehicle": b"car", b"line": line}), Place(FIRST, number - 1))
         self.assertEqual(session.lines, [b"5 tick", b"5 tick", b"5 tick\n"])
+
+    def test_what_is_sent_are_bytes(self):
+        """Names and lines that are no UTF-8 too. The part of a vehicle is that of its bytes."""
+        from tfpg.stream import Part, part_of, send
+
+        for vehicle, line in (("car", "5 tick"), ("caf\udce9", "5 alarm \udcff"), ("\ud800", "5 alarm \ud800"), (b"caf\xe9", b"5 tick")):
+            client = mock.Mock()
+            send(client, vehicle, line, 8)
+            (key, fields), _ = client.xadd.call_args
+            self.assertEqual({type(text) for text in fields.values()}, {bytes})
+            self.assertEqual(key, Part(part_of(fields["vehicle"], 8), 8).lines)
+
+    def test_a_password_that_is_none(self):
+        """What cannot be read, or is empty, is refused before any server is asked."""
+        words = ["stream", PUMP, "--part", "0/1", "--redis", "redis://127.0.0.1:1"]
+        with files(empty="", blank="\nsesame\n", noise=b"\xff\xfe\n"):
+            for name, said in (("gone", "gone: No such file or directory"), (".", ".: Is a directory"), ("noise", "noise is no UTF-8"),
+                               ("empty", "empty has an empty first line, and so no password"), ("blank", "blank has an empty first line")):
+                with self.subTest(name=name):
+                    status, told = run(*words, "--password-file", name)
+                    self.assertEqual(status, 2)
+                    self.assertTrue(told.startswith(f"tfpg stream: --password-file: {said}"), told)
+        for value, said in (("", "is empty, and so no password"), (os.fsdecode(b"\xff"), "is no UTF-8")):
+            with mock.patch.dict(os.environ, {"TFPG_REDIS_PASSWORD": value}):
+                self.assertEqual(run(*words), (2, f"tfpg stream: TFPG_REDIS_PASSWORD {said}\n"))
 
     def test_slips_in_a_url(self):
         for url, said in (("redis://[::1", "Invalid IPv6 URL"), ("redis://store:abc", "'abc'"), ("redis://store?db=first", "`db`"),

@@ -2,6 +2,8 @@
 
 import os
 import unittest
+import warnings
+from pathlib import Path
 
 import tfpg
 from support import files, library_words, tiny
@@ -89,6 +91,35 @@ class Types(unittest.TestCase):
                 self.assertEqual((session.count, session.event(5, "alrm", "Wet").cause), (0, "BadLine"))
         self.assertRaises(TypeError, tfpg.predict, self.graph, "5 tick\n", b"Wet")
         self.assertRaises(TypeError, tfpg.predict, self.graph, "5 tick\n", None)
+
+    def test_surrogates(self):
+        """A text with a surrogate that stands for no byte has an answer as any that is no UTF-8. No file has such a name."""
+        odd = "5 alarm \ud800\udcff"
+        for kind in (tfpg.Session, tfpg.RenewingSession):
+            with kind(self.graph, k=0) as session:
+                for answer in (session.line(odd), *session.rounds([odd]), session.event(5, "alarm", "\ud800"), session.event(5, "\ud800")):
+                    with self.subTest(kind=kind.__name__, line=answer.line):
+                        self.assertIsInstance(answer, tfpg.Refused)
+                        self.assertIn(answer.cause, answer.to_dict()["cause"])
+                        self.assertTrue(answer.sentence)
+                with kind(self.graph, k=0, strict=True) as strict:
+                    self.assertRaises(tfpg.LineRefused, strict.line, odd)
+        with warnings.catch_warnings():
+            warnings.simplefilter("ignore")
+            for log in (odd + "\n", [odd]):
+                self.assertEqual(tfpg.ask(self.graph, log, k=0).refused[0].line, 1)
+                self.assertEqual(tfpg.report(self.graph, log, k=0).refused[0].line, 1)
+        self.assertRaises(tfpg.BadGraph, tfpg.Session, tfpg.Graph(odd + "\n"))
+        self.assertRaises(tfpg.UnknownNode, tfpg.predict, self.graph, "5 tick\n", "\ud800")
+        self.assertRaises(tfpg.NotAccepted, tfpg.explain, self.graph, "5 tick\n", "set \ud800\n")
+        self.assertRaises(tfpg.NotAccepted, tfpg.check, self.graph, "5 tick\n", odd + "\n")
+        self.assertRaisesRegex(ValueError, "is no text, since it has no line end", tfpg.report, self.graph, "\ud800")
+        place = Path("\ud800")
+        for call in (lambda: tfpg.Graph(place), lambda: tfpg.Graph.load(place), lambda: tfpg.Graph.load("\ud800"),
+                     lambda: tfpg.report(self.graph, place), lambda: tfpg.records(self.graph, place)):
+            self.assertRaises(FileNotFoundError, call)
+        with tfpg.Session(self.graph) as session:
+            self.assertRaises(FileNotFoundError, list, session.rounds(place))
 
     def test_terms(self):
         with tfpg.Session(self.graph, Whole(1), Whole(0), Whole(9)) as session:

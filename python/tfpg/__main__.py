@@ -3,6 +3,7 @@
 from __future__ import annotations
 
 import io
+import os
 import sys
 from importlib import import_module
 from typing import Callable, Dict, List, Sequence
@@ -59,7 +60,10 @@ def main(words: List[str]) -> int:
     if isinstance(sys.stdout, io.TextIOWrapper):
         sys.stdout.reconfigure(encoding="utf-8", errors="replace")
     try:
-        return COMMANDS[words[0]](words[1:])
+        status = COMMANDS[words[0]](words[1:])
+        if sys.stdout is not None:
+            sys.stdout.flush()  # what does not go out is said here, and not when Python ends
+        return status
     except NoProgram as fault:
         print(f"tfpg {words[0]}: {fault}", file=sys.stderr)
         return NO_TRIAL
@@ -71,7 +75,17 @@ def main(words: List[str]) -> int:
         return BAD_TEXT
     except OSError as fault:
         print(f"tfpg {words[0]}: {fault.filename or 'output'}: {fault.strerror}", file=sys.stderr)
+        leave_output()
         return NOT_READ
+
+
+def leave_output() -> None:
+    """Drops what the output does not take, which Python would try once more when it ends."""
+    try:
+        if sys.stdout is not None:
+            sys.stdout.flush()
+    except OSError:
+        os.dup2(os.open(os.devnull, os.O_WRONLY), sys.stdout.fileno())
 
 
 if __name__ == "__main__":

@@ -45,22 +45,22 @@ def brief(words: Sequence[str]) -> int:
         if said.vehicle is not None:
             parser.error("--vehicle is of the answers of a fleet, and REPORT is none")
         terms = terms_words(parser, said)
-        return _told(said, subject_in(said.graph, Path(said.log).read_bytes(), report, terms, said.start), Path(said.log).name)
+        return _told(said, subject_in(said.graph, Path(said.log).read_bytes(), report, terms, said.start))
     terms_words(parser, said)
     if said.vehicle is None and (said.why is not None or said.changes):
         parser.error("--why and --changes are of one vehicle of a fleet: say --vehicle NAME")
     return _told_fleet(said, report)
 
 
-def _told(said: argparse.Namespace, subject: Subject, log: str) -> int:
-    """Tells a subject as the words want it."""
+def _told(said: argparse.Namespace, subject: Subject, part: str = "") -> int:
+    """Tells a subject as the words want it. Its log is the file, or a part of that, as these words say before its name."""
     if said.changes:
         _tell_changes(said, subject)
     elif said.json:
-        print(json.dumps({"graph": Path(said.graph).name, "log": log, **brief_dict(subject)}))
+        print(json.dumps({"graph": said.graph, "log": part + said.log, **brief_dict(subject)}))
     else:
         paper = Paper(has_colour(sys.stdout))
-        put_head(paper, subject, said.graph, log)
+        put_head(paper, subject, said.graph, part + Path(said.log).name)
         if said.why is None:
             put_brief(paper, subject, said.sets)
         else:
@@ -92,7 +92,7 @@ def _told_fleet(said: argparse.Namespace, report: str) -> int:
         if said.vehicle not in answers.vehicles:
             raise BadText(0, f"the fleet has no vehicle {said.vehicle}; it has {', '.join(answers.vehicles)}")
         one = known_vehicle(graph, answers.vehicles[said.vehicle], said.start)
-        return _told(said, one.subject, f"{said.vehicle} of {Path(said.log).name}")
+        return _told(said, one.subject, f"{said.vehicle} of ")
     known = [known_vehicle(graph, vehicle, said.start) for vehicle in answers.vehicles.values()]
     _tell_fleet(said, answers, known, stream)
     return LOST_LINES if said.strict and (answers.stray or any(one.subject.report.refused for one in known)) else 0
@@ -100,8 +100,8 @@ def _told_fleet(said: argparse.Namespace, report: str) -> int:
 
 def _tell_fleet(said: argparse.Namespace, answers: FleetAnswers, known: List[Known], stream: Sequence[str]) -> None:
     if said.json:
-        print(json.dumps({"graph": Path(said.graph).name, "log": Path(said.log).name, "lines": len(stream), "stray": answers.stray,
-                          "modes": answers.modes, "vehicles": [vehicle_dict(one) for one in worst_first(known)]}))
+        print(json.dumps({"graph": said.graph, "log": said.log, "lines": len(stream), "stray": answers.stray, "modes": answers.modes,
+                          "vehicles": [vehicle_dict(one) for one in worst_first(known)]}))
         return
     paper = Paper(has_colour(sys.stdout))
     terms = known[0].subject.report.terms

@@ -11,7 +11,7 @@ from ..explaining.refusals import line_explanation
 from ..faults import LineRefused, LogFull
 from ..limits import MOST_TIME, NEVER, spoken
 from ..reading.graphs import DeclaredGraph
-from ..reading.texts import Word, is_number, shown, text_of, words_of
+from ..reading.texts import Word, bytes_in, is_number, shown, text_of, words_of
 from .notebook import round_table
 
 
@@ -128,13 +128,13 @@ class Refused:
         """What `lint` says of the line."""
         if self.graph is None:
             return self.known or Explanation("")
-        line = text_of(self.text.encode("utf-8", "surrogateescape"))
+        line = text_of(bytes_in(self.text))
         known = by_origin(words_of(line)[0], self.cause, self.origin)
         return known or with_hint(line_explanation(self.graph, [line], 1, self.cause, self.last), self.cause)
 
     def to_dict(self) -> Dict[str, Any]:
         """It as JSON has it: `line`, `cause`, `sentence`, `text` as a reader sees it, and `hints`."""
-        return line_dict(self.line, self.cause, shown(text_of(self.text.encode("utf-8", "surrogateescape"))), self.explanation)
+        return line_dict(self.line, self.cause, shown(text_of(bytes_in(self.text))), self.explanation)
 
     def fault(self) -> Union[LineRefused, LogFull]:
         """The error of a strict call."""

@@ -11,7 +11,7 @@ from ..faults import BadGraph
 from ..program import file_words, run_program
 from ..reading.graph_json import json_lines
 from ..reading.graphs import DeclaredGraph, Edge, Node, graph_of
-from ..reading.texts import lines_of, shown, text_of
+from ..reading.texts import lines_of, opened, shown, text_of
 from .texts import Text, text_bytes
 
 
@@ -60,7 +60,7 @@ class Graph:
         <tfpg.Graph of 10 nodes and 11 edges>
         """
         name = os.fspath(path)
-        with open(name, "rb") as file:
+        with opened(name) as file:
             content = file.read()
         return cls.of_bytes(graph_text(name, content) if content.lstrip(b" \t\r\n").startswith(b"{") else content)
 

@@ -7,6 +7,7 @@ from typing import List, Optional, Tuple, Union
 
 from ..faults import Error, SessionClosed
 from ..limits import LONGEST_NAME
+from ..reading.texts import bytes_in
 from .answers import Names, Ranked, Round, Why
 from .layouts import LOG_CAUSES, Answer, Handle, NameKind, RankedNumbers, ResultNumbers, Status, numbers_in
 from .library import Library
@@ -39,7 +40,7 @@ class Numbers:
 
     def index_of(self, kind: NameKind, name: str) -> Optional[int]:
         """The number of what has this name, or nothing if nothing has it."""
-        index, text = ctypes.c_uint32(), name.encode("utf-8", "surrogateescape")
+        index, text = ctypes.c_uint32(), bytes_in(name)
         answer = self.calls.index(self.session, kind, text, len(text), ctypes.byref(index))
         return index.value if answer.status == Status.DONE else None
 

@@ -2,11 +2,13 @@
 
 from __future__ import annotations
 
+import os
 from operator import index as whole
 from typing import List, NamedTuple, Optional, SupportsIndex, Tuple
 
 from ..faults import LogFull
 from ..limits import MOST_CHANGES
+from ..reading.texts import bytes_in
 from .answers import Answered, Refused, Round
 from .graph import Graph
 from .kept_lines import KeptLines
@@ -62,8 +64,9 @@ class RenewingSession(Taking):
         self._state = State(self._opened([]), 0, 0)
 
     def close(self) -> None:
-        """Closes the session."""
-        self._state.session.close()
+        """Closes the session as `Session.close`: no new one takes its place."""
+        if os.getpid() == self._turns.process:
+            self._turns.take(self._close)
 
     @property
     def head(self) -> str:
@@ -97,7 +100,7 @@ class RenewingSession(Taking):
 
     def event(self, time: SupportsIndex, kind: Kind, name: str = "") -> Answered:
         """Takes an event as `Session.event` does, with `time` in milliseconds, `kind` and `name`, but as a line."""
-        return self._line(event_text(time, kind, name).encode("utf-8", "surrogateescape"))
+        return self._line(bytes_in(event_text(time, kind, name)))
 
     def _line(self, content: bytes) -> Answered:
         return self._turns.take(self._take, content)
@@ -105,6 +108,7 @@ class RenewingSession(Taking):
     def _take(self, content: bytes) -> Answered:
         """Takes a line, and where the log is full a new session does."""
         self._settled()
+        self._state.session._need_open()
         if self._full is not None:
             raise fault_of_modes(self._full)
         self._given, state = content, self._state
@@ -148,6 +152,11 @@ class RenewingSession(Taking):
         session = self._opened(lines)
         self._state = state._replace(session=session, noted=len(lines), accepted=len(lines), renewals=state.renewals + 1)
         state.session.close()
+
+    def _close(self) -> None:
+        """Closes the present session, which may be closed already."""
+        self._settled()
+        self._state.session.close()
 
     def _opened(self, lines: List[bytes]) -> Session:
         """A session that has taken these lines."""

@@ -9,6 +9,8 @@ from ctypes import c_uint32
 from operator import index as whole
 from typing import Dict, Optional, SupportsIndex, Tuple, Union
 
+from ..faults import SessionClosed
+from ..reading.texts import bytes_in
 from .answers import Answered, Refused, Round
 from .endings import About, Terms, fault_of
 from .graph import Graph
@@ -133,7 +135,7 @@ class Session(Taking):
         at = whole(time)
         since, event = at - self.origin, self._events.get((kind, name)) or self._found(kind, name)
         if event is None or not 0 <= since <= MOST_OF_C:
-            return self._line(event_text(at, kind, name).encode("utf-8", "surrogateescape"))
+            return self._line(bytes_in(event_text(at, kind, name)))
         return self._turns.take(self._take_event, since, event, (at, kind, name))
 
     def _line(self, content: bytes) -> Answered:
@@ -188,6 +190,11 @@ class Session(Taking):
         """Why a line was refused."""
         text = line_text(given) if isinstance(given, bytes) else event_text(*given)
         return Refused(line, cause, text, last, self.graph.declared, self.origin)
+
+    def _need_open(self) -> None:
+        """Raises SessionClosed if the session is closed."""
+        if not self._handle.is_open:
+            raise SessionClosed("the session is closed")
 
     def _done(self, answer: Answer) -> None:
         if answer.status != Status.DONE:

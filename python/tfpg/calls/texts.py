@@ -8,7 +8,7 @@ import re
 from typing import Iterable, Iterator, Tuple, Union
 
 from ..limits import LONGEST_LINE
-from ..reading.texts import NUMBER
+from ..reading.texts import NUMBER, bytes_in, opened
 
 Bytes = Union[bytes, bytearray, memoryview]
 Line = Union[str, Bytes]
@@ -23,7 +23,7 @@ FIRST_LINE = re.compile(rb"(%s) (sweep|tick|(alarm|silent|mode) [^ /\\]+)|(repor
 def bytes_of(given: Line) -> bytes:
     """The bytes of a line or a text, or TypeError."""
     if isinstance(given, str):
-        return given.encode("utf-8", "surrogateescape")
+        return bytes_in(given)
     if isinstance(given, (bytes, bytearray, memoryview)):
         return bytes(given)
     raise TypeError(f"a line is str, bytes, bytearray or memoryview, and {type(given).__name__} is none of these")
@@ -43,7 +43,7 @@ def line_text(content: bytes) -> str:
 def text_bytes(given: Text) -> bytes:
     """The bytes of a text, or of a file by its path. A name of a file that is no path is an error: no text looks like one."""
     if isinstance(given, os.PathLike):
-        with open(given, "rb") as file:
+        with opened(given) as file:
             return file.read()
     content = bytes_of(given)
     if content and b"\n" not in content and not FIRST_LINE.fullmatch(content):
@@ -66,7 +66,7 @@ def log_bytes(log: Log) -> bytes:
 def log_lines(log: Log) -> Iterator[bytes]:
     """The lines of a log, without their line ends, one after the other. A file is read as far as they are asked for."""
     if isinstance(log, os.PathLike):
-        with open(log, "rb") as file:
+        with opened(log) as file:
             yield from map(line_bytes, file)
     elif isinstance(log, (str, bytes, bytearray, memoryview)):
         yield from map(line_bytes, io.BytesIO(text_bytes(log)))

@@ -5,7 +5,7 @@ from __future__ import annotations
 import json
 from typing import Any, Dict, Iterator, Tuple
 
-from ..reading.graph_json import MOST_NUMBER, NoNumber
+from ..reading.graph_json import MOST_NUMBER, NoNumber, whole_of
 from ..reading.texts import is_name
 from .forms import name_hints
 
@@ -17,7 +17,7 @@ NO_PLACE = "It is no JSON that the program reads: docs/formats.md has the shape 
 def json_sentence(content: bytes) -> str:
     """Where JSON is no graph, and what to write there."""
     try:
-        said = json.loads(content.decode("utf-8"), parse_float=NoNumber, parse_constant=NoNumber)
+        said = json.loads(content.decode("utf-8"), parse_int=whole_of, parse_float=NoNumber, parse_constant=NoNumber)
     except UnicodeDecodeError as fault:
         return f"It is not UTF-8 from line {content.count(bytes([10]), 0, fault.start) + 1} on: `iconv -f latin1 -t utf-8 OLD > NEW`"
     except json.JSONDecodeError as fault:

@@ -38,7 +38,10 @@ vehicle has the name of its file without .log."""
 
 def fleet(words: Sequence[str]) -> int:
     """Runs the command on these words, and returns its status."""
-    said = parser().parse_args(words)
+    made = parser()
+    said = made.parse_args(words)
+    if said.resume and not said.out:
+        made.error("--resume goes on with a folder: say --out FOLDER")
     try:
         graph, logs = Graph.load(said.graph), logs_of(said.logs)
         Session(graph, said.k, said.doubt, said.budget).close()

@@ -94,7 +94,7 @@ def read_lines(path: Path) -> Dict[str, Dict[str, Any]]:
     """The lines of a summary by their vehicles. One that was cut off says nothing."""
     found: Dict[str, Dict[str, Any]] = {}
     if path.exists():
-        for text in path.read_text(encoding="utf-8").split("\n"):
+        for text in path.read_text(encoding="utf-8", errors="replace").split("\n"):
             try:
                 line = json.loads(text)
                 found[line["vehicle"]] = line

@@ -8,6 +8,8 @@ import sys
 from pathlib import Path
 from typing import Dict, Iterator, List, Sequence
 
+from ..reading.texts import bytes_in
+
 SUFFIX = ".log"
 
 
@@ -19,8 +21,10 @@ def logs_of(words: Sequence[str]) -> Dict[str, Path]:
     """The logs by the names of their vehicles. A vehicle has the name of its file without `.log`."""
     found: Dict[str, Path] = {}
     for path in files_of(words):
+        if "\0" in str(path):
+            raise BadLogs(f"no file has such a name: {str(path)[:64]!r}; a list has one name in each line")
         vehicle = path.name[:-len(SUFFIX)] if path.name.endswith(SUFFIX) and path.name != SUFFIX else path.name
-        if vehicle.encode("utf-8", "replace") != vehicle.encode("utf-8", "surrogateescape"):
+        if vehicle.encode("utf-8", "replace") != bytes_in(vehicle):
             raise BadLogs(f"the name of this file is no UTF-8, so that no vehicle can have it: {vehicle!r}")
         if vehicle in found and found[vehicle] != path:
             raise BadLogs(f"two logs are of the vehicle {vehicle}: {found[vehicle]} and {path}")

@@ -12,6 +12,7 @@ from concurrent.futures.process import BrokenProcessPool
 from contextlib import contextmanager
 from dataclasses import replace
 from statistics import median
+from subprocess import CalledProcessError
 from typing import Any, Deque, Dict, Generator, Iterable, Iterator, List, Mapping, Optional, Tuple, Union
 
 from ..calls.endings import Terms
@@ -167,7 +168,7 @@ def answer_of(future: "Future[Done]", bundle: Bundle) -> Done:
     """The answer of a task, or WorkersLost."""
     try:
         return future.result()
-    except (BrokenProcessPool, CancelledError) as fault:
+    except (BrokenProcessPool, CancelledError, CalledProcessError) as fault:  # the last of a process that was begun to judge
         raise lost(bundle, fault) from None
     except Exception as fault:
         if type(fault).__name__ != "KilledWorker":  # Dask's, which is not loaded here

@@ -10,7 +10,7 @@ from ..limits import LONGEST_LINE
 from .texts import BadText, is_name, lines_of
 
 BEGINS = ("vehicle ", "stray ", "mode ")
-COUNTED = re.compile(r"mode ([^ ]+) vehicles (0|[1-9][0-9]*)")
+COUNTED = re.compile(r"mode ([^ ]+) vehicles (0|[1-9][0-9]{0,9})")
 
 
 @dataclass

@@ -32,8 +32,13 @@ def json_lines(content: bytes) -> List[str]:
     return lines
 
 
+def whole_of(word: str) -> int:
+    """A whole number as it is, or one above all limits if it has more digits than they: Python reads no number of thousands of digits."""
+    return int(word) if len(word) <= len(str(MOST_NUMBER)) else MOST_NUMBER + 1
+
+
 def _whole(word: str) -> Any:
-    return NoNumber(word) if word.startswith("-") else int(word)
+    return NoNumber(word) if word.startswith("-") else whole_of(word)
 
 
 def _need(condition: bool) -> None:

@@ -6,7 +6,7 @@ from dataclasses import dataclass
 from typing import Dict, Iterable, List, Optional, Sequence, Tuple
 
 from .graphs import DeclaredGraph
-from .texts import BadText, is_number
+from .texts import BadText, is_number, number_of
 
 
 @dataclass(frozen=True)
@@ -58,4 +58,4 @@ def _event(graph: DeclaredGraph, lines: Sequence[str], number: int, line: int) -
     mode = graph.modes.index(named) if words[1] == "mode" and named in graph.modes else None
     if (words[1] in ("alarm", "silent") and node is None) or (words[1] == "mode" and mode is None):
         raise BadText(line, "the report has a round for this line, which names nothing of the graph")
-    return Event(number, line, int(words[0]), words[1], node, mode)
+    return Event(number, line, number_of(words[0]), words[1], node, mode)

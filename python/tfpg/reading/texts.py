@@ -2,10 +2,12 @@
 
 from __future__ import annotations
 
+import errno
+import os
 import re
 from dataclasses import dataclass
 from pathlib import Path
-from typing import List
+from typing import BinaryIO, List, Union
 
 from ..limits import LONGEST_NAME
 from ..portable import Portable
@@ -36,6 +38,23 @@ class Word:
 
 def text_of(content: bytes) -> str:
     return content.decode("latin-1")
+
+
+def bytes_in(text: str) -> bytes:
+    """The bytes of a text of characters. A surrogate that stands for a byte, as in names of files, becomes that byte. With one that stands
+    for none the text is no UTF-8 either."""
+    try:
+        return text.encode("utf-8", "surrogateescape")
+    except UnicodeEncodeError:
+        return text.encode("utf-8", "surrogatepass")
+
+
+def opened(name: Union[str, "os.PathLike[str]"]) -> BinaryIO:
+    """A file, open for reading, or OSError. No file has a name with a surrogate that stands for no byte."""
+    try:
+        return open(name, "rb")
+    except UnicodeEncodeError:
+        raise FileNotFoundError(errno.ENOENT, os.strerror(errno.ENOENT), os.fspath(name)) from None
 
 
 def read_text(name: str) -> str:

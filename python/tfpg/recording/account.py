@@ -39,8 +39,8 @@ def row_of(entry: Entry) -> List[str]:
 
 
 def write_account(log: RecordedLog, name: str) -> None:
-    """Writes the table to a file, as CSV."""
-    with open(name, "w", encoding="utf-8", newline="") as file:
+    """Writes the table to a file, as CSV in UTF-8. What has no place there, as a byte of a name of a file, stands as `\\udcff`."""
+    with open(name, "w", encoding="utf-8", errors="backslashreplace", newline="") as file:
         table = csv.writer(file, lineterminator="\n")
         table.writerow(HEADER)
         table.writerows(map(row_of, log.entries))

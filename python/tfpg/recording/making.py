@@ -10,7 +10,7 @@ from ..explaining.explanations import join_and
 from ..faults import BadRecord
 from ..limits import MOST_CHANGES, MOST_TIME, spoken
 from ..reading.graphs import DeclaredGraph
-from ..reading.texts import shown, text_of
+from ..reading.texts import bytes_in, shown, text_of
 from .notes import notes_of
 from .rows import boxes_of
 from .rules import NO_MONITOR, UNKNOWN_NAME, Applied, Said, applied
@@ -108,7 +108,7 @@ def log_of_records(graph: DeclaredGraph, words: Words, source: Source, choices: 
 
 def quoted(text: str) -> str:
     """A word of a record as its reader sees it."""
-    return f"`{shown(text_of(text.encode('utf-8', 'surrogateescape')))}`"
+    return f"`{shown(text_of(bytes_in(text)))}`"
 
 
 def _begin(words: Words, mode: str) -> int:

@@ -9,6 +9,7 @@ from pathlib import Path
 from typing import Dict, Iterator, List, NamedTuple, Sequence, Tuple
 
 from ..faults import BadRecord
+from ..reading.texts import opened
 
 NEEDED, COLUMNS = ("time", "name", "value"), ("time", "name", "value", "box")
 
@@ -37,7 +38,8 @@ class Source(NamedTuple):
 
 def source_of(file: str) -> Source:
     """The records of a file. Without a column `box` they are those of the box that the file is named for. BadRecord says what is wrong."""
-    content = Path(file).read_bytes()
+    with opened(file) as records:
+        content = records.read()
     try:
         text = content.decode("utf-8-sig")
     except UnicodeDecodeError as fault:

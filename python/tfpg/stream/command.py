@@ -15,7 +15,7 @@ from ..calls.graph import Graph
 from ..calls.session import Session
 from ..faults import BadGraph, Error, NoProgram, OutOfRange, TooManyHypotheses
 from ..limits import MOST_EVENTS, OPTIONS
-from .connecting import connected, fault_of_url, password_of
+from .connecting import BadPassword, connected, fault_of_url, password_of
 from .faults import NoStore, StreamFault
 from .parts import NAME, Part
 from .terms import SPAN, StreamTerms
@@ -39,8 +39,12 @@ def stream(words: Sequence[str]) -> int:
     if wrong:
         print(f"tfpg stream: --redis: {wrong}", file=sys.stderr)
         return BAD_WORDS
-    part, password = Part(said.part[0], said.part[1], said.name), password_of(said.password_file)
-    terms = StreamTerms(said.k, said.doubt, said.budget, said.origin, said.events, said.span)
+    try:
+        part, password = Part(said.part[0], said.part[1], said.name), password_of(said.password_file)
+    except BadPassword as fault:
+        print(f"tfpg stream: {fault}", file=sys.stderr)
+        return BAD_WORDS
+    terms, stop = StreamTerms(said.k, said.doubt, said.budget, said.origin, said.events, said.span), Stop()
     try:
         graph = Graph.load(said.graph)
         Session(graph, terms.k, terms.doubt, terms.budget).close()
@@ -48,7 +52,7 @@ def stream(words: Sequence[str]) -> int:
         def worker() -> Worker:
             return Worker(connected(said.redis, part, password), part, graph, terms, said.blocks, said.trim)
 
-        return work(worker, said.once, said.patience)
+        return work(worker, stop, said.once, said.patience)
     except NoProgram:
         raise
     except Error as fault:
@@ -62,14 +66,14 @@ def status_of(fault: Error) -> int:
     return next((status for kind, status in kinds if isinstance(fault, kind)), NO_STORE)
 
 
-def work(made: Callable[[], Worker], once: bool, patience: float) -> int:
+def work(made: Callable[[], Worker], stop: Stop, once: bool, patience: float) -> int:
     """Runs a worker until it is stopped, or with `once` until no line waits. If Redis does not answer, or takes nothing, a new worker
     begins again, and after so many seconds without success it is NoStore."""
-    stop, failed_since = Stop(), None
+    failed_since = None
     while not stop.asked:
         try:
             worker = made()
-            say(f"{worker.part.lines}: {worker.begin():,} lines were read again")
+            say(f"{worker.part.lines}: {worker.begin(lambda: stop.asked):,} lines were read again")
             while not stop.asked:
                 if worker.turn(0 if once else IDLE) == 0 and once:
                     return DONE
@@ -77,6 +81,8 @@ def work(made: Callable[[], Worker], once: bool, patience: float) -> int:
         except redis.AuthenticationError as fault:
             raise NoStore(f"Redis does not let this worker in: {fault}") from None
         except (NoStore, redis.RedisError, OSError) as fault:
+            if stop.asked:
+                break
             failed_since = failed_since or time.monotonic()
             if time.monotonic() - failed_since >= patience:
                 raise fault if isinstance(fault, NoStore) else NoStore(f"Redis does not answer: {fault}") from None

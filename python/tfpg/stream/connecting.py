@@ -17,11 +17,24 @@ VARIABLE = "TFPG_REDIS_PASSWORD"
 SECONDS = 10  # for which an answer is waited for
 
 
+class BadPassword(Exception):
+    """A password is named, and there is none that can be read."""
+
+
 def password_of(file: Optional[str]) -> Optional[str]:
-    """The password: the first line of the file, or else the variable of the environment, or none."""
-    if file is not None:
-        return Path(file).read_text(encoding="utf-8").split("\n", 1)[0]
-    return os.environ.get(VARIABLE)
+    """The password: the first line of the file, or else the variable of the environment, or none. BadPassword says what is wrong."""
+    named = VARIABLE if file is None else f"--password-file: {file}"
+    try:
+        found = os.environ.get(VARIABLE) if file is None else Path(file).read_text(encoding="utf-8").split("\n", 1)[0]
+        if found is not None:
+            found.encode("utf-8")
+    except OSError as fault:
+        raise BadPassword(f"{named}: {fault.strerror}") from None
+    except UnicodeError:
+        raise BadPassword(f"{named} is no UTF-8") from None
+    if found == "":
+        raise BadPassword(f"{named} {'is empty' if file is None else 'has an empty first line'}, and so no password")
+    return found
 
 
 def fault_of_url(url: str) -> str:

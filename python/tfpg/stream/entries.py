@@ -19,9 +19,10 @@ Id = Tuple[int, int]  # milliseconds, and a number within them
 FIRST: Id = (0, 0)  # before all ids
 
 
-# Takes entries, unless the last one that was taken is not this worker's: then another one has the part.
+# Takes entries, unless the last one that was taken is not this worker's: then another one has the part. Where the group is gone, it says
+# the empty text in place of an id.
 TAKE = """
-local delivered = '0-0'
+local delivered = ''
 for _, group in ipairs(redis.call('XINFO', 'GROUPS', KEYS[1])) do
     local state = {}
     for place = 1, #group, 2 do state[group[place]] = group[place + 1] end
@@ -94,6 +95,8 @@ class Lines:
             answers = self.client.eval(TAKE, 1, self.key, GROUP, CONSUMER, id_text(self.delivered), count)
         except ResponseError as fault:
             raise self._fault(fault) from None
+        if answers == [b""]:
+            raise self._without_group()
         if len(answers) == 1:
             raise OtherWorker(f"another worker took lines of {self.key}, up to {answers[0].decode()} and not "
                               f"{id_text(self.delivered)}: only one may have this part")
@@ -115,7 +118,9 @@ class Lines:
 
     def taken(self) -> Tuple[Id, Set[Id]]:
         """The id of the last entry that a worker took, and the ids of those that were not acknowledged."""
-        group = next(one for one in self.client.xinfo_groups(self.key) if one["name"] == GROUP.encode())
+        group = next((one for one in self.client.xinfo_groups(self.key) if one["name"] == GROUP.encode()), None)
+        if group is None:
+            raise self._without_group()
         waiting: Set[Id] = set()
         least = "-"
         while True:
@@ -139,6 +144,10 @@ class Lines:
         if "no such key" in str(fault) or "NOGROUP" in str(fault):
             return MissingLines(f"{self.key} or its group of workers was removed: {fault}")
         return NoStore(f"Redis does not answer for {self.key}: {fault}")
+
+    def _without_group(self) -> StreamFault:
+        """The error that says that the group is gone."""
+        return MissingLines(f"{self.key} has no group of workers `{GROUP}` any more: somebody removed it")
 
     def _after(self) -> str:
         return "(" + id_text(self.at.id)

@@ -5,6 +5,8 @@ from __future__ import annotations
 import zlib
 from typing import Any, NamedTuple, Union
 
+from ..reading.texts import bytes_in
+
 NAME = "tfpg"
 Text = Union[str, bytes]
 
@@ -54,8 +56,8 @@ def part_of(vehicle: Text, parts: int) -> int:
 def send(client: Any, vehicle: Text, line: Text, parts: int, name: str = NAME) -> Any:
     """Appends a line of a vehicle to the stream of its part, and returns the id of the entry. The client is one of the module redis. The
     line is stored once this returns, as far as the server stores anything for good."""
-    return client.xadd(Part(part_of(vehicle, parts), parts, name).lines, {"vehicle": vehicle, "line": line})
+    return client.xadd(Part(part_of(vehicle, parts), parts, name).lines, {"vehicle": as_bytes(vehicle), "line": as_bytes(line)})
 
 
 def as_bytes(text: Text) -> bytes:
-    return text if isinstance(text, bytes) else text.encode("utf-8", "surrogateescape")
+    return text if isinstance(text, bytes) else bytes_in(text)

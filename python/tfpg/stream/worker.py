@@ -6,7 +6,7 @@ taken and not acknowledged. What is there already Redis refuses, since the ids o
 from __future__ import annotations
 
 import json
-from typing import Any, Dict, Iterable, List, Optional, Tuple
+from typing import Any, Callable, Dict, Iterable, List, Optional, Tuple
 
 from ..calls.graph import Graph
 from .entries import FIRST, Entry, Id, Lines, Place, id_of, id_text
@@ -29,8 +29,8 @@ class Worker:
         self.lines = Lines(client, part, START)
         self.vehicles = Vehicles(graph, terms, {}, blocks)
 
-    def begin(self) -> int:
-        """Comes to where the part stands, and returns how many entries it has fed again for that."""
+    def begin(self, is_stopped: Callable[[], bool] = lambda: False) -> int:
+        """Comes to where the part stands, unless it is stopped before, and returns how many entries it has fed again for that."""
         self.hold_terms()
         self.lines.make_group()
         self.vehicles.close()
@@ -39,11 +39,12 @@ class Worker:
         self.lines, self.vehicles = Lines(self.client, self.part, base), Vehicles(self.graph, self.terms, marks, self.blocks)
         end, waiting = self.lines.taken()
         self.lines.acknowledge(one for one in waiting if one <= base.id)  # a mark has what came of them
-        before, entries = self.lines.at, self.lines.again(end)
-        while entries:
+        while not is_stopped():
+            before, entries = self.lines.at, self.lines.again(end)
+            if not entries:
+                break
             said = [one for one in self.feed(entries, before) if one.id in waiting]
             self.finish(said, [one.id for one in entries if one.id in waiting])
-            before, entries = self.lines.at, self.lines.again(end)
         return self.lines.at.entries - base.entries
 
     def turn(self, idle: int = IDLE) -> int:
