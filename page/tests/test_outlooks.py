@@ -21,6 +21,39 @@ def the_pressure_is_the_best_question(view):
     view.quiet()
 
 
+def questions_of_another_log_are_named(view):
+    """Their time is that of the last event; then there is one for each monitor without an alarm, in the order of use."""
+    text, unfit = ASK[4].read_bytes(), "✗ This does not fit together with the log. "
+    best = b"ask HighPressure silent 1 alarm 3 unknown 0\n"
+    forged = {
+        "earlier": (DATA / "pump-first.ask").read_bytes(), "less": text.replace(best, b""), "last": text.replace(best, b"") + best,
+        "again": text.replace(best, best + b"ask LowFlow silent 0 alarm 0 unknown 0\n"), "more": text.replace(b"silent 1 alarm 3", b"silent 1 alarm 4"),
+        "full": text.split(b"\n")[0] + b"\nrefused LogFull\n",
+    }  # fmt: skip
+    says = {
+        "earlier": "This was made at 0:45:15, and the last event of the log is at 0:53:20.",
+        "less": "HighPressure has no alarm, and there is no question about it.", "last": "The question about HighPressure does not stand in its place.",
+        "again": "After this log there is no such question about LowFlow.", "more": "The question about HighPressure speaks of more sets than there are.",
+    }  # fmt: skip
+    for name, words in says.items():
+        view.show(*ASK[:4], view.maker.write(f"{name}.ask", forged[name]))
+        view.open_tab("ask")
+        view.same(view.texts("#panel .refused"), [unfit + words], f"what is red of the questions called {name}")
+    view.show(*ASK[:4], view.maker.write("full.ask", forged["full"]))
+    view.open_tab("ask")
+    view.has(" ".join(view.texts("#panel .refused")), unfit + "The log is not full.", "what is red of questions that are not asked")
+    view.show(*ASK)
+    view.open_tab("ask")
+    view.same(view.texts("#panel .refused"), [], "what is red of the right questions")
+
+
+def a_prediction_of_another_time_is_named(view):
+    view.show(*PREDICT[:4], view.maker.write("late.predict", PREDICT[4].read_bytes().replace(b"now 2715000 to", b"now 2715001 to")))
+    view.open_tab("predict")
+    wanted = "✗ This does not fit together with the log. This was made at 0:45:15.001, and the last event of the log is at 0:45:15."
+    view.same(view.texts("#panel .refused"), [wanted], "what is red of the prediction")
+
+
 def the_motor_is_hot_when_the_suction_was_weakest(view):
     """The alarm at 0:45:15 leaves the flow five seconds. By the filter, the suction is weak up to 20 s before that. The motor is strained
     30 s after the suction is weak, and hot two minutes later: not before 0:47:20."""
