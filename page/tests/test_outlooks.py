@@ -170,6 +170,30 @@ def a_wrong_number_of_vehicles_is_named(view):
     view.same(view.texts("#modes .refused"), [], "what is red of the right numbers")
 
 
+def an_output_that_is_not_of_its_stream_is_named(view):
+    """Line 7 of the stream is stray, and line 8 is of north. Line 143 of the output has the first, and its last four are the failure modes."""
+    text = FLEET[3].read_bytes()
+    forged = {
+        (b"stray 7\n", b"stray 8\n"): "Line 143 of the output is “stray 8”, where “stray 7” is due.",
+        (b"stray 7\n", b""): "Line 143 of the output is “vehicle north”, where “stray 7” is due.",
+        (b"stray 7\n", b"stray 7\nstray 12\n"): "Line 144 of the output is “stray 12”, where “vehicle north” is due.",
+        (b"stray 7\n", b"stray 7\npanel 1 lost\n"): "Line 143 of the output is “stray 7”, and what stands after it is not what it begins.",
+        (b"mode FilterClogged vehicles 1\n", b"mode LowFlow vehicles 0\n"):
+            "Line 217 of the output is “mode LowFlow”, where “mode FilterClogged” is due.",
+        (b"mode LevelWiring vehicles 0\n", b""): "The output has no more lines, where “mode LevelWiring” is due.",
+        (b"mode LevelWiring vehicles 0\n", b"mode LevelWiring vehicles 0\nmode LevelWiring vehicles 0\n"):
+            "Line 221 of the output is “mode LevelWiring”, where no line is due.",
+    }  # fmt: skip
+    for number, ((old, new), words) in enumerate(forged.items()):
+        assert text.count(old) == 1
+        view.show(*FLEET[:3], view.maker.write(f"unfit-{number}.fleet", text.replace(old, new)))
+        view.open_tab("fleet")
+        view.same(view.texts("#panel p.refused"), ["✗ The output does not fit together with the stream. " + words], f"what is red with {new}")
+    view.show(*FLEET[:3], view.maker.write("running.fleet", text[: text.index(b"mode ")]))
+    view.open_tab("fleet")
+    view.same(view.texts("#panel .refused"), [], "what is red while the stream goes on")
+
+
 def a_vehicle_opens_its_own_report(view):
     view.show(*FLEET)
     view.open_tab("fleet")

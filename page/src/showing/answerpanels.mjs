@@ -138,6 +138,7 @@ export function fleetPanel() {
     listBox({ id: "vehicles" }, "vehicles, the worst first", head, rows),
     fleet.strays.length ? element("p", {}, "Stray lines of the stream: " + fleet.strays.slice(0, MOST_STRAYS).join(", ")
       + (left > 0 ? " and " + left + " more" : "") + ".") : null,
+    fleet.mismatch ? element("p", { class: "refused" }, "✗ The output does not fit together with the stream. " + fleet.mismatch) : null,
     fleet.modes.length ? element("h2", {}, "How many vehicles may have a failure mode") : null,
     modesTable(fleet)
   ];
