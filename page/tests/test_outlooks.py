@@ -194,6 +194,24 @@ def an_output_that_is_not_of_its_stream_is_named(view):
     view.same(view.texts("#panel .refused"), [], "what is red while the stream goes on")
 
 
+def a_vehicle_may_be_called_as_a_line_begins(view):
+    """Also where the stream begins with it."""
+    stream, output = (EXAMPLES / "pumps.log").read_bytes(), FLEET[3].read_bytes()
+    for name in (b"vehicle", b"stray", b"mode", b"report"):
+        files = [view.maker.write("called.log", stream.replace(b"north ", name + b" ")),
+                 view.maker.write("called.fleet", output.replace(b"vehicle north\n", b"vehicle " + name + b"\n"))]
+        view.show(GRAPH, files[0], "--fleet", files[1], "--check", CHECK)
+        view.open_tab("fleet")
+        view.same(view.values("#vehicles tr[data-vehicle]", "vehicle"), ["east", name.decode(), "south"], "the vehicles")
+        view.same(view.texts("#panel .refused"), [], f"what is red of the vehicle {name}")
+        view.has(view.text(f"#vehicles tr[data-vehicle={name.decode()}]"), ["FilterClogged", "accepted 3"], f"the line of the vehicle {name}")
+        view.show(GRAPH)
+        view.open_files(*files)
+        view.open_tab("fleet")
+        view.same(view.values("#vehicles tr[data-vehicle]", "vehicle"), ["east", name.decode(), "south"], "the vehicles of files that are opened")
+    view.quiet()
+
+
 def a_vehicle_opens_its_own_report(view):
     view.show(*FLEET)
     view.open_tab("fleet")
