@@ -1,4 +1,4 @@
-"""What a text is: its lines, its kind by its first line, and the fault of a text that is none."""
+"""What a text is: its lines, its kind by its first lines, and the fault of a text that is none."""
 
 import re
 
@@ -6,11 +6,11 @@ from tfpg.limits import LONGEST_NAME
 
 NAME = rb"[A-Za-z][A-Za-z0-9_.-]{0,%d}" % (LONGEST_NAME - 1)
 KINDS = {
-    "graph": re.compile(rb"tfpg [12]$|\s*\{"),
+    "graph": re.compile(rb"tfpg [12](\n|\Z)|[^\S\n]*\{"),
     "report": re.compile(rb"report [12] k "),
     "ask": re.compile(rb"questions now "),
     "predict": re.compile(rb"predict %s now " % NAME),
-    "fleet": re.compile(rb"vehicle "),
+    "fleet": re.compile(rb"vehicle %s\nreport [12] k " % NAME),
 }
 
 
@@ -31,9 +31,8 @@ def lines_of(text):
 
 
 def kind_of(text):
-    """The kind of a text by its first line. What has no other is a log."""
-    first = text.split(b"\n", 1)[0]
-    return next((kind for kind, shape in KINDS.items() if shape.match(first)), "log")
+    """The kind of a text by its first lines. What has no other is a log."""
+    return next((kind for kind, shape in KINDS.items() if shape.match(text)), "log")
 
 
 def line_at(text, place):

@@ -125,6 +125,28 @@ def a_table_says_what_the_drawing_says(view):
         view.same(sorted(name for name, said in edges.items() if "off now" in said), view.edges("off"), "edges that are off")
 
 
+def keys_scroll_the_tracks(view):
+    """Where they fit into their place, the keys go from round to round."""
+    view.show(*PUMP)
+    view.same(view.run("return document.querySelector('#tracks').tabIndex"), 0, "the tracks are in the order of the keys")
+    view.same("tracks on one axis of time" in [name for name, _ in view.accessible("group")], True, "the name of the tracks")
+    view.focus("#tracks")
+    view.press_there("left")
+    view.same(view.main("round"), "5", "the round after a key on tracks that fit")
+    for _ in range(3):
+        view.click("#wide")
+    scrolled = lambda: view.run("const t = document.querySelector('#tracks'); return [t.scrollLeft, t.scrollWidth - t.clientWidth]")
+    view.focus("#tracks")
+    view.press_there("Home")
+    view.same(scrolled()[0], 0, "where Home scrolls")
+    view.press_there("right", "right", "left")
+    view.same(scrolled()[0], 80, "where three arrows scroll")
+    view.press_there("End")
+    place, end = scrolled()
+    view.same((end > 1000, abs(place - end) <= 1), (True, True), "where End scrolls")
+    view.same((view.main("round"), view.run(FOCUS)), ("5", "tracks"), "the round and the focus, which stay")
+
+
 def a_tap_on_a_phone_shows_what_it_opened(view):
     view.at_size(390, 844)
     view.command("Emulation.setTouchEmulationEnabled", enabled=True)

@@ -152,6 +152,15 @@ def a_refused_report_is_red_whatever_else_was_said(view):
         view.same(view.verdict(), "refused", f"the badge after the answer {answer}")
 
 
+def the_red_bar_says_what_the_check_says(view):
+    """A line that only has what looks like a refusal within it is none."""
+    said = "note: not accepted 3 BadReport was said of another report\nnot accepted 10 NotNegative\n"
+    view.show(*PUMP[:2], forged(view.maker), "--check", checker(view.maker, "chatty", 1, "", said))
+    view.has(view.text("#badge"), "not accepted 10 NotNegative", "the badge")
+    view.has(view.text("#problems"), "tfpg check refuses this report: not accepted 10 NotNegative. Believe nothing of it from ¶10 on.", "the red bar")
+    view.lacks(view.text("#problems"), "BadReport", "the red bar")
+
+
 def the_page_says_that_a_badge_can_be_forged(view):
     view.show(*PUMP, "--check", CHECK)
     view.has(view.text("footer"), ["A badge in a file can be forged", "./tfpg check pump.tfpg pump.log < pump.report"], "how to check for oneself")

@@ -63,6 +63,14 @@ def two_equal_reports_say_so(view):
     view.same(view.count("#differences tr[data-set]"), 0, "sets that differ")
 
 
+def rounds_that_only_one_has_are_not_said_to_be_the_same(view):
+    view.show(*PUMP, "--compare", view.maker.write("head.report", PUMP[2].read_bytes().split(b"\n")[0] + b"\n"))
+    view.open_tab("compare")
+    wanted = "Both rank the same sets in each round that both have, and leave the same sets open."
+    view.same(view.text("#compared"), wanted, "what differs from a report without a round")
+    view.has(view.text("#panel"), "6 of the rounds are not in the other report.", "what the other report does not have")
+
+
 def another_report_that_does_not_fit_is_said(view):
     other = view.maker.write("other.report", PUMP[2].read_bytes().replace(b"ranked 1 cost 2 robust 1/3", b"ranked 1 cost 1 robust 1/3"))
     view.show(*PUMP, "--compare", other)

@@ -23,6 +23,15 @@ def refused_lines_at_one_place_are_counted(view):
     view.has(view.texts("#tracks .mark[data-kind=refused]")[0], ["✕3", "the first of 3 refused lines here"], "the mark of three lines")
 
 
+def silences_that_are_not_listed_are_counted(view):
+    """A node has 300 silences of its own and 50 of sweeps; the last 60 are listed."""
+    lines = b"".join(b"%d %s\n" % (number, b"sweep" if number > 300 else b"silent LowFlow") for number in range(1, 351))
+    view.show(PUMP[0], view.maker.write("silent.log", lines))
+    view.run("Page.mark('LowFlow')")
+    view.same(view.count("#said tr"), 60, "the events that are listed")
+    view.has(view.text("#panel"), "… and 290 more. These are the last", "how many there are besides")
+
+
 def even_steps_say_that_they_are_no_scale(view):
     view.show(*PUMP)
     view.same(view.text("#even-words"), "even steps, which are no scale", "the word at the box")

@@ -21,6 +21,39 @@ def the_pressure_is_the_best_question(view):
     view.quiet()
 
 
+def questions_of_another_log_are_named(view):
+    """Their time is that of the last event; then there is one for each monitor without an alarm, in the order of use."""
+    text, unfit = ASK[4].read_bytes(), "✗ This does not fit together with the log. "
+    best = b"ask HighPressure silent 1 alarm 3 unknown 0\n"
+    forged = {
+        "earlier": (DATA / "pump-first.ask").read_bytes(), "less": text.replace(best, b""), "last": text.replace(best, b"") + best,
+        "again": text.replace(best, best + b"ask LowFlow silent 0 alarm 0 unknown 0\n"), "more": text.replace(b"silent 1 alarm 3", b"silent 1 alarm 4"),
+        "full": text.split(b"\n")[0] + b"\nrefused LogFull\n",
+    }  # fmt: skip
+    says = {
+        "earlier": "This was made at 0:45:15, and the last event of the log is at 0:53:20.",
+        "less": "HighPressure has no alarm, and there is no question about it.", "last": "The question about HighPressure does not stand in its place.",
+        "again": "After this log there is no such question about LowFlow.", "more": "The question about HighPressure speaks of more sets than there are.",
+    }  # fmt: skip
+    for name, words in says.items():
+        view.show(*ASK[:4], view.maker.write(f"{name}.ask", forged[name]))
+        view.open_tab("ask")
+        view.same(view.texts("#panel .refused"), [unfit + words], f"what is red of the questions called {name}")
+    view.show(*ASK[:4], view.maker.write("full.ask", forged["full"]))
+    view.open_tab("ask")
+    view.has(" ".join(view.texts("#panel .refused")), unfit + "The log is not full.", "what is red of questions that are not asked")
+    view.show(*ASK)
+    view.open_tab("ask")
+    view.same(view.texts("#panel .refused"), [], "what is red of the right questions")
+
+
+def a_prediction_of_another_time_is_named(view):
+    view.show(*PREDICT[:4], view.maker.write("late.predict", PREDICT[4].read_bytes().replace(b"now 2715000 to", b"now 2715001 to")))
+    view.open_tab("predict")
+    wanted = "✗ This does not fit together with the log. This was made at 0:45:15.001, and the last event of the log is at 0:45:15."
+    view.same(view.texts("#panel .refused"), [wanted], "what is red of the prediction")
+
+
 def the_motor_is_hot_when_the_suction_was_weakest(view):
     """The alarm at 0:45:15 leaves the flow five seconds. By the filter, the suction is weak up to 20 s before that. The motor is strained
     30 s after the suction is weak, and hot two minutes later: not before 0:47:20."""
@@ -135,6 +168,48 @@ def a_wrong_number_of_vehicles_is_named(view):
     view.show(*FLEET)
     view.open_tab("fleet")
     view.same(view.texts("#modes .refused"), [], "what is red of the right numbers")
+
+
+def an_output_that_is_not_of_its_stream_is_named(view):
+    """Line 7 of the stream is stray, and line 8 is of north. Line 143 of the output has the first, and its last four are the failure modes."""
+    text = FLEET[3].read_bytes()
+    forged = {
+        (b"stray 7\n", b"stray 8\n"): "Line 143 of the output is “stray 8”, where “stray 7” is due.",
+        (b"stray 7\n", b""): "Line 143 of the output is “vehicle north”, where “stray 7” is due.",
+        (b"stray 7\n", b"stray 7\nstray 12\n"): "Line 144 of the output is “stray 12”, where “vehicle north” is due.",
+        (b"stray 7\n", b"stray 7\npanel 1 lost\n"): "Line 143 of the output is “stray 7”, and what stands after it is not what it begins.",
+        (b"mode FilterClogged vehicles 1\n", b"mode LowFlow vehicles 0\n"):
+            "Line 217 of the output is “mode LowFlow”, where “mode FilterClogged” is due.",
+        (b"mode LevelWiring vehicles 0\n", b""): "The output has no more lines, where “mode LevelWiring” is due.",
+        (b"mode LevelWiring vehicles 0\n", b"mode LevelWiring vehicles 0\nmode LevelWiring vehicles 0\n"):
+            "Line 221 of the output is “mode LevelWiring”, where no line is due.",
+    }  # fmt: skip
+    for number, ((old, new), words) in enumerate(forged.items()):
+        assert text.count(old) == 1
+        view.show(*FLEET[:3], view.maker.write(f"unfit-{number}.fleet", text.replace(old, new)))
+        view.open_tab("fleet")
+        view.same(view.texts("#panel p.refused"), ["✗ The output does not fit together with the stream. " + words], f"what is red with {new}")
+    view.show(*FLEET[:3], view.maker.write("running.fleet", text[: text.index(b"mode ")]))
+    view.open_tab("fleet")
+    view.same(view.texts("#panel .refused"), [], "what is red while the stream goes on")
+
+
+def a_vehicle_may_be_called_as_a_line_begins(view):
+    """Also where the stream begins with it."""
+    stream, output = (EXAMPLES / "pumps.log").read_bytes(), FLEET[3].read_bytes()
+    for name in (b"vehicle", b"stray", b"mode", b"report"):
+        files = [view.maker.write("called.log", stream.replace(b"north ", name + b" ")),
+                 view.maker.write("called.fleet", output.replace(b"vehicle north\n", b"vehicle " + name + b"\n"))]
+        view.show(GRAPH, files[0], "--fleet", files[1], "--check", CHECK)
+        view.open_tab("fleet")
+        view.same(view.values("#vehicles tr[data-vehicle]", "vehicle"), ["east", name.decode(), "south"], "the vehicles")
+        view.same(view.texts("#panel .refused"), [], f"what is red of the vehicle {name}")
+        view.has(view.text(f"#vehicles tr[data-vehicle={name.decode()}]"), ["FilterClogged", "accepted 3"], f"the line of the vehicle {name}")
+        view.show(GRAPH)
+        view.open_files(*files)
+        view.open_tab("fleet")
+        view.same(view.values("#vehicles tr[data-vehicle]", "vehicle"), ["east", name.decode(), "south"], "the vehicles of files that are opened")
+    view.quiet()
 
 
 def a_vehicle_opens_its_own_report(view):

@@ -91,3 +91,12 @@ def a_refused_line_is_marked_with_its_cause(view):
     view.same(view.values("#log-lines [data-refused]", "refused"), ["TimeBack 3300000"], "refused lines")
     view.has(view.text("#log-lines [data-line='5']"), "3290000 tick", "the fifth line")
     view.same(view.values("#tracks [data-track=log] .mark", "logLine"), [str(line) for line in range(1, 8)], "the marks of the log")
+
+
+def no_step_is_spoken_of_where_there_is_none(view):
+    view.show(*PUMP)
+    view.go_to(1)
+    view.choose("-")
+    view.open_tab("why")
+    view.same(view.text("#meaning"), "It is in the ranking of this round.", "what is said of a ranked set without a step")
+    view.has(view.text("#panel"), "No step of it stands in the report up to this round.", "what is said of its steps")

@@ -2,18 +2,20 @@
 
 set -l commands diagnose check explain simulate generate convert ask predict fleet
 
-# Whether so many words stand after this command that are no options, nor values of options.
+# Whether so many words stand after this command that are no options, nor values of options. After -- no word is an option.
 function __tfpg_at -a command place
     set -l words (commandline -opc)
     test (count $words) -gt 1; and test "$words[2]" = $command; or return 1
     set -l seen 0
-    set -l is_value no
+    set -l after ''
     for word in $words[3..-1]
-        if test $is_value = yes
-            set is_value no
-        else if contains -- $word --k --doubt --budget --ahead --draw --size
-            set is_value yes
-        else if not string match -q -- '-?*' $word
+        if test "$after" = value
+            set after ''
+        else if test "$after" != options; and test "$word" = --
+            set after options
+        else if test "$after" != options; and contains -- $word --k --doubt --budget --ahead --draw --size
+            set after value
+        else if test "$after" = options; or not string match -q -- '-?*' $word
             set seen (math $seen + 1)
         end
     end

@@ -146,6 +146,14 @@ class Fish(Shell):
         self.assertEqual(self.offered("predict", "--k", "1", "pump.tfpg", "pump.log", ""), ["Damp", "Leak", "Wet"])
         self.assertEqual(self.offered("fleet", "pump.tfpg", ""), [])
 
+    def test_after_the_end_of_options(self):
+        """Also a graph whose name begins as an option does, or is that of one."""
+        for name in ("-graph", "--k"):
+            (self.folder / name).write_text(GRAPH)
+            self.assertEqual(self.offered("diagnose", "--", name, ""), ["count:", "json:", "top:"], name)
+            self.assertEqual(self.offered("predict", "--", name, "pump.log", ""), ["Damp", "Leak", "Wet"], name)
+        self.assertEqual(self.offered("diagnose", "--k", "--", "pump.tfpg", ""), ["count:", "json:", "top:"])
+
 
 @unittest.skipUnless(shutil.which("zsh"), "there is no zsh")
 class Zsh(Shell):
@@ -175,6 +183,10 @@ class Zsh(Shell):
         for command, words in COMMANDS.items():
             places = [f"{number}:{name.lower()}" for number, name in enumerate(re.findall(r"(?<![-\w])[A-Z]{2,}(?=\s|$)", words), 1)]
             self.assertEqual([":".join(line.split(":")[:2]) for line in self.said(command, "") if line[0].isdigit()], places, command)
+
+    def test_after_the_end_of_options(self):
+        """By -S no word after -- is an option."""
+        self.assertEqual([command for command in COMMANDS if "-S" not in self.said(command, "")], [])
 
     def test_it_is_read_by_the_completion_of_zsh(self):
         folder = self.folder / "functions"

@@ -1,5 +1,6 @@
 """`./build install` and `./build uninstall`: what is put where, that it works from any folder and for any user, and that all goes again."""
 
+import importlib.util
 import os
 import re
 import shutil
@@ -153,6 +154,19 @@ class Places(InstallCase):
         (self.goal / "opt/one/share/tfpg/mine").write_text("mine\n")
         self.checkout.run("build", "uninstall", "--prefix", "/opt/one", DESTDIR=str(self.goal))
         self.assertEqual(self.found(), ["opt/one/share/tfpg/mine"])
+
+    def test_what_python_compiled_of_other_modules_stays(self):
+        """Also where a module came to the package later, and where its folder was there before."""
+        own = [self.goal / "opt/one/py/tfpg/reading/mine.py", self.goal / "opt/one/py/other.py"]
+        own[1].parent.mkdir(parents=True)
+        own[1].write_text("")
+        self.installed("--prefix", "/opt/one", "--python-dir", "py", DESTDIR=str(self.goal))
+        own[0].write_text("")
+        subprocess.run([sys.executable, "-c", "import other, tfpg, tfpg.reading.mine"], check=True,
+                       env={"PYTHONPATH": str(self.goal / "opt/one/py")})
+        self.assertEqual(self.checkout.run("build", "uninstall", "--prefix", "/opt/one", DESTDIR=str(self.goal)).returncode, 0)
+        caches = [importlib.util.cache_from_source(str(module)) for module in own]
+        self.assertEqual(self.found(), sorted(str(Path(file).relative_to(self.goal)) for file in (*own, *caches)))
 
     def test_a_second_time_takes_the_place_of_the_first(self):
         self.installed("--prefix", "/opt/one", "--python-dir", "py", DESTDIR=str(self.goal))

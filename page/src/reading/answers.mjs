@@ -5,6 +5,7 @@ import { fleetShapes, needAnswer } from "./lines.mjs";
 import { withProbe } from "./graph.mjs";
 
 const CAUSE = "BadAnswer"; // of a line that none of them writes
+const BEGINS = ["vehicle", "stray", "mode"];
 
 // The questions, the most useful first: how many sets each answer rules out.
 export function readAsk(graph, text) {
@@ -48,20 +49,25 @@ function forecastOf({ node, now, to }, [, hypothesis, , set, outlook, time], at)
   return { ...said, trace: new Map(), steps: [], at, stepsAt: at + 1, node, now, to };
 }
 
-// The report of each vehicle, as a text, and for each failure mode how many vehicles may have it.
+// The report of each vehicle, as a text, and for each failure mode how many vehicles may have it. `parts` are the lines of a vehicle, a stray
+// line or a failure mode, each with the kinds of the lines after it.
 export function readFleet(graph, text) {
-  const lines = linesOf(text), shapes = fleetShapes(graph), fleet = { vehicles: new Map(), strays: [], modes: [] };
+  const lines = linesOf(text), shapes = fleetShapes(graph), fleet = { vehicles: new Map(), strays: [], modes: [], parts: [] };
   let taking = null;
   if (!lines.length || shapes.kind(lines[0]) !== "vehicle") throw new BadText(1, CAUSE);
   lines.forEach((line, index) => {
     const words = line.split(" "), kind = shapes.kind(line);
     if (kind === null) throw new BadText(index + 1, CAUSE);
-    if (kind === "vehicle") {
-      if (!fleet.vehicles.has(words[1])) fleet.vehicles.set(words[1], []);
-      taking = fleet.vehicles.get(words[1]);
-    } else if (kind === "stray") fleet.strays.push(Number(words[1]));
+    if (!BEGINS.includes(kind)) {
+      fleet.parts[fleet.parts.length - 1].kinds.push(kind);
+      if (taking) taking.push(line);
+      return;
+    }
+    fleet.parts.push({ at: index + 1, begin: kind + " " + words[1], kinds: [] });
+    if (kind === "vehicle" && !fleet.vehicles.has(words[1])) fleet.vehicles.set(words[1], []);
+    else if (kind === "stray") fleet.strays.push(Number(words[1]));
     else if (kind === "mode") fleet.modes.push({ node: graph.numberOf.get(words[1]), vehicles: Number(words[3]) });
-    else taking.push(line);
+    taking = kind === "vehicle" ? fleet.vehicles.get(words[1]) : null;
   });
   return fleet;
 }

@@ -2,7 +2,8 @@
 
 const LAST_SILENCES = 200; // of a node; earlier ones say no more than these
 
-// What the first events say, so many of them: all alarms of each node, and its last silences, its own and those of sweeps.
+// What the first events say, so many of them: all alarms of each node, and its last silences, its own and those of sweeps. `earlier` is how
+// many silences come before these.
 export function monitorsAt(graph, log, count) {
   const monitors = new Map(graph.monitored.map(node => [node, { alarms: [], silences: [], sweepCount: null }])), sweeps = [];
   for (let index = 0; index < count; index++) {
@@ -14,14 +15,15 @@ export function monitorsAt(graph, log, count) {
       said.alarms.push(event);
     }
   }
-  for (const said of monitors.values()) said.silences = lastSilences(said, sweeps);
+  for (const said of monitors.values()) Object.assign(said, lastSilences(said, sweeps));
   return monitors;
 }
 
 // A sweep silences a node only before its first alarm.
 function lastSilences({ silences, sweepCount }, sweeps) {
-  const swept = sweeps.slice(0, sweepCount === null ? sweeps.length : sweepCount).slice(-LAST_SILENCES);
-  return [...silences.slice(-LAST_SILENCES), ...swept].sort((one, other) => one.number - other.number).slice(-LAST_SILENCES);
+  const count = sweepCount === null ? sweeps.length : sweepCount, swept = sweeps.slice(0, count).slice(-LAST_SILENCES);
+  const all = [...silences.slice(-LAST_SILENCES), ...swept].sort((one, other) => one.number - other.number).slice(-LAST_SILENCES);
+  return { silences: all, earlier: silences.length + count - all.length };
 }
 
 // The interval of an alarm: the instants that it leaves for the activation of its node.

@@ -68,12 +68,13 @@ const KINDS = [
   ["report", /^report [12] k /],
   ["ask", /^questions now /],
   ["predict", /^predict \S+ now /],
-  ["fleet", /^vehicle /]
+  ["fleet", /^vehicle \S+\nreport [12] k /]
 ];
 
-const LOG_LINE = /^\S+ (alarm \S+|silent \S+|mode \S+|sweep|tick)$/m;
+const LOG_LINE = /^(\S+ \d+|\S+) (alarm \S+|silent \S+|mode \S+|sweep|tick)$/m;
 
-// The kind of a text by its first line, or by a line that has the shape of one of a log. Null if it is of no kind.
+// The kind of a text by its first lines, or by a line that has the shape of one of a log, which in a stream has a name before it. Null if it
+// is of no kind.
 export function kindOf(text) {
   const found = KINDS.find(([, shape]) => shape.test(text.slice(0, 200)));
   return found ? found[0] : LOG_LINE.test(text) ? "log" : null;

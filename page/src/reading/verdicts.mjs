@@ -16,7 +16,8 @@ export function verdictOf(checks, digests, rounds) {
 function answerOf(check, rounds) {
   const { status, output, errors } = check, refused = /^not accepted (\d+) \w+$/m.exec(errors + "\n" + output);
   const isTrial = /^tfpg: |: this answer is of a trial/m.test(errors), by = isTrial ? "an unproved trial of tfpg check" : "tfpg check";
-  if (refused) return { verdict: "refused", words: "✗ " + refused[0] + ", by " + by, check, isTrial, line: Number(refused[1]) };
+  if (refused) return { verdict: "refused", words: "✗ " + refused[0] + ", by " + by, refusal: refused[0], line: Number(refused[1]), check,
+    isTrial };
   const accepted = output.replace(/\n$/, "");
   if (status === 0 && accepted === "accepted " + rounds) {
     return { verdict: "accepted", words: "✓ checked by " + by + ": " + accepted, check, isTrial };

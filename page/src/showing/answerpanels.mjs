@@ -1,5 +1,6 @@
 // What `ask`, `predict` and `fleet` said.
 import { bar, cell, element, foreign, listBox, option, table } from "./elements.mjs";
+import { askMismatches, timeMismatch } from "../reading/answermismatches.mjs";
 import { durationWords, timeWords } from "../reading/times.mjs";
 import { probedFor } from "../reading/probe.mjs";
 import { readSteps } from "../reading/steps.mjs";
@@ -23,11 +24,16 @@ export function askPanel() {
     head = ["ask the monitor of", "if it is silent", "if it alarms", "at least", "unknown"];
   return [
     element("h2", {}, "What to look at next"),
+    ...(state.log ? askMismatches(state.graph, state.log, ask).map(mismatchPart) : []),
     ask.isFull ? element("p", { class: "refused" }, "The log is full, so nothing can be asked.") : null,
     element("p", {}, "At " + timeWords(ask.now, state.units) + " " + ask.ranked + " sets are ranked and " + ask.open + " open."),
     element("p", {}, "How many of them does an answer rule out? The most useful question stands first."),
     table({ id: "questions" }, head, ask.questions.map((question, index) => questionRow(question, all, index === 0)))
   ];
+}
+
+function mismatchPart(words) {
+  return element("p", { class: "refused" }, "✗ This does not fit together with the log. ", linked(words));
 }
 
 function questionRow({ node, silent, alarm, unknown }, all, isFirst) {
@@ -43,6 +49,7 @@ export function predictPanel() {
     element("h2", {}, "When can ", nodeLink(prediction.node), " become active at the earliest?"),
     element("p", {}, "It is " + timeWords(prediction.now, state.units) + ". Looked ahead to " + timeWords(prediction.to, state.units)
       + "."),
+    ...(state.log ? [timeMismatch(state.log, prediction.now)].filter(Boolean).map(mismatchPart) : []),
     forecastTable(prediction, index),
     ...(prediction.forecasts.includes(state.forecast) ? forecastPart(state.forecast) : [])
   ]);
@@ -131,6 +138,7 @@ export function fleetPanel() {
     listBox({ id: "vehicles" }, "vehicles, the worst first", head, rows),
     fleet.strays.length ? element("p", {}, "Stray lines of the stream: " + fleet.strays.slice(0, MOST_STRAYS).join(", ")
       + (left > 0 ? " and " + left + " more" : "") + ".") : null,
+    fleet.mismatch ? element("p", { class: "refused" }, "✗ The output does not fit together with the stream. " + fleet.mismatch) : null,
     fleet.modes.length ? element("h2", {}, "How many vehicles may have a failure mode") : null,
     modesTable(fleet)
   ];

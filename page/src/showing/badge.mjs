@@ -71,11 +71,10 @@ function runWordsOf({ command, status, output, errors }) {
 }
 
 // What does not fit, and a report that was refused, stands above all else. What the page says of a report with either is not to be believed.
-function drawProblems({ verdict, line, check }) {
+function drawProblems({ verdict, line, refusal }) {
   const { problems, comparedTo, notOpened } = state;
   const refused = verdict === "refused"
-    ? [["tfpg check refuses this report: " + /not accepted \d+ \w+/.exec(check.errors + check.output)[0] + ". Believe nothing of it from ",
-      reportLink(line), " on."]] : [];
+    ? [["tfpg check refuses this report: " + refusal + ". Believe nothing of it from ", reportLink(line), " on."]] : [];
   const compared = comparedTo === null ? [] : [["Only the rounds up to " + comparedTo + " were compared."]];
   const rows = [...notOpened.map(words => ["Not opened: ", foreign(words)]), ...refused, ...problems.map(problemWords), ...compared];
   byId("problems").hidden = !rows.length;

@@ -23,7 +23,7 @@ export function comparePanel() {
     element("h2", {}, "Beside another report of this log"),
     element("p", {}, "This report: ", foreign(names.report), ". " + termsWords(report.terms)),
     element("p", {}, "The other: ", foreign(names.compare), ". " + termsWords(other.terms) + " It was not checked."),
-    element("p", { id: "compared" }, comparedWords(found, report)),
+    element("p", { id: "compared" }, comparedWords(found, lacking, report)),
     lacking ? element("p", { class: "refused" }, lacking + " of the rounds are not in the other report.") : null,
     state.otherProblems ? element("p", { class: "refused" }, "The other report does not fit together with the log: " + state.otherProblems) : null,
     found.length ? listBox({ id: "differences" }, "sets of which the reports say something else", head, found.slice(0, MOST_ROWS).map(row)) : null,
@@ -31,8 +31,8 @@ export function comparePanel() {
   ];
 }
 
-function comparedWords(found, { rounds }) {
-  if (!found.length) return "Both rank the same sets in each round, and leave the same sets open.";
+function comparedWords(found, lacking, { rounds }) {
+  if (!found.length) return "Both rank the same sets in each round" + (lacking ? " that both have" : "") + ", and leave the same sets open.";
   const [first] = found, sets = new Set(found.map(({ set }) => set)).size;
   const same = first.from === rounds[0] ? "They differ from round " + first.from.number + " on" : "They say the same up to round "
     + rounds[rounds.indexOf(first.from) - 1].number;

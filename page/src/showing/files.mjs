@@ -1,6 +1,7 @@
 // The texts of the page: those that it carries, those that are opened on it, and saving them as they are.
 import { byId, element } from "./elements.mjs";
-import { kindOf, notKnown, textOf } from "../reading/texts.mjs";
+import { kindOf, linesOf, notKnown, textOf } from "../reading/texts.mjs";
+import { fleetMismatch } from "../reading/answermismatches.mjs";
 import { readAsk, readFleet, readPredict, ownLines } from "../reading/answers.mjs";
 import { readGraph } from "../reading/graph.mjs";
 import { readLog } from "../reading/log.mjs";
@@ -95,6 +96,7 @@ export async function showCarried({ texts, names }) {
 // The output of a fleet, and the stream of its lines in the place of a log. The first vehicle is opened.
 async function showFleet(texts, names) {
   const fleet = named(names.fleet, () => readFleet(state.graph, textOf(texts.fleet)));
+  fleet.mismatch = fleetMismatch(state.graph, linesOf(textOf(texts.log)), fleet);
   fleet.summaries = new Map();
   for (const name of fleet.vehicles.keys()) fleet.summaries.set(name, await summaryOf(fleet, texts, names, name));
   const streamed = from => ({ graph: from.graph, stream: from.log, fleet: from.fleet });

@@ -5,6 +5,7 @@ import { openFiles, saveTexts } from "./files.mjs";
 import { goToChange, tabsThere } from "./head.mjs";
 import { lookAtPanel } from "./links.mjs";
 import { choose, goTo, markNode, show, state, view } from "./state.mjs";
+import { scrollTracks } from "./tracks.mjs";
 
 const ACTIONS = {
   ArrowLeft: () => goTo(state.round - 1),
@@ -56,13 +57,14 @@ function isActivated(target, key) {
   return key === " " && target.matches("[role=option], #drawing .node, #drawing .edge");
 }
 
-// Whether a key moves the focus within the tabs, a list box or the drawing.
+// Whether a key moves the focus within the tabs, a list box or the drawing, or scrolls the tracks.
 function takesInside(target, key) {
   if (target.matches("[role=tab]")) return moveAmong([...byId("tabs").children], target, key, ["ArrowLeft", "ArrowRight"], tab => tab.click());
   if (target.matches("[role=option]")) {
     const options = [...target.parentElement.children], follows = target.parentElement.dataset.follows;
     return moveAmong(options, target, key, ["ArrowUp", "ArrowDown"], row => { if (follows) row.click(); });
   }
+  if (target.id === "tracks") return scrollTracks(key);
   return target.matches("#drawing .node, #drawing .edge") && moveInDrawing(target, key);
 }
 

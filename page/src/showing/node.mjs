@@ -55,7 +55,7 @@ function saidPart(node) {
   const events = [...said.alarms, ...said.silences].sort((one, other) => one.number - other.number);
   if (!events.length) return element("p", {}, "The log says nothing of it so far.");
   return [table({ id: "said" }, [], events.slice(-MOST_EVENTS).map(event => saidRow(node, event))),
-    more(events.length - MOST_EVENTS, "These are the last; the tab log has them all.")];
+    more(events.length + said.earlier - MOST_EVENTS, "These are the last; the tab log has them all.")];
 }
 
 function saidRow(node, event) {

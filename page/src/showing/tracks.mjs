@@ -10,7 +10,7 @@ import { nodeName } from "./links.mjs";
 import { change, choose, markNode, state, view, whenChanged } from "./state.mjs";
 
 const NAMES = 196, LETTERS = 26, ROW = 20, TOP = 24, MOST_SETS = 25, MOST_NODES = 60, MOST_OTHERS = 40; // widths and heights in pixels
-const LEFT = 6, LEAST_DRAG = 8; // pixels
+const LEFT = 6, LEAST_DRAG = 8, STEP = 80, SCROLL_BAR = 20; // pixels
 
 let latest = null; // the axis that was drawn last
 
@@ -42,6 +42,17 @@ function widenByWheel(event) {
   if (!event.ctrlKey && !event.altKey) return;
   event.preventDefault();
   widenTo(state.widening * Math.exp(-event.deltaY / 300), event.clientX);
+}
+
+// Scrolls the tracks where they are larger than their place, and says whether the key does so: along the time, to its ends, over the rows.
+export function scrollTracks(key) {
+  const place = byId("tracks"), isHigh = place.scrollHeight > place.clientHeight;
+  const isWide = place.scrollWidth > place.clientWidth + SCROLL_BAR; // that over the rows takes some of the width
+  const along = isWide && { ArrowLeft: -STEP, ArrowRight: STEP, Home: -place.scrollWidth, End: place.scrollWidth }[key];
+  const over = isHigh && { ArrowUp: -STEP, ArrowDown: STEP }[key];
+  if (!along && !over) return false;
+  place.scrollBy(along || 0, over || 0);
+  return true;
 }
 
 // Dragging over the tracks chooses a span of time, which is then as wide as its place.

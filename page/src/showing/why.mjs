@@ -48,7 +48,7 @@ function meaningPart(hypothesis, found, tree) {
 
 function meaningWords(hypothesis, { status, since }, tree) {
   if (status === "open") return "The budget of this round was spent, so nobody knows whether a history of it explains the log.";
-  if (status === "ranked") return "It is in the ranking of this round. These steps were taken on the way to its history.";
+  if (status === "ranked") return "It is in the ranking of this round." + (tree ? " These steps were taken on the way to its history." : "");
   if (status === "missing") return "The report says nothing of it in this round, and ranks no part of it. So the report is wrong.";
   if (status === "covered") return ["A part of it is ranked: ", coveringLinks(hypothesis),
     ". So nothing was to be done for it in this round."];
