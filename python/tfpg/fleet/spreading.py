@@ -6,6 +6,7 @@ from __future__ import annotations
 
 import multiprocessing
 import os
+import sys
 from collections import deque
 from concurrent.futures import FIRST_COMPLETED, CancelledError, Executor, Future, ProcessPoolExecutor, wait
 from concurrent.futures.process import BrokenProcessPool
@@ -69,12 +70,13 @@ def engine(executor: Optional[Executor], graph: Graph, workers: Optional[int]) -
 
 
 def end(pool: ProcessPoolExecutor) -> None:
-    """Ends the workers of a pool, so that nothing waits for a long log, nor for tasks that nobody takes any more: before Python 3.11.5 a
-    pool whose worker died while it was given a large task waits for ever, unless this end of the pipe is closed."""
+    """Ends the workers of a pool, so that nothing waits for a long log, nor for tasks that nobody takes any more. Before Python 3.11.5 a
+    pool whose worker died while it was given a large task waits for ever, unless this end of the pipe is closed; from then on the pool
+    closes it, and to close it twice at a time is an error."""
     for worker in list((pool._processes or {}).values()):
         worker.terminate()
     queue: Any = getattr(pool, "_call_queue", None)
-    if queue is not None:
+    if queue is not None and sys.version_info < (3, 11, 5):
         queue._reader.close()
 
 
