@@ -95,10 +95,13 @@ def end_with_parent() -> None:
 
 
 def free_port() -> int:
-    """A port of the loopback address that nobody has."""
-    with socket.socket() as one:
-        one.bind(("127.0.0.1", 0))
-        return int(one.getsockname()[1])
+    """A port of the loopback address that nobody has, and that the system gives to no client: one that tries a port again and again, while
+    its server is gone, may be given this very port, and then holds it."""
+    while True:
+        port = random.SystemRandom().randrange(20000, 32000)
+        with socket.socket() as one, contextlib.suppress(OSError):
+            one.bind(("127.0.0.1", port))
+            return port
 
 
 def until(holds: Callable[[], object], what: str, seconds: float = 240) -> None:
