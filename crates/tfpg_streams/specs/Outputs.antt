@@ -1,5 +1,5 @@
 -- What a command writes, for any notion of what is right to write: one text at its end, or line by line as it reads.
-use Rattle.std.specs.Prelude.{◌≡◌, ◌⊎◌, ◌++◌, ℕ, ◌+◌, ◌≤◌, List, [], length, take, Result, Ok, Err}
+use Rattle.std.specs.Prelude.{◌≡◌, ◌⊎◌, ◌++◌, ℕ, ◌+◌, ◌<◌, ◌≤◌, List, [], length, take, Result, Ok, Err}
 use Rattle.tfpg_base.specs.Lines.{lines_of, whole_lines}
 use Rattle.tfpg_base.specs.declared.limits.TheConstants.{MAX_BYTES}
 use Rattle.tfpg_base.specs.Outside.{SourceState, SinkState, Rose, Takes, Puts, IsAtEnd}
@@ -16,11 +16,12 @@ pub record WritesText (IsRight : List ℕ → Type 0) (before now : SinkState) :
   pub writes : Puts before now text
   pub no_fault : now.faults ≡ before.faults
 
--- The output failed, and what was written begins a text that is right.
+-- The output failed, and what was written begins a text that is right, and is not all of it.
 pub record BeginsText (IsRight : List ℕ → Type 0) (before now : SinkState) : Type 0 where
   pub front : List ℕ
   pub rest : List ℕ
   pub right : IsRight (front ++ rest)
+  pub some_left : 0 < length rest
   pub writes : Puts before now front
   pub rose : Rose before.faults now.faults
 

@@ -11,4 +11,4 @@ module _ (IsRight : List ℕ → Type 0) (before now : SinkState) (text piece : 
 
   -- the output failed
   pub cut_text : Cuts piece before now → BeginsText IsRight before now
-  cut_text cuts = record { front = cuts.front; rest = cuts.rest; right = subst IsRight (sym same ∙ cuts.parts) right; writes = cuts.puts; rose = cuts.rose }
+  cut_text cuts = record { front = cuts.front; rest = cuts.rest; right = subst IsRight (sym same ∙ cuts.parts) right; some_left = cuts.some_left; writes = cuts.puts; rose = cuts.rose }
