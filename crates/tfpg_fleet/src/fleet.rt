@@ -68,6 +68,7 @@ impl Fleet {
         ensures names { IfOk result (λ fleet. names_of fleet ≡ names.now) }
         ensures new { IfOk result (λ fleet.
             All (IsNew graph.now (record { k = k; doubt = doubt; budget = budget })) fleet.vehicles) }
+        ensures uncounted { IfOk result (λ fleet. calls_of_fleet fleet ≡ 0) }
         ensures represents { IfOk result (λ fleet.
             FleetRepresents graph.now (record { k = k; doubt = doubt; budget = budget }) fleet [] (λ number. [])) }
         ensures too_many { (count : ℕ) → (result ≡ Err (TableFault.TooMany count)) ↔
@@ -160,6 +161,7 @@ fn new_vehicles(
     requires few { (count : ℕ) → HasHypotheses graph.now terms count → count ≤ MAX_HYPOTHESES }
     ensures names { IfOk result (λ vehicles. map (λ (vehicle : VehicleState). vehicle.name) vehicles.items ≡ names.now) }
     ensures new { IfOk result (λ vehicles. All (IsNew graph.now terms) vehicles.items) }
+    ensures uncounted { IfOk result (λ vehicles. calls_of_fleet (record { vehicles = vehicles.items }) ≡ 0) }
 {
     let mut vehicles = Vec::with_capacity(alloc, names.len())?;
     for name in names {

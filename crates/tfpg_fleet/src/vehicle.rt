@@ -59,6 +59,7 @@ impl Vehicle {
         requires few { (count : ℕ) → HasHypotheses graph.now terms count → count ≤ MAX_HYPOTHESES }
         ensures name { IfOk result (λ vehicle. vehicle.name ≡ name.now) }
         ensures new { IfOk result (IsNew graph.now terms) }
+        ensures uncounted { IfOk result (λ vehicle. calls_of_engine vehicle.engine ≡ 0) }
     {
         let name = name.copy()?;
         let graph = graph.copy()?;

@@ -1,8 +1,13 @@
--- What the systems of all searches have counted, where one vehicle takes a line.
-use Rattle.std.proofs.Common.{◌≡◌, ℕ, ◌+◌, ◌<◌, List, length, set, get_or, ap, sym, arith}
-use Rattle.std.proofs.lemmas.List.Sums.{sum_by-set}
+-- What the systems of all searches have counted, in a new fleet and where one vehicle takes a line.
+use Rattle.std.proofs.Common.{◌≡◌, ℕ, ◌+◌, ◌<◌, List, [], ◌∷◌, ◌++◌, length, set, get_or, ap, sym, arith}
+use Rattle.std.proofs.lemmas.List.Sums.{sum_by-set, sum_by_push}
 use Rattle.tfpg_engine.specs.EngineState.{calls_of_engine}
 use Rattle.tfpg_fleet.specs.FleetState.{FleetState, VehicleState, calls_of_fleet}
+
+-- One vehicle more, for which nothing was counted.
+pub uncounted-push : (vehicles : List VehicleState) (vehicle : VehicleState) → calls_of_fleet (record { vehicles = vehicles }) ≡ 0 → calls_of_engine vehicle.engine ≡ 0
+    → calls_of_fleet (record { vehicles = vehicles ++ vehicle ∷ [] }) ≡ 0
+uncounted-push vehicles vehicle none new = omega (arith, sum_by_push (λ (one : VehicleState). calls_of_engine one.engine) vehicles vehicle, none, new)
 
 -- The fleet counted what the vehicle counted.
 pub fleet_calls : (fleet : FleetState) (vehicles : List VehicleState) (number : ℕ) (before after : VehicleState) (start finish : ℕ)
