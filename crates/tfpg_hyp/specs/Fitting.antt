@@ -1,5 +1,5 @@
 -- Which hypotheses fit a log, and how a round stands to them.
-use Rattle.std.specs.Prelude.{◌≡◌, ◌↔◌, ℕ, List, false, IsTrue, Some, slice_get}
+use Rattle.std.specs.Prelude.{◌≡◌, ◌↔◌, List, Contains, false, IsTrue}
 use Rattle.tfpg_base.specs.declared.terms.Terms.{Terms}
 use Rattle.tfpg_base.specs.Hypothesis.{Hypothesis, IsProperPart}
 use Rattle.tfpg_graph.specs.Graph.{Tfpg}
@@ -11,8 +11,7 @@ use Rattle.tfpg_hyp.specs.Table.{IsHypothesis}
 use Rattle.tfpg_hyp.specs.Views.{HypothesisFits}
 
 -- Some hypothesis fits the log that is a proper part of the hypothesis.
-pub record HasFittingPart (graph : Tfpg) (log : Logbook) (terms : Terms)
-    (hypothesis : Hypothesis) : Type 0 where
+pub record HasFittingPart (graph : Tfpg) (log : Logbook) (terms : Terms) (hypothesis : Hypothesis) : Type 0 where
   pub part : Hypothesis
   pub is_one : IsHypothesis graph terms part
   pub proper : IsProperPart part hypothesis
@@ -21,36 +20,24 @@ pub record HasFittingPart (graph : Tfpg) (log : Logbook) (terms : Terms)
 -- No finding on a proper part of the hypothesis is open.
 abbrev pub AreNoneOpenBelow : List Finding → Hypothesis → Type 0
 AreNoneOpenBelow findings hypothesis =
-    (number : ℕ) (finding : Finding) → slice_get findings number ≡ Some finding
-    → IsProperPart (hypothesis_of finding) hypothesis
-    → is_open finding.status ≡ false
+    (finding : Finding) → Contains findings finding
+    → IsProperPart (hypothesis_of finding) hypothesis → is_open finding.status ≡ false
 
 -- What the statuses of a round say of the hypotheses, whatever became of the others: one that is not open is rejected exactly
--- where it does not fit the log; one that fits is never rejected; and a ranked one of whose proper parts none is open has no
--- proper part that fits.
-pub record SayWhichSetsFit (graph : Tfpg) (log : Logbook) (terms : Terms)
-    (findings : List Finding) : Type 0 where
-  pub rejected : (number : ℕ) (finding : Finding) → slice_get findings number ≡ Some finding
-      → is_open finding.status ≡ false
+-- where it does not fit the log; and a ranked one of whose proper parts none is open has no proper part that fits.
+pub record SayWhichSetsFit (graph : Tfpg) (log : Logbook) (terms : Terms) (findings : List Finding) : Type 0 where
+  pub rejected : (finding : Finding) → Contains findings finding → is_open finding.status ≡ false
       → IsTrue (is_rejected finding.status) ↔ (HypothesisFits graph log (hypothesis_of finding) → ⊥)
-  pub not_rejected : (number : ℕ) (finding : Finding) → slice_get findings number ≡ Some finding
-      → HypothesisFits graph log (hypothesis_of finding) → IsTrue (is_rejected finding.status) → ⊥
-  pub minimal : (number : ℕ) (finding : Finding) → slice_get findings number ≡ Some finding
-      → IsTrue (is_ranked finding.status)
+  pub minimal : (finding : Finding) → Contains findings finding → IsTrue (is_ranked finding.status)
       → AreNoneOpenBelow findings (hypothesis_of finding)
       → HasFittingPart graph log terms (hypothesis_of finding) → ⊥
 
 -- The statuses are those of the minimal hypotheses that fit: ranked are exactly those that fit while no proper part does, covered
 -- exactly the others that fit, and rejected exactly those that do not.
-pub record AreStatusesOfMinimalSets (graph : Tfpg) (log : Logbook) (terms : Terms)
-    (findings : List Finding) : Type 0 where
-  pub ranked : (number : ℕ) (finding : Finding) → slice_get findings number ≡ Some finding
-      → IsTrue (is_ranked finding.status)
-      ↔ (HypothesisFits graph log (hypothesis_of finding)
-      × (HasFittingPart graph log terms (hypothesis_of finding) → ⊥))
-  pub covered : (number : ℕ) (finding : Finding) → slice_get findings number ≡ Some finding
-      → IsTrue (is_covered finding.status)
-      ↔ (HypothesisFits graph log (hypothesis_of finding)
-      × HasFittingPart graph log terms (hypothesis_of finding))
-  pub rejected : (number : ℕ) (finding : Finding) → slice_get findings number ≡ Some finding
-      → IsTrue (is_rejected finding.status) ↔ (HypothesisFits graph log (hypothesis_of finding) → ⊥)
+pub record AreStatusesOfMinimalSets (graph : Tfpg) (log : Logbook) (terms : Terms) (findings : List Finding) : Type 0 where
+  pub ranked : (finding : Finding) → Contains findings finding → IsTrue (is_ranked finding.status)
+      ↔ (HypothesisFits graph log (hypothesis_of finding) × (HasFittingPart graph log terms (hypothesis_of finding) → ⊥))
+  pub covered : (finding : Finding) → Contains findings finding → IsTrue (is_covered finding.status)
+      ↔ (HypothesisFits graph log (hypothesis_of finding) × HasFittingPart graph log terms (hypothesis_of finding))
+  pub rejected : (finding : Finding) → Contains findings finding → IsTrue (is_rejected finding.status)
+      ↔ (HypothesisFits graph log (hypothesis_of finding) → ⊥)

@@ -5,7 +5,7 @@ use Rattle.std.proofs.lemmas.Option.{same_Some}
 use Rattle.tfpg_base.specs.declared.activation.Activation.{Activation}
 use Rattle.tfpg_base.specs.declared.terms.Terms.{Terms}
 use Rattle.tfpg_base.specs.Hypothesis.{Hypothesis, IsProperPart}
-use Rattle.tfpg_base.proofs.lemmas.lists.Elements.{slice_get-same_length}
+use Rattle.tfpg_base.proofs.lemmas.lists.Elements.{Contains-at, slice_get-same_length}
 use Rattle.tfpg_graph.specs.Graph.{Tfpg}
 use Rattle.tfpg_graph.specs.Reach.{IsReach}
 use Rattle.tfpg_graph.proofs.lemmas.reach.Reaches.{reach_is_one}
@@ -152,8 +152,8 @@ module _ (parts_first : PartsStandBefore) (graph : Tfpg) (terms : Terms) (log : 
     rejected_too : (number : ℕ) (finding found : Finding) → HasFindingAt one number finding → HasFindingAt two number found → is_open finding.status ≡ false → is_open found.status ≡ false
         → is_rejected finding.status ≡ true → is_rejected found.status ≡ true
     rejected_too number finding found at also closed closed_too rejected =
-        (is_two.fitting.rejected number found also closed_too).1
-        (subst (λ (h : Hypothesis). HypothesisFits graph log h → ⊥) (same_hypothesis number finding found at also) ((is_one.fitting.rejected number finding at closed).0 rejected))
+        (is_two.fitting.rejected found (Contains-at two.findings number found also) closed_too).1
+        (subst (λ (h : Hypothesis). HypothesisFits graph log h → ⊥) (same_hypothesis number finding found at also) ((is_one.fitting.rejected finding (Contains-at one.findings number finding at) closed).0 rejected))
 
   -- where the first ranks a hypothesis, so does the second, if they rank the same ones before it
   ranked_too : (one two : Round) (is_one : IsRoundHere one) (is_two : IsRoundHere two) (number : ℕ) (finding found : Finding) → HasFindingAt one number finding → HasFindingAt two number found

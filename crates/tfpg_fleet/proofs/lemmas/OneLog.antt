@@ -3,7 +3,7 @@ use Rattle.std.proofs.Common.{◌≡◌, ℕ, ◌+◌, ◌≤◌, true, false, B
 use Rattle.std.specs.Prelude.{slice_get}
 use Rattle.tfpg_base.specs.declared.terms.Terms.{Terms}
 use Rattle.tfpg_base.specs.Hypothesis.{Hypothesis}
-use Rattle.tfpg_base.proofs.lemmas.lists.Elements.{slice_get-same_length, All-at}
+use Rattle.tfpg_base.proofs.lemmas.lists.Elements.{slice_get-same_length, All-at, Contains-at}
 use Rattle.tfpg_base.proofs.lemmas.lists.Elements.{All-list_any_none}
 use Rattle.std.proofs.lemmas.Option.{same_Some}
 use Rattle.tfpg_graph.specs.Graph.{Tfpg}
@@ -106,12 +106,14 @@ module _ (minimal : SaysMinimal) (one_table : HasOneTable) (graph : Tfpg) (terms
 
     find_the_same : FindTheSame finding found
     find_the_same =
-        let ranked = statuses.ranked number finding at in
-        let ranked_there = other_statuses.ranked number found there in
-        let covered = statuses.covered number finding at in
-        let covered_there = other_statuses.covered number found there in
-        let rejected = statuses.rejected number finding at in
-        let rejected_there = other_statuses.rejected number found there in
+        let here = Contains-at round.findings number finding at in
+        let also = Contains-at other.findings number found there in
+        let ranked = statuses.ranked finding here in
+        let ranked_there = other_statuses.ranked found also in
+        let covered = statuses.covered finding here in
+        let covered_there = other_statuses.covered found also in
+        let rejected = statuses.rejected finding here in
+        let rejected_there = other_statuses.rejected found also in
         record {
           hypothesis = same_hypothesis;
           ranked = same_tests _ _

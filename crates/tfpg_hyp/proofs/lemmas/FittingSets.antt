@@ -23,7 +23,7 @@ use Rattle.tfpg_clause.specs.Trees.{Judged, IsRefutation}
 use Rattle.tfpg_hyp.specs.Table.{IsHypothesis}
 use Rattle.tfpg_hyp.specs.Views.{log_for, IsReachOf, HypothesisFits, case_for}
 use Rattle.tfpg_hyp.specs.Rounds.{IsRound, HasEvidence, IsRankedPart, HasRankedPart, HasNoneOpen, steps_so_far}
-use Rattle.tfpg_hyp.specs.Fitting.{HasFittingPart, AreNoneOpenBelow}
+use Rattle.tfpg_hyp.specs.Fitting.{HasFittingPart, AreNoneOpenBelow, SayWhichSetsFit}
 use Rattle.tfpg_hyp.proofs.lemmas.IgnoredMore.{whole_fits}
 use Rattle.tfpg_hyp.proofs.lemmas.FindingsOfRound.{HasFindingAt, evidence}
 use Rattle.tfpg_hyp.proofs.lemmas.Subsets.{part_first, once}
@@ -37,6 +37,19 @@ of_view graph log terms hypothesis of is = record { own = of.own; ignored = is.d
 -- and its times are those of the log
 ordered_view : (log : Logbook) (hypothesis : Hypothesis) → IsOrdered log → IsOrdered (log_for log hypothesis)
 ordered_view log hypothesis ordered = record { in_order = ordered.in_order; in_range = ordered.in_range }
+
+-- ---- what a round says of a hypothesis that it rejects
+
+rejected_not_open : (status : Status) → IsTrue (is_rejected status) → is_open status ≡ false
+rejected_not_open (Ranked trace cost alarmed monitored) rejected = refl
+rejected_not_open (Covered by) rejected = refl
+rejected_not_open Rejected rejected = refl
+rejected_not_open Open rejected = cc
+
+-- it does not fit
+pub says_misfit : {graph : Tfpg} {log : Logbook} {terms : Terms} {findings : List Finding} → SayWhichSetsFit graph log terms findings → (number : ℕ) (finding : Finding) → slice_get findings number ≡ Some finding
+    → HypothesisFits graph log (hypothesis_of finding) → IsTrue (is_rejected finding.status) → ⊥
+says_misfit says number finding at fits rejected = (says.rejected finding (Contains-at _ number finding at) (rejected_not_open finding.status rejected)).0 rejected fits
 
 -- ---- the findings of a round
 
@@ -99,7 +112,7 @@ module _ (leaves_none : LeavesNoTrace) (graph : Tfpg) (terms : Terms) (line : �
     rejected_not_by (Covered by) own holds fits = cc
     rejected_not_by Open own holds fits = cc
 
-    pub rejected_not : IsTrue (is_rejected finding.status) → HypothesisFits graph log (hypothesis_of finding) → ⊥
+    rejected_not : IsTrue (is_rejected finding.status) → HypothesisFits graph log (hypothesis_of finding) → ⊥
     rejected_not holds fits = rejected_not_by finding.status evidence_of holds fits
 
   -- ---- ranked parts
@@ -176,7 +189,7 @@ module _ (leaves_none : LeavesNoTrace) (graph : Tfpg) (terms : Terms) (line : �
         )
     no_part_by other f there proper fits Rejected is = rejected_not other f there (subst (λ (s : Status). IsTrue (is_rejected s)) (sym is) refl) fits
     no_part_by other f there proper fits Open is =
-        let not_open : is_open f.status ≡ false = none_open other f there proper in
+        let not_open : is_open f.status ≡ false = none_open f (Contains-at round.findings other f there) proper in
         let is_not : is_open Open ≡ false = sym (ap is_open is) ∙ not_open in
         cc
 
@@ -200,7 +213,7 @@ module _ (leaves_none : LeavesNoTrace) (graph : Tfpg) (terms : Terms) (line : �
     rejected_of number finding at = rejected_exactly number finding at (not_open number finding at)
 
     minimal : (number : ℕ) (finding : Finding) → HasFindingAt round number finding → IsTrue (is_ranked finding.status) → HasFittingPart graph log terms (hypothesis_of finding) → ⊥
-    minimal number finding at ranked part = no_fitting_part number finding at ranked (λ other f there proper. not_open other f there) part
+    minimal number finding at ranked part = no_fitting_part number finding at ranked (λ f member proper. not_open member.0 f (slice_get-contains round.findings f member)) part
 
     ranked_where : (number : ℕ) (finding : Finding) (at : HasFindingAt round number finding) (status : Status) → finding.status ≡ status → HypothesisFits graph log (hypothesis_of finding) → (HasFittingPart graph log terms (hypothesis_of finding) → ⊥)
         → IsTrue (is_ranked status)

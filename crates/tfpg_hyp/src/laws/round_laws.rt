@@ -12,8 +12,7 @@ ghost use Rattle.tfpg_hyp.specs.Fitting.{SayWhichSetsFit, AreStatusesOfMinimalSe
 use tfpg_clause::laws::a_refutation_leaves_no_trace;
 
 /// What a round says of a hypothesis, whatever became of the others: one that is not open is rejected exactly where it does not
-/// fit the log, one that fits is never rejected, and a ranked one of whose proper parts none is open has no proper part that
-/// fits.
+/// fit the log, and a ranked one of whose proper parts none is open has no proper part that fits.
 pub fn rounds_say_which_sets_fit()
     ensures { (graph : Tfpg) (terms : Terms) (line : ℕ) (rounds : List Round) (log : Logbook)
         (round : Round) →

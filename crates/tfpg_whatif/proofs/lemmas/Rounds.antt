@@ -27,6 +27,7 @@ use Rattle.tfpg_hyp.specs.Views.{HypothesisFits, log_for}
 use Rattle.tfpg_hyp.specs.Rounds.{IsRound, HasNoneOpen}
 use Rattle.tfpg_hyp.specs.Fitting.{SayWhichSetsFit}
 use Rattle.tfpg_hyp.proofs.lemmas.FindingsOfRound.{evidence}
+use Rattle.tfpg_hyp.proofs.lemmas.FittingSets.{says_misfit}
 use Rattle.tfpg_engine.specs.Work.{has_status}
 use Rattle.tfpg_engine.proofs.lemmas.Ignoring.{ordered_for}
 use Rattle.tfpg_whatif.specs.declared.outcome.Outcome.{Outcome}
@@ -97,7 +98,7 @@ module _ (leaves_none : LeavesNoTrace) (which_fit : RoundsSayWhichFit) (one_tabl
         → IsTrue (has_status is_rejected number round) → ⊥
     fits_not_rejected number hypothesis at fits rejected =
         let found = finding_at number hypothesis at in
-        says.not_rejected number found.0 found.1 (subst (HypothesisFits asked.graph asked.log) (sym found.2) fits) (sym (status_at number found.0 found.1) ∙ rejected)
+        says_misfit says number found.0 found.1 (subst (HypothesisFits asked.graph asked.log) (sym found.2) fits) (sym (status_at number found.0 found.1) ∙ rejected)
 
     module _ (none_open : HasNoneOpen round) where
       -- one that does not is rejected, where none is open
@@ -106,7 +107,7 @@ module _ (leaves_none : LeavesNoTrace) (which_fit : RoundsSayWhichFit) (one_tabl
       misfit_rejected number hypothesis at misfit =
           let found = finding_at number hypothesis at in
           status_at number found.0 found.1
-          ∙ (says.rejected number found.0 found.1
+          ∙ (says.rejected found.0 (Contains-at round.findings number found.0 found.1)
           (All-at (λ (f : Finding). is_open f.status ≡ false) round.findings number found.0 (All-list_any_none (λ (f : Finding). is_open f.status) round.findings none_open) found.1)).1
           (λ fits. misfit (subst (HypothesisFits asked.graph asked.log) found.2 fits))
 

@@ -2,6 +2,7 @@ use Rattle.std.proofs.Common.{length, ap}
 use Rattle.std.proofs.lemmas.Result.{IfOk-weaker}
 use Rattle.std.specs.Prelude.{IsSomeAnd}
 use Rattle.tfpg_base.specs.Lines.{lines_of}
+use Rattle.tfpg_hyp.proofs.lemmas.FittingSets.{says_misfit}
 use Rattle.tfpg_run.specs.generate.Generating.{HasSummary}
 use Rattle.tfpg_run.specs.generate.Summary.{drawing}
 use Rattle.tfpg_run.specs.generate.Terms.{generated_terms}
@@ -30,5 +31,5 @@ returns g c =
     (λ text. HasSummary c.args.number c.args.size text.items)
     (λ text says. summary_there c.args.number c.args.size c.in_ok-graph.field-0.graph c.in_ok-graph.field-0.simulated c.in_ok-graph.ensures (lines_of c.as_slice.result.now)
     d (ap lines_of c.as_slice.ensures) (c.in_ok-take_text.ensures c.in_ok-graph.field-0.graph generated_terms c.in_ok-diagnosis.ensures) text.items
-    (λ graph terms line rounds log round valid of ordered is. (c.rounds_say_which_sets_fit.ensures graph terms line rounds log round valid of ordered is).not_rejected) says)
+    (λ graph terms line rounds log round valid of ordered is. says_misfit (c.rounds_say_which_sets_fit.ensures graph terms line rounds log round valid of ordered is)) says)
     c.summary_of.ensures
