@@ -45,13 +45,14 @@ impl Diagnosis {
         }
     }
 
-    /// Takes the lines of a text, one after the other.
+    /// Takes the lines of a text, one after the other. No line was taken before.
     pub fn take_text<L: Ledger>(
         &mut self,
         alloc: Global,
         text: &[u8],
         work: &mut Steps<L>,
     ) -> Result<(), NoMemory>
+        requires { HasDiagnosed self.old.engine.graph self.old.engine.terms [] self.old }
         ensures { (graph : Tfpg) (terms : Terms) → HasDiagnosed graph terms [] self.old →
             OnOk result (HasDiagnosed graph terms (lines_of text.now) self.new) }
     {

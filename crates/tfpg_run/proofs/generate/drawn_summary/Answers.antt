@@ -1,8 +1,9 @@
-use Rattle.std.proofs.Common.{length, ap}
+use Rattle.std.proofs.Common.{[], length, ap}
 use Rattle.std.proofs.lemmas.Result.{IfOk-weaker}
 use Rattle.std.specs.Prelude.{IsSomeAnd}
 use Rattle.tfpg_base.specs.Lines.{lines_of}
 use Rattle.tfpg_hyp.proofs.lemmas.FittingSets.{says_misfit}
+use Rattle.tfpg_diagnose.proofs.lemmas.Diagnosed.{own_diagnosed}
 use Rattle.tfpg_run.specs.generate.Generating.{HasSummary}
 use Rattle.tfpg_run.specs.generate.Summary.{drawing}
 use Rattle.tfpg_run.specs.generate.Terms.{generated_terms}
@@ -12,6 +13,9 @@ use Rattle.tfpg_run.proofs.generate.drawn_summary.Goals as goal
 
 pub new_diagnosis-requires : goal.new_diagnosis-requires
 new_diagnosis-requires g c = drawn_failures c.args.number c.args.size c.in_ok-graph.field-0.graph c.in_ok-graph.field-0.simulated c.in_ok-graph.ensures
+
+pub take_text-requires : goal.take_text-requires
+take_text-requires g c = own_diagnosed c.in_ok-graph.field-0.graph generated_terms [] c.in_ok-diagnosis.diagnosis c.in_ok-diagnosis.ensures
 
 pub summary_of-requires-clause-members : goal.summary_of-requires-clause-members
 summary_of-requires-clause-members g c =
