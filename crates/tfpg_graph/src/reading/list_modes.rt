@@ -63,28 +63,15 @@ pub(crate) fn bits_of_names(declared: &Declared, names: &[&[u8]]) -> Option<u64>
         ≡ bits_of (filter_map (mode_named declared.now) (map (λ name. name.now) names.now))) }
     ensures refused { IfNone result (NameNewModes declared.now [] (map (λ name. name.now) names.now) → ⊥) }
 {
-    let modes = with_new_modes(declared, names, Set::empty())?;
-    Some(modes.bits())
-}
-
-/// These modes and those of the names, where each name is that of another mode and none stands twice.
-fn with_new_modes(declared: &Declared, names: &[&[u8]], modes: Set) -> Option<Set>
-    requires few { length declared.now.modes ≤ MAX_MODES }
-    ensures found { IfSome result (λ _. NameNewModes declared.now modes (map (λ name. name.now) names.now)) }
-    ensures worth { IfSome result (λ all. bits_of all
-        ≡ bits_of modes + bits_of (filter_map (mode_named declared.now) (map (λ name. name.now) names.now))) }
-    ensures refused { IfNone result (NameNewModes declared.now modes (map (λ name. name.now) names.now) → ⊥) }
-{
-    match names.split_first() {
-        None => Some(modes),
-        Some((name, others)) => {
-            let mode = declared.find_mode(name)?;
-            if modes.has(mode) {
-                return None;
-            }
-            with_new_modes(declared, others, modes.with(mode))
+    let mut modes = Set::empty();
+    for name in names {
+        let mode = declared.find_mode(name)?;
+        if modes.has(mode) {
+            return None;
         }
+        modes = modes.with(mode);
     }
+    Some(modes.bits())
 }
 
 /// The bits of the modes that the word says, where these are the bits of those that it lists.
