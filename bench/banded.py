@@ -1,15 +1,18 @@
 #!/usr/bin/env python3
 """Draws banded graphs and the logs of simulated runs on them.
 
-    bench/banded.py FOLDER [DRAWS]
+    bench/banded.py [--sizes N..] [--chain] [--backwards] FOLDER [DRAWS]
 
-For 40, 60 and 150 nodes and each draw from 0 on (24 without the second word) it writes NODES-DRAW.tfpg and NODES-DRAW.log into the
-folder, in the formats of docs/formats.md, and NODES-DRAW.true with the failure modes that started in the run. Equal words give equal
-bytes, with any Python 3 whose `random.Random` is that of 3.2 or later.
+For 40, 60 and 150 nodes, or the sizes that are told, and each draw from 0 on (24 without the second word) it writes NODES-DRAW.tfpg and
+NODES-DRAW.log into the folder, in the formats of docs/formats.md, and NODES-DRAW.true with the failure modes that started in the run. Equal
+words give equal bytes, with any Python 3 whose `random.Random` is that of 3.2 or later. With --backwards all nodes and edges are declared in
+the other order, from effect to cause.
 
 - The graph: each node stands in a band. It has two to four edges, from the 8 to 12 nodes before it. The first four nodes are failure
   modes. Of the others 85 in 100 are OR nodes and a fifth is monitored. Seven edges in ten are active in
   all of three modes, and one in twenty has no greatest delay.
+- With --chain: each node has an edge from the one before it, every third is an AND node with one from the node before that too, and three
+  in ten of the others have one from the third before. Nine edges in ten are active in all modes.
 - The log: one or two failure modes start. Two to four changes of mode. Each node becomes active by the rules, after a delay of its own
   over each edge. Alarms come within their lags. Monitored nodes are asked now and then while they are not active, and are silent. The
   last line is a tick.
@@ -43,6 +46,32 @@ def draw_graph(draws, count, failures=FAILURES):
             active = MODES if draws.random() < 0.7 else tuple(sorted(draws.sample(MODES, draws.randint(1, 2))))
             edges.append((source, node, tmin, tmax, active))
     return nodes, edges
+
+
+def draw_chain(draws, count, failures=FAILURES):
+    """The same of a chain, which all failure modes lead to."""
+    nodes, edges = [(f"F{node}", "failure", None) for node in range(failures)], []
+    for node in range(failures, count):
+        kind = "and" if node % 3 == 0 and node > failures + 2 else "or"
+        nodes.append((f"N{node}", kind, draws.randint(0, 6) if draws.random() < 0.2 else None))
+        sources = [node - 1]
+        if node == failures:
+            sources = range(failures)
+        elif kind == "and":
+            sources = [node - 2, node - 1]
+        elif draws.random() < 0.3 and node - 3 >= failures:
+            sources = [node - 3, node - 1]
+        for source in sources:
+            tmin = draws.randint(0, 5)
+            active = MODES if draws.random() < 0.9 else tuple(sorted(draws.sample(MODES, 2)))
+            edges.append((source, node, tmin, tmin + draws.randint(0, 12), active))
+    return nodes, edges
+
+
+def reversed_graph(nodes, edges):
+    """The same graph, declared from its last node and edge to its first."""
+    last = len(nodes) - 1
+    return nodes[::-1], [(last - source, last - target, *others) for source, target, *others in edges[::-1]]
 
 
 def graph_text(nodes, edges):
@@ -115,24 +144,29 @@ def draw_log(draws, nodes, edges, count):
     return "\n".join(lines) + "\n", [nodes[node][0] for node in sorted(starts)]
 
 
-def drawn(count, draw, failures=FAILURES):
+def drawn(count, draw, failures=FAILURES, chain=False, backwards=False):
     """The graph text, the log text and the failure modes that started, of one draw with so many failure modes."""
     draws = random.Random(1000 * count + draw)
-    nodes, edges = draw_graph(draws, count, failures)
-    log, true = draw_log(draws, nodes, edges, count)
+    nodes, edges = (draw_chain if chain else draw_graph)(draws, count, failures)
+    if backwards:
+        nodes, edges = reversed_graph(nodes, edges)
+    log, true = draw_log(draws, nodes, edges, 6 * count if chain else count)
     return graph_text(nodes, edges), log, true
 
 
 def main():
     reader = argparse.ArgumentParser(description=__doc__, formatter_class=argparse.RawDescriptionHelpFormatter)
+    reader.add_argument("--sizes", type=int, nargs="+", default=SIZES)
+    reader.add_argument("--chain", action="store_true")
+    reader.add_argument("--backwards", action="store_true")
     reader.add_argument("folder", type=Path, metavar="FOLDER")
     reader.add_argument("draws", nargs="?", type=int, default=24, metavar="DRAWS")
     words = reader.parse_args()
     folder = words.folder
     folder.mkdir(parents=True, exist_ok=True)
-    for count in SIZES:
+    for count in words.sizes:
         for draw in range(words.draws):
-            graph, log, true = drawn(count, draw)
+            graph, log, true = drawn(count, draw, chain=words.chain, backwards=words.backwards)
             (folder / f"{count}-{draw}.tfpg").write_text(graph)
             (folder / f"{count}-{draw}.log").write_text(log)
             (folder / f"{count}-{draw}.true").write_text(" ".join(true) + "\n")

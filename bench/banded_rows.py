@@ -1,7 +1,7 @@
 #!/usr/bin/env python3
 """Diagnoses banded draws, and asks z3 the same where it is installed.
 
-    bench/banded_rows.py [--draws N] [--sizes N..] [--k N..] [--budgets N..] [--z3 SECONDS] PROGRAM
+    bench/banded_rows.py [--draws N] [--sizes N..] [--chain] [--backwards] [--k N..] [--budgets N..] [--z3 SECONDS] PROGRAM
 
 PROGRAM is a built program, as crates/tfpg/out/tfpg. The draws are those of `banded.py`. A line for each number of nodes, each `k` and
 each budget has sums over the draws: splits, open findings of all rounds and of the last one, and processor seconds of the program. With
@@ -79,13 +79,17 @@ def main():
     parser = argparse.ArgumentParser(description=__doc__, formatter_class=argparse.RawDescriptionHelpFormatter)
     parser.add_argument("--draws", type=int, default=24)
     parser.add_argument("--sizes", type=int, nargs="+", default=[40, 60, 150])
+    parser.add_argument("--chain", action="store_true")
+    parser.add_argument("--backwards", action="store_true")
     parser.add_argument("--k", type=int, nargs="+", default=[1, 2])
     parser.add_argument("--budgets", type=int, nargs="+", default=[1000])
     parser.add_argument("--z3", type=float, metavar="SECONDS")
     parser.add_argument("program", metavar="PROGRAM")
     words = parser.parse_args()
     with folder_for() as folder:
-        subprocess.run([sys.executable, HERE / "banded.py", folder, str(words.draws)], check=True)
+        shape = [word for word in ("--chain", "--backwards") if getattr(words, word[2:])]
+        sizes = map(str, words.sizes)
+        subprocess.run([sys.executable, HERE / "banded.py", *shape, "--sizes", *sizes, "--", folder, str(words.draws)], check=True)
         rows = [(size, k, budget) for size in words.sizes for k in words.k for budget in words.budgets]
         return 1 if sum(show_row(words, folder, *row) for row in rows) else 0
 

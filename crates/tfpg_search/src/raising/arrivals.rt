@@ -1,27 +1,26 @@
-//! When the failure can arrive: a node becomes active only by an edge that carries it.
+//! When the failure can arrive: a node becomes active only by an edge that carries it. These are the OrMay and AndMay clauses.
 
-use super::Raising;
 use super::windows::{edge_at, edges_into, last_span, window_from};
+use super::{Raising, TryEnds};
 
 impl Raising<'_> {
-    /// The first instant from the time of a node on at which it may become active, or the one after now: for an OR node some edge
-    /// carries the failure then, and for an AND node none does earlier that all have to wait for.
-    pub(super) fn arrival_at(&self, node: u32) -> u64 {
-        let time = self.time(node);
-        if time > self.log.now() {
-            return time;
-        }
+    /// Raises the lower bound of a discrepancy to the first instant at which it may become active, or to the one after now. Where it is active
+    /// by now, lowers the upper bounds of the sources that it then cannot do without.
+    pub(super) fn draw_from_arrivals(&mut self, node: u32) -> Result<(), TryEnds> {
         if self.graph.is_or(node) {
-            self.first_arrival(node, time)
-        } else if self.graph.is_and(node) {
-            self.last_arrival(node, time)
+            let arrival = self.first_arrival(node);
+            self.raise(node, arrival)?;
+            self.lower_only_source(node)
         } else {
-            time
+            let arrival = self.last_arrival(node);
+            self.raise(node, arrival)?;
+            self.lower_sources(node)
         }
     }
 
-    /// The first instant from this one on at which some edge into the node carries the failure, or the one after now.
-    fn first_arrival(&self, node: u32, instant: u64) -> u64 {
+    /// The first instant, from the lower bound of an OR node on, at which some edge into it carries the failure, or the one after now.
+    fn first_arrival(&self, node: u32) -> u64 {
+        let instant = self.low(node);
         let mut first = self.after_now();
         for edge in edges_into(self.graph, node) {
             first = first.min(self.arrival_by(*edge, instant));
@@ -32,24 +31,73 @@ impl Raising<'_> {
         first
     }
 
-    /// An instant before which not all edges into the node carry the failure from this one on. Where they are active in different modes,
-    /// the edges before may not carry it then: that is for the next pass.
-    fn last_arrival(&self, node: u32, instant: u64) -> u64 {
-        let mut last = instant;
+    /// An instant, from the lower bound of an AND node on, before which not all edges into it carry the failure. Where they are active in
+    /// different modes, the edges before may not carry it then: that is for the next look.
+    fn last_arrival(&self, node: u32) -> u64 {
+        let mut last = self.low(node);
         for edge in edges_into(self.graph, node) {
             last = self.arrival_by(*edge, last);
         }
         last
     }
 
-    /// The first instant from this one on at which the edge carries the failure, or the one after now: its source and its window have
-    /// been active for the least delay.
+    /// Lowers the upper bound of the source of the only edge by which an OR node can become active up to its own, where that is by now.
+    fn lower_only_source(&mut self, node: u32) -> Result<(), TryEnds> {
+        let (low, high) = (self.low(node), self.high(node));
+        if high > self.log.now() {
+            return Ok(());
+        }
+        let mut only = None;
+        for edge in edges_into(self.graph, node) {
+            if self.arrival_by(*edge, low) <= high {
+                if only.is_some() {
+                    return Ok(());
+                }
+                only = Some(*edge);
+            }
+        }
+        match only {
+            Some(edge) => self.lower_source(edge, high),
+            None => Err(TryEnds),
+        }
+    }
+
+    /// Lowers the upper bounds of the sources of an AND node, where it is active by now.
+    fn lower_sources(&mut self, node: u32) -> Result<(), TryEnds> {
+        let graph = self.graph;
+        let high = self.high(node);
+        if high > self.log.now() {
+            return Ok(());
+        }
+        for edge in edges_into(graph, node) {
+            self.lower_source(*edge, high)?;
+        }
+        Ok(())
+    }
+
+    /// Lowers the upper bound of the source of an edge so far that the edge can carry the failure by this instant.
+    fn lower_source(&mut self, edge: u32, instant: u64) -> Result<(), TryEnds> {
+        match edge_at(self.graph, edge) {
+            Some(propagation) if propagation.tmin <= instant => {
+                self.lower(propagation.source, instant - propagation.tmin)
+            }
+            _ => Err(TryEnds),
+        }
+    }
+
+    /// The first instant from this one on at which the edge can carry the failure, or the one after now.
     fn arrival_by(&self, edge: u32, instant: u64) -> u64 {
         let Some(propagation) = edge_at(self.graph, edge) else {
             return self.after_now();
         };
         let delay = propagation.tmin;
-        let mut from = instant.max(self.time(propagation.source).saturating_add(delay));
+        let from = instant.max(self.low(propagation.source).saturating_add(delay));
+        self.active_for(edge, from, delay)
+    }
+
+    /// The first instant from this one on at which the window of the edge has been active for this delay, or the one after now.
+    pub(super) fn active_for(&self, edge: u32, instant: u64, delay: u64) -> u64 {
+        let mut from = instant;
         for _ in 0..=last_span(self.log) {
             let Some(window) = window_from(self.graph, self.log, edge, from) else {
                 return self.after_now();
@@ -61,10 +109,5 @@ impl Raising<'_> {
             from = window.hi.saturating_add(1);
         }
         self.after_now()
-    }
-
-    /// The instant after now.
-    fn after_now(&self) -> u64 {
-        self.log.now().saturating_add(1)
     }
 }

@@ -1,35 +1,49 @@
-//! What would be overdue: a source is raised so far that the failure is not due at the target before its time.
+//! What would be overdue: the failure is due at a target so long after its sources. These are the OrMust clauses, and what an AndMust clause
+//! leaves of the upper bound of its node.
 
-use super::windows::{edge_at, edges_into, joint_over, last_span, window_from};
-use super::{Raising, TooLate};
-use tfpg_evidence::ClauseName;
-
-/// A source that may be raised, to which time, and by how much. Times are in milliseconds.
-#[derive(Clone, Copy)]
-struct Choice {
-    source: u32,
-    time: u64,
-    rise: u64,
-}
+use super::windows::{edge_at, edges_into, joint_from, last_span, window_from, window_over};
+use super::{Raising, TryEnds};
+use tfpg_graph::Edge;
+use tfpg_log::Window;
 
 impl Raising<'_> {
-    /// Raises the source of an edge into an OR node, so far that the node is not overdue by it. Returns whether it was raised.
-    pub(super) fn raise_source(&mut self, edge: u32) -> Result<bool, TooLate> {
-        let Some(propagation) = edge_at(self.graph, edge) else {
-            return Ok(false);
-        };
-        let Some(delay) = propagation.tmax else {
-            return Ok(false);
-        };
-        let time = self.in_time(edge, propagation.source, propagation.target, delay);
-        self.raise(propagation.source, time)
+    /// Raises the sources of an OR node so far that it is overdue by none, and lowers the upper bound of a discrepancy to the first instant
+    /// at which it is due.
+    pub(super) fn draw_from_dues(&mut self, node: u32) -> Result<(), TryEnds> {
+        if !self.graph.is_or(node) {
+            return self.lower_joint(node);
+        }
+        let graph = self.graph;
+        for edge in edges_into(graph, node) {
+            self.draw_from_due(*edge)?;
+        }
+        Ok(())
     }
 
-    /// The first instant, from its time on, at which the source of an edge may become active so that the target is not overdue by it: in no
-    /// window the failure is due there before the target's time.
-    fn in_time(&self, edge: u32, source: u32, target: u32, delay: u64) -> u64 {
-        let active = self.time(target);
-        let mut time = self.time(source);
+    /// Raises the source of an edge into an OR node so far that the node is not overdue by it, and lowers the upper bound of the node to where
+    /// it is due by it.
+    fn draw_from_due(&mut self, edge: u32) -> Result<(), TryEnds> {
+        let Some(propagation) = edge_at(self.graph, edge) else {
+            return Ok(());
+        };
+        let Some(delay) = propagation.tmax else {
+            return Ok(());
+        };
+        let time = self.in_time(edge, propagation, delay);
+        self.raise(propagation.source, time)?;
+        let latest = self.high(propagation.source).saturating_add(delay);
+        let due = self.active_for(edge, latest, delay);
+        if due > self.log.now() {
+            return Ok(());
+        }
+        self.lower(propagation.target, due)
+    }
+
+    /// The first instant, from its lower bound on, at which the source of an edge may become active so that the target is not overdue by it: in
+    /// no window the failure is due there before the target's lower bound.
+    fn in_time(&self, edge: u32, propagation: Edge, delay: u64) -> u64 {
+        let active = self.low(propagation.target);
+        let mut time = self.low(propagation.source);
         let mut due = time.saturating_add(delay);
         for _ in 0..=last_span(self.log) {
             if active <= due {
@@ -47,58 +61,48 @@ impl Raising<'_> {
         time
     }
 
-    /// Raises a source of an AND node that is overdue by all of its edges, where this clause is violated. A clause of another kind is
-    /// given up.
-    pub(crate) fn choose(&mut self, name: ClauseName) -> Result<(), TooLate> {
-        let ClauseName::AndMust { node, span, .. } = name else {
-            return Err(TooLate);
+    /// Lowers the upper bound of an AND node to the first instant at which it is due by all of its edges, where that is by now.
+    fn lower_joint(&mut self, node: u32) -> Result<(), TryEnds> {
+        let Some(mut due) = self.latest_due(node) else {
+            return Ok(());
         };
-        let Some(choice) = self.least_choice(node, span) else {
-            return Err(TooLate);
-        };
-        self.has_chosen = true;
-        self.raise(choice.source, choice.time)?;
+        for _ in 0..=last_span(self.log) {
+            let Some(window) = joint_from(self.graph, self.log, node, due) else {
+                return Ok(());
+            };
+            let time = due.max(self.due_at_once(node, window));
+            if time <= window.hi {
+                return self.lower(node, time);
+            }
+            due = window.hi.saturating_add(1);
+        }
         Ok(())
     }
 
-    /// The source that is chosen, so that the node is not overdue in its joint window round the span.
-    fn least_choice(&self, node: u32, span: u32) -> Option<Choice> {
-        let window = joint_over(self.graph, self.log, node, span)?;
-        let due = window.hi.saturating_add(1).min(self.time(node));
-        let mut least = None;
+    /// The greatest delay after the upper bound of each source of a node, the latest of them. There is none where an edge has no greatest delay.
+    fn latest_due(&self, node: u32) -> Option<u64> {
+        let mut latest = 0;
         for edge in edges_into(self.graph, node) {
-            least = lesser(least, self.choice(*edge, due));
+            let propagation = edge_at(self.graph, *edge)?;
+            let due = self
+                .high(propagation.source)
+                .saturating_add(propagation.tmax?);
+            latest = due.max(latest);
         }
-        least
+        Some(latest)
     }
 
-    /// The source of an edge, raised so far that the failure is due by the edge at this instant or later, where its ceiling allows that.
-    fn choice(&self, edge: u32, due: u64) -> Option<Choice> {
-        let propagation = edge_at(self.graph, edge)?;
-        let source = propagation.source;
-        let time = due.saturating_sub(propagation.tmax?);
-        let rise = self.rise(source, time);
-        (time <= self.ceiling(source)).then_some(Choice { source, time, rise })
-    }
-
-    /// By how much a source would be raised to this time, and 0 where the first is taken that can be raised.
-    fn rise(&self, source: u32, time: u64) -> u64 {
-        if self.takes_first {
-            return 0;
+    /// When an AND node is due in a joint window if all its sources are active before.
+    fn due_at_once(&self, node: u32, joint: Window) -> u64 {
+        let mut latest = 0;
+        for edge in edges_into(self.graph, node) {
+            if let Some(window) = window_over(self.graph, self.log, *edge, joint.first)
+                && let Some(propagation) = edge_at(self.graph, *edge)
+                && let Some(delay) = propagation.tmax
+            {
+                latest = window.lo.saturating_add(delay).max(latest);
+            }
         }
-        time.saturating_sub(self.time(source))
-    }
-}
-
-/// The one that is raised less, and of equal ones the first.
-fn lesser(one: Option<Choice>, other: Option<Choice>) -> Option<Choice> {
-    match (one, other) {
-        (Some(first), Some(second)) => Some(if second.rise < first.rise {
-            second
-        } else {
-            first
-        }),
-        (Some(first), None) => Some(first),
-        (None, other) => other,
+        latest
     }
 }

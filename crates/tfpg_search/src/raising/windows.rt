@@ -36,9 +36,20 @@ pub(super) fn window_from(graph: &Graph, log: &Log, edge: u32, instant: u64) -> 
 }
 
 /// The window of an edge round this span, up to now, where there is one.
-fn window_over(graph: &Graph, log: &Log, edge: u32, span: u32) -> Option<Window> {
+pub(super) fn window_over(graph: &Graph, log: &Log, edge: u32, span: u32) -> Option<Window> {
     if edge < graph.edge_count() {
         return log.window_of(graph, edge, span, log.now());
+    }
+    None
+}
+
+/// The joint window of the edges into a node round the instant, or else their first one after it, up to now. Goes through the spans between.
+pub(super) fn joint_from(graph: &Graph, log: &Log, node: u32, instant: u64) -> Option<Window> {
+    let first = log.span_of(instant)?;
+    for span in first..=last_span(log) {
+        if let Some(window) = joint_over(graph, log, node, span) {
+            return Some(window);
+        }
     }
     None
 }

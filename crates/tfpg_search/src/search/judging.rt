@@ -8,7 +8,7 @@ ghost use Rattle.tfpg_search.specs.inside.Moves.{IsLoaded, Sees, ExplainsIfShown
 
 use crate::clause_laws::clause_laws;
 use crate::cut::cut;
-use crate::raising::{PASSES, Raising};
+use crate::raising::Raising;
 use crate::search::{Look, Search};
 use tfpg_base::{NoMemory, Trace};
 use tfpg_clause::laws::numbers_that_meet_all_give_a_trace;
@@ -80,9 +80,9 @@ impl Search {
         }
     }
 
-    /// A trace that explains the log, where one is found by raising times from their floors. There is a second start with other choices,
-    /// if the first had any. From each, at most 32 passes are made over the nodes and their edges, with a look for the first clause violated
-    /// where a pass raises nothing. Takes 8 bytes for each node meanwhile.
+    /// A trace that explains the log, where one is found by raising: the lower bounds that the clauses leave, once as many sources of AND
+    /// nodes were chosen as it needs, at most one for each node and once more. There is a look for the first clause violated at each. Takes
+    /// 40 bytes for each node meanwhile.
     fn raised(&self, graph: &Graph, log: &Log) -> Result<Option<Trace>, NoMemory>
         requires of { IsLogOf graph.now log.now }
         requires stands { IsAtItsLeaf graph.now log.now self.now }
@@ -90,37 +90,14 @@ impl Search {
         ensures { IfOk result (λ found. IfSome found (Explains graph.now log.now self.now.set)) }
     {
         let mut raising = self.raising(graph, log)?;
-        if let Some(trace) = self.raise_on(graph, log, &mut raising)? {
-            return Ok(Some(trace));
-        }
-        if !raising.restart() {
+        if raising.settle().is_err() {
             return Ok(None);
         }
-        self.raise_on(graph, log, &mut raising)
-    }
-
-    /// Raises times until they explain the log, or one cannot be raised further.
-    fn raise_on(
-        &self,
-        graph: &Graph,
-        log: &Log,
-        raising: &mut Raising<'_>,
-    ) -> Result<Option<Trace>, NoMemory>
-        requires of { IsLogOf graph.now log.now }
-        requires stands { IsAtItsLeaf graph.now log.now self.now }
-        requires loaded { IsLoaded graph.now log.now self.now }
-        ensures { IfOk result (λ found. IfSome found (Explains graph.now log.now self.now.set)) }
-    {
-        for _ in 0..PASSES {
-            match raising.pass() {
-                Ok(true) => continue,
-                Ok(false) => {}
-                Err(_) => return Ok(None),
-            }
+        for _ in 0..=graph.node_count() {
             match self.judge_times(graph, log, raising.times())? {
                 Proposed::Shown(trace) => return Ok(Some(trace)),
                 Proposed::Violated(name) => {
-                    if raising.choose(name).is_err() {
+                    if !raising.choose(name)? {
                         return Ok(None);
                     }
                 }
@@ -130,7 +107,7 @@ impl Search {
         Ok(None)
     }
 
-    /// The floor of each node, from which times are raised.
+    /// The floor and the ceiling of each node, with which raising begins.
     fn raising<'a>(&'a self, graph: &'a Graph, log: &'a Log) -> Result<Raising<'a>, NoMemory> {
         Raising::new(self.alloc, graph, log, &self.leaf)
     }
