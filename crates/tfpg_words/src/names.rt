@@ -1,6 +1,6 @@
 //! The names of vehicles.
 
-ghost use Rattle.std.specs.Prelude.{◌≡◌, IfOk, bytes_eq, map};
+ghost use Rattle.std.specs.Prelude.{◌≡◌, true, false, IfOk, bytes_eq, drop, map};
 ghost use Rattle.std.specs.List.{list_all, list_any};
 ghost use Rattle.tfpg_base.specs.Words.{comma_parts, is_name};
 ghost use Rattle.tfpg_words.specs.Names.{are_distinct, are_few, are_names};
@@ -48,14 +48,23 @@ fn have_form(names: &[&[u8]]) -> bool
 fn are_distinct(names: &[&[u8]]) -> bool
     ensures { result ≡ are_distinct (map (λ name. name.now) names.now) }
 {
-    match names.split_first() {
-        None => true,
-        Some((first, others)) => {
-            if is_among(others, first) {
-                return false;
-            }
-            are_distinct(others)
+    for index in 0..names.len() {
+        if first_stands_again(&names[index..]) {
+            return false;
         }
+    }
+    true
+}
+
+/// Whether the first of some names stands again among the others.
+fn first_stands_again(names: &[&[u8]]) -> bool
+    ensures again { result ≡ true → are_distinct (map (λ name. name.now) names.now) ≡ false }
+    ensures once { result ≡ false → are_distinct (map (λ name. name.now) names.now) ≡
+        are_distinct (map (λ name. name.now) (drop 1 names.now)) }
+{
+    match names.split_first() {
+        None => false,
+        Some((first, others)) => is_among(others, first),
     }
 }
 

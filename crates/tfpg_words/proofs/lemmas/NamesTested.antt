@@ -1,5 +1,5 @@
 -- What it comes to that the test of names passes.
-use Rattle.std.proofs.Common.{◌≡◌, ◌∙◌, ◌&&◌, ◌||◌, ap, map, ℕ, Bool, true, false, List, [], ◌∷◌, length, All, refl, sym, arith, bytes_eq}
+use Rattle.std.proofs.Common.{◌≡◌, ◌∙◌, ◌&&◌, ◌||◌, ap, map, drop, ℕ, Bool, true, false, List, [], ◌∷◌, length, All, refl, sym, arith, bytes_eq}
 use Rattle.std.specs.Prelude.{◌≢◌, AllPairs, nat_le, not}
 use Rattle.std.specs.List.{list_all}
 use Rattle.std.specs.Borrow.{Bor}
@@ -77,13 +77,14 @@ among_is word (name ∷ others) = ap (λ (b : Bool). bytes_eq name.now word || b
 
 module _ (names others : List (Bor (List ℕ))) (first : Bor (List ℕ)) (are : names ≡ first ∷ others) (among : Bool) (is : among ≡ list_any (λ name. bytes_eq name.now first.now) others) where
   -- the first stands again
-  pub first_again : among ≡ true → false ≡ are_distinct (map (λ (name : Bor (List ℕ)). name.now) names)
+  pub first_again : among ≡ true → are_distinct (map (λ (name : Bor (List ℕ)). name.now) names) ≡ false
   first_again again =
-      sym (ap (λ (ns : List (Bor (List ℕ))). are_distinct (map (λ (name : Bor (List ℕ)). name.now) ns)) are
-      ∙ ap (λ (b : Bool). not b && are_distinct (map (λ (name : Bor (List ℕ)). name.now) others)) (among_is first.now others ∙ sym is ∙ again))
+      ap (λ (ns : List (Bor (List ℕ))). are_distinct (map (λ (name : Bor (List ℕ)). name.now) ns)) are
+      ∙ ap (λ (b : Bool). not b && are_distinct (map (λ (name : Bor (List ℕ)). name.now) others)) (among_is first.now others ∙ sym is ∙ again)
 
   -- it does not
-  pub first_once : among ≡ false → (distinct : Bool) → distinct ≡ are_distinct (map (λ (name : Bor (List ℕ)). name.now) others) → distinct ≡ are_distinct (map (λ (name : Bor (List ℕ)). name.now) names)
-  first_once once distinct says = says
-      ∙ sym (ap (λ (ns : List (Bor (List ℕ))). are_distinct (map (λ (name : Bor (List ℕ)). name.now) ns)) are
-      ∙ ap (λ (b : Bool). not b && are_distinct (map (λ (name : Bor (List ℕ)). name.now) others)) (among_is first.now others ∙ sym is ∙ once))
+  pub first_once : among ≡ false → are_distinct (map (λ (name : Bor (List ℕ)). name.now) names) ≡ are_distinct (map (λ (name : Bor (List ℕ)). name.now) (drop 1 names))
+  first_once once =
+      ap (λ (ns : List (Bor (List ℕ))). are_distinct (map (λ (name : Bor (List ℕ)). name.now) ns)) are
+      ∙ ap (λ (b : Bool). not b && are_distinct (map (λ (name : Bor (List ℕ)). name.now) others)) (among_is first.now others ∙ sym is ∙ once)
+      ∙ ap (λ (ns : List (Bor (List ℕ))). are_distinct (map (λ (name : Bor (List ℕ)). name.now) (drop 1 ns))) (sym are)
