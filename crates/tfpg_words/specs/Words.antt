@@ -15,9 +15,8 @@ pub record Form : Type 0 where
 
 -- A word that begins with a hyphen and has another byte is an option word. The hyphen alone is a word like any other.
 abbrev pub is_option_word : Word → Bool
-is_option_word [] = false
-is_option_word (first ∷ []) = false
 is_option_word (first ∷ second ∷ others) = first == 45
+is_option_word _ = false
 
 -- What stands before and after the first `=` of a word, where it has one.
 abbrev pub cut_at_equals : Word → Option (Word × Word)
