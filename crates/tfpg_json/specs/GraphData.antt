@@ -28,25 +28,14 @@ abbrev pub greatest_data : Option ℕ → Data
 greatest_data None = null
 greatest_data (Some tmax) = whole tmax
 
--- an edge between the nodes of two names, active in the modes that this data lists
-abbrev pub edge_object : List ℕ → List ℕ → Edge → Data → Data
-edge_object source target edge modes =
-    object (member (codes "from") (string source)
+-- an edge, with its two nodes and each of its modes by name
+abbrev pub edge_data : Tfpg → Edge → Data
+edge_data graph edge =
+    object (member (codes "from") (string (name_word graph edge.source))
     (member (codes "max") (greatest_data edge.tmax)
     (member (codes "min") (whole edge.tmin)
-    (member (codes "modes") modes
-    (member (codes "to") (string target) no_members)))))
-
--- an edge, with each of its modes by name
-abbrev pub edge_data : Tfpg → Edge → Data
-edge_data graph edge = edge_object (name_word graph edge.source) (name_word graph edge.target) edge (texts (mode_names graph edge.modes))
-
--- a failure mode
-abbrev pub failure_data : List ℕ → ℕ → Data
-failure_data name rarity =
-    object (member (codes "kind") (string (codes "failure"))
-    (member (codes "name") (string name)
-    (member (codes "rarity") (whole rarity) no_members)))
+    (member (codes "modes") (texts (mode_names graph edge.modes))
+    (member (codes "to") (string (name_word graph edge.target)) no_members)))))
 
 -- members after the least lag, which stands only where it is not 0
 abbrev pub after_least : ℕ → Members → Members
@@ -63,7 +52,10 @@ discrepancy_data kind name (Some lag) =
 
 -- a node of this name and kind
 abbrev pub kind_data : List ℕ → Kind → Data
-kind_data name (Failure rarity) = failure_data name rarity
+kind_data name (Failure rarity) =
+    object (member (codes "kind") (string (codes "failure"))
+    (member (codes "name") (string name)
+    (member (codes "rarity") (whole rarity) no_members)))
 kind_data name (Or lag) = discrepancy_data (codes "or") name lag
 kind_data name (And lag) = discrepancy_data (codes "and") name lag
 

@@ -103,22 +103,14 @@ node_in value = do
   kind ← kind_in value
   Some (record { name = name; kind = kind })
 
--- the greatest delay of an edge: the key must be there, and is null where the delay is infinite
-abbrev pub greatest_in : Data → Option (Option ℕ)
-greatest_in value = option_and_then (unless_null number_from) (get (codes "max") value)
-
--- the modes of an edge: the key must be there, and is null for all modes
-abbrev pub modes_in : Data → Option (Option (List (List ℕ)))
-modes_in value = option_and_then (unless_null (each_in as_str)) (get (codes "modes") value)
-
--- an edge
+-- An edge. The key of its greatest delay must be there, and is null where that is infinite; so must that of its modes, null for all.
 abbrev pub edge_from : Data → Option EdgeSaid
 edge_from value = do
   source ← text_under (codes "from") value
   target ← text_under (codes "to") value
   tmin ← number_under (codes "min") value
-  tmax ← greatest_in value
-  modes ← modes_in value
+  tmax ← option_and_then (unless_null number_from) (get (codes "max") value)
+  modes ← option_and_then (unless_null (each_in as_str)) (get (codes "modes") value)
   Some (record { source = source; target = target; tmin = tmin; tmax = tmax; modes = modes })
 
 -- What data says of a graph, where it has the shape: an object with modes, nodes and edges. Other keys are ignored everywhere.

@@ -4,7 +4,7 @@ ghost use Rattle.std.specs.Prelude.{◌≡◌, ◌++◌, OnOk, codes, map};
 ghost use Rattle.serde_json.specs.Data.{array, string};
 ghost use Rattle.serde_json.specs.View.{items_of};
 ghost use Rattle.tfpg_graph.specs.Valid.{IsValidEdge};
-ghost use Rattle.tfpg_json.specs.GraphData.{discrepancy_data, edge_data, failure_data, graph_data, greatest_data, kind_data, mode_names, node_data, texts};
+ghost use Rattle.tfpg_json.specs.GraphData.{discrepancy_data, edge_data, graph_data, greatest_data, kind_data, mode_names, node_data, texts};
 ghost use Rattle.tfpg_json.specs.inside.Tokens.{data_tokens, lag_tokens, member_tokens};
 
 use crate::writing::from_names::{mode_name, node_name};
@@ -132,7 +132,7 @@ fn append_node(name: &str, kind: Kind, into: &mut Writer) -> Result<(), AllocErr
 fn append_failure(name: &str, rarity: u64, into: &mut Writer) -> Result<(), AllocError>
     ensures before { into.new.before ≡ into.old.before }
     ensures ok { OnOk result
-        (into.new.tokens ≡ into.old.tokens ++ data_tokens (failure_data name.now rarity)) }
+        (into.new.tokens ≡ into.old.tokens ++ data_tokens (kind_data name.now (Kind.Failure rarity))) }
 {
     into.begin_object()?;
     append_text("kind", "failure", into)?;
