@@ -82,14 +82,10 @@ after_turn next (Used name value) others = option_map (with_use name value) (oth
 after_turn next (Waits option) others = others (ValueOf option)
 after_turn next Wrong others = None
 
--- an option may not lack its value
-abbrev pub at_end : Next → Option Parts
-at_end (ValueOf option) = None
-at_end _ = Some (record { uses = []; positional = [] })
-
--- The parts of the words, where each word has its place.
+-- The parts of the words, where each word has its place, and no option lacks its value.
 abbrev pub parts_from : Form → List Word → Next → Option Parts
-parts_from form [] next = at_end next
+parts_from form [] (ValueOf option) = None
+parts_from form [] _ = Some (record { uses = []; positional = [] })
 parts_from form (word ∷ words) next = after_turn next (use_of_word form next word) (parts_from form words)
 
 -- no option and no flag is used twice
