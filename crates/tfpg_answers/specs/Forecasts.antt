@@ -79,10 +79,6 @@ outlook_text graph probed finding (Never steps) =
 outlook_text graph probed finding (Unsettled bound steps) =
     forecast_line graph finding (codes "unsettled" ∷ decimal bound ∷ []) ++ probed_steps_text probed steps
 
--- the text of a forecast
-abbrev pub forecast_text : Tfpg → Tfpg → Forecast → List ℕ
-forecast_text graph probed forecast = outlook_text graph probed forecast.finding forecast.outlook
-
 -- the graph by whose names steps are written: that of a probe of the node, with this number in its name. All probes of a node have
 -- the same names, whatever their bounds.
 abbrev pub probed_names : Lookahead → ℕ → Tfpg
@@ -93,23 +89,15 @@ pub record HasForecastsOf (asked : Lookahead) (budget : ℕ) (probed : Tfpg) (fi
   pub forecasts : List Forecast
   pub one_each : map (λ forecast. forecast.finding) forecasts ≡ findings
   pub right : All (IsForecast asked budget) forecasts
-  pub text_is : text ≡ flat_map (forecast_text asked.graph probed) forecasts
+  pub text_is : text ≡ flat_map (λ forecast. outlook_text asked.graph probed forecast.finding forecast.outlook) forecasts
 
--- So it has for some number in the name of the probe, which is the least that makes the name new.
-pub record AreForecastsOf (asked : Lookahead) (budget : ℕ) (findings : List Finding) (text : List ℕ) : Type 0 where
-  pub number : ℕ
-  pub named : IsProbeNumber asked.graph number
-  pub has : HasForecastsOf asked budget (probed_names asked number) findings text
-
--- So it has for the ranked findings of the last round, in ranking order. Where there is no round, there is no forecast.
+-- So it has for the ranked findings of the last round, in ranking order, with the least number in the name of the probe that makes the name
+-- new. Where there is no round, there is no forecast.
 abbrev pub AreForecastsAfter : Lookahead → ℕ → Option Round → List ℕ → Type 0
 AreForecastsAfter asked budget None text = text ≡ []
-AreForecastsAfter asked budget (Some round) text = AreForecastsOf asked budget (ranked_in_order round) text
-
--- the look ahead for the node of this number after these lines, so far ahead
-abbrev pub lookahead_after : Tfpg → List (List ℕ) → ℕ → ℕ → Lookahead
-lookahead_after graph lines node ahead =
-    lookahead_of graph (log_of_lines graph lines) node (time_ahead (now_of (log_of_lines graph lines)) ahead)
+AreForecastsAfter asked budget (Some round) text =
+    (number : ℕ) × IsProbeNumber asked.graph number
+    × HasForecastsOf asked budget (probed_names asked number) (ranked_in_order round) text
 
 -- The text is the prediction for the node of this number: its line, and then the forecasts of the ranked findings of the last round
 -- of a diagnosis of the lines, in ranking order.
@@ -117,6 +105,8 @@ pub record HasForecasts (graph : Tfpg) (asked : Prediction) (node : ℕ) (lines 
   pub last : Option Round
   pub is_last : IsLastRound graph asked.terms lines last
   pub forecasts : List ℕ
-  pub are : AreForecastsAfter (lookahead_after graph lines node asked.ahead) asked.terms.budget last forecasts
+  pub are : AreForecastsAfter
+      (lookahead_of graph (log_of_lines graph lines) node (time_ahead (now_of (log_of_lines graph lines)) asked.ahead))
+      asked.terms.budget last forecasts
   pub text_is : text ≡ predict_line asked.node (now_of (log_of_lines graph lines))
       (time_ahead (now_of (log_of_lines graph lines)) asked.ahead) ++ forecasts

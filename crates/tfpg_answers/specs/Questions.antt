@@ -39,10 +39,6 @@ question_line graph question =
     text_line (codes "ask" ∷ name_word graph question.node ∷ codes "silent" ∷ decimal question.silent_out
     ∷ codes "alarm" ∷ decimal question.alarm_out ∷ codes "unknown" ∷ decimal question.unknown ∷ [])
 
--- the line that stands in place of the questions where the log takes no further event
-abbrev pub full_line : List ℕ
-full_line = text_line (codes "refused" ∷ codes "LogFull" ∷ [])
-
 -- The text has a line for each question, in their order. Where the budget is always enough, they have nothing unknown.
 pub record ListsQuestions (asked : Asked) (text : List ℕ) : Type 0 where
   pub questions : List Question
@@ -51,25 +47,15 @@ pub record ListsQuestions (asked : Asked) (text : List ℕ) : Type 0 where
   pub room : HasNoRoom asked.graph asked.log → ⊥
   pub text_is : text ≡ flat_map (question_line asked.graph) questions
 
--- The text is the one line of a log that takes no further event, where some node could be asked.
-pub record SaysFull (asked : Asked) (text : List ℕ) : Type 0 where
-  pub no_room : HasNoRoom asked.graph asked.log
-  pub text_is : text ≡ full_line
-
--- The text says which questions would tell most.
+-- The text says which questions would tell most; or the log takes no further event, where some node could be asked, and the text is one line.
 abbrev pub AnswersAsked : Asked → List ℕ → Type 0
-AnswersAsked asked text = ListsQuestions asked text ⊎ SaysFull asked text
+AnswersAsked asked text =
+    ListsQuestions asked text ⊎ (HasNoRoom asked.graph asked.log × (text ≡ text_line (codes "refused" ∷ codes "LogFull" ∷ [])))
 
 -- what is asked at the end of a log of the graph: about these of the hypotheses on the terms, with the budget of the terms
 abbrev pub asked_on : Tfpg → Logbook → Terms → List Hypothesis → List ℕ → Asked
-asked_on graph log terms hypotheses among = record {
-  graph = graph;
-  log = log;
-  terms = terms;
-  hypotheses = hypotheses;
-  among = among;
-  budget = terms.budget;
-}
+asked_on graph log terms hypotheses among =
+    record { graph = graph; log = log; terms = terms; hypotheses = hypotheses; among = among; budget = terms.budget }
 
 -- The text says which questions would tell most after these lines of a log: they are asked of the hypotheses that are ranked or open in
 -- the last of the rounds that a report of these lines has.

@@ -1,6 +1,7 @@
 -- What is written for a graph as JSON. The keys of each object rise.
 use Rattle.std.specs.Prelude.{ℕ, List, length, map, filter, filter_map, slice_get, ◌==◌, if◌then◌else◌, Option, Some, None, codes}
 use Rattle.std.specs.List.{range_with_len}
+use Rattle.std.specs.Option.{option_map_or}
 use Rattle.serde_json.specs.Data.{Data, null, number, string, array, object, unsigned, Members, no_members, member}
 use Rattle.serde_json.specs.View.{items_of}
 use Rattle.serde_json.specs.Written.{compact_text}
@@ -23,30 +24,14 @@ texts words = array (items_of (map string words))
 abbrev pub mode_names : Tfpg → ℕ → List (List ℕ)
 mode_names graph bits = filter_map (slice_get graph.modes) (filter (has_mode_bit bits) (range_with_len 0 (length graph.modes)))
 
--- a greatest delay: null where it is infinite
-abbrev pub greatest_data : Option ℕ → Data
-greatest_data None = null
-greatest_data (Some tmax) = whole tmax
-
--- an edge between the nodes of two names, active in the modes that this data lists
-abbrev pub edge_object : List ℕ → List ℕ → Edge → Data → Data
-edge_object source target edge modes =
-    object (member (codes "from") (string source)
-    (member (codes "max") (greatest_data edge.tmax)
-    (member (codes "min") (whole edge.tmin)
-    (member (codes "modes") modes
-    (member (codes "to") (string target) no_members)))))
-
--- an edge, with each of its modes by name
+-- an edge, with its two nodes and each of its modes by name: the greatest delay is null where it is infinite
 abbrev pub edge_data : Tfpg → Edge → Data
-edge_data graph edge = edge_object (name_word graph edge.source) (name_word graph edge.target) edge (texts (mode_names graph edge.modes))
-
--- a failure mode
-abbrev pub failure_data : List ℕ → ℕ → Data
-failure_data name rarity =
-    object (member (codes "kind") (string (codes "failure"))
-    (member (codes "name") (string name)
-    (member (codes "rarity") (whole rarity) no_members)))
+edge_data graph edge =
+    object (member (codes "from") (string (name_word graph edge.source))
+    (member (codes "max") (option_map_or whole edge.tmax null)
+    (member (codes "min") (whole edge.tmin)
+    (member (codes "modes") (texts (mode_names graph edge.modes))
+    (member (codes "to") (string (name_word graph edge.target)) no_members)))))
 
 -- members after the least lag, which stands only where it is not 0
 abbrev pub after_least : ℕ → Members → Members
@@ -63,20 +48,19 @@ discrepancy_data kind name (Some lag) =
 
 -- a node of this name and kind
 abbrev pub kind_data : List ℕ → Kind → Data
-kind_data name (Failure rarity) = failure_data name rarity
+kind_data name (Failure rarity) =
+    object (member (codes "kind") (string (codes "failure"))
+    (member (codes "name") (string name)
+    (member (codes "rarity") (whole rarity) no_members)))
 kind_data name (Or lag) = discrepancy_data (codes "or") name lag
 kind_data name (And lag) = discrepancy_data (codes "and") name lag
-
--- a node
-abbrev pub node_data : Node → Data
-node_data node = kind_data node.name node.kind
 
 -- a graph: its edges, modes and nodes, each in their order
 abbrev pub graph_data : Tfpg → Data
 graph_data graph =
     object (member (codes "edges") (array (items_of (map (edge_data graph) graph.edges)))
     (member (codes "modes") (texts graph.modes)
-    (member (codes "nodes") (array (items_of (map node_data graph.nodes))) no_members)))
+    (member (codes "nodes") (array (items_of (map (λ node. kind_data node.name node.kind) graph.nodes))) no_members)))
 
 -- The line that is written for a graph.
 abbrev pub graph_json : Tfpg → List ℕ

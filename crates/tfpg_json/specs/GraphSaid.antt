@@ -1,6 +1,7 @@
 -- What JSON says of a graph: names and numbers, before any name is looked up. Data that has not the shape says nothing.
 use Rattle.std.specs.Prelude.{ℕ, List, [], ◌∷◌, map, Bool, ◌&&◌, if◌then◌else◌, Option, Some, None, is_some, option_map, option_and_then, unwrap_or, codes, bytes_eq}
 use Rattle.std.specs.List.{list_all}
+use Rattle.std.specs.Option.{option_map_or}
 use Rattle.serde_json.specs.Data.{Data, Items, no_items, item}
 use Rattle.serde_json.specs.Find.{get, as_null, as_str, as_number, as_array, as_u64}
 use Rattle.tfpg_base.specs.Choice.{each_of}
@@ -62,26 +63,16 @@ each_under read key value = option_and_then (each_in read) (get key value)
 
 -- ---- a graph
 
--- the least lag of a monitored node: 0 where the key is absent
-abbrev pub least_in : Option Data → Option ℕ
-least_in None = Some 0
-least_in (Some value) = number_from value
-
--- the lag of a monitored node, by what stands under the keys of its least lag and its greatest
+-- the lag of a monitored node, by what stands under the key of its least lag, which is 0 where that is absent, and by its greatest
 abbrev pub lag_between : Option Data → Data → Option Lag
 lag_between least value = do
   most ← number_from value
-  from ← least_in least
+  from ← option_map_or number_from least (Some 0)
   Some (record { least = from; most = most })
 
--- The same of a discrepancy. Where the greatest lag is absent or null, it is hidden, and the least is ignored.
-abbrev pub lag_with : Option Data → Option Data → Option (Option Lag)
-lag_with least None = Some None
-lag_with least (Some value) = unless_null (lag_between least) value
-
--- the lag of a discrepancy
+-- The lag of a discrepancy. Where the greatest lag is absent or null, it is hidden, and the least is ignored.
 abbrev pub lag_from : Data → Option (Option Lag)
-lag_from value = lag_with (get (codes "least") value) (get (codes "lag") value)
+lag_from value = option_map_or (unless_null (lag_between (get (codes "least") value))) (get (codes "lag") value) (Some None)
 
 -- what a node is, where its kind is this word
 abbrev pub kind_of : List ℕ → Data → Option Kind
@@ -103,22 +94,14 @@ node_in value = do
   kind ← kind_in value
   Some (record { name = name; kind = kind })
 
--- the greatest delay of an edge: the key must be there, and is null where the delay is infinite
-abbrev pub greatest_in : Data → Option (Option ℕ)
-greatest_in value = option_and_then (unless_null number_from) (get (codes "max") value)
-
--- the modes of an edge: the key must be there, and is null for all modes
-abbrev pub modes_in : Data → Option (Option (List (List ℕ)))
-modes_in value = option_and_then (unless_null (each_in as_str)) (get (codes "modes") value)
-
--- an edge
+-- An edge. The key of its greatest delay must be there, and is null where that is infinite; so must that of its modes, null for all.
 abbrev pub edge_from : Data → Option EdgeSaid
 edge_from value = do
   source ← text_under (codes "from") value
   target ← text_under (codes "to") value
   tmin ← number_under (codes "min") value
-  tmax ← greatest_in value
-  modes ← modes_in value
+  tmax ← option_and_then (unless_null number_from) (get (codes "max") value)
+  modes ← option_and_then (unless_null (each_in as_str)) (get (codes "modes") value)
   Some (record { source = source; target = target; tmin = tmin; tmax = tmax; modes = modes })
 
 -- What data says of a graph, where it has the shape: an object with modes, nodes and edges. Other keys are ignored everywhere.

@@ -26,14 +26,10 @@ modes_said_word (Some (name ∷ names)) = joined_by_commas (name ∷ names)
 abbrev pub edge_said_line : EdgeSaid → List ℕ
 edge_said_line edge = line_of (edge_start_words edge.source edge.target edge.tmin edge.tmax ++ modes_said_word edge.modes ∷ [])
 
--- The lines that JSON stands for: the header of version 2, the modes, the nodes, the edges and the end.
-abbrev pub lines_said : GraphSaid → List (List ℕ)
-lines_said said =
-    header Two ∷ (map mode_line said.modes ++ map (node_line Two) said.nodes ++ map edge_said_line said.edges ++ codes "end" ∷ [])
-
--- the text of these lines
+-- The text that JSON stands for: the header of version 2, the modes, the nodes, the edges and the end, a line each.
 abbrev pub text_said : GraphSaid → List ℕ
-text_said said = flat_map with_line_end (lines_said said)
+text_said said = flat_map with_line_end
+    (header Two ∷ (map mode_line said.modes ++ map (node_line Two) said.nodes ++ map edge_said_line said.edges ++ codes "end" ∷ []))
 
 -- the data that a text is, where it is JSON as `serde_json` reads it
 abbrev pub data_in : List ℕ → Option Data

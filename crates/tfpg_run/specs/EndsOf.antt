@@ -73,3 +73,10 @@ pub record EndsBy {E : Type 0} (Works : Result (Unit {0}) E → Type 0) (end_of 
   pub result : Result (Unit {0}) E
   pub works : Works result
   pub end_is : end ≡ end_of_result end_of result
+
+-- The run stops by a fault of which this holds, with the end that it leads to, and what is named here is as it was.
+pub record StopsBy {F X : Type 0} (IsFault : F → Type 0) (end_of : F → End) (before now : X) (end : End) : Type 0 where
+  pub fault : F
+  pub is_fault : IsFault fault
+  pub end_is : end ≡ end_of fault
+  pub untouched : now ≡ before

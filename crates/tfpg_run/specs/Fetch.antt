@@ -10,7 +10,7 @@ use Rattle.tfpg_graph.specs.Faults.{IsFirstFault}
 use Rattle.tfpg_run.specs.declared.end.End.{End}
 use Rattle.tfpg_run.specs.declared.fault.FetchFault.{FetchFault}
 use Rattle.tfpg_run.specs.declared.fault.FetchFault.TheVariants.{Failed, TooLong, Graph, NoMemory}
-use Rattle.tfpg_run.specs.EndsOf.{end_of_fetch_fault}
+use Rattle.tfpg_run.specs.EndsOf.{StopsBy, end_of_fetch_fault}
 use Rattle.tfpg_run.specs.World.{World, watched_of}
 
 -- the file of this name has these bytes, and not too many
@@ -32,12 +32,6 @@ pub record GivesGraphBy (SpellsIt : List ℕ → Tfpg → Type 0) (shelf : Shelf
 -- a file of this name that spells the graph as a graph text
 abbrev pub GivesGraph : ShelfState → List ℕ → Tfpg → Type 0
 GivesGraph = GivesGraphBy Spells
-
--- a file of this name whose text has this fault first, for any notion of a first fault
-pub record HasFaultyGraphBy (IsFirst : List ℕ → GraphFault → Type 0) (shelf : ShelfState) (name : List ℕ) (fault : GraphFault) : Type 0 where
-  pub text : List ℕ
-  pub file : HasFile shelf name text
-  pub first : IsFirst text fault
 
 -- The file of the one name spells the graph, and the file of the other has this text.
 pub record GivesGraphAndText (shelf : ShelfState) (graph_name text_name : List ℕ) (graph : Tfpg)
@@ -70,19 +64,16 @@ IsFetchFaultBy IsFirst graph_name others before now TooLong =
     (name : List ℕ) × FetchedUpTo name (graph_name ∷ others) before now × IsTooLong before name × (now.faults ≡ before.faults)
 -- All were fetched, and this is the first fault of the graph's text.
 IsFetchFaultBy IsFirst graph_name others before now (Graph fault) =
-    Fetched (graph_name ∷ others) before now × HasFaultyGraphBy IsFirst before graph_name fault
+    Fetched (graph_name ∷ others) before now × (text : List ℕ) × HasFile before graph_name text × IsFirst text fault
 -- The first few were fetched, and memory ran out.
 IsFetchFaultBy IsFirst graph_name others before now NoMemory =
     (count : ℕ) × Fetched (take count (graph_name ∷ others)) before now
 
 -- There is no graph, for any notion of the first fault of a text, or no text of the other files, with its cause, and all but the shelf is
 -- untouched.
-pub record LacksFilesBy (IsFirst : List ℕ → GraphFault → Type 0) (graph_name : List ℕ) (others : List (List ℕ))
-    (before now : World) (end : End) : Type 0 where
-  pub fault : FetchFault
-  pub is_fault : IsFetchFaultBy IsFirst graph_name others before.shelf now.shelf fault
-  pub end_is : end ≡ end_of_fetch_fault fault
-  pub untouched : watched_of now ≡ watched_of before
+abbrev pub LacksFilesBy : (List ℕ → GraphFault → Type 0) → List ℕ → List (List ℕ) → World → World → End → Type 0
+LacksFilesBy IsFirst graph_name others before now = StopsBy
+    (IsFetchFaultBy IsFirst graph_name others before.shelf now.shelf) end_of_fetch_fault (watched_of before) (watched_of now)
 
 -- So it is where the graph is read as a graph text.
 abbrev pub LacksFiles : List ℕ → List (List ℕ) → World → World → End → Type 0

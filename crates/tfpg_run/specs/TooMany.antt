@@ -6,7 +6,7 @@ use Rattle.tfpg_hyp.specs.Hypotheses.{HasHypotheses}
 use Rattle.tfpg_hyp.specs.declared.limits.TheConstants.{MAX_HYPOTHESES}
 use Rattle.tfpg_run.specs.declared.end.End.{End}
 use Rattle.tfpg_run.specs.declared.end.End.TheVariants as ends
-use Rattle.tfpg_run.specs.EndsOf.{EndsBy, end_of_output_fault}
+use Rattle.tfpg_run.specs.EndsOf.{EndsBy, StopsBy, end_of_output_fault}
 use Rattle.tfpg_streams.specs.Outputs.{TextEnds}
 use Rattle.tfpg_run.specs.World.{World, watched_of}
 
@@ -14,18 +14,13 @@ use Rattle.tfpg_run.specs.World.{World, watched_of}
 abbrev pub HasFewHypotheses : Terms → Tfpg → Type 0
 HasFewHypotheses terms graph = (count : ℕ) → HasHypotheses graph terms count → count ≤ MAX_HYPOTHESES
 
--- The graph has more than 4,096 hypotheses on these terms, exactly this many, and all but the shelf is untouched.
-pub record EndsWithTooMany (graph : Tfpg) (terms : Terms) (before now : World) (end : End) : Type 0 where
-  pub count : ℕ
-  pub counted : HasHypotheses graph terms count
-  pub too_many : MAX_HYPOTHESES < count
-  pub end_is : end ≡ ends.TooManyHypotheses count
-  pub untouched : watched_of now ≡ watched_of before
-
--- How work with the hypotheses of a graph on these terms ends: they are too many; or they are not, and the work ended so.
+-- How work with the hypotheses of a graph on these terms ends: there are more than 4,096, exactly as many as the end says, and all but the
+-- shelf is untouched; or there are not more, and the work ended so.
 abbrev pub EndsUnlessTooMany : Tfpg → Terms → World → World → (End → Type 0) → End → Type 0
 EndsUnlessTooMany graph terms before now Works end =
-    EndsWithTooMany graph terms before now end ⊎ (HasFewHypotheses terms graph × Works end)
+    StopsBy (λ count. HasHypotheses graph terms count × (MAX_HYPOTHESES < count)) ends.TooManyHypotheses
+    (watched_of before) (watched_of now) end
+    ⊎ (HasFewHypotheses terms graph × Works end)
 
 -- So it ends where one text is written, which is to be right.
 abbrev pub TextEndsUnlessTooMany : (List ℕ → Type 0) → Tfpg → Terms → World → World → End → Type 0

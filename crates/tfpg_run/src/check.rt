@@ -1,10 +1,11 @@
 //! The command `check`: from the names of a graph file and a log file to whether the input is the report on the log.
 
-ghost use Rattle.std.specs.Prelude.{◌≡◌, IfErr, IfOk, OnOk, Ok, Err};
+ghost use Rattle.std.specs.Prelude.{◌≡◌, ◌∷◌, [], IfErr, IfOk, OnOk, Ok, Err, codes, decimal};
+ghost use Rattle.tfpg_base.specs.TextLine.{text_line};
 ghost use Rattle.tfpg_streams.specs.Outputs.{TextEnds};
 ghost use Rattle.tfpg_panel.specs.Desk.{DeskState};
 ghost use Rattle.tfpg_run.specs.World.{world};
-ghost use Rattle.tfpg_run.specs.check.Checking.{CheckEnds, accepted_text};
+ghost use Rattle.tfpg_run.specs.check.Checking.{CheckEnds};
 
 use crate::end::End;
 use crate::fetching::fetch_graph_and_text;
@@ -38,8 +39,8 @@ pub(crate) fn check_by_files<F: Shelf, S: Source, K: Sink>(
 
 /// Writes the line for a report that is accepted, with so many rounds.
 fn write_accepted<K: Sink>(alloc: Global, rounds: u32, out: &mut K) -> Result<(), OutputFault>
-    ensures done { OnOk result (TextEnds (λ text. text ≡ accepted_text rounds) (K.state out.old) (K.state out.new) (Ok tt)) }
-    ensures stopped { IfErr result (λ fault. TextEnds (λ text. text ≡ accepted_text rounds)
+    ensures done { OnOk result (TextEnds (λ text. text ≡ text_line (codes "accepted" ∷ decimal rounds ∷ [])) (K.state out.old) (K.state out.new) (Ok tt)) }
+    ensures stopped { IfErr result (λ fault. TextEnds (λ text. text ≡ text_line (codes "accepted" ∷ decimal rounds ∷ []))
         (K.state out.old) (K.state out.new) (Err fault)) }
 {
     let line = accepted_line(alloc, rounds)?;
@@ -49,7 +50,7 @@ fn write_accepted<K: Sink>(alloc: Global, rounds: u32, out: &mut K) -> Result<()
 
 /// The line for a report that is accepted, with so many rounds.
 fn accepted_line(alloc: Global, rounds: u32) -> Result<Vec<u8>, NoMemory>
-    ensures { IfOk result (λ line. line.items ≡ accepted_text rounds) }
+    ensures { IfOk result (λ line. line.items ≡ text_line (codes "accepted" ∷ decimal rounds ∷ [])) }
 {
     let mut digits = Buffer::new();
     let mut line = Vec::new(alloc);

@@ -1,10 +1,12 @@
 //! The command `simulate`: from the names of a graph file and a script file to the log or the map that the script makes.
 
-ghost use Rattle.std.specs.Prelude.{◌≡◌, ◌<◌, All, IfOk, IfErr, OnOk, length};
+ghost use Rattle.std.specs.Prelude.{◌≡◌, ◌<◌, All, IfOk, IfErr, OnOk, if◌then◌else◌, length};
+ghost use Rattle.tfpg_base.specs.Hypothesis.{believing};
 ghost use Rattle.tfpg_base.specs.Outside.{SourceState};
 ghost use Rattle.tfpg_graph.specs.Graph.{AreFailures};
+ghost use Rattle.tfpg_map.specs.MapText.{map_text};
 ghost use Rattle.tfpg_sim.specs.ScriptFaults.{IsSimFault};
-ghost use Rattle.tfpg_run.specs.simulate.Simulating.{HasSimulation, SimulateEnds, simulated_text};
+ghost use Rattle.tfpg_run.specs.simulate.Simulating.{HasSimulation, SimulateEnds};
 ghost use Rattle.tfpg_panel.specs.Desk.{DeskState};
 ghost use Rattle.tfpg_run.specs.World.{world};
 
@@ -71,7 +73,7 @@ fn text_of(
 ) -> Result<Vec<u8>, NoMemory>
     requires members { AreFailures graph.now simulated.set }
     requires within { All (λ activation. activation.node < length graph.now.nodes) simulated.trace }
-    ensures { IfOk result (λ text. text.items ≡ simulated_text graph.now trace simulated) }
+    ensures { IfOk result (λ text. text.items ≡ (if trace then map_text graph.now (believing simulated.set) simulated.trace else simulated.log)) }
 {
     if trace {
         map_text(alloc, graph, simulated.set, &simulated.trace)

@@ -30,15 +30,6 @@ delay_count tmin (Some tmax) = tmax - tmin + 1
 abbrev pub delay_of : Edge → ℕ → ℕ
 delay_of edge value = edge.tmin + value % delay_count edge.tmin edge.tmax
 
--- the generator after a draw for each of these edges
-abbrev pub after_edges : Lcg → List Edge → Lcg
-after_edges state edges = fold (λ before edge. after_draw before) state edges
-
--- the delays of these edges, from this generator on
-abbrev pub delays_from : Lcg → List Edge → List ℕ
-delays_from state edges =
-    scan (λ before edge. after_draw before) (λ before edge. delay_of edge (drawn before)) state edges
-
 -- a monitored node takes a draw
 abbrev pub after_lag : Lcg → Option Lag → Lcg
 after_lag state None = state
@@ -58,10 +49,12 @@ latenesses_from state nodes =
     scan (λ before node. after_lag before (lag_of node.kind)) (λ before node. lateness_drawn before (lag_of node.kind))
     state nodes
 
--- the delay of each edge
+-- the delay of each edge, by one draw after the other
 abbrev pub delays : Tfpg → ℕ → List ℕ
-delays graph number = delays_from (generator number DELAY_STREAM) graph.edges
+delays graph number =
+    scan (λ before edge. after_draw before) (λ before edge. delay_of edge (drawn before)) (generator number DELAY_STREAM) graph.edges
 
 -- the lateness of each node that is monitored, drawn after the delays
 abbrev pub latenesses : Tfpg → ℕ → List (Option Lateness)
-latenesses graph number = latenesses_from (after_edges (generator number DELAY_STREAM) graph.edges) graph.nodes
+latenesses graph number =
+    latenesses_from (fold (λ before edge. after_draw before) (generator number DELAY_STREAM) graph.edges) graph.nodes

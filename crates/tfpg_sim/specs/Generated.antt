@@ -28,10 +28,6 @@ after_words (suc count) state = after_words count (after_word state)
 abbrev pub draw : ℕ → ℕ → Lcg → ℕ
 draw limit count state = next_word (after_words count state) % limit
 
--- how many discrepancies there are
-abbrev pub discrepancy_count : ℕ → ℕ
-discrepancy_count size = 4 * size
-
 -- The name of a node: `F` and its number for a failure mode, and `D` and a number from 0 for a discrepancy.
 abbrev pub drawn_name : ℕ → List ℕ
 drawn_name node =
@@ -42,29 +38,17 @@ abbrev pub failure_kinds : ℕ → List Kind
 failure_kinds zero = []
 failure_kinds (suc index) = failure_kinds index ++ Failure (index + 1) ∷ []
 
--- the first node that is drawn as a source of a node
-abbrev pub first_source : ℕ → Lcg → ℕ
-first_source node state = draw node 0 state
-
--- the second one, which may be the same
-abbrev pub second_source : ℕ → Lcg → ℕ
-second_source node state = draw node 1 state
-
--- the node has two sources
+-- the node has two sources: the first two draws are two nodes before it
 abbrev pub has_two : ℕ → Lcg → Bool
-has_two node state = not (first_source node state == second_source node state)
-
--- the node is an AND node: it has two sources, and the draw says so
-abbrev pub is_and_drawn : ℕ → Lcg → Bool
-is_and_drawn node state = has_two node state && draw 8 2 state == 0
+has_two node state = not (draw node 0 state == draw node 1 state)
 
 -- its lag, where it is monitored
 abbrev pub lag_drawn : Lcg → Option Lag
 lag_drawn state = if draw 4 3 state == 0 then None else Some (lag_up_to (draw 20 4 state))
 
--- its kind
+-- its kind: it is an AND node where it has two sources, and the draw says so
 abbrev pub kind_drawn : ℕ → Lcg → Kind
-kind_drawn node state = if is_and_drawn node state then And (lag_drawn state) else Or (lag_drawn state)
+kind_drawn node state = if has_two node state && draw 8 2 state == 0 then And (lag_drawn state) else Or (lag_drawn state)
 
 -- an edge between two nodes, with delays and modes as they are drawn
 abbrev pub edge_drawn : ℕ → ℕ → Lcg → Edge
@@ -79,8 +63,8 @@ edge_drawn source target state = record {
 -- the edges into a node, one for each source
 abbrev pub edges_drawn : ℕ → Lcg → List Edge
 edges_drawn node state =
-    edge_drawn (first_source node state) node (after_words 5 state)
-    ∷ (if has_two node state then edge_drawn (second_source node state) node (after_words 9 state) ∷ [] else [])
+    edge_drawn (draw node 0 state) node (after_words 5 state)
+    ∷ (if has_two node state then edge_drawn (draw node 1 state) node (after_words 9 state) ∷ [] else [])
 
 -- the generator after the draws of a node
 abbrev pub after_node : ℕ → Lcg → Lcg
@@ -118,9 +102,9 @@ drawn_graph kinds edges = record {
   modes = codes "M0" ∷ codes "M1" ∷ [];
 }
 
--- the draft of a number and a size
+-- the draft of a number and a size, with four discrepancies for each unit of the size
 abbrev pub draft_of : ℕ → ℕ → Draft
-draft_of number size = draft_after (generator number GRAPH_STREAM) (discrepancy_count size)
+draft_of number size = draft_after (generator number GRAPH_STREAM) (4 * size)
 
 -- The generated graph.
 abbrev pub generated_graph : ℕ → ℕ → Tfpg

@@ -24,14 +24,6 @@ words_of_entry graph (Stop time) = decimal time ∷ codes "stop" ∷ []
 abbrev pub entry_line : Tfpg → Entry → List ℕ
 entry_line graph entry = line_of (words_of_entry graph entry)
 
--- The line names what the graph has, and its time is not too large.
-abbrev pub IsEntryOf : Tfpg → Entry → Type 0
-IsEntryOf graph (Start time node) = (time ≤ MAX_TIME) × IsTrue (is_kind_at is_failure graph node)
-IsEntryOf graph (Mode time mode) = (time ≤ MAX_TIME) × (mode < length graph.modes)
-IsEntryOf graph (Sweep time) = time ≤ MAX_TIME
-IsEntryOf graph (Tick time) = time ≤ MAX_TIME
-IsEntryOf graph (Stop time) = time ≤ MAX_TIME
-
 -- the time of a line
 abbrev pub time_of_entry : Entry → ℕ
 time_of_entry (Start time node) = time
@@ -39,6 +31,12 @@ time_of_entry (Mode time mode) = time
 time_of_entry (Sweep time) = time
 time_of_entry (Tick time) = time
 time_of_entry (Stop time) = time
+
+-- The line names what the graph has, and its time is not too large.
+abbrev pub IsEntryOf : Tfpg → Entry → Type 0
+IsEntryOf graph (Start time node) = (time ≤ MAX_TIME) × IsTrue (is_kind_at is_failure graph node)
+IsEntryOf graph (Mode time mode) = (time ≤ MAX_TIME) × (mode < length graph.modes)
+IsEntryOf graph entry = time_of_entry entry ≤ MAX_TIME
 
 -- it is the stop
 abbrev pub is_stop : Entry → Bool

@@ -1,10 +1,11 @@
 //! What a simulation draws.
 
-ghost use Rattle.std.specs.Prelude.{◌≡◌, ◌≤◌, ◌<◌, ◌+◌, ◌^◌, IfOk, OnOk, IfSome, length};
+ghost use Rattle.std.specs.Prelude.{◌≡◌, ◌≤◌, ◌<◌, ◌+◌, ◌^◌, IfOk, OnOk, IfSome, fold, length};
+ghost use Rattle.std.specs.List.{scan};
 ghost use Rattle.tfpg_base.specs.declared.limits.TheConstants.{MAX_TIME};
 ghost use Rattle.tfpg_graph.specs.Graph.{lag_of};
 ghost use Rattle.tfpg_sim.specs.inside.Arrivals.{AreNearDelays, far};
-ghost use Rattle.tfpg_sim.specs.Draws.{generator, drawn, after_draw, delay_count, delay_of, after_edges, delays_from, after_lag, lateness_of, lateness_drawn, latenesses_from, delays, latenesses};
+ghost use Rattle.tfpg_sim.specs.Draws.{generator, drawn, after_draw, delay_count, delay_of, after_lag, lateness_of, lateness_drawn, latenesses_from, delays, latenesses};
 ghost use Rattle.tfpg_sim.specs.inside.Entries.{IsLatenessInRange, AreLatenessesInRange};
 
 use crate::limits::{DELAY_STREAM, OPEN_DELAYS};
@@ -47,10 +48,10 @@ pub(crate) fn draw_all(alloc: Global, graph: &Graph, number: u64) -> Result<Draw
 
 /// Draws the delay of each edge.
 fn draw_delays(alloc: Global, graph: &Graph, state: &mut Lcg64Xsh32) -> Result<Vec<u64>, NoMemory>
-    ensures delays { IfOk result (λ delays. delays.items ≡ delays_from state.old graph.now.edges) }
+    ensures delays { IfOk result (λ delays. delays.items ≡ scan (λ before edge. after_draw before) (λ before edge. delay_of edge (drawn before)) state.old graph.now.edges) }
     ensures small { IfOk result (λ delays. AreNearDelays delays.items) }
     ensures count { IfOk result (λ delays. length delays.items ≡ length graph.now.edges) }
-    ensures after { OnOk result (state.new ≡ after_edges state.old graph.now.edges) }
+    ensures after { OnOk result (state.new ≡ fold (λ before edge. after_draw before) state.old graph.now.edges) }
 {
     let mut delays = Vec::new(alloc);
     graph.is_always_valid();

@@ -3,7 +3,6 @@
 ghost use Rattle.std.specs.Prelude.{◌≡◌, All, IfOk};
 ghost use Rattle.std.specs.List.{flat_map};
 ghost use Rattle.tfpg_base.specs.Append.{Appends};
-ghost use Rattle.tfpg_sim.specs.SimulatedLog.{log_text};
 ghost use Rattle.tfpg_log.specs.EventLines.{event_line, HasNames};
 
 use std::alloc::Global;
@@ -14,7 +13,7 @@ use tfpg_log::{Event, append_event};
 /// The text of the events, a line for each.
 pub(crate) fn log_text(alloc: Global, graph: &Graph, events: &[Event]) -> Result<Bytes, NoMemory>
     requires { All (HasNames graph.now) events.now }
-    ensures { IfOk result (λ text. text ≡ log_text graph.now events.now) }
+    ensures { IfOk result (λ text. text ≡ flat_map (event_line graph.now) events.now) }
 {
     let mut text = Vec::new(alloc);
     append_events(graph, events, &mut text)?;

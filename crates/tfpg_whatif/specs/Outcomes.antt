@@ -11,7 +11,7 @@ use Rattle.tfpg_log.specs.Accepted.{reply_to}
 use Rattle.tfpg_log.specs.Explains.{Explains}
 use Rattle.tfpg_evidence.specs.declared.step.Step.{Step}
 use Rattle.tfpg_clause.specs.Case.{Case}
-use Rattle.tfpg_clause.specs.Trees.{Judged, IsRefutation, split_count}
+use Rattle.tfpg_clause.specs.Trees.{IsRefutation, split_count}
 use Rattle.tfpg_clause.specs.Paths.{with_steps}
 use Rattle.tfpg_hyp.specs.Views.{IsReachOf, case_for, HypothesisFits}
 use Rattle.tfpg_search.specs.Live.{AllowsReuse, IsUnsettled}
@@ -33,24 +33,20 @@ pub record Keeps (graph : Tfpg) (log : Logbook) (line : List ℕ) (hypothesis : 
   pub by : Lengthens graph log line lengthened
   pub fits : HypothesisFits graph lengthened hypothesis
 
--- these steps, each judged by the log of the case
-abbrev pub all_judged : Case → List Step → List Judged
-all_judged case steps = with_steps [] case.log steps
-
 -- The budget was spent on these steps: each split is live, there are as many as the budget, the tree is unsettled, and no subtree is
 -- reusable after them. The budget is not one that is always enough.
 pub record AreSpent (case : Case) (budget : ℕ) (steps : List Step) : Type 0 where
   pub right : AreSearchSteps case [] steps
   pub spent : split_count steps ≡ budget
-  pub unsettled : IsUnsettled case (all_judged case steps)
-  pub none_reusable : AllowsReuse case (all_judged case steps) → ⊥
+  pub unsettled : IsUnsettled case (with_steps [] case.log steps)
+  pub none_reusable : AllowsReuse case (with_steps [] case.log steps) → ⊥
   pub not_enough : IsEnough case.graph case.log budget → ⊥
 
 -- What an outcome shows of a set of failure modes: a trace that explains the log from the set; steps that are a refutation with no
 -- more splits than the budget; or that the budget was spent.
 abbrev pub HasOutcomeEvidence : Case → List ℕ → ℕ → Outcome → Type 0
 HasOutcomeEvidence case set budget (Fits trace) = Explains case.graph case.log set trace
-HasOutcomeEvidence case set budget (Out steps) = IsRefutation case (all_judged case steps) × (split_count steps ≤ budget)
+HasOutcomeEvidence case set budget (Out steps) = IsRefutation case (with_steps [] case.log steps) × (split_count steps ≤ budget)
 HasOutcomeEvidence case set budget (Unknown steps) = AreSpent case budget steps
 
 -- An outcome of a hypothesis at a log. It is shown by the log as the hypothesis sees it.
@@ -98,17 +94,12 @@ asked_of engine among budget = record {
 abbrev pub asked_at : Asked → Logbook → Asked
 asked_at asked log = record asked { log = log }
 
--- An outcome of the hypothesis of a number.
-abbrev pub IsOutcomeOf : Asked → ℕ → Outcome → Type 0
-IsOutcomeOf asked number outcome =
-    (hypothesis : Hypothesis) → slice_get asked.hypotheses number ≡ Some hypothesis
-    → IsOutcome asked.graph asked.log hypothesis asked.budget outcome
-
 -- There is one outcome for each hypothesis that is asked about, in their order.
 pub record AreOutcomes (asked : Asked) (outcomes : List Outcome) : Type 0 where
   pub one_each : length outcomes ≡ length asked.among
   pub each : (index number : ℕ) (outcome : Outcome) → slice_get asked.among index ≡ Some number
-      → slice_get outcomes index ≡ Some outcome → IsOutcomeOf asked number outcome
+      → slice_get outcomes index ≡ Some outcome → (hypothesis : Hypothesis) → slice_get asked.hypotheses number ≡ Some hypothesis
+      → IsOutcome asked.graph asked.log hypothesis asked.budget outcome
 
 -- The outcomes are those after this line.
 pub record AreOutcomesAfter (asked : Asked) (line : List ℕ) (outcomes : List Outcome) : Type 0 where

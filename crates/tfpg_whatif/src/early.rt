@@ -6,11 +6,12 @@
 //! [`proposed`](steps::proposed) makes the steps of a refutation, and promises nothing of them. The checker of refutations judges them, and
 //! only where it closes their tree they are an outcome.
 
-ghost use Rattle.std.specs.Prelude.{◌≡◌, IfOk, IfSome, IsTrue};
+ghost use Rattle.std.specs.Prelude.{◌≡◌, [], IfOk, IfSome, IsTrue};
 ghost use Rattle.tfpg_log.specs.Log.{IsLogOf};
+ghost use Rattle.tfpg_clause.specs.Paths.{with_steps};
 ghost use Rattle.tfpg_clause.specs.Trees.{IsRefutation, split_count};
 ghost use Rattle.tfpg_whatif.specs.declared.outcome.Outcome.TheVariants.{Out};
-ghost use Rattle.tfpg_whatif.specs.Outcomes.{HasOutcomeEvidence, all_judged};
+ghost use Rattle.tfpg_whatif.specs.Outcomes.{HasOutcomeEvidence};
 ghost use Rattle.tfpg_whatif.specs.inside.Asking.{IsSubject, case_asked};
 ghost use Rattle.tfpg_whatif.specs.inside.Early.{HasTaken};
 
@@ -80,7 +81,7 @@ fn judged(
 fn is_refutation(alloc: Global, subject: &Subject<'_>, steps: &[Step]) -> Result<bool, NoMemory>
     requires { IsSubject subject.now }
     ensures { IfOk result (λ closed. IsTrue closed →
-        IsRefutation (case_asked subject.now) (all_judged (case_asked subject.now) steps.now)) }
+        IsRefutation (case_asked subject.now) (with_steps [] (case_asked subject.now).log steps.now)) }
 {
     let mut checker = Checker::new(alloc, subject.reach);
     for step in steps {

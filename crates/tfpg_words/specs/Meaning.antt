@@ -113,15 +113,10 @@ diagnose_on uses (graph ∷ words) =
     and_then (terms_by uses) (λ terms. and_then (ok_or (panels_named words) BadPanel)
     (λ panels. Ok (record { command = Diagnose terms graph; panels = panels })))
 
--- The same in `explain GRAPH LOG`.
-abbrev pub explain_on : List Use → List Word → Result Meant UsageCause
-explain_on uses (graph ∷ log ∷ []) = alone (Explain graph log)
-explain_on uses _ = Err BadWords
-
--- The same in `check GRAPH LOG`.
-abbrev pub check_on : List Use → List Word → Result Meant UsageCause
-check_on uses (graph ∷ log ∷ []) = alone (Check graph log)
-check_on uses _ = Err BadWords
+-- The same in `explain GRAPH LOG` and in `check GRAPH LOG`, each of which asks for this of two files.
+abbrev pub two_files_on : (Word → Word → Meaning) → List Use → List Word → Result Meant UsageCause
+two_files_on asks uses (graph ∷ log ∷ []) = alone (asks graph log)
+two_files_on asks uses _ = Err BadWords
 
 -- The same in `simulate [--draw N] [--trace] GRAPH SCRIPT`.
 abbrev pub simulate_on : List Use → List Word → Result Meant UsageCause
@@ -169,8 +164,8 @@ by_form options flags means words =
 abbrev pub command_meaning : Word → List Word → Result Meant UsageCause
 command_meaning command words =
     if bytes_eq command (codes "diagnose") then by_form terms_options [] diagnose_on words
-    else (if bytes_eq command (codes "explain") then by_form [] [] explain_on words
-    else (if bytes_eq command (codes "check") then by_form [] [] check_on words
+    else (if bytes_eq command (codes "explain") then by_form [] [] (two_files_on Explain) words
+    else (if bytes_eq command (codes "check") then by_form [] [] (two_files_on Check) words
     else (if bytes_eq command (codes "simulate") then by_form (draw_option.name ∷ []) (codes "--trace" ∷ []) simulate_on words
     else (if bytes_eq command (codes "generate") then by_form (draw_option.name ∷ size_option.name ∷ []) [] generate_on words
     else (if bytes_eq command (codes "convert") then by_form [] (codes "--json" ∷ []) convert_on words
@@ -184,10 +179,6 @@ abbrev pub meant_by : List Word → Result Meant UsageCause
 meant_by [] = Err NoCommand
 meant_by (command ∷ words) = command_meaning command words
 
--- what the command asks for, of words that mean this
-abbrev pub command_meant : Result Meant UsageCause → Result Meaning UsageCause
-command_meant meant = and_then meant (λ found. Ok found.command)
-
 -- What the command of these words asks for.
 abbrev pub meaning : List Word → Result Meaning UsageCause
-meaning words = command_meant (meant_by words)
+meaning words = and_then (meant_by words) (λ meant. Ok meant.command)

@@ -17,9 +17,8 @@ kind_named name =
 
 -- a panel of this kind over the file of this name, which is not empty
 abbrev pub panel_with : Option PanelKind → Word → Option PanelWord
-panel_with None file = None
-panel_with (Some kind) [] = None
 panel_with (Some kind) (first ∷ others) = Some (record { kind = kind; file = first ∷ others })
+panel_with _ _ = None
 
 -- The panel that a word names: the name of its kind stands before the first colon, and that of its file after it.
 abbrev pub panel_named : Word → Option PanelWord

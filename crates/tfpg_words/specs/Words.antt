@@ -15,9 +15,8 @@ pub record Form : Type 0 where
 
 -- A word that begins with a hyphen and has another byte is an option word. The hyphen alone is a word like any other.
 abbrev pub is_option_word : Word → Bool
-is_option_word [] = false
-is_option_word (first ∷ []) = false
 is_option_word (first ∷ second ∷ others) = first == 45
+is_option_word _ = false
 
 -- What stands before and after the first `=` of a word, where it has one.
 abbrev pub cut_at_equals : Word → Option (Word × Word)
@@ -83,14 +82,10 @@ after_turn next (Used name value) others = option_map (with_use name value) (oth
 after_turn next (Waits option) others = others (ValueOf option)
 after_turn next Wrong others = None
 
--- an option may not lack its value
-abbrev pub at_end : Next → Option Parts
-at_end (ValueOf option) = None
-at_end _ = Some (record { uses = []; positional = [] })
-
--- The parts of the words, where each word has its place.
+-- The parts of the words, where each word has its place, and no option lacks its value.
 abbrev pub parts_from : Form → List Word → Next → Option Parts
-parts_from form [] next = at_end next
+parts_from form [] (ValueOf option) = None
+parts_from form [] _ = Some (record { uses = []; positional = [] })
 parts_from form (word ∷ words) next = after_turn next (use_of_word form next word) (parts_from form words)
 
 -- no option and no flag is used twice

@@ -2,7 +2,7 @@
 
 ghost use Rattle.std.specs.Prelude.{◌≡◌, ◌≤◌, ◌++◌, ◌∷◌, [], IfOk, codes, map};
 ghost use Rattle.std.specs.String.{string_bytes};
-ghost use Rattle.tfpg_words.specs.Meaning.{ahead_option, ask_on, by_form, check_on, command_meaning, convert_on, diagnose_on, draw_option, explain_on, fleet_on, generate_on, meant_by, predict_on, simulate_on, size_option, terms_options};
+ghost use Rattle.tfpg_words.specs.Meaning.{ahead_option, ask_on, by_form, command_meaning, convert_on, diagnose_on, draw_option, fleet_on, generate_on, meant_by, predict_on, simulate_on, size_option, terms_options, two_files_on, Explain, Check};
 ghost use Rattle.tfpg_words.specs.PanelWords.{panels_named};
 ghost use Rattle.tfpg_words.specs.Plans.{IsPlanOf};
 ghost use Rattle.tfpg_words.specs.inside.Given.{ask_given, check_given, convert_given, diagnose_given, diagnose_to, explain_given, fleet_given, generate_given, numbers_given, predict_given, simulate_given, terms_given};
@@ -161,7 +161,7 @@ fn diagnose_to(
 
 /// `explain GRAPH LOG`
 fn plan_explain(alloc: Global, words: &[String]) -> Result<Planned, PlanFault>
-    ensures { IsPlanOf (by_form [] [] explain_on (map string_bytes words.now)) result }
+    ensures { IsPlanOf (by_form [] [] (two_files_on Explain) (map string_bytes words.now)) result }
 {
     let form = Form {
         options: &[],
@@ -186,7 +186,7 @@ fn plan_explain_by(alloc: Global, parts: &Parts) -> Result<Planned, PlanFault>
 
 /// `check GRAPH LOG`
 fn plan_check(alloc: Global, words: &[String]) -> Result<Planned, PlanFault>
-    ensures { IsPlanOf (by_form [] [] check_on (map string_bytes words.now)) result }
+    ensures { IsPlanOf (by_form [] [] (two_files_on Check) (map string_bytes words.now)) result }
 {
     let form = Form {
         options: &[],

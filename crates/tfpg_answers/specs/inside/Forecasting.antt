@@ -10,7 +10,7 @@ use Rattle.tfpg_predict.specs.declared.outlook.Outlook.TheVariants.{Earliest, Ne
 use Rattle.tfpg_predict.specs.LeastTime.{Lookahead, lookahead_of}
 use Rattle.tfpg_predict.specs.Probed.{IsProbeable, IsProbeNumber}
 use Rattle.tfpg_answers.specs.declared.predict.query.Query.{Query}
-use Rattle.tfpg_answers.specs.Forecasts.{AreForecastsOf, HasForecastsOf, probed_names}
+use Rattle.tfpg_answers.specs.Forecasts.{HasForecastsOf, probed_names}
 
 -- the look ahead that the code makes, by the log as it stands
 abbrev pub lookahead_in : Query → Lookahead
@@ -47,5 +47,7 @@ pub record AddsForecasts (query : Query) (findings : List Finding) (old new : Li
 -- Forecasts of these findings stand after the old bytes.
 pub record ForecastsFollow (asked : Lookahead) (budget : ℕ) (findings : List Finding) (old new : List ℕ) : Type 0 where
   pub text : List ℕ
-  pub are : AreForecastsOf asked budget findings text
+  pub number : ℕ
+  pub named : IsProbeNumber asked.graph number
+  pub has : HasForecastsOf asked budget (probed_names asked number) findings text
   pub appended : new ≡ old ++ text

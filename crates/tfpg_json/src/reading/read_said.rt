@@ -1,9 +1,10 @@
 //! What a JSON value says of a graph.
 
-ghost use Rattle.std.specs.Prelude.{◌≡◌, codes, map, option_map};
+ghost use Rattle.std.specs.Prelude.{◌≡◌, Some, codes, map, option_and_then, option_map};
+ghost use Rattle.std.specs.Option.{option_map_or};
 ghost use Rattle.serde_json.specs.Find.{as_str, get};
 ghost use Rattle.serde_json.specs.View.{view};
-ghost use Rattle.tfpg_json.specs.GraphSaid.{each_in, edge_from, graph_in, greatest_in, kind_in, kind_of, lag_from, least_in, modes_in, node_in};
+ghost use Rattle.tfpg_json.specs.GraphSaid.{each_in, edge_from, graph_in, kind_in, kind_of, lag_from, node_in, number_from, unless_null};
 ghost use Rattle.tfpg_json.specs.inside.ReadAs.{ReadAs};
 
 use crate::reading::fields::{
@@ -111,7 +112,7 @@ fn lag_in(value: &Value) -> Option<Option<Lag>>
 
 /// The least lag of a monitored node, which is 0 where the key is absent.
 fn least_in(value: &Value) -> Option<u64>
-    ensures { result ≡ least_in (get (codes "least") (view value.now)) }
+    ensures { result ≡ option_map_or number_from (get (codes "least") (view value.now)) (Some 0) }
 {
     match value.get("least") {
         Some(least) => least.as_u64(),
@@ -139,7 +140,7 @@ fn edge_in<'a>(alloc: Global, value: &'a Value) -> Result<JsonEdge<'a>, GraphRef
 
 /// The modes of an edge: none where they are all.
 fn modes_in<'a>(alloc: Global, value: &'a Value) -> Result<Option<Items<&'a [u8]>>, GraphRefusal>
-    ensures { ReadAs (option_map (λ names. map (λ name. name.now) names)) (modes_in (view value.now)) result }
+    ensures { ReadAs (option_map (λ names. map (λ name. name.now) names)) (option_and_then (unless_null (each_in as_str)) (get (codes "modes") (view value.now))) result }
 {
     let modes = value.get("modes").ok_or(NO_GRAPH)?;
     if modes.is_null() {

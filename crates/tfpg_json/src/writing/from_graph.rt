@@ -1,10 +1,11 @@
 //! A graph as JSON, token by token.
 
 ghost use Rattle.std.specs.Prelude.{◌≡◌, ◌++◌, OnOk, codes, map};
-ghost use Rattle.serde_json.specs.Data.{array, string};
+ghost use Rattle.std.specs.Option.{option_map_or};
+ghost use Rattle.serde_json.specs.Data.{array, null, string};
 ghost use Rattle.serde_json.specs.View.{items_of};
 ghost use Rattle.tfpg_graph.specs.Valid.{IsValidEdge};
-ghost use Rattle.tfpg_json.specs.GraphData.{discrepancy_data, edge_data, failure_data, graph_data, greatest_data, kind_data, mode_names, node_data, texts};
+ghost use Rattle.tfpg_json.specs.GraphData.{discrepancy_data, edge_data, graph_data, kind_data, mode_names, texts, whole};
 ghost use Rattle.tfpg_json.specs.inside.Tokens.{data_tokens, lag_tokens, member_tokens};
 
 use crate::writing::from_names::{mode_name, node_name};
@@ -59,7 +60,7 @@ fn append_modes(graph: &Graph, into: &mut Writer) -> Result<(), AllocError>
 fn append_nodes(graph: &Graph, into: &mut Writer) -> Result<(), AllocError>
     ensures before { into.new.before ≡ into.old.before }
     ensures ok { OnOk result (into.new.tokens ≡ into.old.tokens
-        ++ member_tokens (codes "nodes") (array (items_of (map node_data graph.now.nodes)))) }
+        ++ member_tokens (codes "nodes") (array (items_of (map (λ node. kind_data node.name node.kind) graph.now.nodes)))) }
 {
     into.key("nodes")?;
     into.begin_array()?;
@@ -91,7 +92,7 @@ fn append_edge(graph: &Graph, edge: &Edge, into: &mut Writer) -> Result<(), Allo
 fn append_greatest(tmax: Option<u64>, into: &mut Writer) -> Result<(), AllocError>
     ensures before { into.new.before ≡ into.old.before }
     ensures ok { OnOk result
-        (into.new.tokens ≡ into.old.tokens ++ member_tokens (codes "max") (greatest_data tmax)) }
+        (into.new.tokens ≡ into.old.tokens ++ member_tokens (codes "max") (option_map_or whole tmax null)) }
 {
     match tmax {
         Some(tmax) => append_number("max", tmax, into),
@@ -132,7 +133,7 @@ fn append_node(name: &str, kind: Kind, into: &mut Writer) -> Result<(), AllocErr
 fn append_failure(name: &str, rarity: u64, into: &mut Writer) -> Result<(), AllocError>
     ensures before { into.new.before ≡ into.old.before }
     ensures ok { OnOk result
-        (into.new.tokens ≡ into.old.tokens ++ data_tokens (failure_data name.now rarity)) }
+        (into.new.tokens ≡ into.old.tokens ++ data_tokens (kind_data name.now (Kind.Failure rarity))) }
 {
     into.begin_object()?;
     append_text("kind", "failure", into)?;

@@ -1,10 +1,11 @@
 -- A run ends well where nothing stands in its way.
 use Rattle.std.proofs.Common.{◌≡◌, ℕ, ◌+◌, ◌<◌, ◌≤◌, Bool, true, false, List, [], ◌∷◌, ◌++◌, length, Option, Some, IfSome, Result, Ok, Err, refl, sym, ap, subst, subst₂, ◌∙◌, inl, inr, arith}
-use Rattle.std.specs.Prelude.{All, OnOk, IfErr}
+use Rattle.std.specs.Prelude.{All, OnOk, IfErr, codes, decimal}
 use Rattle.std.proofs.lemmas.List.Elements.{All-cons, All-nil}
 use Rattle.tfpg_base.proofs.lemmas.lists.Elements.{All-at}
 use Rattle.std.proofs.lemmas.List.{length-append}
 use Rattle.std.proofs.lemmas.Option.{same_Some}
+use Rattle.tfpg_base.specs.TextLine.{text_line}
 use Rattle.tfpg_base.specs.declared.terms.Terms.{Terms}
 use Rattle.tfpg_base.specs.declared.limits.TheConstants.{MAX_BYTES, LONGEST_FILE}
 use Rattle.tfpg_base.specs.Outside.{SourceState, ShelfState, Rose, Gives, Takes, file_of}
@@ -41,12 +42,12 @@ use Rattle.tfpg_streams.specs.declared.fault.OutputFault.{OutputFault}
 use Rattle.tfpg_streams.specs.declared.fault.OutputFault.TheVariants as output
 use Rattle.tfpg_run.specs.Completeness.{CanBeDone, CanRefuse, HasLines, IsCompleted, IsRefusedFor, IsShort, NothingFails, ServesGraph, ServesGraphAndText, CanBeProbed}
 use Rattle.tfpg_run.specs.EndsOf.{EndsBy, end_of_fetch_fault, end_of_stream_fault, end_of_check_fault, end_of_no_map, end_of_output_fault, end_of_result}
-use Rattle.tfpg_run.specs.Fetch.{HasFile, IsTooLong, GivesGraph, GivesGraphBy, GivesGraphAndText, HasFaultyGraphBy, IsFetchFaultBy, LacksFiles}
+use Rattle.tfpg_run.specs.Fetch.{HasFile, IsTooLong, GivesGraph, GivesGraphBy, GivesGraphAndText, IsFetchFaultBy, LacksFiles}
 use Rattle.tfpg_run.specs.generate.Generating.{HasSummary}
 use Rattle.tfpg_run.specs.ask.Asking.{AskEnds}
 use Rattle.tfpg_answers.specs.Questions.{HasQuestions}
 use Rattle.tfpg_run.specs.convert.Converting.{ConvertEnds, IsFaultFrom, SpellsFrom, converted_text}
-use Rattle.tfpg_run.specs.check.Checking.{CheckEnds, CheckingEnds, accepted_text}
+use Rattle.tfpg_run.specs.check.Checking.{CheckEnds, CheckingEnds}
 use Rattle.tfpg_diagnose.specs.JudgedReports.{HasTooManyInHead, LacksReport, problem_of}
 use Rattle.tfpg_answers.specs.Verdicts.{HasVerdict}
 use Rattle.tfpg_run.specs.explain.Explaining.{ExplainEnds, ExplainingEnds}
@@ -112,10 +113,10 @@ module _ (shelf : ShelfState) (files : List (List ℕ × List ℕ)) (known : she
   module _ (SpellsIt : List ℕ → Tfpg → Type 0) (IsFirst : List ℕ → GraphFault → Type 0) (law : NoFaultBy SpellsIt IsFirst)
       (name : List ℕ) (graph : Tfpg) (gives : GivesGraphBy SpellsIt shelf name graph) where
     -- a graph that is there has no fault
-    no_graph_fault : (fault : GraphFault) → HasFaultyGraphBy IsFirst shelf name fault → ⊥
-    no_graph_fault fault faulty =
-        let same : faulty.text ≡ gives.text = same_Some _ _ (sym (gives_is name faulty.text faulty.file.gives) ∙ gives_is name gives.text gives.file.gives) in
-        law gives.text graph gives.spells gives.valid fault (subst (λ (t : List ℕ). IsFirst t fault) same faulty.first)
+    no_graph_fault : (fault : GraphFault) (text : List ℕ) → HasFile shelf name text → IsFirst text fault → ⊥
+    no_graph_fault fault text file first =
+        let same : text ≡ gives.text = same_Some _ _ (sym (gives_is name text file.gives) ∙ gives_is name gives.text gives.file.gives) in
+        law gives.text graph gives.spells gives.valid fault (subst (λ (t : List ℕ). IsFirst t fault) same first)
 
     -- where it and the others are there and are not fetched, memory ran out
     fetched : (others : List (List ℕ)) → All (λ other. (text : List ℕ) × HasFile shelf other text) others → (now : ShelfState) (fault : FetchFault) → (Rose shelf.faults now.faults → ⊥)
@@ -126,7 +127,7 @@ module _ (shelf : ShelfState) (files : List (List ℕ × List ℕ)) (known : she
         let file : (text : List ℕ) × HasFile shelf is.0 text =
         All-at (λ (other : List ℕ). (text : List ℕ) × HasFile shelf other text) (name ∷ others) is.1.count is.0 all is.1.next in
         absurd (not_too_long is.0 file.0 file.1.gives file.1.small is.2)
-    fetched others there now (Graph fault) calm is = absurd (no_graph_fault fault is.1)
+    fetched others there now (Graph fault) calm is = absurd (no_graph_fault fault is.1 is.2 is.3)
     fetched others there now NoMemory calm is = refl
 
   -- so it is with a graph text alone
@@ -184,7 +185,7 @@ module _ (graphs : GraphLaws) (laws : CheckLaws) (before now : World) (calm : No
   -- work with the hypotheses of a graph that has few
   unless_too_many : (graph : Tfpg) (terms : Terms) (Works : End → Type 0) (end : End) → HasFewHypotheses terms graph → (Works end → IsCompleted end)
       → EndsUnlessTooMany graph terms before now Works end → IsCompleted end
-  unless_too_many graph terms Works end few go (inl many) = absurd (omega (arith, many.too_many, few many.count many.counted))
+  unless_too_many graph terms Works end few go (inl many) = absurd (let above = many.is_fault.1 in omega (arith, above, few many.fault many.is_fault.0))
   unless_too_many graph terms Works end few go (inr works) = go works.1
 
   -- a text that is written of them
@@ -223,7 +224,7 @@ module _ (graphs : GraphLaws) (laws : CheckLaws) (before now : World) (calm : No
 
       of_works : FleetDiagnosisEnds (fleet_problem file.graph terms names) before now end → IsCompleted end
       of_works (inl many) =
-          absurd (subst (λ (graph : Tfpg). HasFewForFleet (fleet_problem graph terms names)) (only_graph before.shelf can.files can.known name can.graph file.graph can.gives file.gives) can.holds many.count many.too_many)
+          absurd (subst (λ (graph : Tfpg). HasFewForFleet (fleet_problem graph terms names)) (only_graph before.shelf can.files can.known name can.graph file.graph can.gives file.gives) can.holds many.fault many.is_fault)
       of_works (inr few) = go few.1.result few.1.works few.1.end_is
 
   module _ {Hold : Tfpg → List ℕ → Type 0} (end : End) (graph_name text_name : List ℕ) (can : ServesGraphAndText before.shelf graph_name text_name Hold) where
@@ -262,17 +263,17 @@ module _ (graphs : GraphLaws) (laws : CheckLaws) (before now : World) (calm : No
       holds = holds_of_given end graph_name log_name can explains.graph explains.text explains.gives
 
       go : ExplainingEnds explains.graph (log_of_lines explains.graph (lines_of explains.text)) (streams_of before) (streams_of now) end → IsCompleted end
-      go (inl none) = subst IsCompleted (sym none.end_is) (no_map holds.0 explains.graph holds.1 none.fault none.lacks)
+      go (inl none) = subst IsCompleted (sym none.end_is) (no_map holds.0 explains.graph holds.1 none.fault none.is_fault)
       go (inr judges) =
-          subst IsCompleted (sym judges.ends.end_is)
-          (text_written (HasVerdict explains.graph (log_of_lines explains.graph (lines_of explains.text)) judges.map) judges.ends.result judges.ends.works)
+          subst IsCompleted (sym judges.2.end_is)
+          (text_written (HasVerdict explains.graph (log_of_lines explains.graph (lines_of explains.text)) judges.0) judges.2.result judges.2.works)
 
   -- a report that is one
   accepted : (short : IsShort before.input) (problem : DiagnosisProblem) → IsValid problem.graph → (terms : Terms) (blocks : List Block) → AreReportLines problem terms blocks (lines_of short.known)
       → (end : End) → CheckingEnds problem (streams_of before) (streams_of now) end → IsCompleted end
   accepted short problem valid terms blocks report end (inr accepts) =
-      subst IsCompleted (sym accepts.ends.end_is) (text_written (λ text. text ≡ accepted_text accepts.rounds) accepts.ends.result accepts.ends.works)
-  accepted short problem valid terms blocks report end (inl lacks) = subst IsCompleted (sym lacks.end_is) (go lacks.fault lacks.lacks)
+      subst IsCompleted (sym accepts.2.end_is) (text_written (λ text. text ≡ text_line (codes "accepted" ∷ decimal accepts.0 ∷ [])) accepts.2.result accepts.2.works)
+  accepted short problem valid terms blocks report end (inl lacks) = subst IsCompleted (sym lacks.end_is) (go lacks.fault lacks.is_fault)
     where
       go : (fault : CheckFault) → LacksReport problem before.input now.input fault → IsCompleted (end_of_check_fault fault)
       go (check.NotAccepted line cause) why =
@@ -295,10 +296,10 @@ module _ (graphs : GraphLaws) (laws : CheckLaws) (before now : World) (calm : No
   not_accepted : (short : IsShort before.input) (problem : DiagnosisProblem) → IsValid problem.graph → (line : ℕ) (cause : CheckCause) → IsCause problem (lines_of short.known) line cause
       → (end : End) → CheckingEnds problem (streams_of before) (streams_of now) end → IsRefusedFor line cause end
   not_accepted short problem valid line cause has end (inr accepts) =
-      let all : short.known ≡ accepts.accepts.taken = all_taken before.input now.input short.known accepts.accepts.taken short.left accepts.accepts.takes accepts.accepts.at_end in
-      absurd (laws.no_cause problem accepts.accepts.terms accepts.accepts.blocks accepts.accepts.taken line cause valid accepts.accepts.report accepts.accepts.few
+      let all : short.known ≡ accepts.1.taken = all_taken before.input now.input short.known accepts.1.taken short.left accepts.1.takes accepts.1.at_end in
+      absurd (laws.no_cause problem accepts.1.terms accepts.1.blocks accepts.1.taken line cause valid accepts.1.report accepts.1.few
       (subst (λ (bytes : List ℕ). IsCause problem (lines_of bytes) line cause) all has))
-  not_accepted short problem valid line cause has end (inl lacks) = subst (IsRefusedFor line cause) (sym lacks.end_is) (go lacks.fault lacks.lacks)
+  not_accepted short problem valid line cause has end (inl lacks) = subst (IsRefusedFor line cause) (sym lacks.end_is) (go lacks.fault lacks.is_fault)
     where
       go : (fault : CheckFault) → LacksReport problem before.input now.input fault → IsRefusedFor line cause (end_of_check_fault fault)
       go (check.NotAccepted at other) why =
@@ -334,7 +335,7 @@ module _ (graphs : GraphLaws) (laws : CheckLaws) (before now : World) (calm : No
   -- a script that is simulated
   simulated : (IsRight : Tfpg → List ℕ → List ℕ → Type 0) (end : End) (graph : Tfpg) (script : List ℕ) → ((line : ℕ) → IsScriptFault graph (lines_of script) line → ⊥)
       → SimulationEnds IsRight before now graph script end → IsCompleted end
-  simulated IsRight end graph script right (inl bad) = absurd (right bad.line bad.is_fault)
+  simulated IsRight end graph script right (inl bad) = absurd (right bad.fault bad.is_fault)
   simulated IsRight end graph script right (inr by) = subst IsCompleted (sym by.end_is) (text_written (IsRight graph script) by.result by.works)
 
   simulated_files : (end : End) (IsRight : Tfpg → List ℕ → List ℕ → Type 0) (graph_name script_name : List ℕ)

@@ -11,11 +11,11 @@ use Rattle.tfpg_json.specs.GraphText.{SpellsAsJson}
 use Rattle.tfpg_run.specs.declared.end.End.TheVariants.{Done}
 use Rattle.tfpg_streams.specs.declared.fault.OutputFault.{OutputFault}
 use Rattle.tfpg_streams.specs.declared.fault.OutputFault.TheVariants as output
-use Rattle.tfpg_run.specs.EndsOf.{end_of_output_fault, end_of_result}
-use Rattle.tfpg_run.specs.Fetch.{GivesGraph}
+use Rattle.tfpg_run.specs.EndsOf.{EndsBy, end_of_output_fault, end_of_result}
+use Rattle.tfpg_run.specs.Fetch.{GivesGraph, WorksByGraph}
 use Rattle.tfpg_streams.specs.Outputs.{TextEnds, WritesText}
 use Rattle.tfpg_run.specs.World.{World}
-use Rattle.tfpg_run.specs.convert.Converting.{ConvertEnds, ConvertsFile, converted_text}
+use Rattle.tfpg_run.specs.convert.Converting.{ConvertEnds, SpellsFrom, converted_text}
 use Rattle.tfpg_run.proofs.lemmas.Completing.{gives_is}
 use Rattle.tfpg_run.proofs.lemmas.Stops.{fetch_not_done}
 
@@ -44,7 +44,8 @@ held_is before now bytes empty puts = subst (λ (holds : Option (List ℕ)). IfS
 
 -- a graph that was converted, and what the output holds
 pub record Converted (json : Bool) (name : List ℕ) (before now : World) : Type 0 where
-  pub file : ConvertsFile json name before now Done
+  pub file : WorksByGraph (SpellsFrom json) name
+      (λ graph. EndsBy (TextEnds (λ text. text ≡ converted_text json graph) before.output now.output) end_of_output_fault) before now Done
   pub holds : now.output.holds ≡ Some (converted_text json file.graph)
 
 converted_by : (json : Bool) (name : List ℕ) (before now : World) → ConvertEnds json name before now Done → before.output.holds ≡ Some [] → Converted json name before now

@@ -61,7 +61,7 @@ module _ (terms : Terms) (name : List ℕ) (before now : World) where
   of_diagnosis (inl (inr file)) = by file.works
     where
       by : DiagnosisEnds terms before now file.graph ends.ReadFault → LacksFiles name [] before now ends.ReadFault ⊎ WritesWholeLines IsReported name before now
-      by (inl many) = let other : ends.ReadFault ≡ ends.TooManyHypotheses many.count = many.end_is in absurd cc
+      by (inl many) = let other : ends.ReadFault ≡ ends.TooManyHypotheses many.fault = many.end_is in absurd cc
       by (inr few) = inr (diagnosed file few.1.result few.1.works few.1.end_is)
   of_diagnosis (inr none) = let other : ends.ReadFault ≡ ends.NoMemory = none.1 in absurd cc
 
@@ -111,7 +111,7 @@ module _ (terms : Terms) (name : List ℕ) (names : List (List ℕ)) (before now
   of_fleet (inl (inr file)) = by file.works
     where
       by : FleetDiagnosisEnds (fleet_problem file.graph terms names) before now ends.ReadFault → LacksFiles name [] before now ends.ReadFault ⊎ WritesWholeLines IsAnswered name before now
-      by (inl many) = let other : ends.ReadFault ≡ ends.TooManyHypotheses many.count = many.end_is in absurd cc
+      by (inl many) = let other : ends.ReadFault ≡ ends.TooManyHypotheses many.fault = many.end_is in absurd cc
       by (inr few) = inr (answered file few.1.result few.1.works few.1.end_is)
   of_fleet (inr none) = let other : ends.ReadFault ≡ ends.NoMemory = none.1 in absurd cc
 

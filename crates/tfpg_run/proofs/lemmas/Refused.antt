@@ -112,7 +112,7 @@ module _ (IsFirst : List ℕ → GraphFault → Type 0) where
 pub IsFetchFault-refused : (json : Bool) (before now : ShelfState) (name : List ℕ) (others : List (List ℕ)) (count : ℕ) (text : List ℕ) (refusal : GraphRefusal)
     → take count (name ∷ others) ≡ name ∷ others → Fetched (name ∷ others) before now → HasFile before name text → IsRefusalFrom json text refusal
     → IsFetchFaultBy (IsFaultFrom json) name others before now (fetch_fault_of_refusal refusal)
-IsFetchFault-refused true before now name others count text (Fault fault) all fetched file refused = (fetched, record { text = text; file = file; first = refused })
+IsFetchFault-refused true before now name others count text (Fault fault) all fetched file refused = (fetched, text, file, refused)
 IsFetchFault-refused true before now name others count text NoMemory all fetched file refused = (count, subst (λ (names : List (List ℕ)). Fetched names before now) (sym all) fetched)
-IsFetchFault-refused false before now name others count text (Fault fault) all fetched file refused = (fetched, record { text = text; file = file; first = refused })
+IsFetchFault-refused false before now name others count text (Fault fault) all fetched file refused = (fetched, text, file, refused)
 IsFetchFault-refused false before now name others count text NoMemory all fetched file refused = (count, subst (λ (names : List (List ℕ)). Fetched names before now) (sym all) fetched)

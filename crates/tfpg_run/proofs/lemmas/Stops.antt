@@ -73,7 +73,7 @@ module _ {X : Type 0} (graph : Tfpg) (terms : Terms) (before now : World) where
       → (HasFewHypotheses terms graph → Works ends.NoMemory) → EndsUnlessTooMany graph terms before now Works (end_of_table_fault fault)
   without_table Works (TooMany count) exact untouched works =
       let many = (exact count).0 refl in
-      inl (record { count = count; counted = many.1; too_many = many.0; end_is = refl; untouched = untouched })
+      inl (record { fault = count; is_fault = (many.1, many.0); end_is = refl; untouched = untouched })
   without_table Works NoMemory exact untouched works = let few = without_memory graph terms exact in inr (few, works few)
 
   -- then no text is written

@@ -8,11 +8,8 @@ use Rattle.tfpg_run.specs.TooMany.{TextEndsUnlessTooMany}
 use Rattle.tfpg_run.specs.World.{World}
 use Rattle.tfpg_answers.specs.Questions.{HasQuestions}
 
--- How the questions after the lines of a log end: there are too many hypotheses; or there are not, and the questions were written.
-abbrev pub QuestionsEnd : Terms → World → World → Tfpg → List ℕ → End → Type 0
-QuestionsEnd terms before now graph log_text = TextEndsUnlessTooMany (HasQuestions terms graph log_text) graph terms before now
-
--- There is no graph or no log of the files of those names; or the questions were asked by them.
+-- There is no graph or no log of the files of those names; or there are too many hypotheses; or there are not, and the questions were written.
 abbrev pub AskEnds : Terms → List ℕ → List ℕ → World → World → End → Type 0
 AskEnds terms graph_name log_name before now end =
-    EndsByFiles graph_name log_name (QuestionsEnd terms before now) before now end
+    EndsByFiles graph_name log_name
+    (λ graph log_text. TextEndsUnlessTooMany (HasQuestions terms graph log_text) graph terms before now) before now end

@@ -27,12 +27,9 @@ abbrev pub converted_text : Bool → Tfpg → List ℕ
 converted_text true graph = canonical_text graph
 converted_text false graph = graph_json graph
 
--- The graph of the file of that name was converted.
-abbrev pub ConvertsFile : Bool → List ℕ → World → World → End → Type 0
-ConvertsFile json name before now = WorksByGraph (SpellsFrom json) name
-    (λ graph. EndsBy (TextEnds (λ text. text ≡ converted_text json graph) before.output now.output) end_of_output_fault) before now
-
--- There is no graph of it; or it was converted.
+-- There is no graph of the file of that name; or it was converted.
 abbrev pub ConvertEnds : Bool → List ℕ → World → World → End → Type 0
 ConvertEnds json name before now end =
-    LacksFilesBy (IsFaultFrom json) name [] before now end ⊎ ConvertsFile json name before now end
+    LacksFilesBy (IsFaultFrom json) name [] before now end
+    ⊎ WorksByGraph (SpellsFrom json) name
+    (λ graph. EndsBy (TextEnds (λ text. text ≡ converted_text json graph) before.output now.output) end_of_output_fault) before now end

@@ -6,31 +6,21 @@ use Rattle.tfpg_log.specs.Log.{Logbook}
 use Rattle.tfpg_log.specs.LogOfLines.{log_of_lines}
 use Rattle.tfpg_map.specs.InputMap.{LacksMap, ReadsMap}
 use Rattle.tfpg_map.specs.declared.map.Map.{Map}
-use Rattle.tfpg_map.specs.declared.map.NoMap.{NoMap}
 use Rattle.tfpg_answers.specs.Verdicts.{HasVerdict}
 use Rattle.tfpg_run.specs.declared.end.End.{End}
-use Rattle.tfpg_run.specs.EndsOf.{EndsBy, end_of_no_map, end_of_output_fault}
+use Rattle.tfpg_run.specs.EndsOf.{EndsBy, StopsBy, end_of_no_map, end_of_output_fault}
 use Rattle.tfpg_run.specs.Fetch.{EndsByFiles}
 use Rattle.tfpg_streams.specs.Outputs.{TextEnds}
 use Rattle.tfpg_streams.specs.Streams.{Streams}
 use Rattle.tfpg_run.specs.World.{World, streams_of}
 
--- The input gives no map, for this cause, and nothing is written.
-pub record EndsWithoutMap (graph : Tfpg) (before now : Streams) (end : End) : Type 0 where
-  pub fault : NoMap
-  pub lacks : LacksMap graph before.input now.input fault
-  pub end_is : end ≡ end_of_no_map fault
-  pub unwritten : now.output ≡ before.output
-
--- The lines of the whole input spell a map, and the verdict on it was written.
-pub record JudgesMap (graph : Tfpg) (log : Logbook) (before now : Streams) (end : End) : Type 0 where
-  pub map : Map
-  pub reads : ReadsMap graph before.input now.input map
-  pub ends : EndsBy (TextEnds (HasVerdict graph log map) before.output now.output) end_of_output_fault end
-
--- How judging the map of the input ends: there is none; or there is one, and it was judged.
+-- How judging the map of the input ends: there is none, and nothing is written; or the lines of the whole input spell one, and the verdict on
+-- it was written.
 abbrev pub ExplainingEnds : Tfpg → Logbook → Streams → Streams → End → Type 0
-ExplainingEnds graph log before now end = EndsWithoutMap graph before now end ⊎ JudgesMap graph log before now end
+ExplainingEnds graph log before now end =
+    StopsBy (LacksMap graph before.input now.input) end_of_no_map before.output now.output end
+    ⊎ ((map : Map) × ReadsMap graph before.input now.input map
+    × EndsBy (TextEnds (HasVerdict graph log map) before.output now.output) end_of_output_fault end)
 
 -- There is no graph or no log of the files of those names; or a map was judged by them.
 abbrev pub ExplainEnds : List ℕ → List ℕ → World → World → End → Type 0

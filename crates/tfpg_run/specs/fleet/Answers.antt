@@ -30,13 +30,9 @@ blocks_for number answers = filter_map (block_for number) answers
 abbrev pub naming_text : List ℕ → List ℕ
 naming_text name = text_line (codes "vehicle" ∷ name ∷ [])
 
--- the line for a stray line of this number
-abbrev pub stray_text : ℕ → List ℕ
-stray_text number = text_line (codes "stray" ∷ decimal number ∷ [])
-
--- the text of the answer to the line of this number in the stream
+-- the text of the answer to the line of this number in the stream: the number where it is stray
 abbrev pub answer_text : Tfpg → List (List ℕ) → ℕ → Answer → List ℕ
-answer_text graph names number StrayLine = stray_text number
+answer_text graph names number StrayLine = text_line (codes "stray" ∷ decimal number ∷ [])
 answer_text graph names number (OwnBlock vehicle block) =
     naming_text (slice_index_or names vehicle []) ++ block_text graph block
 

@@ -9,23 +9,20 @@ use Rattle.tfpg_run.specs.declared.end.End.{End}
 use Rattle.tfpg_run.specs.declared.end.End.TheVariants as ends
 use Rattle.tfpg_streams.specs.declared.fault.StreamFault.{StreamFault}
 use Rattle.tfpg_streams.specs.declared.fault.StreamFault.TheVariants.{WriteFault}
-use Rattle.tfpg_run.specs.EndsOf.{EndsBy, end_of_stream_fault}
+use Rattle.tfpg_run.specs.EndsOf.{EndsBy, StopsBy, end_of_stream_fault}
 use Rattle.tfpg_run.specs.Fetch.{LacksFiles, WorksByGraph}
 use Rattle.tfpg_streams.specs.Outputs.{HasOutputOfFirstLines, IsStreamFault, IsWrittenBefore, TakesAndWrites, WritesOutput}
 use Rattle.tfpg_streams.specs.Streams.{Streams}
 use Rattle.tfpg_run.specs.World.{World, streams_of, watched_of}
 use Rattle.tfpg_run.specs.fleet.FleetOutput.{FleetProblem, BeginsFleetOutput, IsFleetOutput, IsFleetOutputSoFar, fleet_problem}
 
--- What a failed write has cut begins the answers to the first lines of the input; or, once the input has ended, the whole output for it. So
--- no line of a failure mode is written before that end.
-abbrev pub IsCutOutput : FleetProblem → SourceState → List ℕ → List ℕ → Type 0
-IsCutOutput fleet input taken written =
+-- What was written by then. A failed write alone may cut it: what is left begins the answers to the first lines of the input; or, once the
+-- input has ended, the whole output for it. So no line of a failure mode is written before that end. Without a failed write it is what is
+-- right so far, or, without memory, nothing.
+abbrev pub IsAnsweredBefore : FleetProblem → SourceState → List ℕ → List ℕ → StreamFault → Type 0
+IsAnsweredBefore fleet input taken written WriteFault =
     HasOutputOfFirstLines (BeginsFleetOutput fleet) input taken written
     ⊎ (IsAtEnd input × (more : List ℕ) × IsFleetOutput fleet (lines_of taken) (written ++ more))
-
--- What was written by then. A failed write alone may cut it; else it is what is right so far, or, without memory, nothing.
-abbrev pub IsAnsweredBefore : FleetProblem → SourceState → List ℕ → List ℕ → StreamFault → Type 0
-IsAnsweredBefore fleet input taken written WriteFault = IsCutOutput fleet input taken written
 IsAnsweredBefore fleet input taken written fault =
     IsWrittenBefore (IsFleetOutputSoFar fleet) (BeginsFleetOutput fleet) input taken written fault
 
@@ -44,17 +41,11 @@ AnswersStream fleet before now result = TakesAndWrites (AnsweringEnds fleet befo
 abbrev pub HasFewForFleet : FleetProblem → Type 0
 HasFewForFleet fleet = (count : ℕ) → IsTooMany fleet.graph fleet.terms (length fleet.names) count → ⊥
 
--- It has too many, as this number says, and all but the shelf is untouched.
-pub record EndsWithTooManyForFleet (fleet : FleetProblem) (before now : World) (end : End) : Type 0 where
-  pub count : ℕ
-  pub too_many : IsTooMany fleet.graph fleet.terms (length fleet.names) count
-  pub end_is : end ≡ ends.TooManyHypotheses count
-  pub untouched : watched_of now ≡ watched_of before
-
--- How a diagnosis of the vehicles ends: there are too many hypotheses for them; or there are not, and they were diagnosed.
+-- How a diagnosis of the vehicles ends: there are too many hypotheses for them, as the end says, and all but the shelf is untouched; or there
+-- are not, and they were diagnosed.
 abbrev pub FleetDiagnosisEnds : FleetProblem → World → World → End → Type 0
 FleetDiagnosisEnds fleet before now end =
-    EndsWithTooManyForFleet fleet before now end
+    StopsBy (IsTooMany fleet.graph fleet.terms (length fleet.names)) ends.TooManyHypotheses (watched_of before) (watched_of now) end
     ⊎ (HasFewForFleet fleet × EndsBy (AnswersStream fleet (streams_of before) (streams_of now)) end_of_stream_fault end)
 
 -- There is no graph of the file of that name; or the diagnosis of the vehicles of these names ended so.

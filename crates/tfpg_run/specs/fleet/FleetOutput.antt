@@ -49,15 +49,11 @@ abbrev pub vehicles_with : FleetProblem → List Answer → ℕ → ℕ
 vehicles_with fleet answers position =
     vehicles_that (λ number. last_ranks position (rounds_for number answers)) (length fleet.names)
 
--- the text after the answers: a line for each failure mode
-abbrev pub mode_counts_text : FleetProblem → List Answer → List ℕ
-mode_counts_text fleet answers = modes_text fleet.graph (vehicles_with fleet answers) (length (failures fleet.graph))
-
--- The bytes are what a diagnosis of the fleet writes for these lines of the stream.
+-- The bytes are what a diagnosis of the fleet writes for these lines of the stream: the answers, and a line for each failure mode.
 pub record IsFleetOutput (fleet : FleetProblem) (lines : List (List ℕ)) (bytes : List ℕ) : Type 0 where
   pub answers : List Answer
   pub are : AreAnswers fleet lines answers
-  pub text : bytes ≡ answered_text fleet answers ++ mode_counts_text fleet answers
+  pub text : bytes ≡ answered_text fleet answers ++ modes_text fleet.graph (vehicles_with fleet answers) (length (failures fleet.graph))
 
 -- The bytes are what it has written after these lines of a stream that has not ended: all but the lines of the failure modes.
 pub record IsFleetOutputSoFar (fleet : FleetProblem) (lines : List (List ℕ)) (bytes : List ℕ) : Type 0 where

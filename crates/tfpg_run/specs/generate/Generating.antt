@@ -15,7 +15,7 @@ use Rattle.tfpg_run.specs.EndsOf.{EndsBy, end_of_output_fault}
 use Rattle.tfpg_diagnose.specs.Rounds.{AreRoundsOf}
 use Rattle.tfpg_run.specs.generate.Terms.{generated_terms}
 use Rattle.tfpg_streams.specs.Outputs.{TextEnds}
-use Rattle.tfpg_run.specs.generate.Summary.{drawing, summary_text}
+use Rattle.tfpg_run.specs.generate.Summary.{drawn_text, rounds_text, truth_text}
 use Rattle.tfpg_run.specs.World.{World}
 
 -- The text says what was drawn by the number and the size, and what the last of the rounds of the simulated log says:
@@ -31,9 +31,9 @@ pub record HasSummary (number size : ℕ) (text : List ℕ) : Type 0 where
   pub found : Contains last.findings truth
   pub of_truth : hypothesis_of truth ≡ believing simulated.set
   pub not_rejected : is_rejected truth.status ≡ false
-  pub text_is : text ≡ summary_text
-      (drawing number size (generated_graph number size) (length (lines_of simulated.log)))
-      (length (earlier ++ last ∷ [])) last.counts simulated.set truth.status
+  pub text_is : text ≡ drawn_text number size (generated_graph number size) (length (lines_of simulated.log))
+      ++ rounds_text (length (earlier ++ last ∷ [])) last.counts
+      ++ truth_text (generated_graph number size) simulated.set truth.status
 
 -- How `generate` ends, which asks for no file and takes nothing from the input.
 abbrev pub GenerateEnds : ℕ → ℕ → World → World → End → Type 0

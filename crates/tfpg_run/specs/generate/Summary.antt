@@ -1,5 +1,5 @@
 -- The three lines that `generate` writes.
-use Rattle.std.specs.Prelude.{ℕ, List, [], ◌∷◌, ◌++◌, length, codes, decimal}
+use Rattle.std.specs.Prelude.{ℕ, List, [], ◌∷◌, length, codes, decimal}
 use Rattle.tfpg_base.specs.Hypothesis.{believing}
 use Rattle.tfpg_base.specs.TextLine.{text_line}
 use Rattle.tfpg_graph.specs.Graph.{Tfpg}
@@ -16,24 +16,13 @@ status_word (Covered by) = codes "covered"
 status_word Rejected = codes "rejected"
 status_word Open = codes "open"
 
--- what was drawn: the number, the size, the graph, and how many lines the log has
-pub record Drawing : Type 0 where
-  pub number : ℕ
-  pub size : ℕ
-  pub graph : Tfpg
-  pub lines : ℕ
-
--- the drawing of this number, size, graph and count of lines
-abbrev pub drawing : ℕ → ℕ → Tfpg → ℕ → Drawing
-drawing number size graph lines = record { number = number; size = size; graph = graph; lines = lines }
-
 -- the line that says what was drawn: the number, the size, how many nodes and edges the graph has, and how many lines
 -- the log has
-abbrev pub drawn_text : Drawing → List ℕ
-drawn_text drawn =
-    text_line (codes "generated" ∷ codes "draw" ∷ decimal drawn.number ∷ codes "size" ∷ decimal drawn.size
-    ∷ codes "nodes" ∷ decimal (length drawn.graph.nodes) ∷ codes "edges" ∷ decimal (length drawn.graph.edges)
-    ∷ codes "lines" ∷ decimal drawn.lines ∷ [])
+abbrev pub drawn_text : ℕ → ℕ → Tfpg → ℕ → List ℕ
+drawn_text number size graph lines =
+    text_line (codes "generated" ∷ codes "draw" ∷ decimal number ∷ codes "size" ∷ decimal size
+    ∷ codes "nodes" ∷ decimal (length graph.nodes) ∷ codes "edges" ∷ decimal (length graph.edges)
+    ∷ codes "lines" ∷ decimal lines ∷ [])
 
 -- the line that says how many rounds there were, and how many hypotheses have each status
 abbrev pub rounds_text : ℕ → Counts → List ℕ
@@ -42,8 +31,3 @@ rounds_text rounds counts = text_line (codes "rounds" ∷ decimal rounds ∷ cou
 -- the line that says which set was simulated, and what became of it
 abbrev pub truth_text : Tfpg → List ℕ → Status → List ℕ
 truth_text graph set status = text_line (codes "truth" ∷ set_word graph (believing set) ∷ status_word status ∷ [])
-
--- the three lines
-abbrev pub summary_text : Drawing → ℕ → Counts → List ℕ → Status → List ℕ
-summary_text drawn rounds counts set status =
-    drawn_text drawn ++ rounds_text rounds counts ++ truth_text drawn.graph set status

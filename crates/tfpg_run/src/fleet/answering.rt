@@ -1,9 +1,10 @@
 //! The answer to a line of the stream.
 
-ghost use Rattle.std.specs.Prelude.{◌≡◌, ◌<◌, ◌++◌, [], ℕ, List, IfOk, length, slice_index_or};
+ghost use Rattle.std.specs.Prelude.{◌≡◌, ◌<◌, ◌++◌, [], ◌∷◌, ℕ, List, IfOk, codes, decimal, length, slice_index_or};
+ghost use Rattle.tfpg_base.specs.TextLine.{text_line};
 ghost use Rattle.tfpg_base.specs.Append.{Appends};
 ghost use Rattle.tfpg_graph.specs.Graph.{sizes_of};
-ghost use Rattle.tfpg_run.specs.fleet.Answers.{Answer, naming_text, stray_text};
+ghost use Rattle.tfpg_run.specs.fleet.Answers.{Answer, naming_text};
 ghost use Rattle.tfpg_run.specs.inside.fleet.UnderWay.{Answers, HasAnswered, IsToldOf, IsWatching, answer_turn, problem_in, told_text};
 
 use super::opening::append_name;
@@ -63,7 +64,7 @@ pub(super) fn answer_line<L: Ledger>(
 
 /// The answer to a stray line of this number in the stream.
 pub(super) fn stray_answer(alloc: Global, number: u64) -> Result<Vec<u8>, NoMemory>
-    ensures { IfOk result (λ text. text.items ≡ stray_text number) }
+    ensures { IfOk result (λ text. text.items ≡ text_line (codes "stray" ∷ decimal number ∷ [])) }
 {
     let mut digits = Buffer::new();
     let mut text = Vec::new(alloc);

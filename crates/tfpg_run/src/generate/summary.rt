@@ -4,7 +4,7 @@ ghost use Rattle.std.specs.Prelude.{◌≡◌, Any, Contains, IfOk, IsSomeAnd, l
 ghost use Rattle.tfpg_base.specs.Append.{Appends};
 ghost use Rattle.tfpg_evidence.specs.Findings.{hypothesis_of};
 ghost use Rattle.tfpg_graph.specs.Graph.{AreFailures};
-ghost use Rattle.tfpg_run.specs.generate.Summary.{drawing, drawn_text, rounds_text, status_word, truth_text};
+ghost use Rattle.tfpg_run.specs.generate.Summary.{drawn_text, rounds_text, status_word, truth_text};
 ghost use Rattle.tfpg_run.specs.inside.generate.Summary.{HasFindingOn, SaysOfRound};
 
 use itoa::Buffer;
@@ -26,8 +26,9 @@ pub(crate) fn summary_of(
     requires members { AreFailures diagnosis.now.engine.graph set }
     requires found { IsSomeAnd diagnosis.now.last (HasFindingOn set) }
     ensures { IfOk result (λ text. IsSomeAnd diagnosis.now.last
-        (SaysOfRound (drawing number size diagnosis.now.engine.graph
-        (length diagnosis.now.engine.log.events)) set text.items)) }
+        (SaysOfRound (drawn_text number size diagnosis.now.engine.graph
+        (length diagnosis.now.engine.log.events)) diagnosis.now.engine.graph
+        (length diagnosis.now.engine.log.events) set text.items)) }
 {
     match &diagnosis.last {
         Some(last) => {
@@ -51,8 +52,8 @@ fn summary_text(
 ) -> Result<Vec<u8>, NoMemory>
     requires members { AreFailures graph.now set }
     requires found { HasFindingOn set last.now }
-    ensures { IfOk result (λ text. SaysOfRound (drawing number size graph.now rounds) set text.items
-        last.entry.now) }
+    ensures { IfOk result (λ text. SaysOfRound (drawn_text number size graph.now rounds) graph.now rounds set
+        text.items last.entry.now) }
 {
     let finding = finding_on(last.findings.as_slice(), Hypothesis::believing(set));
     let mut text = Vec::new(alloc);
@@ -84,7 +85,7 @@ fn append_drawn(
     lines: u32,
     into: &mut Vec<u8>,
 ) -> Result<(), NoMemory>
-    ensures { Appends result into.old.items into.new.items (drawn_text (drawing number size graph.now lines)) }
+    ensures { Appends result into.old.items into.new.items (drawn_text number size graph.now lines) }
 {
     let mut number_digits = Buffer::new();
     let mut size_digits = Buffer::new();

@@ -1,9 +1,9 @@
 //! What is drawn of a graph: the kinds of its discrepancies and the edges.
 
-ghost use Rattle.std.specs.Prelude.{◌≡◌, ◌<◌, ◌≤◌, ◌+◌, ◌++◌, OnOk, IfOk, if◌then◌else◌};
+ghost use Rattle.std.specs.Prelude.{◌≡◌, ◌<◌, ◌≤◌, ◌+◌, ◌*◌, ◌++◌, OnOk, IfOk, if◌then◌else◌};
 ghost use Rattle.tfpg_base.specs.declared.limits.TheConstants.{MAX_CASE_SIZE};
 ghost use Rattle.tfpg_graph.specs.Graph.{lag_up_to};
-ghost use Rattle.tfpg_sim.specs.Generated.{discrepancy_count, kind_drawn, lag_drawn, edges_drawn, after_node, after_words, edge_drawn, draft_after};
+ghost use Rattle.tfpg_sim.specs.Generated.{kind_drawn, lag_drawn, edges_drawn, after_node, after_words, edge_drawn, draft_after};
 
 use crate::generating::draws::{draw, draw_edge};
 use crate::limits::FAILURE_COUNT;
@@ -25,7 +25,7 @@ pub(crate) fn draw_draft(
     count: u32,
     state: &mut Lcg64Xsh32,
 ) -> Result<Draft, NoMemory>
-    requires { count ≤ discrepancy_count MAX_CASE_SIZE }
+    requires { count ≤ 4 * MAX_CASE_SIZE }
     ensures kinds { IfOk result (λ draft. draft.kinds.items ≡ (draft_after state.old count).kinds) }
     ensures edges { IfOk result (λ draft. draft.edges.items ≡ (draft_after state.old count).edges) }
     ensures after { OnOk result (state.new ≡ (draft_after state.old count).state) }

@@ -1,11 +1,11 @@
 //! The text of a generated graph, and the graph that is read of it.
 
-ghost use Rattle.std.specs.Prelude.{◌≡◌, ◌≤◌, length, All, IfOk};
+ghost use Rattle.std.specs.Prelude.{◌≡◌, ◌*◌, ◌≤◌, length, All, IfOk};
 ghost use Rattle.std.specs.List.{flat_map};
 ghost use Rattle.tfpg_base.specs.declared.limits.TheConstants.{MAX_CASE_SIZE};
 ghost use Rattle.tfpg_base.specs.Append.{Appends};
 ghost use Rattle.tfpg_graph.specs.Valid.{IsValid};
-ghost use Rattle.tfpg_sim.specs.Generated.{discrepancy_count, drawn_graph, failure_kinds, named_nodes};
+ghost use Rattle.tfpg_sim.specs.Generated.{drawn_graph, failure_kinds, named_nodes};
 ghost use Rattle.tfpg_sim.specs.declared.limits.TheConstants.{FAILURE_COUNT};
 ghost use Rattle.tfpg_sim.specs.inside.GraphText.{drawn_modes_word, edge_text_by_number, draft_text, HasDrawnModes};
 ghost use Rattle.tfpg_base.specs.TextLine.{text_line};
@@ -24,7 +24,7 @@ use tfpg_graph::{Edge, Graph, GraphRefusal, Kind, Version, append_edge_start, ap
 /// The graph of the draft, which is valid.
 pub(crate) fn drawn_graph(alloc: Global, draft: &Draft) -> Result<Graph, NoMemory>
     requires valid { IsValid (drawn_graph draft.now.kinds.items draft.now.edges.items) }
-    requires few { length draft.now.kinds.items ≤ discrepancy_count MAX_CASE_SIZE }
+    requires few { length draft.now.kinds.items ≤ 4 * MAX_CASE_SIZE }
     requires modes { All HasDrawnModes draft.now.edges.items }
     requires version { version_for (drawn_graph draft.now.kinds.items draft.now.edges.items) ≡ One }
     ensures { IfOk result (λ graph. graph ≡ drawn_graph draft.now.kinds.items draft.now.edges.items) }
@@ -39,7 +39,7 @@ pub(crate) fn drawn_graph(alloc: Global, draft: &Draft) -> Result<Graph, NoMemor
 
 /// The text of the graph of these discrepancies and edges.
 fn draft_text(alloc: Global, kinds: &[Kind], edges: &[Edge]) -> Result<Vec<u8>, NoMemory>
-    requires { length kinds.now ≤ discrepancy_count MAX_CASE_SIZE }
+    requires { length kinds.now ≤ 4 * MAX_CASE_SIZE }
     ensures { IfOk result (λ text. text.items ≡ draft_text kinds.now edges.now) }
 {
     let mut text = Vec::new(alloc);
@@ -65,7 +65,7 @@ fn append_failures(alloc: Global, into: &mut Vec<u8>) -> Result<(), NoMemory>
 
 /// Appends the lines of the discrepancies.
 fn append_discrepancies(alloc: Global, kinds: &[Kind], into: &mut Vec<u8>) -> Result<(), NoMemory>
-    requires { length kinds.now ≤ discrepancy_count MAX_CASE_SIZE }
+    requires { length kinds.now ≤ 4 * MAX_CASE_SIZE }
     ensures { Appends result into.old.items into.new.items
         (flat_map (node_text One) (named_nodes FAILURE_COUNT kinds.now)) }
 {

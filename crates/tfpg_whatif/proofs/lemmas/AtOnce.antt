@@ -30,6 +30,7 @@ use Rattle.tfpg_log.proofs.lemmas.events.ShownByLookUp.{shows_alarm_from_interva
 use Rattle.tfpg_evidence.specs.declared.reason.Reason.TheVariants.{Unreached, Upto}
 use Rattle.tfpg_evidence.specs.declared.step.Step.{Step}
 use Rattle.tfpg_evidence.specs.declared.step.Step.TheVariants.{Cycle}
+use Rattle.tfpg_clause.specs.Paths.{with_steps}
 use Rattle.tfpg_clause.specs.Case.{Case, case_of}
 use Rattle.tfpg_clause.specs.Facts.{fact, upto_alarm}
 use Rattle.tfpg_clause.specs.Trees.{IsClosedLeaf, IsRefutation, split_count}
@@ -38,7 +39,7 @@ use Rattle.tfpg_whatif.specs.declared.asking.Asking.{Asking}
 use Rattle.tfpg_whatif.specs.declared.asking.LastEvent.{LastEvent}
 use Rattle.tfpg_whatif.specs.declared.outcome.Outcome.{Outcome}
 use Rattle.tfpg_whatif.specs.declared.outcome.Outcome.TheVariants.{Fits, Out}
-use Rattle.tfpg_whatif.specs.Outcomes.{HasOutcomeEvidence, all_judged}
+use Rattle.tfpg_whatif.specs.Outcomes.{HasOutcomeEvidence}
 use Rattle.tfpg_whatif.specs.inside.Asking.{IsLastEvent, IsShown}
 use Rattle.tfpg_whatif.specs.inside.AtOnce.{ExplainsBefore, IsKept, IsLatestUnreached, ShowsAnswer, unreached_steps}
 use Rattle.tfpg_whatif.proofs.lemmas.SameRules.{same_rules}
@@ -100,7 +101,7 @@ module _ (graph : Tfpg) (log earlier : Logbook) (reach : List ℕ) (event : Even
     negative_cycle = negative_cycle node latest;
   }
 
-  refutation : IsRefutation case (all_judged case (unreached_steps node latest count))
+  refutation : IsRefutation case (with_steps [] case.log (unreached_steps node latest count))
   refutation = leaf_ends case [] [] (Cycle (Unreached node latest ∷ Upto count ∷ [])) (leaf_begins case) (closed, refl)
 
   no_splits : split_count (unreached_steps node latest count) ≡ 0

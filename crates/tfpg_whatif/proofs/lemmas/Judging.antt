@@ -12,7 +12,7 @@ use Rattle.tfpg_kernel.specs.CheckerState.{CheckerState}
 use Rattle.tfpg_kernel.specs.declared.taken.Taken.{Taken}
 use Rattle.tfpg_kernel.specs.Represents.{CheckerRepresents, Represented, steps_after}
 use Rattle.tfpg_whatif.specs.declared.outcome.Outcome.TheVariants.{Out}
-use Rattle.tfpg_whatif.specs.Outcomes.{HasOutcomeEvidence, all_judged}
+use Rattle.tfpg_whatif.specs.Outcomes.{HasOutcomeEvidence}
 use Rattle.tfpg_whatif.specs.inside.Early.{HasTaken, HasTakenAll}
 
 -- a log goes on from itself
@@ -58,7 +58,7 @@ one_more_taken graph log reach front steps step old new are taken all = record {
 
 -- Where it is closed, the steps are a refutation.
 pub is_refuted : (graph : Tfpg) (log : Logbook) (reach : List ℕ) (steps taken : List Step) (checker : CheckerState) (closed : Bool) → taken ≡ steps → closed ≡ checker.closed → HasTakenAll graph log reach taken checker
-    → IsTrue closed → IsRefutation (case_of graph log reach) (all_judged (case_of graph log reach) steps)
+    → IsTrue closed → IsRefutation (case_of graph log reach) (with_steps [] (case_of graph log reach).log steps)
 is_refuted graph log reach steps taken checker closed same is all holds =
     let own : Represented (case_of graph log checker.reach) checker.path (with_steps [] log taken) true =
     subst (Represented (case_of graph log checker.reach) checker.path (with_steps [] log taken)) (sym is ∙ holds) all.represents.steps_are in
@@ -67,6 +67,6 @@ is_refuted graph log reach steps taken checker closed same is all holds =
 
 -- So they are an outcome, where they have few splits.
 pub is_out : (graph : Tfpg) (log : Logbook) (reach set : List ℕ) (budget : ℕ) (steps read : List Step) (count : ℕ) → read ≡ steps → count ≡ split_count read → count ≤ budget
-    → IsRefutation (case_of graph log reach) (all_judged (case_of graph log reach) read) → HasOutcomeEvidence (case_of graph log reach) set budget (Out steps)
+    → IsRefutation (case_of graph log reach) (with_steps [] (case_of graph log reach).log read) → HasOutcomeEvidence (case_of graph log reach) set budget (Out steps)
 is_out graph log reach set budget steps read count same counted few refutation =
     subst (λ (ss : List Step). HasOutcomeEvidence (case_of graph log reach) set budget (Out ss)) same (refutation, subst (λ (n : ℕ). n ≤ budget) counted few)

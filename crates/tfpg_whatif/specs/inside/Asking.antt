@@ -1,5 +1,6 @@
 -- What the code asks, and what it has found so far.
 use Rattle.std.specs.Prelude.{◌≡◌, ℕ, ◌<◌, ◌≤◌, List, [], ◌∷◌, ◌++◌, length, All, false, Option, Some, None, IfSome, slice_get}
+use Rattle.tfpg_base.specs.Hypothesis.{Hypothesis}
 use Rattle.tfpg_base.specs.declared.activation.Activation.{Activation}
 use Rattle.tfpg_graph.specs.Graph.{Tfpg, AreFailures}
 use Rattle.tfpg_graph.specs.Reach.{IsReach}
@@ -17,7 +18,7 @@ use Rattle.tfpg_whatif.specs.declared.outcome.Outcome.TheVariants.{Fits, Out, Un
 use Rattle.tfpg_whatif.specs.declared.asking.Asking.{Asking}
 use Rattle.tfpg_whatif.specs.declared.asking.LastEvent.{LastEvent}
 use Rattle.tfpg_whatif.specs.declared.asking.Subject.{Subject}
-use Rattle.tfpg_whatif.specs.Outcomes.{Asked, asked_of, asked_at, HasOutcomeEvidence, IsOutcomeOf, Lengthens, is_unknown}
+use Rattle.tfpg_whatif.specs.Outcomes.{Asked, asked_of, asked_at, HasOutcomeEvidence, IsOutcome, Lengthens, is_unknown}
 use Rattle.tfpg_whatif.specs.Laws.{IsWellAsked}
 
 -- what the code asks at the log of the engine
@@ -66,7 +67,8 @@ pub record IsSubject (subject : Subject) : Type 0 where
 abbrev pub AreKnown : Asked → List Outcome → Type 0
 AreKnown asked outcomes =
     (index number : ℕ) (outcome : Outcome) → slice_get asked.among index ≡ Some number
-    → slice_get outcomes index ≡ Some outcome → IsOutcomeOf asked number outcome
+    → slice_get outcomes index ≡ Some outcome → (hypothesis : Hypothesis) → slice_get asked.hypotheses number ≡ Some hypothesis
+    → IsOutcome asked.graph asked.log hypothesis asked.budget outcome
 
 -- The event is the last of the log. What is known are outcomes at the log before it, and where some are, the event is at now.
 pub record IsLastEvent (asking : Asking) (last : LastEvent) (log : Logbook) : Type 0 where
@@ -95,7 +97,8 @@ pub record IsShown (case : Case) (set : List ℕ) (budget : ℕ) (outcome : Outc
 
 -- An outcome of the hypothesis of a number, which is not unknown if the budget is enough.
 pub record IsFound (asked : Asked) (number : ℕ) (outcome : Outcome) : Type 0 where
-  pub outcome_of : IsOutcomeOf asked number outcome
+  pub outcome_of : (hypothesis : Hypothesis) → slice_get asked.hypotheses number ≡ Some hypothesis
+      → IsOutcome asked.graph asked.log hypothesis asked.budget outcome
   pub known : IsEnough asked.graph asked.log asked.budget → is_unknown outcome ≡ false
 
 -- These are the outcomes of the first so many that are asked about.

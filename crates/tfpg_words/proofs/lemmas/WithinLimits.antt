@@ -10,7 +10,7 @@ use Rattle.tfpg_base.specs.Words.{comma_parts, number_of}
 use Rattle.tfpg_words.specs.declared.panel_word.PanelWord.{PanelWord}
 use Rattle.tfpg_words.specs.declared.usage_cause.UsageCause.{UsageCause}
 use Rattle.tfpg_words.specs.declared.usage_cause.UsageCause.TheVariants.{BadNames, BadWords, OutOfRange, UnknownCommand}
-use Rattle.tfpg_words.specs.Meaning.{Meaning, Diagnose, Explain, Check, Simulate, Generate, Convert, Ask, Fleet, Predict, Meant, NumberOption, alone, and_then, ahead_option, ask_on, both, budget_option, by_form, check_on, command_meaning, convert_on, diagnose_on, doubt_option, draw_option, explain_on, fleet_on, generate_on, k_option, meaning, number_by, predict_on, simulate_on, size_option, terms_by, terms_options, use_of, within}
+use Rattle.tfpg_words.specs.Meaning.{Meaning, Diagnose, Explain, Check, Simulate, Generate, Convert, Ask, Fleet, Predict, Meant, NumberOption, alone, and_then, ahead_option, ask_on, both, budget_option, by_form, command_meaning, convert_on, diagnose_on, doubt_option, draw_option, fleet_on, generate_on, k_option, meaning, number_by, predict_on, simulate_on, size_option, terms_by, terms_options, use_of, within, two_files_on}
 use Rattle.tfpg_words.specs.Names.{AreNames, are_names}
 use Rattle.tfpg_words.specs.PanelWords.{panels_named}
 use Rattle.tfpg_words.specs.Words.{Parts, Use, Word, parts_of_words}
@@ -140,13 +140,13 @@ diagnose_within uses (graph ∷ words) =
     to terms are None = tt
     to terms are (Some panels) = are
 
-explain_within : (uses : List Use) (words : List Word) → IfOk (explain_on uses words) IsMeantWithin
+explain_within : (uses : List Use) (words : List Word) → IfOk (two_files_on Explain uses words) IsMeantWithin
 explain_within uses [] = tt
 explain_within uses (a ∷ []) = tt
 explain_within uses (a ∷ b ∷ []) = tt
 explain_within uses (a ∷ b ∷ c ∷ others) = tt
 
-check_within : (uses : List Use) (words : List Word) → IfOk (check_on uses words) IsMeantWithin
+check_within : (uses : List Use) (words : List Word) → IfOk (two_files_on Check uses words) IsMeantWithin
 check_within uses [] = tt
 check_within uses (a ∷ []) = tt
 check_within uses (a ∷ b ∷ []) = tt
@@ -215,8 +215,8 @@ command_within command words =
   where
     by : (diagnoses explains checks simulates generates converts asks fleets predicts : Bool)
         → IfOk (if diagnoses then by_form terms_options [] diagnose_on words
-        else (if explains then by_form [] [] explain_on words
-        else (if checks then by_form [] [] check_on words
+        else (if explains then by_form [] [] (two_files_on Explain) words
+        else (if checks then by_form [] [] (two_files_on Check) words
         else (if simulates then by_form (draw_option.name ∷ []) (codes "--trace" ∷ []) simulate_on words
         else (if generates then by_form (draw_option.name ∷ size_option.name ∷ []) [] generate_on words
         else (if converts then by_form [] (codes "--json" ∷ []) convert_on words
@@ -225,8 +225,8 @@ command_within command words =
         else (if predicts then by_form (terms_options ++ ahead_option.name ∷ []) [] predict_on words
         else Err UnknownCommand))))))))) IsMeantWithin
     by true explains checks simulates generates converts asks fleets predicts = form_within terms_options [] words diagnose_on diagnose_within
-    by false true checks simulates generates converts asks fleets predicts = form_within [] [] words explain_on explain_within
-    by false false true simulates generates converts asks fleets predicts = form_within [] [] words check_on check_within
+    by false true checks simulates generates converts asks fleets predicts = form_within [] [] words (two_files_on Explain) explain_within
+    by false false true simulates generates converts asks fleets predicts = form_within [] [] words (two_files_on Check) check_within
     by false false false true generates converts asks fleets predicts = form_within (draw_option.name ∷ []) (codes "--trace" ∷ []) words simulate_on simulate_within
     by false false false false true converts asks fleets predicts = form_within (draw_option.name ∷ size_option.name ∷ []) [] words generate_on generate_within
     by false false false false false true asks fleets predicts = form_within [] (codes "--json" ∷ []) words convert_on convert_within

@@ -10,7 +10,7 @@ use Rattle.tfpg_words.specs.declared.panel_word.PanelWord.{PanelWord}
 use Rattle.tfpg_words.specs.Names.{are_names}
 use Rattle.tfpg_words.specs.PanelWords.{panels_named}
 use Rattle.tfpg_words.specs.Words.{Word}
-use Rattle.tfpg_words.specs.Meaning.{Diagnose, Simulate, Generate, Convert, Ask, Fleet, Predict, Meant, NumberOption, alone, and_then, both, within, k_option, doubt_option, budget_option, ahead_option, draw_option, size_option, explain_on, check_on}
+use Rattle.tfpg_words.specs.Meaning.{Diagnose, Simulate, Generate, Convert, Ask, Fleet, Predict, Meant, NumberOption, alone, and_then, both, within, k_option, doubt_option, budget_option, ahead_option, draw_option, size_option, two_files_on, Explain, Check}
 use Rattle.tfpg_words.specs.inside.Rules.{words_id}
 use Rattle.tfpg_words.specs.inside.Rows.{vals}
 
@@ -55,10 +55,10 @@ abbrev pub diagnose_given : List Row → Result Meant UsageCause
 diagnose_given rows = diagnose_by (terms_given rows) (vals words_id rows)
 
 abbrev pub explain_given : List Row → Result Meant UsageCause
-explain_given rows = explain_on [] (vals words_id rows)
+explain_given rows = two_files_on Explain [] (vals words_id rows)
 
 abbrev pub check_given : List Row → Result Meant UsageCause
-check_given rows = check_on [] (vals words_id rows)
+check_given rows = two_files_on Check [] (vals words_id rows)
 
 abbrev pub simulate_by : Bool → Result ℕ UsageCause → List Word → Result Meant UsageCause
 simulate_by trace draw (graph ∷ script ∷ []) = and_then draw (λ number. alone (Simulate number trace graph script))

@@ -1,11 +1,12 @@
 -- What is asked after a diagnosis of lines.
 use Rattle.std.proofs.Common.{◌≡◌, ◌↔◌, ℕ, ◌<◌, ◌≤◌, List, [], ◌++◌, length, Option, Some, None, Result, Ok, Err, refl, sym, ap, subst, subst₂, ◌∙◌, inl, inr}
-use Rattle.std.specs.Prelude.{IfSome, OnOk, flat_map, All}
+use Rattle.std.specs.Prelude.{◌∷◌, IfSome, OnOk, codes, flat_map, All}
 use Rattle.std.proofs.lemmas.List.Elements.{All-weaker}
 use Rattle.tfpg_base.specs.Hypothesis.{Hypothesis}
 use Rattle.tfpg_base.specs.Lines.{lines_of}
 use Rattle.tfpg_base.specs.Append.{Appends}
 use Rattle.tfpg_base.specs.declared.no_memory.NoMemory.{NoMemory}
+use Rattle.tfpg_base.specs.TextLine.{text_line}
 use Rattle.tfpg_base.specs.Terms.{AreReportTerms}
 use Rattle.tfpg_base.specs.declared.terms.Terms.{Terms}
 use Rattle.tfpg_graph.specs.Graph.{Tfpg}
@@ -27,7 +28,7 @@ use Rattle.tfpg_whatif.specs.Foresight.{IsKnownIfEnough}
 use Rattle.tfpg_whatif.specs.Outcomes.{Asked, asked_of}
 use Rattle.tfpg_whatif.specs.Questions.{AreQuestions, HasNoRoom, IsQuestion}
 use Rattle.tfpg_diagnose.specs.declared.diagnosis.Diagnosis.{Diagnosis}
-use Rattle.tfpg_answers.specs.Questions.{AnswersAsked, HasQuestions, asked_on, first_line, full_line, left_by, question_line}
+use Rattle.tfpg_answers.specs.Questions.{AnswersAsked, HasQuestions, asked_on, first_line, left_by, question_line}
 use Rattle.tfpg_answers.specs.inside.Asked.{AppendsAnswer, CanBeAskedOf, IsNewDiagnosis, SaysQuestionsOf, asked_after}
 use Rattle.tfpg_diagnose.specs.Diagnosed.{HasDiagnosed, HasLastOf}
 use Rattle.tfpg_diagnose.proofs.lemmas.Diagnosed.{last_diagnosed}
@@ -124,11 +125,11 @@ module _ (engine : EngineState) (among : List ℕ) (b budget : ℕ) (same : b �
       })
 
   -- The line of a full log was written.
-  pub says_full : (appended : Result (Unit {0}) NoMemory) (refusal : Refusal) → result ≡ Err (Refused refusal) → Appends appended old new full_line
+  pub says_full : (appended : Result (Unit {0}) NoMemory) (refusal : Refusal) → result ≡ Err (Refused refusal) → Appends appended old new (text_line (codes "refused" ∷ codes "LogFull" ∷ []))
       → OnOk appended (AppendsAnswer (asked_of engine among budget) old new)
   says_full (Err short) refusal is appends = tt
   says_full (Ok done) refusal is appends = record {
-    answer = full_line;
-    answers = inr (record { no_room = ((refused refusal).0 is).1; text_is = refl });
+    answer = text_line (codes "refused" ∷ codes "LogFull" ∷ []);
+    answers = inr (((refused refusal).0 is).1, refl);
     appended = appends;
   }

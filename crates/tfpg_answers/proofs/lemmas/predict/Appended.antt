@@ -16,7 +16,7 @@ use Rattle.tfpg_evidence.specs.RoundOf.{finding_numbered}
 use Rattle.tfpg_predict.specs.LeastTime.{Lookahead, lookahead_of}
 use Rattle.tfpg_answers.specs.declared.predict.query.Query.{Query}
 use Rattle.tfpg_answers.specs.inside.Forecasting.{AddsForecasts, ForecastsFollow, lookahead_in}
-use Rattle.tfpg_answers.specs.Forecasts.{Forecast, HasForecastsOf, IsForecast, forecast_text, outlook_text, probed_names}
+use Rattle.tfpg_answers.specs.Forecasts.{Forecast, HasForecastsOf, IsForecast, outlook_text, probed_names}
 use Rattle.tfpg_predict.specs.Probed.{IsProbeNumber}
 
 module _ (asked : Lookahead) (budget : ℕ) (probed : Tfpg) where
@@ -41,7 +41,7 @@ module _ (asked : Lookahead) (budget : ℕ) (probed : Tfpg) where
     forecasts = has.forecasts ++ more.forecasts;
     one_each = map-append (λ (forecast : Forecast). forecast.finding) has.forecasts more.forecasts ∙ ap₂ (λ (xs ys : List Finding). xs ++ ys) has.one_each more.one_each;
     right = All-append (IsForecast asked budget) has.forecasts more.forecasts has.right more.right;
-    text_is = ap₂ (λ (xs ys : List ℕ). xs ++ ys) has.text_is more.text_is ∙ sym (flat_map-append (forecast_text asked.graph probed) has.forecasts more.forecasts);
+    text_is = ap₂ (λ (xs ys : List ℕ). xs ++ ys) has.text_is more.text_is ∙ sym (flat_map-append (λ (forecast : Forecast). outlook_text asked.graph probed forecast.finding forecast.outlook) has.forecasts more.forecasts);
   }
 
 -- ---- the findings of numbers
@@ -94,11 +94,9 @@ module _ (query : Query) (findings : List Finding) (old new : List ℕ) where
       → ForecastsFollow (lookahead_in query) query.budget findings old new
   follows number named probed_is adds = record {
     text = adds.text;
-    are = record {
-      number = number;
-      named = named;
-      has = subst (λ (probed : Tfpg). HasForecastsOf (lookahead_in query) query.budget probed findings adds.text) probed_is adds.has;
-    };
+    number = number;
+    named = named;
+    has = subst (λ (probed : Tfpg). HasForecastsOf (lookahead_in query) query.budget probed findings adds.text) probed_is adds.has;
     appended = adds.appended;
   }
 

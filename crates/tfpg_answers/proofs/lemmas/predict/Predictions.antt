@@ -1,6 +1,6 @@
 -- What is written of a diagnosis is the prediction for a node.
 use Rattle.std.proofs.Common.{◌≡◌, ℕ, ◌<◌, ◌≤◌, cond, true, false, Bool, List, [], ◌++◌, length, get_or, All, IsTrue, Option, Some, None, Ok, Err, refl, sym, ap, subst, subst₂, ◌∙◌, arith}
-use Rattle.std.specs.Prelude.{nat_lt}
+use Rattle.std.specs.Prelude.{nat_lt, ok_or}
 use Rattle.std.proofs.lemmas.Bool.{ltb-true}
 use Rattle.std.proofs.lemmas.List.{append-nil}
 use Rattle.std.proofs.lemmas.List.Elements.{All-same}
@@ -23,12 +23,12 @@ use Rattle.tfpg_hyp.proofs.lemmas.FindingsOfRound.{HasFindingAt, evidence}
 use Rattle.tfpg_predict.specs.LeastTime.{lookahead_of}
 use Rattle.tfpg_predict.specs.Probed.{IsProbeable}
 use Rattle.tfpg_diagnose.specs.declared.diagnosis.Diagnosis.{Diagnosis}
-use Rattle.tfpg_answers.specs.declared.predict.probing.ProbeFault.TheVariants.{TooManyNodes, TooManyEdges}
+use Rattle.tfpg_answers.specs.declared.predict.probing.ProbeFault.TheVariants.{TooManyNodes, TooManyEdges, UnknownNode}
 use Rattle.tfpg_answers.specs.declared.predict.probing.ForecastRequest.{ForecastRequest}
 use Rattle.tfpg_diagnose.specs.Diagnosed.{HasDiagnosed, HasLastOf}
 use Rattle.tfpg_answers.specs.inside.Forecasting.{ForecastsFollow, IsAskable}
-use Rattle.tfpg_answers.specs.Forecasts.{AreForecastsAfter, AreForecastsOf, HasForecasts, predict_line, prediction, lookahead_after, time_ahead}
-use Rattle.tfpg_answers.specs.Probing.{CanForecast, known_node, probed_node}
+use Rattle.tfpg_answers.specs.Forecasts.{AreForecastsAfter, HasForecasts, predict_line, prediction, time_ahead}
+use Rattle.tfpg_answers.specs.Probing.{CanForecast, probed_node}
 use Rattle.tfpg_diagnose.proofs.lemmas.LineBlocks.{NamesOfRounds}
 use Rattle.tfpg_diagnose.proofs.lemmas.Diagnosed.{last_diagnosed}
 
@@ -83,7 +83,7 @@ probeable_at graph log node ahead to is of ordered to_is =
 
 -- there is room for a probe of it
 module _ (graph : Tfpg) (name : List ℕ) (node : ℕ) where
-  known : (found : Option ℕ) → known_node found ≡ Ok node → found ≡ Some node
+  known : (found : Option ℕ) → ok_or found UnknownNode ≡ Ok node → found ≡ Some node
   known (Some other) same = let one : other ≡ node = cc in ap Some one
   known None same = absurd cc
 
@@ -91,7 +91,7 @@ module _ (graph : Tfpg) (name : List ℕ) (node : ℕ) where
   room_for_probe = by (nat_lt (length graph.nodes) MAX_NODES) refl (nat_lt (length graph.edges) MAX_EDGES) refl
     where
       by : (nodes : Bool) → nat_lt (length graph.nodes) MAX_NODES ≡ nodes → (edges : Bool) → nat_lt (length graph.edges) MAX_EDGES ≡ edges
-          → cond nodes (cond edges (known_node (node_named graph name)) (Err TooManyEdges)) (Err TooManyNodes) ≡ Ok node
+          → cond nodes (cond edges (ok_or (node_named graph name) UnknownNode) (Err TooManyEdges)) (Err TooManyNodes) ≡ Ok node
           → (length graph.nodes < MAX_NODES) × (length graph.edges < MAX_EDGES) × (node_named graph name ≡ Some node)
       by true few true few_edges is = (ltb-true _ _ few, ltb-true _ _ few_edges, known (node_named graph name) is)
       by true few false many is = absurd cc
@@ -101,7 +101,7 @@ module _ (graph : Tfpg) (name : List ℕ) (node : ℕ) where
 
 -- With the forecasts after its line, or with its line alone, it is the prediction.
 module _ (graph : Tfpg) (terms : Terms) (lines : List (List ℕ)) (d : Diagnosis) (has : HasDiagnosed graph terms lines d) (asked : ForecastRequest) (node : ℕ) (log : Logbook) (log_is : log ≡ log_of_lines graph lines) where
-  predicted : (forecasts text : List ℕ) → AreForecastsAfter (lookahead_after graph lines node asked.ahead) terms.budget d.last forecasts
+  predicted : (forecasts text : List ℕ) → AreForecastsAfter (lookahead_of graph (log_of_lines graph lines) node (time_ahead (now_of (log_of_lines graph lines)) asked.ahead)) terms.budget d.last forecasts
       → text ≡ predict_line asked.node.now (now_of log) (time_ahead (now_of log) asked.ahead) ++ forecasts → HasForecasts graph (prediction terms asked.ahead asked.node.now) node lines text
   predicted forecasts text are text_is = record {
     last = d.last;
@@ -115,7 +115,7 @@ module _ (graph : Tfpg) (terms : Terms) (lines : List (List ℕ)) (d : Diagnosis
   pub predicted_none : (text : List ℕ) → d.last ≡ None → text ≡ predict_line asked.node.now (now_of log) (time_ahead (now_of log) asked.ahead)
       → HasForecasts graph (prediction terms asked.ahead asked.node.now) node lines text
   predicted_none text none text_is =
-      predicted [] text (subst (λ (last : Option Round). AreForecastsAfter (lookahead_after graph lines node asked.ahead) terms.budget last []) (sym none) refl)
+      predicted [] text (subst (λ (last : Option Round). AreForecastsAfter (lookahead_of graph (log_of_lines graph lines) node (time_ahead (now_of (log_of_lines graph lines)) asked.ahead)) terms.budget last []) (sym none) refl)
       (text_is ∙ sym (append-nil _))
 
   -- there was one
@@ -125,6 +125,6 @@ module _ (graph : Tfpg) (terms : Terms) (lines : List (List ℕ)) (d : Diagnosis
   predicted_last round old text other to is old_is same to_is follow =
       let here = subst₂ (λ (l : Logbook) (t : ℕ). ForecastsFollow (lookahead_of graph l node t) terms.budget (ranked_in_order round) old text) (sym same) to_is follow in
       predicted here.text text
-      (subst (λ (last : Option Round). AreForecastsAfter (lookahead_after graph lines node asked.ahead) terms.budget last here.text) (sym is)
-      (subst (λ (l : Logbook). AreForecastsOf (lookahead_of graph l node (time_ahead (now_of l) asked.ahead)) terms.budget (ranked_in_order round) here.text) log_is here.are))
+      (subst (λ (last : Option Round). AreForecastsAfter (lookahead_of graph (log_of_lines graph lines) node (time_ahead (now_of (log_of_lines graph lines)) asked.ahead)) terms.budget last here.text) (sym is)
+      (subst (λ (l : Logbook). AreForecastsAfter (lookahead_of graph l node (time_ahead (now_of l) asked.ahead)) terms.budget (Some round) here.text) log_is (here.number, here.named, here.has)))
       (here.appended ∙ ap (λ (t : List ℕ). t ++ here.text) old_is)

@@ -1,12 +1,12 @@
 -- The data of a graph says the graph: its modes and nodes, and its edges by names.
 use Rattle.std.proofs.Common.{◌≡◌, ℕ, ◌==◌, if◌then◌else◌, Bool, true, false, List, [], ◌∷◌, map, Option, Some, None, codes, refl, sym, ap, ◌∙◌}
 use Rattle.std.specs.List.{list_all}
-use Rattle.std.specs.Option.{option_map, option_and_then}
+use Rattle.std.specs.Option.{option_map, option_map_or, option_and_then}
 use Rattle.std.proofs.lemmas.Bool.{eqb-true, and_from}
 use Rattle.std.proofs.lemmas.List.{map-id}
 use Rattle.std.proofs.lemmas.List.Elements.{All-map, All-weaker}
 use Rattle.std.proofs.lemmas.List.Sums.{list_all-from_AllPass}
-use Rattle.serde_json.specs.Data.{Data, string, array, no_members, member, object}
+use Rattle.serde_json.specs.Data.{Data, null, string, array, no_members, member, object}
 use Rattle.serde_json.specs.Find.{as_str}
 use Rattle.serde_json.specs.View.{items_of}
 use Rattle.tfpg_base.specs.Choice.{each_of}
@@ -18,7 +18,7 @@ use Rattle.tfpg_graph.specs.declared.edge.Edge.{Edge}
 use Rattle.tfpg_graph.specs.Graph.{Tfpg, Node, name_word}
 use Rattle.tfpg_graph.specs.Valid.{IsValid, IsValidEdge}
 use Rattle.tfpg_graph.proofs.lemmas.reading.spelling.SpelledEdges.{is_name-name_word}
-use Rattle.tfpg_json.specs.GraphData.{whole, texts, greatest_data, mode_names, edge_data, kind_data, node_data, graph_data}
+use Rattle.tfpg_json.specs.GraphData.{whole, texts, mode_names, edge_data, kind_data, graph_data}
 use Rattle.tfpg_json.specs.GraphSaid.{EdgeSaid, GraphSaid, list_of, each_in, number_from, unless_null, node_in, edge_from, graph_in, has_edge_names, has_names}
 use Rattle.tfpg_json.proofs.lemmas.read_back.WrittenGraphs.{modes_named}
 
@@ -71,12 +71,12 @@ kind_again name (Or (Some lag)) = or_monitored name lag (lag.least == 0) refl
 kind_again name (And None) = refl
 kind_again name (And (Some lag)) = and_monitored name lag (lag.least == 0) refl
 
-node_again : (node : Node) → node_in (node_data node) ≡ Some node
+node_again : (node : Node) → node_in (kind_data node.name node.kind) ≡ Some node
 node_again node = kind_again node.name node.kind
 
 -- ---- edges
 
-greatest_again : (tmax : Option ℕ) → unless_null number_from (greatest_data tmax) ≡ Some tmax
+greatest_again : (tmax : Option ℕ) → unless_null number_from (option_map_or whole tmax null) ≡ Some tmax
 greatest_again None = refl
 greatest_again (Some tmax) = refl
 
@@ -100,7 +100,7 @@ graph_again graph =
       nodes = nodes;
       edges = edges;
     })) (each_in-made edge_from (edge_data graph) (edge_said graph) (edge_again graph) graph.edges i))
-    ((each_in-made node_in node_data (λ node. node) node_again graph.nodes ∙ ap Some (map-id graph.nodes)) i))
+    ((each_in-made node_in (λ (node : Node). kind_data node.name node.kind) (λ node. node) node_again graph.nodes ∙ ap Some (map-id graph.nodes)) i))
     (texts_in graph.modes i)
 
 edge_named : (graph : Tfpg) (edge : Edge) → IsValid graph → IsValidEdge graph edge → has_edge_names (edge_said graph edge) ≡ true

@@ -1,7 +1,8 @@
 -- The data of a valid graph is written so that it is read back.
 use Rattle.std.proofs.Common.{ℕ, ◌<◌, ◌≤◌, ◌^◌, ◌==◌, if◌then◌else◌, Bool, true, false, List, [], ◌∷◌, map, All, IsTrue, Option, Some, None, IfSome, codes, refl, arith}
 use Rattle.std.proofs.lemmas.List.Elements.{All-head, All-tail, All-weaker}
-use Rattle.serde_json.specs.Data.{Data, string, no_members, member, object}
+use Rattle.std.specs.Option.{option_map_or}
+use Rattle.serde_json.specs.Data.{Data, null, string, no_members, member, object}
 use Rattle.serde_json.specs.View.{items_of}
 use Rattle.tfpg_base.specs.declared.limits.TheConstants.{MAX_TIME}
 use Rattle.tfpg_base.specs.Words.{is_name}
@@ -10,10 +11,10 @@ use Rattle.tfpg_graph.specs.declared.kind.Kind.{Kind}
 use Rattle.tfpg_graph.specs.declared.kind.Kind.TheVariants.{Failure, Or, And}
 use Rattle.tfpg_graph.specs.declared.kind.Lag.{Lag}
 use Rattle.tfpg_graph.specs.declared.edge.Edge.{Edge}
-use Rattle.tfpg_graph.specs.Graph.{Tfpg, name_word}
+use Rattle.tfpg_graph.specs.Graph.{Tfpg, Node, name_word}
 use Rattle.tfpg_graph.specs.Valid.{IsValid, IsValidEdge, IsValidLag, HasValidNumber}
 use Rattle.tfpg_graph.proofs.lemmas.reading.spelling.SpelledEdges.{is_name-name_word}
-use Rattle.tfpg_json.specs.GraphData.{whole, texts, greatest_data, mode_names, edge_data, discrepancy_data, kind_data, node_data, graph_data}
+use Rattle.tfpg_json.specs.GraphData.{whole, texts, mode_names, edge_data, discrepancy_data, kind_data, graph_data}
 use Rattle.tfpg_json.proofs.lemmas.NameTexts.{each_name_byte}
 use Rattle.tfpg_json.proofs.lemmas.read_back.WrittenData.{IsWritten, AreWritten, AreNameBytes}
 
@@ -29,7 +30,7 @@ each_written f deep (x ∷ xs) all = (All-head (λ y. IsWritten (f y) deep) x xs
 names_written : (names : List (List ℕ)) → All (λ name. IsTrue (is_name name)) names → IsWritten (texts names) 1
 names_written names all = each_written string 0 names (All-weaker (λ name. IsTrue (is_name name)) (λ name. IsWritten (string name) 0) named names all)
 
-greatest_written : (tmax : Option ℕ) (tmin : ℕ) → IfSome tmax (λ time. (tmin ≤ time) × (time ≤ MAX_TIME)) → IsWritten (greatest_data tmax) 1
+greatest_written : (tmax : Option ℕ) (tmin : ℕ) → IfSome tmax (λ time. (tmin ≤ time) × (time ≤ MAX_TIME)) → IsWritten (option_map_or whole tmax null) 1
 greatest_written None tmin small = tt
 greatest_written (Some tmax) tmin small = omega (arith, small.1)
 
@@ -95,7 +96,7 @@ graph_written graph valid =
         (
           refl,
           each_written string 2 graph.modes (All-weaker (λ name. IsTrue (is_name name)) (λ name. IsWritten (string name) 2) named graph.modes so_far.mode_names),
-          (refl, each_written node_data 2 graph.nodes (λ k d within. kind_written _ _ (so_far.node_names k d within) (so_far.node_numbers k d within)), tt),
+          (refl, each_written (λ (node : Node). kind_data node.name node.kind) 2 graph.nodes (λ k d within. kind_written _ _ (so_far.node_names k d within) (so_far.node_numbers k d within)), tt),
         ),
       ),
     )

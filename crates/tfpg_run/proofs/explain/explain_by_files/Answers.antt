@@ -17,7 +17,7 @@ returns-in_err-map-clause-stopped g c desk =
     let fault = c.in_err-map.field-0.0 in
     stops_by_files c.args.graph_name.now c.args.log_name.now (λ graph text. ExplainingEnds graph (log_of_lines graph (lines_of text)) (streams_of before) (streams_of now)) before now
     c.in_ok-graph.graph c.in_ok-graph.log_text.items c.in_ok-graph.ensures.given c.in_ok-graph.ensures.fetched c.from_residual-in_err-map.result (end_of_no_map fault) c.from_residual-in_err-map.ensures.1
-    (inl (record { fault = fault; lacks = c.in_err-map.ensures.none; end_is = refl; unwritten = refl }))
+    (inl (record { fault = fault; is_fault = c.in_err-map.ensures.none; end_is = refl; untouched = refl }))
 
 pub returns-in_err-write_verdict-clause-stopped : goal.returns-in_err-write_verdict-clause-stopped
 returns-in_err-write_verdict-clause-stopped g c desk =
@@ -27,16 +27,16 @@ returns-in_err-write_verdict-clause-stopped g c desk =
     stops_by_files c.args.graph_name.now c.args.log_name.now (λ graph text. ExplainingEnds graph (log_of_lines graph (lines_of text)) (streams_of before) (streams_of now)) before now
     c.in_ok-graph.graph c.in_ok-graph.log_text.items c.in_ok-graph.ensures.given c.in_ok-graph.ensures.fetched c.from_residual-in_err-write_verdict.result (end_of_output_fault fault)
     c.from_residual-in_err-write_verdict.ensures.1
-    (inr (record {
-      map = c.in_ok-map.map;
-      reads = c.in_ok-map.ensures.map;
-      ends = record {
+    (inr (
+      c.in_ok-map.map,
+      c.in_ok-map.ensures.map,
+      record {
         result = Err fault;
         works = subst (λ (text : List ℕ). TextEnds (HasVerdict c.in_ok-graph.graph (log_of_lines c.in_ok-graph.graph (lines_of text)) c.in_ok-map.map) before.output now.output (Err fault))
             c.deref.ensures.value c.in_err-write_verdict.ensures.stopped;
         end_is = refl;
-      };
-    }))
+      },
+    ))
 
 pub returns-clause-done : goal.returns-clause-done
 returns-clause-done g c desk =
@@ -44,8 +44,8 @@ returns-clause-done g c desk =
     let now = world (g.F.Shelf.state c.fetch_graph_and_text.new.shelf) (g.S.Source.state c.read_map.new.input) (g.K.Sink.state c.write_verdict.new.out) desk in
     ends_by_files c.args.graph_name.now c.args.log_name.now (λ graph text. ExplainingEnds graph (log_of_lines graph (lines_of text)) (streams_of before) (streams_of now)) before now
     c.in_ok-graph.graph c.in_ok-graph.log_text.items c.in_ok-graph.ensures.given c.in_ok-graph.ensures.fetched Done
-    (inr (record {
-      map = c.in_ok-map.map;
-      reads = c.in_ok-map.ensures.map;
-      ends = record { result = Ok tt; works = rw c.deref.ensures.value at c.in_ok-write_verdict.ensures.done; end_is = refl };
-    }))
+    (inr (
+      c.in_ok-map.map,
+      c.in_ok-map.ensures.map,
+      record { result = Ok tt; works = rw c.deref.ensures.value at c.in_ok-write_verdict.ensures.done; end_is = refl },
+    ))

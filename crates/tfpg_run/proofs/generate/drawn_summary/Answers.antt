@@ -5,7 +5,7 @@ use Rattle.tfpg_base.specs.Lines.{lines_of}
 use Rattle.tfpg_hyp.proofs.lemmas.FittingSets.{says_misfit}
 use Rattle.tfpg_diagnose.proofs.lemmas.Diagnosed.{own_diagnosed}
 use Rattle.tfpg_run.specs.generate.Generating.{HasSummary}
-use Rattle.tfpg_run.specs.generate.Summary.{drawing}
+use Rattle.tfpg_run.specs.generate.Summary.{drawn_text}
 use Rattle.tfpg_run.specs.generate.Terms.{generated_terms}
 use Rattle.tfpg_run.specs.inside.generate.Summary.{SaysOfRound}
 use Rattle.tfpg_run.proofs.lemmas.generate.Truths.{drawn_failures, members_there, found_there, summary_there}
@@ -31,7 +31,7 @@ pub returns : goal.returns
 returns g c =
     let d = c.take_text.new.self in
     IfOk-weaker c.summary_of.result
-    (λ text. IsSomeAnd d.last (SaysOfRound (drawing c.args.number c.args.size d.engine.graph (length d.engine.log.events)) c.in_ok-graph.field-0.simulated.set text.items))
+    (λ text. IsSomeAnd d.last (SaysOfRound (drawn_text c.args.number c.args.size d.engine.graph (length d.engine.log.events)) d.engine.graph (length d.engine.log.events) c.in_ok-graph.field-0.simulated.set text.items))
     (λ text. HasSummary c.args.number c.args.size text.items)
     (λ text says. summary_there c.args.number c.args.size c.in_ok-graph.field-0.graph c.in_ok-graph.field-0.simulated c.in_ok-graph.ensures (lines_of c.as_slice.result.now)
     d (ap lines_of c.as_slice.ensures) (c.in_ok-take_text.ensures c.in_ok-graph.field-0.graph generated_terms c.in_ok-diagnosis.ensures) text.items

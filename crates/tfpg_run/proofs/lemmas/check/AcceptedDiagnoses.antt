@@ -58,7 +58,7 @@ wrote_report terms name before now (inl (inr file)) = of_works file.works
     by (Err fault) works is = absurd (stream_not_done fault (sym is))
 
     of_works : DiagnosisEnds terms before now file.graph Done → WroteReport terms name before now
-    of_works (inl many) = let is : Done ≡ TooManyHypotheses many.count = many.end_is in absurd cc
+    of_works (inl many) = let is : Done ≡ TooManyHypotheses many.fault = many.end_is in absurd cc
     of_works (inr few) = by few.1.result few.1.works few.1.end_is
 wrote_report terms name before now (inr none) = let is : Done ≡ NoMemory = none.1 in absurd cc
 

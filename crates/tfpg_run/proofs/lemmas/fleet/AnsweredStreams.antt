@@ -12,7 +12,7 @@ use Rattle.tfpg_base.proofs.lemmas.Taking.{Takes-append, Takes-nothing}
 use Rattle.tfpg_base.proofs.lemmas.ReadingOn.{GaveLine, Continues-turn, Continues-text, Continues-too_long}
 use Rattle.tfpg_base.proofs.lemmas.lists.Cuts.{front_is_within, front_before, front_with}
 use Rattle.tfpg_base.proofs.lemmas.lists.Passing.{length-filter_map}
-use Rattle.tfpg_graph.specs.Graph.{Tfpg}
+use Rattle.tfpg_graph.specs.Graph.{Tfpg, failures}
 use Rattle.tfpg_check.specs.Report.{HasReports}
 use Rattle.tfpg_fleet.specs.Belonging.{addressee, line_for, lines_for}
 use Rattle.tfpg_streams.specs.declared.fault.OutputFault.{OutputFault}
@@ -25,7 +25,8 @@ use Rattle.tfpg_streams.specs.Faults.{stream_fault_of_lines, stream_fault_of_out
 use Rattle.tfpg_streams.specs.Outputs.{HasOutputOfFirstLines, TextEnds, WorksToEnd}
 use Rattle.tfpg_streams.specs.Streams.{Streams, streams}
 use Rattle.tfpg_run.specs.fleet.Answers.{Answer, answer_text, answers_text, blocks_for, opening_text, vehicle_of}
-use Rattle.tfpg_run.specs.fleet.FleetOutput.{AreAnswers, BeginsFleetOutput, FleetProblem, IsFleetOutputSoFar, answered_text, mode_counts_text}
+use Rattle.tfpg_run.specs.fleet.Counting.{modes_text}
+use Rattle.tfpg_run.specs.fleet.FleetOutput.{AreAnswers, BeginsFleetOutput, FleetProblem, IsFleetOutputSoFar, answered_text, vehicles_with}
 use Rattle.tfpg_run.specs.fleet.FleetEnds.{AnswersStream}
 use Rattle.tfpg_run.specs.fleet.FleetWork.{AreAnswersWithin, IsFleetOutputWithin}
 use Rattle.tfpg_run.specs.inside.fleet.UnderWay.{AnsweringState, Answers, AreOwnBlocks, ComesTo, HasAnswered, HasAnsweredAll, IsAnswering, WritesAnswer, answer_turn, answering_at, kept_text}
@@ -340,7 +341,7 @@ module _ (fleet : FleetProblem) where
         ∙ ap (λ (bytes : List ℕ). take (length (lines_of all.taken)) (lines_of bytes)) (append-nil all.taken)
         ∙ take_all (length (lines_of all.taken)) (lines_of all.taken) (omega arith)
 
-    counts_are : kept_text fleet.graph now.watch.ranked.items ≡ mode_counts_text fleet all.answers
+    counts_are : kept_text fleet.graph now.watch.ranked.items ≡ modes_text fleet.graph (vehicles_with fleet all.answers) (length (failures fleet.graph))
     counts_are = kept_counts fleet (lines_of all.taken) all.answers now.watch all.answered
 
     -- they are written, and the calls are within the limits

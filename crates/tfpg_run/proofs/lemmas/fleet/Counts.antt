@@ -9,7 +9,7 @@ use Rattle.tfpg_graph.specs.Graph.{Tfpg, failures}
 use Rattle.tfpg_run.specs.declared.fleet.watch.Watch.{Watch}
 use Rattle.tfpg_run.specs.fleet.Answers.{Answer}
 use Rattle.tfpg_run.specs.fleet.Counting.{is_in, last_ranks, mode_count_text, modes_text, ranks, vehicles_that}
-use Rattle.tfpg_run.specs.fleet.FleetOutput.{FleetProblem, mode_counts_text, rounds_for}
+use Rattle.tfpg_run.specs.fleet.FleetOutput.{FleetProblem, rounds_for, vehicles_with}
 use Rattle.tfpg_run.specs.inside.fleet.UnderWay.{HasAnswered, kept_text}
 
 -- a member is in the set
@@ -95,7 +95,7 @@ modes_same graph one other (suc count) same =
 
 -- The lines by what is kept are those of the answers.
 pub kept_counts : (fleet : FleetProblem) (lines : List (List ℕ)) (answers : List Answer) (watch : Watch) → HasAnswered fleet lines answers watch
-    → kept_text fleet.graph watch.ranked.items ≡ mode_counts_text fleet answers
+    → kept_text fleet.graph watch.ranked.items ≡ modes_text fleet.graph (vehicles_with fleet answers) (length (failures fleet.graph))
 kept_counts fleet lines answers watch answered =
     let ranked = watch.ranked.items in
     modes_same fleet.graph (λ position. vehicles_that (λ number. is_in position (get_or ranked number [])) (length ranked))

@@ -93,7 +93,7 @@ module _ {T : Type 0} (terms : Terms) (name : List ℕ) (names : List (List ℕ)
           graph = graph;
           gives = gives;
           fetched = fetched;
-          works = inl (record { count = count; too_many = (exact count).0 refl; end_is = refl; untouched = untouched });
+          works = inl (record { fault = count; is_fault = (exact count).0 refl; end_is = refl; untouched = untouched });
         }))
     stops_without_fleet NoMemory within exact untouched err =
         let none = without_memory graph terms (length names) exact in

@@ -1,9 +1,10 @@
 -- The answers with one answer more.
 use Rattle.std.proofs.Common.{◌≡◌, ◌≢◌, ℕ, ◌+◌, ◌<◌, ◌==◌, Bool, true, false, cond, List, [], ◌∷◌, ◌++◌, length, set, Option, Some, None, Ok, refl, sym, ap, subst, subst₂, ◌∙◌, arith, replicate, get_or, length-append}
-use Rattle.std.specs.Prelude.{◌-◌, All, flat_map, option_map, slice_get}
+use Rattle.std.specs.Prelude.{◌-◌, All, codes, decimal, flat_map, option_map, slice_get}
 use Rattle.std.specs.Option.{option_map_or}
 use Rattle.std.specs.Bool.{then_some}
 use Rattle.std.proofs.lemmas.Bool.{eqb-true, eq-eqb, false≢true, lt-ltb}
+use Rattle.tfpg_base.specs.TextLine.{text_line}
 use Rattle.tfpg_base.specs.Lines.{is_too_long}
 use Rattle.tfpg_base.specs.declared.limits.TheConstants.{LONGEST_LINE}
 use Rattle.std.proofs.lemmas.List.{append-nil, length-replicate, length-set, map-append}
@@ -31,7 +32,7 @@ use Rattle.tfpg_check.specs.Report.{IsBlock, progress_of, rounds_of}
 use Rattle.tfpg_run.specs.declared.fleet.watch.Watch.{Watch}
 use Rattle.tfpg_diagnose.specs.RightReport.{BlockSays}
 use Rattle.tfpg_diagnose.specs.TellsPanels.{losses_in}
-use Rattle.tfpg_run.specs.fleet.Answers.{Answer, OwnBlock, StrayLine, block_for, blocks_for, naming_text, stray_text, vehicle_of}
+use Rattle.tfpg_run.specs.fleet.Answers.{Answer, OwnBlock, StrayLine, block_for, blocks_for, naming_text, vehicle_of}
 use Rattle.tfpg_run.specs.fleet.Counting.{is_in, ranks}
 use Rattle.tfpg_run.specs.fleet.FleetOutput.{FleetProblem, rounds_for}
 use Rattle.tfpg_run.specs.inside.fleet.UnderWay.{Answers, AreOwnBlocks, HasAnswered, IsKept, KeepsLast, answer_turn, told_text}
@@ -204,7 +205,7 @@ module _ (laws : RoundLaws) (fleet : FleetProblem) (valid : IsValid fleet.graph)
 
 -- the answer to a stray line, with its text
 pub answers_stray : (fleet : FleetProblem) (lines : List (List ℕ)) (answers : List Answer) (watch later : Watch) (text : List ℕ) (place : ℕ) (bytes : List ℕ) (start finish : ℕ) → HasAnswered fleet lines answers watch
-    → belongs fleet.names text ≡ None → later.fleet ≡ watch.fleet → later.ranked.items ≡ watch.ranked.items → finish ≡ start → bytes ≡ stray_text place
+    → belongs fleet.names text ≡ None → later.fleet ≡ watch.fleet → later.ranked.items ≡ watch.ranked.items → finish ≡ start → bytes ≡ text_line (codes "stray" ∷ decimal place ∷ [])
     → Answers fleet (answer_turn lines answers text place start finish) bytes later
 answers_stray fleet lines answers watch later text place bytes start finish so_far none same_fleet same_ranked uncounted is = record {
   answer = StrayLine;

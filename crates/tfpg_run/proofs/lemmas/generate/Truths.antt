@@ -1,5 +1,5 @@
 -- What the last round of a simulated log says of the simulated set.
-use Rattle.std.proofs.Common.{◌≡◌, ℕ, ◌<◌, inl, inr, Bool, true, false, List, length, All, Contains, IsTrue, Option, Some, None, refl, sym, ap, subst, ◌∙◌, arith}
+use Rattle.std.proofs.Common.{◌≡◌, ℕ, ◌<◌, inl, inr, Bool, true, false, List, ◌++◌, length, All, Contains, IsTrue, Option, Some, None, refl, sym, ap, subst, ◌∙◌, arith}
 use Rattle.std.specs.Prelude.{slice_get, flat_map, IsSomeAnd}
 use Rattle.std.proofs.lemmas.Option.{slice_get_cases, slice_get-get_or}
 use Rattle.tfpg_base.specs.declared.terms.Terms.{Terms}
@@ -11,6 +11,8 @@ use Rattle.tfpg_log.specs.AcceptedLog.{AreAccepted}
 use Rattle.tfpg_log.specs.LogOfLines.{log_of_lines}
 use Rattle.tfpg_log.specs.Explains.{Explains, Fits}
 use Rattle.tfpg_log.proofs.lemmas.logs_of_lines.LogsOfLines.{of-log_of_lines, ordered-log_of_lines}
+use Rattle.tfpg_evidence.specs.declared.finding.Status.{Status}
+use Rattle.tfpg_evidence.specs.declared.round.Counts.{Counts}
 use Rattle.tfpg_evidence.specs.declared.finding.Finding.{Finding}
 use Rattle.tfpg_evidence.specs.declared.round.Round.{Round}
 use Rattle.tfpg_evidence.specs.Findings.{hypothesis_of}
@@ -31,7 +33,7 @@ use Rattle.tfpg_sim.proofs.lemmas.drawn.GeneratedScripts.{generated_set, generat
 use Rattle.tfpg_diagnose.specs.declared.diagnosis.Diagnosis.{Diagnosis}
 use Rattle.tfpg_diagnose.specs.Rounds.{AreRoundsOf}
 use Rattle.tfpg_run.specs.generate.Generating.{HasSummary}
-use Rattle.tfpg_run.specs.generate.Summary.{drawing, summary_text}
+use Rattle.tfpg_run.specs.generate.Summary.{drawn_text, rounds_text, truth_text}
 use Rattle.tfpg_run.specs.generate.Terms.{generated_terms}
 use Rattle.tfpg_diagnose.specs.Diagnosed.{HasDiagnosed, HasLastOf, IsLastOf}
 use Rattle.tfpg_run.specs.inside.generate.Drawn.{IsDrawn}
@@ -102,6 +104,9 @@ module _ (graph : Tfpg) (lines : List (List ℕ)) (d : Diagnosis) (has : HasDiag
           (ordered-log_of_lines graph lines) is_last.is_round member.0 finding (slice_get-get_or last_there.0.findings member.0 finding member.1 ∙ ap Some member.2)
           (subst (HypothesisFits graph (log_of_lines graph lines)) (sym of_set) (subst (λ (l : Logbook). Fits graph l set) (ignores_none graph lines) fits)) is)
 
+abbrev three_lines : ℕ → ℕ → Tfpg → ℕ → ℕ → Counts → List ℕ → Status → List ℕ
+three_lines number size graph lines rounds counts set status = drawn_text number size graph lines ++ rounds_text rounds counts ++ truth_text graph set status
+
 -- The three lines by the last round say what became of the simulated set.
 pub summary_is : (number size : ℕ) (simulated : Simulated) (d : Diagnosis) (text : List ℕ) → RejectsNoneThatFits
     → IsValid (generated_graph number size)
@@ -109,15 +114,15 @@ pub summary_is : (number size : ℕ) (simulated : Simulated) (d : Diagnosis) (te
     → Explains (generated_graph number size) (log_of_lines (generated_graph number size) (lines_of simulated.log)) simulated.set simulated.trace
     → AreAccepted (generated_graph number size) (lines_of simulated.log)
     → HasDiagnosed (generated_graph number size) generated_terms (lines_of simulated.log) d → 0 < length (lines_of simulated.log)
-    → IsSomeAnd d.last (SaysOfRound (drawing number size d.engine.graph (length d.engine.log.events)) simulated.set text)
+    → IsSomeAnd d.last (SaysOfRound (drawn_text number size d.engine.graph (length d.engine.log.events)) d.engine.graph (length d.engine.log.events) simulated.set text)
     → HasSummary number size text
 summary_is number size simulated d text none valid simulation explains accepted has some says =
     let graph = generated_graph number size in
     let lines = lines_of simulated.log in
     let last = last_there graph lines d has accepted some in
     let is = is_last graph lines d has accepted some in
-    let said : SaysOfRound (drawing number size d.engine.graph (length d.engine.log.events)) simulated.set text last.0 =
-    subst (λ (o : Option Round). IsSomeAnd o (SaysOfRound (drawing number size d.engine.graph (length d.engine.log.events)) simulated.set text)) last.1 says in
+    let said : SaysOfRound (drawn_text number size d.engine.graph (length d.engine.log.events)) d.engine.graph (length d.engine.log.events) simulated.set text last.0 =
+    subst (λ (o : Option Round). IsSomeAnd o (SaysOfRound (drawn_text number size d.engine.graph (length d.engine.log.events)) d.engine.graph (length d.engine.log.events) simulated.set text)) last.1 says in
     let counted = events_counted graph lines d has accepted some in
     record {
       simulated = simulated;
@@ -130,9 +135,9 @@ summary_is number size simulated d text none valid simulation explains accepted 
       of_truth = said.has.on_set;
       not_rejected = truth_not_rejected graph lines d has accepted some simulated.set said.has.finding none valid (simulated.trace, explains) said.has.there said.has.on_set;
       text_is = said.text_is
-          ∙ ap (λ (g : Tfpg). summary_text (drawing number size g (length d.engine.log.events)) (length d.engine.log.events) last.0.counts simulated.set said.has.finding.status) has.reports.graph_is
-          ∙ ap (λ (n : ℕ). summary_text (drawing number size graph n) (length d.engine.log.events) last.0.counts simulated.set said.has.finding.status) counted
-          ∙ ap (λ (n : ℕ). summary_text (drawing number size graph (length lines)) n last.0.counts simulated.set said.has.finding.status)
+          ∙ ap (λ (g : Tfpg). three_lines number size g (length d.engine.log.events) (length d.engine.log.events) last.0.counts simulated.set said.has.finding.status) has.reports.graph_is
+          ∙ ap (λ (n : ℕ). three_lines number size graph n (length d.engine.log.events) last.0.counts simulated.set said.has.finding.status) counted
+          ∙ ap (λ (n : ℕ). three_lines number size graph (length lines) n last.0.counts simulated.set said.has.finding.status)
           (counted ∙ sym (rounds_counted graph lines d has accepted some) ∙ ap length is.cut);
     }
 
@@ -181,7 +186,7 @@ module _ (number size : ℕ) (graph : Tfpg) (simulated : Simulated) (drawn : IsD
 
     -- by which the three lines say what became of it
     pub summary_there : (text : List ℕ) → RejectsNoneThatFits
-        → IsSomeAnd d.last (SaysOfRound (drawing number size d.engine.graph (length d.engine.log.events)) simulated.set text) → HasSummary number size text
+        → IsSomeAnd d.last (SaysOfRound (drawn_text number size d.engine.graph (length d.engine.log.events)) d.engine.graph (length d.engine.log.events) simulated.set text) → HasSummary number size text
     summary_there text none says =
         summary_is number size simulated d text none (generated_valid number size drawn.some drawn.few) simulation_here
         (subst (λ (g : Tfpg). Explains g (log_of_lines g (lines_of simulated.log)) simulated.set simulated.trace) drawn.graph_is drawn.explained)

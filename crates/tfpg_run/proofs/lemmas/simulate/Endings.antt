@@ -17,7 +17,7 @@ module _ (IsRight : Tfpg → List ℕ → List ℕ → Type 0) (before now : Wor
   pub not_simulated : watched_of now ≡ watched_of before → now.output ≡ before.output → (fault : SimFault) → IsSimFault graph lent fault
       → SimulationEnds IsRight before now graph script (end_of_sim_fault fault)
   not_simulated untouched unwritten (sim.BadScript line) is =
-      inl (record { line = line; is_fault = subst (λ (text : List ℕ). IsSimFault graph text (sim.BadScript line)) same is; end_is = refl; untouched = untouched })
+      inl (record { fault = line; is_fault = subst (λ (text : List ℕ). IsSimFault graph text (sim.BadScript line)) same is; end_is = refl; untouched = untouched })
   not_simulated untouched unwritten sim.NoMemory is = inr (record { result = Err NoMemory; works = unwritten; end_is = refl })
 
   module _ (text piece : List ℕ) (right : IsRight graph lent text) (is_piece : piece ≡ text) where

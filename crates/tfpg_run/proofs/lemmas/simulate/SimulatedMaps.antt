@@ -1,5 +1,6 @@
 -- The text of the map of what was simulated spells it.
 use Rattle.std.proofs.Common.{◌≡◌, ℕ, ◌<◌, ◌≤◌, List, [], ◌∷◌, length, All, Bool, true, false, IsTrue, sym, subst, arith}
+use Rattle.std.specs.Prelude.{if◌then◌else◌}
 use Rattle.std.proofs.lemmas.List.Elements.{All-nil, All-cons, All-head, All-tail}
 use Rattle.tfpg_base.specs.Hypothesis.{believing}
 use Rattle.tfpg_base.specs.declared.activation.Activation.{Activation}
@@ -13,7 +14,6 @@ use Rattle.tfpg_clause.proofs.lemmas.logs.TimesInRange.{now_in_range}
 use Rattle.tfpg_sim.specs.declared.simulated.Simulated.{Simulated}
 use Rattle.tfpg_map.specs.Spelling.{IsActivationOf, SpellsMap}
 use Rattle.tfpg_map.specs.MapText.{map_text}
-use Rattle.tfpg_run.specs.simulate.Simulating.{simulated_text}
 use Rattle.tfpg_map.proofs.lemmas.WrittenMaps.{written_believing}
 
 -- a trace that explains a log is of activations of the graph
@@ -39,7 +39,7 @@ explaining_map graph log set trace valid ordered of explains =
 
 -- What is written of a simulation spells its map, where its trace is asked for.
 pub simulation_spells : (graph : Tfpg) (log : Logbook) (simulated : Simulated) (trace : Bool) (text : List ℕ) → IsValid graph → IsOrdered log → IsSetOf graph simulated.set
-    → Explains graph log simulated.set simulated.trace → text ≡ simulated_text graph trace simulated → IsTrue trace → SpellsMap graph (lines_of text) (believing simulated.set) simulated.trace
+    → Explains graph log simulated.set simulated.trace → text ≡ (if trace then map_text graph (believing simulated.set) simulated.trace else simulated.log) → IsTrue trace → SpellsMap graph (lines_of text) (believing simulated.set) simulated.trace
 simulation_spells graph log simulated true text valid ordered of explains is asked =
     subst (λ (t : List ℕ). SpellsMap graph (lines_of t) (believing simulated.set) simulated.trace) (sym is) (explaining_map graph log simulated.set simulated.trace valid ordered of explains)
 simulation_spells graph log simulated false text valid ordered of explains is asked = cc

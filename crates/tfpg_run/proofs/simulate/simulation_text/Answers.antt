@@ -16,8 +16,6 @@ returns-clause-text c =
     record {
       simulated = simulated;
       is = says.simulated;
-      accepted = says.accepted;
-      explains = says.explained;
       text_is = c.in_ok-text_of.ensures;
       spells = simulation_spells graph (log_of_lines graph (lines_of simulated.log)) simulated c.args.trace c.in_ok-text_of.field-0.items c.is_always_valid.ensures.valid
           (c.a_log_of_lines_is_of_its_graph.ensures.ordered graph (lines_of simulated.log)) (record { rising = c.len-rising.ensures.set.rising; members = members }) says.explained c.in_ok-text_of.ensures;

@@ -1,5 +1,6 @@
 -- Each lag of a generated graph begins at 0, so its canonical text is of version 1.
 use Rattle.std.proofs.Common.{◌≡◌, ℕ, zero, suc, ◌+◌, ◌*◌, true, eqb, List, [], ◌∷◌, ◌++◌, Option, Some, None, refl, ◌∙◌}
+use Rattle.std.specs.Prelude.{◌&&◌, ◌==◌}
 use Rattle.std.specs.Option.{option_map_or}
 use Rattle.std.specs.List.{list_all}
 use Rattle.std.proofs.lemmas.Bool.{cond_both, cond-true, and_from, and_parts}
@@ -12,7 +13,7 @@ use Rattle.tfpg_graph.specs.Graph.{Node, has_zero_least, lag_up_to}
 use Rattle.tfpg_graph.specs.Text.{version_for}
 use Rattle.rand_pcg.specs.Lcg.{Lcg}
 use Rattle.tfpg_sim.specs.Draws.{generator}
-use Rattle.tfpg_sim.specs.Generated.{draw, failure_kinds, is_and_drawn, lag_drawn, kind_drawn, draft_after, named_nodes, draft_of, generated_graph}
+use Rattle.tfpg_sim.specs.Generated.{draw, failure_kinds, has_two, lag_drawn, kind_drawn, draft_after, named_nodes, draft_of, generated_graph}
 use Rattle.tfpg_sim.specs.declared.limits.TheConstants.{FAILURE_COUNT, GRAPH_STREAM}
 
 -- the kinds of one list and then of another
@@ -25,7 +26,7 @@ failures_zero (suc index) = both_zero (failure_kinds index) _ (failures_zero ind
 
 drawn_zero : (node : ℕ) (state : Lcg) → has_zero_least (kind_drawn node state) ≡ true
 drawn_zero node state =
-    cond_both (is_and_drawn node state) (And (lag_drawn state)) (Or (lag_drawn state)) (λ kind. has_zero_least kind ≡ true) (λ _. zero_lag) (λ _. zero_lag)
+    cond_both (has_two node state && draw 8 2 state == 0) (And (lag_drawn state)) (Or (lag_drawn state)) (λ kind. has_zero_least kind ≡ true) (λ _. zero_lag) (λ _. zero_lag)
   where
     zero_lag : option_map_or (λ (lag : Lag). eqb lag.least 0) (lag_drawn state) true ≡ true
     zero_lag = cond_both (eqb (draw 4 3 state) 0) None (Some (lag_up_to (draw 20 4 state))) (λ (o : Option Lag). option_map_or (λ (lag : Lag). eqb lag.least 0) o true ≡ true) (λ _. refl) (λ _. refl)

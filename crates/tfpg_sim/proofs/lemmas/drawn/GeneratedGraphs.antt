@@ -1,6 +1,6 @@
 -- A generated graph is valid.
 use Rattle.std.proofs.Common.{◌≡◌, ◌≢◌, ℕ, zero, suc, ◌+◌, ◌-◌, ◌*◌, ◌<◌, ◌≤◌, ◌⊎◌, inl, inr, ⊎_elim, true, false, not, cond, eqb, ltb, List, [], ◌∷◌, ◌++◌, length, get_or, All, IsTrue, Option, Some, None, IfSome, refl, sym, ap, ◌∙◌, subst, arith, length-append, append_assoc}
-use Rattle.std.specs.Prelude.{bytes_eq, AllPairs, count_by, decimal, codes, option_map}
+use Rattle.std.specs.Prelude.{◌&&◌, ◌==◌, bytes_eq, AllPairs, count_by, decimal, codes, option_map}
 use Rattle.std.specs.Option.{option_map_or}
 use Rattle.std.specs.List.{list_all}
 use Rattle.std.specs.Char.{is_ascii_digit}
@@ -24,7 +24,7 @@ use Rattle.tfpg_graph.specs.Valid.{HasValidNumber, IsValidLag, IsValidEdge, IsSa
 use Rattle.rand_pcg.specs.Lcg.{Lcg}
 use Rattle.tfpg_sim.specs.Draws.{generator}
 use Rattle.tfpg_sim.specs.inside.GraphText.{HasDrawnModes}
-use Rattle.tfpg_sim.specs.Generated.{after_words, discrepancy_count, draw, drawn_name, failure_kinds, has_two, is_and_drawn, lag_drawn, kind_drawn, first_source, second_source, edge_drawn, edges_drawn, draft_after, named_nodes, drawn_graph, draft_of, generated_graph}
+use Rattle.tfpg_sim.specs.Generated.{after_words, draw, drawn_name, failure_kinds, has_two, lag_drawn, kind_drawn, edge_drawn, edges_drawn, draft_after, named_nodes, drawn_graph, draft_of, generated_graph}
 use Rattle.tfpg_sim.specs.declared.limits.TheConstants.{FAILURE_COUNT, GENERATED_DELAYS, GRAPH_STREAM}
 
 -- ---- names
@@ -211,7 +211,7 @@ record IsDraft (index : ℕ) (kinds : List Kind) (edges : List Edge) : Type 0 wh
 
 IsDiscrepancy-kind_drawn : (node : ℕ) (state : Lcg) → IsDiscrepancy (kind_drawn node state)
 IsDiscrepancy-kind_drawn node state =
-    cond_both (is_and_drawn node state) (And (lag_drawn state)) (Or (lag_drawn state)) IsDiscrepancy (λ _. small) (λ _. small)
+    cond_both (has_two node state && draw 8 2 state == 0) (And (lag_drawn state)) (Or (lag_drawn state)) IsDiscrepancy (λ _. small) (λ _. small)
   where
     small : IfSome (lag_drawn state) IsValidLag
     small = cond_both (eqb (draw 4 3 state) 0) None (Some (lag_up_to (draw 20 4 state))) (λ o. IfSome o IsValidLag) (λ _. tt)
@@ -256,16 +256,16 @@ module _ (index : ℕ) (kinds : List Kind) (edges : List Edge) (state : Lcg) (is
   node = FAILURE_COUNT + index
 
   abbrev one : Edge
-  one = edge_drawn (first_source node state) node (after_words 5 state)
+  one = edge_drawn (draw node 0 state) node (after_words 5 state)
 
   abbrev two : Edge
-  two = edge_drawn (second_source node state) node (after_words 9 state)
+  two = edge_drawn (draw node 1 state) node (after_words 9 state)
 
   first_drawn : IsDrawnEdge (FAILURE_COUNT + suc index) one
-  first_drawn = is_drawn (FAILURE_COUNT + suc index) (first_source node state) node (after_words 5 state) (omega arith) (omega arith) (omega arith)
+  first_drawn = is_drawn (FAILURE_COUNT + suc index) (draw node 0 state) node (after_words 5 state) (omega arith) (omega arith) (omega arith)
 
   second_drawn : IsDrawnEdge (FAILURE_COUNT + suc index) two
-  second_drawn = is_drawn (FAILURE_COUNT + suc index) (second_source node state) node (after_words 9 state) (omega arith) (omega arith) (omega arith)
+  second_drawn = is_drawn (FAILURE_COUNT + suc index) (draw node 1 state) node (after_words 9 state) (omega arith) (omega arith) (omega arith)
 
   -- one of the new edges goes into the new node
   into_it : (other : ℕ) → node ≡ other → 0 < count_into (edges_drawn node state) other
@@ -291,7 +291,7 @@ module _ (index : ℕ) (kinds : List Kind) (edges : List Edge) (state : Lcg) (is
     drawn = cond_both (has_two node state) (two ∷ []) [] (λ more. AreDrawnEdges (FAILURE_COUNT + suc index) (edges ++ one ∷ more))
         (λ apart. subst (AreDrawnEdges (FAILURE_COUNT + suc index)) (append_assoc edges (one ∷ []) (two ∷ []))
         (with_both index edges is.drawn one refl first_drawn two refl second_drawn
-        (λ same. eqb-false (first_source node state) (second_source node state) (not-true (eqb (first_source node state) (second_source node state)) apart) same)))
+        (λ same. eqb-false (draw node 0 state) (draw node 1 state) (not-true (eqb (draw node 0 state) (draw node 1 state)) apart) same)))
         (λ _. with_one index edges is.drawn one refl first_drawn);
     few = cond_both (has_two node state) (two ∷ []) [] (λ more. length (edges ++ one ∷ more) ≤ 2 * suc index)
         (λ _. let few = is.few in omega (arith, length-append edges (one ∷ two ∷ [])))
@@ -318,7 +318,7 @@ drafts state (suc index) =
 
 -- ---- the graph
 
-module _ (index : ℕ) (some : 1 ≤ index) (few : index ≤ discrepancy_count MAX_CASE_SIZE) (kinds : List Kind) (edges : List Edge) (is : IsDraft index kinds edges) where
+module _ (index : ℕ) (some : 1 ≤ index) (few : index ≤ 4 * MAX_CASE_SIZE) (kinds : List Kind) (edges : List Edge) (is : IsDraft index kinds edges) where
   abbrev graph : Tfpg
   graph = drawn_graph kinds edges
 

@@ -1,6 +1,7 @@
 -- The lines of a simulated log are accepted, and make its events.
 use Rattle.std.proofs.Common.{◌≡◌, ℕ, ◌≤◌, cond, List, ◌∷◌, ◌++◌, length, get_or, All, Contains, Option, None, sym, ap, subst, arith, length-append}
 use Rattle.std.specs.Prelude.{count_by, is_some}
+use Rattle.std.specs.List.{flat_map}
 use Rattle.std.proofs.lemmas.List.Elements.{All-contains, Contains-append_right}
 use Rattle.std.proofs.lemmas.List.Sums.{sum_by-append, sum_by-cons}
 use Rattle.tfpg_base.proofs.lemmas.lists.Elements.{Contains-head}
@@ -11,7 +12,7 @@ use Rattle.tfpg_graph.specs.Valid.{IsValid}
 use Rattle.tfpg_log.specs.declared.event.Event.{Event}
 use Rattle.tfpg_log.specs.declared.event.Event.TheVariants as event
 use Rattle.tfpg_log.specs.Log.{is_mode_change, time_of_event, IsEventOf}
-use Rattle.tfpg_log.specs.EventLines.{IsNextEvent, AreNextEvents}
+use Rattle.tfpg_log.specs.EventLines.{event_line, IsNextEvent, AreNextEvents}
 use Rattle.tfpg_log.specs.LogOfLines.{log_of_events, log_of_lines}
 use Rattle.tfpg_log.proofs.lemmas.logs_of_lines.AcceptedLines.{log_there as log_of_its_lines, lines_accepted as its_lines_accepted}
 use Rattle.tfpg_log.proofs.lemmas.events.Order.{last_upto}
@@ -20,7 +21,6 @@ use Rattle.tfpg_sim.specs.declared.entry.Entry.{Entry}
 use Rattle.tfpg_log.specs.AcceptedLog.{AreAccepted}
 use Rattle.tfpg_sim.specs.Draws.{latenesses}
 use Rattle.tfpg_sim.specs.Script.{time_so_far}
-use Rattle.tfpg_sim.specs.SimulatedLog.{log_text}
 use Rattle.tfpg_sim.specs.inside.Entries.{IsScript}
 use Rattle.tfpg_sim.proofs.lemmas.logged.AlarmTimes.{length-latenesses, lateness_within, alarmed_at}
 use Rattle.tfpg_sim.proofs.lemmas.logged.LoggedEvents.{IsLogged, AreLogged}
@@ -85,9 +85,9 @@ module _ (graph : Tfpg) (valid : IsValid graph) (entries : List Entry) (script :
   next front back e are = comes_next front back e are
 
   -- The log of the lines has these events.
-  pub log_there : log_of_lines graph (lines_of (log_text graph events)) ≡ log_of_events events
+  pub log_there : log_of_lines graph (lines_of (flat_map (event_line graph) events)) ≡ log_of_events events
   log_there = log_of_its_lines graph valid events next
 
   -- Each line is accepted.
-  pub lines_accepted : AreAccepted graph (lines_of (log_text graph events))
+  pub lines_accepted : AreAccepted graph (lines_of (flat_map (event_line graph) events))
   lines_accepted = its_lines_accepted graph valid events next

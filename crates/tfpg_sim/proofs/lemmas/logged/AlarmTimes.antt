@@ -19,11 +19,11 @@ use Rattle.rand_pcg.specs.Lcg.{Lcg}
 use Rattle.tfpg_sim.specs.declared.draws.Lateness.{Lateness}
 use Rattle.tfpg_sim.specs.declared.entry.Entry.{Entry}
 use Rattle.tfpg_sim.specs.declared.entry.Entry.TheVariants.{Start, Mode, Sweep, Tick, Stop}
-use Rattle.tfpg_sim.specs.Draws.{drawn, after_edges, after_lag, generator, lateness_of, lateness_drawn, latenesses_from, latenesses}
+use Rattle.tfpg_sim.specs.Draws.{drawn, after_lag, generator, lateness_of, lateness_drawn, latenesses_from, latenesses}
 use Rattle.tfpg_sim.specs.Script.{time_of_entry}
 use Rattle.tfpg_sim.specs.SimulatedLog.{sweep_time, first_sweep, due_time, alarm_time}
 use Rattle.tfpg_sim.specs.declared.limits.TheConstants.{DELAY_STREAM}
-use Rattle.tfpg_sim.proofs.lemmas.simulations.DrawLists.{drawn_upto, valid_lag}
+use Rattle.tfpg_sim.proofs.lemmas.simulations.DrawLists.{after_edges, drawn_upto, valid_lag}
 
 -- ---- latenesses
 

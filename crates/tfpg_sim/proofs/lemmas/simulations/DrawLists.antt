@@ -1,5 +1,6 @@
 -- What is drawn: within its limits, and for a list step by step.
 use Rattle.std.proofs.Common.{◌≡◌, ℕ, ◌+◌, ◌-◌, ◌<◌, ◌≤◌, List, [], ◌∷◌, ◌++◌, ◌%◌, IfSome, take, fold, Some, slice_get, option_map, ap, ◌∙◌, subst, arith}
+use Rattle.std.specs.List.{scan}
 use Rattle.std.proofs.lemmas.List.Sums.{fold_push}
 use Rattle.tfpg_graph.specs.declared.edge.Edge.{Edge}
 use Rattle.tfpg_graph.specs.declared.kind.Kind.{Kind}
@@ -7,7 +8,7 @@ use Rattle.tfpg_graph.specs.declared.kind.Kind.TheVariants.{Failure, Or, And}
 use Rattle.tfpg_graph.specs.Graph.{Tfpg, Node, lag_of, kind_at}
 use Rattle.tfpg_graph.specs.Valid.{IsValid, IsValidLag, HasValidNumber}
 use Rattle.rand_pcg.specs.Lcg.{Lcg}
-use Rattle.tfpg_sim.specs.Draws.{after_draw, drawn, delay_of, after_edges, delays_from, after_lag, lateness_drawn, latenesses_from}
+use Rattle.tfpg_sim.specs.Draws.{after_draw, drawn, delay_of, after_lag, lateness_drawn, latenesses_from}
 use Rattle.tfpg_base.proofs.lemmas.lists.Choices.{option_map-some}
 use Rattle.tfpg_base.proofs.lemmas.lists.Cuts.{take-next}
 use Rattle.tfpg_base.proofs.lemmas.lists.Elements.{All-at}
@@ -31,6 +32,14 @@ pub valid_lag : (graph : Tfpg) → IsValid graph → (node : ℕ) (kind : Kind) 
 valid_lag graph valid node kind is =
     let found = option_map-some (λ (n : Node). n.kind) (slice_get graph.nodes node) kind is in
     kind_lag kind (subst HasValidNumber found.2 (All-at (λ (n : Node). HasValidNumber n.kind) graph.nodes node found.0 valid.so_far.node_numbers found.1))
+
+-- the delays of these edges, from this generator on
+abbrev pub delays_from : Lcg → List Edge → List ℕ
+delays_from state edges = scan (λ before edge. after_draw before) (λ before edge. delay_of edge (drawn before)) state edges
+
+-- the generator after a draw for each of these edges
+abbrev pub after_edges : Lcg → List Edge → Lcg
+after_edges state edges = fold (λ before edge. after_draw before) state edges
 
 module _ (state : Lcg) (edges : List Edge) (number : ℕ) (edge : Edge) where
   pub delays_from-more : slice_get edges number ≡ Some edge

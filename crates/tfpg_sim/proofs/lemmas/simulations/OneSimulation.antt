@@ -5,6 +5,7 @@
 -- the other, so it arrives there too.
 use Rattle.std.proofs.Common.{◌≡◌, ◌==◌, ℕ, ◌<◌, ◌≤◌, ◌⊎◌, ⊎_elim, inl, inr, Bool, true, false, not, List, length, Option, Some, None, refl, sym, ap, ◌∙◌, subst, arith}
 use Rattle.std.specs.Prelude.{IsTrue, Contains}
+use Rattle.std.specs.List.{flat_map}
 use Rattle.std.proofs.lemmas.Bool.{cases_lt, cases_order}
 use Rattle.std.proofs.lemmas.List.Elements.{All-contains}
 use Rattle.std.proofs.lemmas.Option.{same_Some}
@@ -21,6 +22,7 @@ use Rattle.tfpg_graph.specs.Graph.{Tfpg, is_kind_at, is_failure, is_discrepancy,
 use Rattle.tfpg_graph.specs.Valid.{IsValid}
 use Rattle.tfpg_graph.specs.ZeroCycle.{HasZeroOrder}
 use Rattle.tfpg_graph.proofs.lemmas.zero_cycle.ZeroRanks.{HasZeroOrder-valid}
+use Rattle.tfpg_log.specs.EventLines.{event_line}
 use Rattle.tfpg_log.specs.Log.{Logbook}
 use Rattle.tfpg_log.proofs.lemmas.causes.WalkBack.{rises_into}
 use Rattle.tfpg_sim.specs.declared.entry.Entry.{Entry}
@@ -28,7 +30,7 @@ use Rattle.tfpg_sim.specs.declared.simulated.Simulated.{Simulated}
 use Rattle.tfpg_sim.specs.Draws.{delays, latenesses}
 use Rattle.tfpg_sim.specs.Script.{time_so_far}
 use Rattle.tfpg_sim.specs.Simulated.{IsSimulationOf}
-use Rattle.tfpg_sim.specs.SimulatedLog.{set_of, log_events, log_text}
+use Rattle.tfpg_sim.specs.SimulatedLog.{set_of, log_events}
 use Rattle.tfpg_sim.specs.Simulation.{Carries, Arrives, IsFirst, IsSimulated, script_log}
 use Rattle.tfpg_sim.proofs.lemmas.simulations.KeptRules.{delay_at}
 use Rattle.tfpg_sim.proofs.lemmas.scripts.SpelledScripts.{one_script}
@@ -160,6 +162,6 @@ one_simulation graph script number one other valid is too =
     let set : one.set ≡ other.set = is.set ∙ ap (set_of graph) entries ∙ sym too.set in
     let text : one.log ≡ other.log =
     is.log
-    ∙ (λ i. log_text graph (log_events (entries i) (trace i) (latenesses graph number) (time_so_far (entries i))))
+    ∙ (λ i. flat_map (event_line graph) (log_events (entries i) (trace i) (latenesses graph number) (time_so_far (entries i))))
     ∙ sym too.log in
     λ i. record { set = set i; trace = trace i; log = text i }

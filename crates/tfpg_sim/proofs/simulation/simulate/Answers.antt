@@ -1,8 +1,10 @@
 use Rattle.std.proofs.Common.{length, ap, subst, ◌∙◌, arith}
+use Rattle.std.specs.List.{flat_map}
+use Rattle.tfpg_log.specs.EventLines.{event_line}
 use Rattle.tfpg_sim.specs.Script.{time_so_far}
 use Rattle.tfpg_sim.specs.Draws.{delays, latenesses}
 use Rattle.tfpg_sim.specs.Simulation.{IsSimulated}
-use Rattle.tfpg_sim.specs.SimulatedLog.{set_of, log_events, log_text}
+use Rattle.tfpg_sim.specs.SimulatedLog.{set_of, log_events}
 use Rattle.tfpg_sim.proofs.lemmas.logged.ExplainedLogs.{accepted, explained}
 use Rattle.tfpg_sim.proofs.simulation.simulate.Goals as goal
 
@@ -23,7 +25,7 @@ returns-clause-simulated c =
       set = c.started_set-set.ensures ∙ ap (set_of graph) c.deref-7.ensures.value;
       trace = subst (λ es. IsSimulated graph es (delays graph c.args.number) trace) c.deref.ensures.value
           (subst (λ ds. IsSimulated graph c.deref.result.now ds trace) (c.deref-2.ensures.value ∙ c.in_ok-draws.ensures.delays) c.in_ok-trace.ensures.simulated);
-      log = c.in_ok-log.ensures ∙ ap (log_text graph) (c.deref-6.ensures.value ∙ c.in_ok-events.ensures.events
+      log = c.in_ok-log.ensures ∙ ap (flat_map (event_line graph)) (c.deref-6.ensures.value ∙ c.in_ok-events.ensures.events
           ∙ ap (λ es. log_events es trace c.deref-5.result.now c.time_so_far-stop.result) c.deref-4.ensures.value
           ∙ ap (λ ls. log_events entries trace ls c.time_so_far-stop.result) (c.deref-5.ensures.value ∙ c.in_ok-draws.ensures.latenesses)
           ∙ ap (log_events entries trace lates) (c.time_so_far-stop.ensures ∙ ap time_so_far c.deref-3.ensures.value));
