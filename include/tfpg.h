@@ -173,7 +173,7 @@ enum tfpg_event_kind { TFPG_ALARM = 1, TFPG_SILENT = 2, TFPG_SWEEP = 3, TFPG_TIC
 #define TFPG_MAX_VERDICT 59U      /* and `tfpg_explain` */
 
 /* The bytes of stack that a thread has to have left where it makes a call, whatever the texts and the terms are. Most of it is for graphs of
- * 512 nodes: what lists the sets of a graph, or reads a set of names, calls itself once for each member.
+ * 512 nodes: what lists the sets of a graph calls itself once for each member.
  *
  * By the code of the library `tfpg_check` takes 172,712 bytes at most, `tfpg_explain` 166,392, the other calls over whole texts and
  * `tfpg_open` 158,064, `tfpg_line` and `tfpg_event` 5,232, `tfpg_block` 1,712, and each other call 648. The rest is for the functions of the

@@ -28,16 +28,12 @@ TOP = Path(__file__).resolve().parents[3]
 HEADER = TOP / "include" / "tfpg.h"
 sys.path.insert(0, str(TOP / "python"))
 
-from tfpg.limits import MOST_FAILURES, MOST_MODES, MOST_NODES, MOST_TIME  # noqa: E402
+from tfpg.limits import MOST_FAILURES, MOST_NODES, MOST_TIME  # noqa: E402
 
 # How often a function that calls itself is entered at most at once: once for each item of its list, and once for its end.
 LEVELS = {
-    "tfpg_graph::graph::Graph::spread": MOST_NODES,  # each call is for a node that was not reached before
-    "tfpg_graph::reading::list_modes::with_new_modes": MOST_MODES + 1,
     "tfpg_hyp::listing::append_hypotheses": MOST_FAILURES + 1,
     "tfpg_hyp::listing::append_doubts": MOST_NODES + 1,  # each node may have a monitor
-    "tfpg_report::reading::set_word::rising_positions": MOST_FAILURES + 1,
-    "tfpg_report::reading::set_word::rising_doubts": MOST_NODES + 1,
     "tfpg_predict::forecasting::halve": MOST_TIME.bit_length() + 1,  # a range of so many milliseconds, down to one
 }
 FUNCTION = re.compile(r"[0-9a-f]+ <(.*)>:$")

@@ -50,8 +50,8 @@ fn hypothesis_of(graph: &NamedGraph<'_>, words: &[&[u8]]) -> Option<Hypothesis>
 {
     graph.is_always_valid();
     let (names, marked) = words.split_at(unmarked_count(words));
-    let set = rising_positions(graph, names, 0)?;
-    let doubts = rising_doubts(graph, marked, 0)?;
+    let set = rising_positions(graph, names)?;
+    let doubts = rising_doubts(graph, marked)?;
     Some(Hypothesis { set, doubts })
 }
 
@@ -80,24 +80,24 @@ fn is_marked(word: &[u8]) -> bool
     }
 }
 
-/// The positions of the failure modes of these names, where they rise, and none is before the least one. Calls as deep as
-/// there are failure modes, at most.
-fn rising_positions(graph: &NamedGraph<'_>, names: &[&[u8]], least: u32) -> Option<Set>
-    ensures found { IfSome result (λ set. AreRisingFrom (IsPosition graph.now) least set ×
+/// The positions of the failure modes of these names, where they rise.
+fn rising_positions(graph: &NamedGraph<'_>, names: &[&[u8]]) -> Option<Set>
+    ensures found { IfSome result (λ set. AreRisingFrom (IsPosition graph.now) 0 set ×
         (map (failure_word graph.now) set ≡ map (λ name. name.now) names.now)) }
-    ensures none { IsNone result → (set : List ℕ) → AreRisingFrom (IsPosition graph.now) least set →
+    ensures none { IsNone result → (set : List ℕ) → AreRisingFrom (IsPosition graph.now) 0 set →
         map (failure_word graph.now) set ≡ map (λ name. name.now) names.now → ⊥ }
 {
-    match names.split_first() {
-        None => Some(Set::empty()),
-        Some((first, others)) => {
-            let position = find_failure(graph, first)?;
-            if position < least {
-                return None;
-            }
-            Some(rising_positions(graph, others, position + 1)?.with(position))
+    let mut set = Set::empty();
+    let mut least = 0;
+    for name in names {
+        let position = find_failure(graph, name)?;
+        if position < least {
+            return None;
         }
+        set = set.with(position);
+        least = position + 1;
     }
+    Some(set)
 }
 
 /// The position of the failure mode of this name.
@@ -109,24 +109,24 @@ fn find_failure(graph: &NamedGraph<'_>, name: &[u8]) -> Option<u32>
     graph.place_of(graph.find(name)?)
 }
 
-/// The monitors that these words stand for, where their nodes rise, and none is before the least one. Calls as deep as there
-/// are nodes, at most.
-fn rising_doubts(graph: &NamedGraph<'_>, words: &[&[u8]], least: u32) -> Option<Doubts>
-    ensures found { IfSome result (λ doubts. AreRisingFrom (IsMonitor graph.now) least doubts ×
+/// The monitors that these words stand for, where their nodes rise.
+fn rising_doubts(graph: &NamedGraph<'_>, words: &[&[u8]]) -> Option<Doubts>
+    ensures found { IfSome result (λ doubts. AreRisingFrom (IsMonitor graph.now) 0 doubts ×
         (map (doubt_word graph.now) doubts ≡ map (λ word. word.now) words.now)) }
-    ensures none { IsNone result → (doubts : List ℕ) → AreRisingFrom (IsMonitor graph.now) least doubts →
+    ensures none { IsNone result → (doubts : List ℕ) → AreRisingFrom (IsMonitor graph.now) 0 doubts →
         map (doubt_word graph.now) doubts ≡ map (λ word. word.now) words.now → ⊥ }
 {
-    match words.split_first() {
-        None => Some(Doubts::empty()),
-        Some((first, others)) => {
-            let node = find_doubt(graph, first)?;
-            if node < least {
-                return None;
-            }
-            Some(rising_doubts(graph, others, node + 1)?.with(node))
+    let mut doubts = Doubts::empty();
+    let mut least = 0;
+    for word in words {
+        let node = find_doubt(graph, word)?;
+        if node < least {
+            return None;
         }
+        doubts = doubts.with(node);
+        least = node + 1;
     }
+    Some(doubts)
 }
 
 /// The monitored node of the name after the exclamation mark of this word.

@@ -1,13 +1,16 @@
 -- The members that words stand for, read word by word.
-use Rattle.std.proofs.Common.{◌≡◌, ℕ, ◌+◌, ◌<◌, ◌≤◌, ◌==◌, Bool, true, false, cond, List, [], ◌∷◌, map, All, Option, Some, None, refl, ap, sym, subst, ◌∙◌, arith}
+use Rattle.std.proofs.Common.{◌≡◌, ℕ, ◌+◌, ◌<◌, ◌≤◌, ◌==◌, Bool, true, false, cond, List, [], ◌∷◌, ◌++◌, map, All, Option, Some, None, refl, ap, sym, subst, ◌∙◌, append_assoc, arith}
 use Rattle.std.specs.Bool.{then_some}
 use Rattle.std.specs.Option.{option_and_then}
-use Rattle.std.proofs.lemmas.Bool.{eqb-true, lt-ltb}
-use Rattle.std.proofs.lemmas.List.Elements.{All-cons, All-head, All-tail, All-weaker}
+use Rattle.std.proofs.lemmas.Bool.{eqb-true}
+use Rattle.std.proofs.lemmas.List.{append-nil}
+use Rattle.std.proofs.lemmas.List.Elements.{All-nil, All-cons, All-head, All-tail, All-weaker}
 use Rattle.std.proofs.lemmas.List.Quantifiers.{position-Some}
 use Rattle.std.proofs.lemmas.Option.{slice_get-get_or, same_Some}
 use Rattle.tfpg_base.specs.Set.{with_member}
+use Rattle.tfpg_base.proofs.lemmas.Sets.{All-with_member, with_member-last}
 use Rattle.tfpg_base.proofs.lemmas.lists.Elements.{AllPairs-head, AllPairs-tail, AllPairs-cons}
+use Rattle.tfpg_base.proofs.lemmas.lists.Ordered.{AllPairs-nil}
 use Rattle.tfpg_graph.specs.Graph.{Tfpg, name_word, node_named, failures, failure_at, position_of_failure, failure_word, is_monitored}
 use Rattle.tfpg_graph.specs.Valid.{IsValid}
 use Rattle.tfpg_graph.proofs.lemmas.NodeAt.{monitored_within}
@@ -77,13 +80,6 @@ doubt_naming graph valid = record { names = doubt_word-named graph valid; of_wor
 
 -- ---- the numbers of words
 
--- a member before all others is the first
-with_first : (number : ℕ) (numbers : List ℕ) → All (λ other. number + 1 ≤ other) numbers → with_member number numbers ≡ number ∷ numbers
-with_first number [] later = refl
-with_first number (first ∷ others) later =
-    let above : number + 1 ≤ first = All-head (λ other. number + 1 ≤ other) first others later in
-    ap (λ b. cond b (number ∷ first ∷ others) (cond (number == first) (first ∷ others) (first ∷ with_member number others))) (lt-ltb number first (omega (arith, above)))
-
 module _ (IsOne : ℕ → Type 0) (least : ℕ) where
   -- the numbers after the first
   AreRisingFrom-others : (first : ℕ) (others : List ℕ) → AreRisingFrom IsOne least (first ∷ others) → AreRisingFrom IsOne (first + 1) others
@@ -109,19 +105,19 @@ module _ (word_of : ℕ → List ℕ) (named : List ℕ → Option ℕ) (IsOne :
       sym (ap named head) ∙ naming.names number (All-head IsOne number numbers are.members)
 
   -- with a first word of no number, there are no numbers of these words
-  pub no_numbers-unknown : (numbers : List ℕ) → named word ≡ None → AreRisingFrom IsOne least numbers → map word_of numbers ≡ word ∷ words → ⊥
+  no_numbers-unknown : (numbers : List ℕ) → named word ≡ None → AreRisingFrom IsOne least numbers → map word_of numbers ≡ word ∷ words → ⊥
   no_numbers-unknown [] none are e = absurd cc
   no_numbers-unknown (number ∷ numbers) none are e = let found = first_number number numbers are e in cc
 
   -- nor with one of a number that is too early
-  pub no_numbers-early : (first : ℕ) (numbers : List ℕ) → named word ≡ Some first → first < least → AreRisingFrom IsOne least numbers → map word_of numbers ≡ word ∷ words → ⊥
+  no_numbers-early : (first : ℕ) (numbers : List ℕ) → named word ≡ Some first → first < least → AreRisingFrom IsOne least numbers → map word_of numbers ≡ word ∷ words → ⊥
   no_numbers-early first [] some early are e = absurd cc
   no_numbers-early first (number ∷ numbers) some early are e =
       let same = same_Some _ _ (sym (first_number number numbers are e) ∙ some) in
       omega (arith, same, early, All-head (λ other. least ≤ other) number numbers are.not_before)
 
   -- nor where there are none of the others
-  pub no_numbers-others : (first : ℕ) (numbers : List ℕ) → named word ≡ Some first → ((others : List ℕ) → AreRisingFrom IsOne (first + 1) others → map word_of others ≡ words → ⊥)
+  no_numbers-others : (first : ℕ) (numbers : List ℕ) → named word ≡ Some first → ((others : List ℕ) → AreRisingFrom IsOne (first + 1) others → map word_of others ≡ words → ⊥)
       → AreRisingFrom IsOne least numbers → map word_of numbers ≡ word ∷ words → ⊥
   no_numbers-others first [] some none are e = absurd cc
   no_numbers-others first (number ∷ numbers) some none are e =
@@ -130,11 +126,50 @@ module _ (word_of : ℕ → List ℕ) (named : List ℕ → Option ℕ) (IsOne :
       none numbers (subst (λ (n : ℕ). AreRisingFrom IsOne (n + 1) numbers) same (AreRisingFrom-others IsOne least number numbers are)) tail
 
   -- with one more word, there is one more number
-  pub numbers-more : (first : ℕ) (others : List ℕ) → named word ≡ Some first → least ≤ first → AreRisingFrom IsOne (first + 1) others → map word_of others ≡ words
-      → AreRisingFrom IsOne least (with_member first others) × (map word_of (with_member first others) ≡ word ∷ words)
+  numbers-more : (first : ℕ) (others : List ℕ) → named word ≡ Some first → least ≤ first → AreRisingFrom IsOne (first + 1) others → map word_of others ≡ words
+      → AreRisingFrom IsOne least (first ∷ others) × (map word_of (first ∷ others) ≡ word ∷ words)
   numbers-more first others some from are e =
-      let is = naming.of_word word first some in
-      let one : with_member first others ≡ first ∷ others = with_first first others are.not_before in (
-        subst (AreRisingFrom IsOne least) (sym one) (AreRisingFrom-first IsOne least first others from is.0 are),
-        ap (map word_of) one ∙ ap (λ (n : List ℕ). n ∷ map word_of others) is.1 ∙ ap (λ (ns : List (List ℕ)). word ∷ ns) e,
+      let is = naming.of_word word first some in (
+        AreRisingFrom-first IsOne least first others from is.0 are,
+        ap (λ (n : List ℕ). n ∷ map word_of others) is.1 ∙ ap (λ (ns : List (List ℕ)). word ∷ ns) e,
       )
+
+-- ---- the words that are left
+
+-- The numbers of the words are those read so far, and then rising ones of the words that are left, none before the least one.
+pub record IsReadTo (word_of : ℕ → List ℕ) (IsOne : ℕ → Type 0) (words : List (List ℕ)) (read : List ℕ) (least : ℕ) (left : List (List ℕ)) : Type 0 where
+  pub below : All (λ number. number < least) read
+  pub found : (rest : List ℕ) → AreRisingFrom IsOne least rest → map word_of rest ≡ left → AreRisingFrom IsOne 0 (read ++ rest) × (map word_of (read ++ rest) ≡ words)
+  pub none : ((rest : List ℕ) → AreRisingFrom IsOne least rest → map word_of rest ≡ left → ⊥)
+      → (numbers : List ℕ) → AreRisingFrom IsOne 0 numbers → map word_of numbers ≡ words → ⊥
+
+module _ (word_of : ℕ → List ℕ) (IsOne : ℕ → Type 0) (words : List (List ℕ)) (read : List ℕ) (least : ℕ) where
+  module _ (named : List ℕ → Option ℕ) (naming : IsNaming word_of named IsOne) (word : List ℕ) (left : List (List ℕ)) (is : IsReadTo word_of IsOne words read least (word ∷ left)) where
+    -- with one word of no number, there are no numbers of the words
+    pub IsReadTo-unknown : named word ≡ None → (numbers : List ℕ) → AreRisingFrom IsOne 0 numbers → map word_of numbers ≡ words → ⊥
+    IsReadTo-unknown none = is.none (λ rest. no_numbers-unknown word_of named IsOne naming least word left rest none)
+
+    module _ (number : ℕ) (some : named word ≡ Some number) where
+      -- nor with one of a number that is too early
+      pub IsReadTo-early : number < least → (numbers : List ℕ) → AreRisingFrom IsOne 0 numbers → map word_of numbers ≡ words → ⊥
+      IsReadTo-early early = is.none (λ rest. no_numbers-early word_of named IsOne naming least word left number rest some early)
+
+      -- one word more is read
+      pub IsReadTo-turn : least ≤ number → IsReadTo word_of IsOne words (with_member number read) (number + 1) left
+      IsReadTo-turn from =
+          let earlier : All (λ other. other < number) read = All-weaker (λ other. other < least) (λ other. other < number) (λ other lt. omega (arith, lt, from)) read is.below in
+          let last : (rest : List ℕ) → read ++ (number ∷ rest) ≡ with_member number read ++ rest =
+          λ rest. sym (ap (λ (all : List ℕ). all ++ rest) (with_member-last number read earlier) ∙ append_assoc read (number ∷ []) rest) in
+          record {
+            below = All-with_member (λ other. other < number + 1) number read (omega arith) (All-weaker (λ other. other < number) (λ other. other < number + 1) (λ other lt. omega (arith, lt)) read earlier);
+            found = λ rest are e.
+                let more = numbers-more word_of named IsOne naming least word left number rest some from are e in
+                subst (λ (all : List ℕ). AreRisingFrom IsOne 0 all × (map word_of all ≡ words)) (last rest) (is.found (number ∷ rest) more.0 more.1);
+            none = λ no. is.none (λ rest. no_numbers-others word_of named IsOne naming least word left number rest some no);
+          }
+
+  -- none is left
+  pub IsReadTo-end : IsReadTo word_of IsOne words read least [] → AreRisingFrom IsOne 0 read × (map word_of read ≡ words)
+  IsReadTo-end is =
+      subst (λ (all : List ℕ). AreRisingFrom IsOne 0 all × (map word_of all ≡ words)) (append-nil read)
+      (is.found [] (record { rising = AllPairs-nil (λ a b. a < b); not_before = All-nil (λ number. least ≤ number); members = All-nil IsOne }) refl)
