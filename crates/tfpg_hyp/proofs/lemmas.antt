@@ -4,6 +4,7 @@ pub mod Doubted
 pub mod Chosen
 pub mod Counted
 pub mod CountedSoFar
+pub mod Larger
 pub mod Listed
 pub mod Tables
 pub mod Subsets

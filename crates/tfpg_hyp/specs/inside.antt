@@ -1,2 +1,3 @@
 -- How the code lists and counts. No public clause reaches it.
 pub mod Choices
+pub mod Larger

@@ -37,15 +37,6 @@ module _ (nodes : List ℕ) (doubt : ℕ) where
 
 -- ---- no hypothesis has more members than there are
 
--- no set has more members than there are monitors
-choices-past : (size monitors : ℕ) → monitors < size → choices size monitors ≡ 0
-choices-past zero monitors past = absurd (omega arith)
-choices-past (suc size) zero past = refl
-choices-past (suc size) (suc monitors) past = omega (arith, choices-past size monitors (omega arith), choices-past (suc size) monitors (omega arith))
-
-pub doubted-past : (size : ℕ) (nodes : List ℕ) → length nodes < size → doubted size nodes ≡ []
-doubted-past size nodes past = nil_from_length (doubted size nodes) (length-doubted size nodes ∙ choices-past size (length nodes) past)
-
 module _ (monitors doubt : ℕ) where
   -- not more than the failure modes and the doubts that there may be
   pub counted-past : (count size : ℕ) → count + doubt < size → counted monitors doubt count size ≡ 0
@@ -53,17 +44,8 @@ module _ (monitors doubt : ℕ) where
   counted-past (suc count) zero past = absurd (omega arith)
   counted-past (suc count) (suc size) past = omega (arith, counted-past count size (omega arith), counted-past count (suc size) (omega arith))
 
-  -- nor more than the failure modes and the monitors
-  pub counted-past_all : (count size : ℕ) → count + monitors < size → counted monitors doubt count size ≡ 0
-  counted-past_all zero size past = cond_both (leb size doubt) (choices size monitors) 0 (λ n. n ≡ 0) (λ few. choices-past size monitors (omega arith)) (λ many. refl)
-  counted-past_all (suc count) zero past = absurd (omega arith)
-  counted-past_all (suc count) (suc size) past = omega (arith, counted-past_all count size (omega arith), counted-past_all count (suc size) (omega arith))
-
 pub chosen-past : (nodes : List ℕ) (doubt count size least : ℕ) → count + doubt < size → chosen nodes doubt count size least ≡ []
 chosen-past nodes doubt count size least past = nil_from_length (chosen nodes doubt count size least) (length-chosen nodes doubt count size least ∙ counted-past (length nodes) doubt count size past)
-
-pub chosen-past_all : (nodes : List ℕ) (doubt count size least : ℕ) → count + length nodes < size → chosen nodes doubt count size least ≡ []
-chosen-past_all nodes doubt count size least past = nil_from_length (chosen nodes doubt count size least) (length-chosen nodes doubt count size least ∙ counted-past_all (length nodes) doubt count size past)
 
 -- ---- not too many
 
